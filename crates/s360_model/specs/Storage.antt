@@ -1,0 +1,42 @@
+-- Main storage (GA22-6821, "System Structure"): bytes at addresses from 0, numbers high byte first, and
+-- a 4-bit storage key for each block of 2,048 bytes.
+use Rattle.std.specs.Prelude.{ℕ, zero, suc, ◌+◌, ◌*◌, ◌/◌, ◌%◌, ◌^◌, Bool, ◌&&◌, nat_eq, nat_le, List, length, take, drop, ◌++◌, map, slice_index}
+use Rattle.std.specs.List.{range_with_len}
+
+pub record Storage : Type 0 where
+  pub bytes : List ℕ
+  pub keys : List ℕ
+
+-- bytes in a block
+abbrev pub block_size : ℕ
+block_size = 2048
+
+-- the sizes that a storage may have: whole blocks, from 8,192 to 1,048,576 bytes (own profile)
+abbrev pub is_storage_size : ℕ → Bool
+is_storage_size size = nat_le 8192 size && (nat_le size 1048576 && nat_eq (size % block_size) 0)
+
+-- the number in so many successive bytes, the high byte first
+abbrev pub number_at : List ℕ → ℕ → ℕ → ℕ
+number_at bytes address zero = 0
+number_at bytes address (suc n) = slice_index bytes address * 256 ^ n + number_at bytes (suc address) n
+
+abbrev pub halfword_at : List ℕ → ℕ → ℕ
+halfword_at bytes address = number_at bytes address 2
+
+abbrev pub word_at : List ℕ → ℕ → ℕ
+word_at bytes address = number_at bytes address 4
+
+abbrev pub doubleword_at : List ℕ → ℕ → ℕ
+doubleword_at bytes address = number_at bytes address 8
+
+-- an operand is inside where it ends within the storage
+abbrev pub is_inside : Storage → ℕ → ℕ → Bool
+is_inside s address count = nat_le (address + count) (length s.bytes)
+
+-- the storage key of each byte of an operand: that of its block
+abbrev pub keys_of_operand : Storage → ℕ → ℕ → List ℕ
+keys_of_operand s address count = map (λ a. slice_index s.keys (a / block_size)) (range_with_len address count)
+
+-- the bytes with these in place of as many from an address on
+abbrev pub with_run : List ℕ → ℕ → List ℕ → List ℕ
+with_run bytes address run = take address bytes ++ run ++ drop (address + length run) bytes
