@@ -1,0 +1,132 @@
+-- An exchange done twice restores the core and the cells.
+use Rattle.std.proofs.Common.{◌≡◌, ◌<◌, ◌+◌, ◌++◌, ℕ, List, [], ◌∷◌, refl, ap, sym, ◌∙◌, take, drop, set, get_or, length, arith}
+use Rattle.std.proofs.lemmas.List.{drop_more, drop-set-lt, take_more_set, append_assoc}
+use Rattle.s360_model.specs.Core.{Core}
+use Rattle.s360_store.specs.declared.place.Place.{Place}
+use Rattle.s360_store.specs.declared.place.Cell.{Cell}
+use Rattle.s360_store.specs.Places.{IsPlaceOf, Fits, value_at, with_value}
+use Rattle.s360_store.specs.Cells.{after_exchange, cells_after_exchange, IsFresh, AreCellsOf}
+use Rattle.s360_store.proofs.PlaceLemmas.{value_at-same, value_at-other, with_value-twice, with_value-same_value, with_value-comm, IsPlaceOf-kept, IsPlaceOf-before}
+
+-- each cell's value fits its place
+abbrev pub AllFit : List Cell → Type 0
+AllFit [] = Unit {0}
+AllFit (c ∷ cs) = Fits c.place c.value × AllFit cs
+
+-- a place that no cell has keeps its value
+pub value_at-after_exchange : (m : Core) (cs : List Cell) (p : Place) → IsFresh p cs → value_at (after_exchange m cs) p ≡ value_at m p
+value_at-after_exchange m [] p h = refl
+value_at-after_exchange m (c ∷ cs) p h =
+    value_at-after_exchange (with_value m c.place c.value) cs p h.1 ∙ value_at-other m c.place p c.value (λ e. h.0 (sym e))
+
+-- a value at such a place may be put there before or after
+pub after_exchange-with_value : (m : Core) (cs : List Cell) (p : Place) (v : ℕ) → IsFresh p cs → after_exchange (with_value m p v) cs ≡ with_value (after_exchange m cs) p v
+after_exchange-with_value m [] p v h = refl
+after_exchange-with_value m (c ∷ cs) p v h =
+    ap (λ n. after_exchange n cs) (with_value-comm m p c.place v c.value h.0) ∙ after_exchange-with_value (with_value m c.place c.value) cs p v h.1
+
+pub cells_after_exchange-with_value : (m : Core) (cs : List Cell) (p : Place) (v : ℕ) → IsFresh p cs → cells_after_exchange (with_value m p v) cs ≡ cells_after_exchange m cs
+cells_after_exchange-with_value m [] p v h = refl
+cells_after_exchange-with_value m (c ∷ cs) p v h =
+    let e : cells_after_exchange (with_value (with_value m p v) c.place c.value) cs ≡ cells_after_exchange (with_value m c.place c.value) cs
+    = ap (λ n. cells_after_exchange n cs) (with_value-comm m p c.place v c.value h.0) ∙ cells_after_exchange-with_value (with_value m c.place c.value) cs p v h.1
+    in let f : value_at (with_value m p v) c.place ≡ value_at m c.place = value_at-other m p c.place v h.0
+    in cc
+
+pub IsFresh-cells_after_exchange : (m : Core) (cs : List Cell) (p : Place) → IsFresh p cs → IsFresh p (cells_after_exchange m cs)
+IsFresh-cells_after_exchange m [] p h = tt
+IsFresh-cells_after_exchange m (c ∷ cs) p h = (h.0, IsFresh-cells_after_exchange (with_value m c.place c.value) cs p h.1)
+
+pub AreCellsOf-kept : (m : Core) (cs : List Cell) (p : Place) (v : ℕ) → AreCellsOf m cs → AreCellsOf (with_value m p v) cs
+AreCellsOf-kept m [] p v h = tt
+AreCellsOf-kept m (c ∷ cs) p v h = (IsPlaceOf-kept m p c.place v h.0, h.1, h.2, AreCellsOf-kept m cs p v h.3)
+
+-- the exchange, done twice, restores the core
+pub after_exchange-twice : (m : Core) (cs : List Cell) → AreCellsOf m cs → after_exchange (after_exchange m cs) (cells_after_exchange m cs) ≡ m
+after_exchange-twice m [] h = refl
+after_exchange-twice m (c ∷ cs) h =
+    let n : Core = with_value m c.place c.value
+    in let rest : AreCellsOf n cs = AreCellsOf-kept m cs c.place c.value h.3
+    in after_exchange-with_value (after_exchange n cs) (cells_after_exchange n cs) c.place (value_at m c.place) (IsFresh-cells_after_exchange n cs c.place h.2)
+    ∙ ap (λ k. with_value k c.place (value_at m c.place)) (after_exchange-twice n cs rest)
+    ∙ with_value-twice m c.place c.value (value_at m c.place)
+    ∙ with_value-same_value m c.place
+
+-- and the cells
+pub cells_after_exchange-twice : (m : Core) (cs : List Cell) → AreCellsOf m cs → cells_after_exchange (after_exchange m cs) (cells_after_exchange m cs) ≡ cs
+cells_after_exchange-twice m [] h = refl
+cells_after_exchange-twice m (c ∷ cs) h =
+    let n : Core = with_value m c.place c.value
+    in let rest : AreCellsOf n cs = AreCellsOf-kept m cs c.place c.value h.3
+    in let v : value_at (after_exchange n cs) c.place ≡ c.value
+    = value_at-after_exchange n cs c.place h.2 ∙ value_at-same m c.place c.value h.0
+    in let t : cells_after_exchange (with_value (after_exchange n cs) c.place (value_at m c.place)) (cells_after_exchange n cs) ≡ cs
+    = cells_after_exchange-with_value (after_exchange n cs) (cells_after_exchange n cs) c.place (value_at m c.place) (IsFresh-cells_after_exchange n cs c.place h.2) ∙ cells_after_exchange-twice n cs rest
+    in ap (λ x. record { place = c.place; value = x } ∷ cells_after_exchange (with_value (after_exchange n cs) c.place (value_at m c.place)) (cells_after_exchange n cs)) v
+    ∙ ap (λ l. c ∷ l) t
+
+pub AllFit-push : (cs : List Cell) (c : Cell) → AllFit cs → Fits c.place c.value → AllFit (cs ++ c ∷ [])
+AllFit-push [] c h f = (f, tt)
+AllFit-push (d ∷ cs) c h f = (h.0, AllFit-push cs c h.1 f)
+
+-- what an exchange leaves may be exchanged again
+pub AreCellsOf-cells_after_exchange : (m n : Core) (cs : List Cell) → ((p : Place) → IsPlaceOf m p → IsPlaceOf n p) → AreCellsOf m cs → AllFit (cells_after_exchange m cs) → AreCellsOf n (cells_after_exchange m cs)
+AreCellsOf-cells_after_exchange m n [] k h f = tt
+AreCellsOf-cells_after_exchange m n (c ∷ cs) k h f =
+    let o : Core = with_value m c.place c.value
+    in (
+      k c.place h.0,
+      f.0,
+      IsFresh-cells_after_exchange o cs c.place h.2,
+      AreCellsOf-cells_after_exchange o n cs (λ p i. k p (IsPlaceOf-before m c.place p c.value i)) (AreCellsOf-kept m cs c.place c.value h.3) f.1,
+    )
+
+pub IsPlaceOf-after_exchange : (m : Core) (cs : List Cell) (p : Place) → IsPlaceOf m p → IsPlaceOf (after_exchange m cs) p
+IsPlaceOf-after_exchange m [] p h = h
+IsPlaceOf-after_exchange m (c ∷ cs) p h = IsPlaceOf-after_exchange (with_value m c.place c.value) cs p (IsPlaceOf-kept m c.place p c.value h)
+
+pub AreCellsOf-again : (m : Core) (cs : List Cell) → AreCellsOf m cs → AllFit (cells_after_exchange m cs) → AreCellsOf (after_exchange m cs) (cells_after_exchange m cs)
+AreCellsOf-again m cs h f = AreCellsOf-cells_after_exchange m (after_exchange m cs) cs (λ p i. IsPlaceOf-after_exchange m cs p i) h f
+
+-- what follows where the condition of an exchange holds
+pub ruleset exchanges = (after_exchange-twice, cells_after_exchange-twice, AreCellsOf-again)
+
+-- an exchange of all cells that has come to the index i
+pub record Exchanging (m : Core) (cs : List Cell) (n : Core) (items : List Cell) (i : ℕ) : Type 0 where
+  pub core : after_exchange n (drop i items) ≡ after_exchange m cs
+  pub cells : take i items ++ cells_after_exchange n (drop i items) ≡ cells_after_exchange m cs
+  pub may : AreCellsOf n (drop i items)
+  pub fit : AllFit (take i items)
+
+pub Exchanging-more : (m : Core) (cs : List Cell) (n : Core) (items : List Cell) (i : ℕ) (d : Cell) (o : Core) (x : Cell)
+    → i < length items → Exchanging m cs n items i
+    → o ≡ with_value n (get_or items i d).place (get_or items i d).value
+    → x ≡ record { place = (get_or items i d).place; value = value_at n (get_or items i d).place }
+    → Fits (get_or items i d).place x.value
+    → Exchanging m cs o (set items i x) (i + 1)
+Exchanging-more m cs n items i d o x h e eo ex f =
+    let c : Cell = get_or items i d
+    in let split : drop i items ≡ c ∷ drop (i + 1) items = drop_more items i d h
+    in let after : drop (i + 1) (set items i x) ≡ drop (i + 1) items = drop-set-lt (i + 1) items i x (omega arith)
+    in let before : take (i + 1) (set items i x) ≡ take i items ++ x ∷ [] = take_more_set items i x h
+    in let may : AreCellsOf n (c ∷ drop (i + 1) items) = rw split at e.may
+    in record {
+      core = rw (after, eo) (rw split at e.core);
+      cells = rw (after, before, eo, ex, append_assoc) (rw split at e.cells);
+      may = rw (after, eo) (AreCellsOf-kept n (drop (i + 1) items) c.place c.value may.3);
+      fit = rw before (AllFit-push (take i items) x e.fit (rw (ap (λ (y : Cell). y.place) ex) f));
+    }
+
+-- what an exchange leaves may be exchanged again, which restores all
+pub record IsExchange (m : Core) (cs : List Cell) (n : Core) (items : List Cell) : Type 0 where
+  pub again : AreCellsOf n items
+  pub core : after_exchange n items ≡ m
+  pub cells : cells_after_exchange n items ≡ cs
+
+pub IsExchange-from : (m : Core) (cs : List Cell) (n : Core) (items : List Cell)
+    → AreCellsOf m cs → n ≡ after_exchange m cs → items ≡ cells_after_exchange m cs → AllFit items → IsExchange m cs n items
+IsExchange-from m cs n items h en ei f = record {
+  again = rw (en, ei) (AreCellsOf-again m cs h (rw ei at f));
+  core = rw (en, ei) (after_exchange-twice m cs h);
+  cells = rw (en, ei) (cells_after_exchange-twice m cs h);
+}

@@ -1,0 +1,18 @@
+-- The places at which two cores of one size differ, in their order.
+use Rattle.std.specs.Prelude.{List, ◌∷◌, ◌++◌, length, map, nat_eq, not}
+use Rattle.std.specs.List.{filter, range_with_len}
+use Rattle.s360_model.specs.Core.{Core}
+use Rattle.s360_store.specs.declared.place.Place.{Place}
+use Rattle.s360_store.specs.declared.place.Place.TheVariants.{Psw, Register, Byte, Key}
+use Rattle.s360_store.specs.Places.{value_at}
+
+-- the places of a core, in their order
+abbrev pub places_of : Core → List Place
+places_of m =
+    Psw ∷ (map (λ n. Register n) (range_with_len 0 (length m.registers))
+    ++ (map (λ a. Byte a) (range_with_len 0 (length m.storage.bytes))
+    ++ map (λ b. Key b) (range_with_len 0 (length m.storage.keys))))
+
+-- the places at which the second core has another value
+abbrev pub core_differences : Core → Core → List Place
+core_differences m n = filter (λ p. not (nat_eq (value_at m p) (value_at n p))) (places_of m)

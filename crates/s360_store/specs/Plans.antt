@@ -1,0 +1,15 @@
+-- A plan: the cells that an event puts, each place at most once, in the order of their first puts.
+use Rattle.std.specs.Prelude.{Option, Some, None, ℕ, if◌then◌else◌, List, [], ◌∷◌}
+use Rattle.s360_store.specs.declared.place.Place.{Place}
+use Rattle.s360_store.specs.declared.place.Cell.{Cell}
+use Rattle.s360_store.specs.Places.{same_place}
+
+-- the plan after a value is put at a place: it stands in the place's cell, or in a new one at the end
+abbrev pub after_put : List Cell → Place → ℕ → List Cell
+after_put [] p v = record { place = p; value = v } ∷ []
+after_put (c ∷ cs) p v = if same_place c.place p then record { place = c.place; value = v } ∷ cs else (c ∷ after_put cs p v)
+
+-- the value that a plan has for a place
+abbrev pub planned_value : List Cell → Place → Option ℕ
+planned_value [] p = None
+planned_value (c ∷ cs) p = if same_place c.place p then Some c.value else planned_value cs p

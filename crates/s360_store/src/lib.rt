@@ -1,0 +1,17 @@
+//! Main storage and its protection, the places that an event can alter, and the plan of an event:
+//! the values that it will put at places.
+//!
+//! Addresses count bytes from 0. Source: GA22-6821, "System Structure".
+#![tactic(auto)]
+
+mod fault;
+mod place;
+mod plan;
+mod protection;
+mod storage;
+
+pub use fault::StoreFault;
+pub use place::{Cell, Place};
+pub use plan::Plan;
+pub use protection::{Access, Checked};
+pub use storage::Storage;

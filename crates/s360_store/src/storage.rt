@@ -1,0 +1,170 @@
+//! Main storage: its bytes, with numbers high byte first, and the storage keys of its blocks.
+//! A contract sees the record of both. Source: GA22-6821, "System Structure".
+ghost use Rattle.std.specs.Prelude.{◌≡◌, ◌<◌, ◌≤◌, ◌+◌, length, slice_index, Err, IfOk, IsOkUnless};
+ghost use Rattle.std.specs.Prelude.{nat_eq};
+ghost use Rattle.std.specs.Bool.{MatchBool};
+ghost use Rattle.std.specs.List.{list_all};
+ghost use Rattle.s360_model.specs.Storage.{is_storage_size, zero_storage, halfword_at, word_at};
+ghost use Rattle.s360_model.specs.Storage.{doubleword_at};
+ghost use Rattle.s360_store.specs.Places.{IsStoragePlace, storage_value, with_storage_value, Fits};
+ghost use Rattle.s360_store.specs.Protection.{access, is_allowed};
+ghost use Rattle.s360_store.specs.declared.fault.StoreFault.TheVariants.{Size, Memory};
+
+use crate::fault::StoreFault;
+use crate::place::{Cell, Place};
+use crate::protection::{Access, Checked};
+use byteorder::{BigEndian, ByteOrder};
+use s360_word::ProtectionKey;
+use std::alloc::Global;
+use std::marker::Model;
+
+/// Bytes in a block, which has one storage key.
+const BLOCK: u32 = 2048;
+
+/// Main storage of 8,192 to 1,048,576 bytes, in whole blocks.
+#[derive(Drop)]
+pub struct Storage {
+    bytes: Vec<u8>,
+    keys: Vec<ProtectionKey>,
+}
+
+impl Model for Storage {
+    ghost use Rattle.std.specs.Prelude.{◌≡◌, ◌/◌, IsTrue, length};
+    ghost use Rattle.s360_model.specs.Storage.{Storage as Contents, is_storage_size, block_size};
+
+    ghost Value = { Contents };
+
+    ghost view = { λ s. record { bytes = s.bytes.items; keys = s.keys.items } };
+
+    ghost invariant = { λ s. IsTrue (is_storage_size (length s.bytes.items)) × (length s.keys.items ≡ length s.bytes.items / block_size) };
+}
+
+/// Whether a storage may have so many bytes.
+fn is_size(size: u32) -> bool
+    ensures { result ≡ is_storage_size size }
+{
+    (8_192..=1_048_576).contains(&size) && size % BLOCK == 0
+}
+
+/// Whether each of the keys is this one.
+fn all_are(keys: &[ProtectionKey], key: ProtectionKey) -> bool
+    ensures { result ≡ list_all (λ k. nat_eq k key) keys.now }
+{
+    keys.iter().all(|other| *other == key)
+}
+
+impl Storage {
+    /// A storage of so many bytes, with every byte and key zero.
+    pub fn new(alloc: Global, size: u32) -> Result<Storage, StoreFault>
+        ensures zero { IfOk result (λ s. s ≡ zero_storage size) }
+        ensures refused { MatchBool (is_storage_size size) (IsOkUnless result Memory) (result ≡ Err Size) }
+    {
+        if !is_size(size) {
+            return Err(StoreFault::Size);
+        }
+        let bytes = vec![in alloc; 0u8; size as usize]?;
+        let keys = vec![in alloc; ProtectionKey::new(0); (size / BLOCK) as usize]?;
+        Ok(Storage { bytes, keys })
+    }
+
+    /// The number of bytes.
+    pub fn size(&self) -> u32
+        ensures size { result ≡ length self.now.bytes }
+        ensures below { result ≤ 1048576 }
+    {
+        self.bytes.len() as u32
+    }
+
+    /// The byte at an address.
+    pub fn byte(&self, address: u32) -> u8
+        requires inside { address < length self.now.bytes }
+        ensures { result ≡ slice_index self.now.bytes address }
+    {
+        self.bytes[address as usize]
+    }
+
+    /// The halfword in the two bytes from an address on.
+    pub fn half(&self, address: u32) -> u16
+        requires inside { address + 2 ≤ length self.now.bytes }
+        ensures { result ≡ halfword_at self.now.bytes address }
+    {
+        BigEndian::read_u16(&self.bytes[address as usize..])
+    }
+
+    /// The word in the four bytes from an address on.
+    pub fn word(&self, address: u32) -> u32
+        requires inside { address + 4 ≤ length self.now.bytes }
+        ensures { result ≡ word_at self.now.bytes address }
+    {
+        BigEndian::read_u32(&self.bytes[address as usize..])
+    }
+
+    /// The doubleword in the eight bytes from an address on.
+    pub fn double(&self, address: u32) -> u64
+        requires inside { address + 8 ≤ length self.now.bytes }
+        ensures { result ≡ doubleword_at self.now.bytes address }
+    {
+        BigEndian::read_u64(&self.bytes[address as usize..])
+    }
+
+    /// The storage key of a block, by the block's number from 0.
+    pub fn key(&self, block: u32) -> ProtectionKey
+        requires inside { block < length self.now.keys }
+        ensures { result ≡ slice_index self.now.keys block }
+    {
+        self.keys[block as usize]
+    }
+
+    /// What an access to the `count` bytes from `address` on meets under a protection key.
+    pub fn check(&self, address: u32, count: u32, kind: Access, key: ProtectionKey) -> Checked
+        ensures { result ≡ access self.now address count kind key }
+    {
+        let end = u64::from(address) + u64::from(count);
+        if end > self.bytes.len() as u64 {
+            return Checked::Addressing;
+        }
+        match kind {
+            Access::Store if !self.allows(address, count, key) => Checked::Protection,
+            _ => Checked::Clear,
+        }
+    }
+
+    /// Whether a key allows stores to each byte of an operand.
+    fn allows(&self, address: u32, count: u32, key: ProtectionKey) -> bool
+        requires inside { address + count ≤ length self.now.bytes }
+        requires small { length self.now.bytes ≤ 1048576 }
+        ensures { result ≡ is_allowed self.now address count key }
+    {
+        if count == 0 || key.number() == 0 {
+            return true;
+        }
+        let first = (address / BLOCK) as usize;
+        let last = ((address + count - 1) / BLOCK) as usize;
+        all_are(&self.keys[first..last + 1], key)
+    }
+
+    /// Exchanges a byte or a storage key with the cell's value. Done again, it restores both.
+    pub fn swap(&mut self, cell: &mut Cell)
+        requires inside { IsStoragePlace self.old cell.old.place }
+        requires fits { Fits cell.old.place cell.old.value }
+        ensures storage { self.new ≡ with_storage_value self.old cell.old.place cell.old.value }
+        ensures cell { cell.new ≡ record { place = cell.old.place; value = storage_value self.old cell.old.place } }
+        ensures fits { Fits cell.new.place cell.new.value }
+    {
+        match cell.place {
+            Place::Byte(address) => {
+                let byte = &mut self.bytes[address as usize];
+                let taken = u64::from(*byte);
+                *byte = cell.value as u8;
+                cell.value = taken;
+            }
+            Place::Key(block) => {
+                let key = &mut self.keys[block as usize];
+                let taken = u64::from(key.number());
+                *key = ProtectionKey::new(cell.value as u8);
+                cell.value = taken;
+            }
+            _ => unreachable!(),
+        }
+    }
+}
