@@ -1,1 +1,2 @@
 mod KnownValues
+mod KnownArithmetic

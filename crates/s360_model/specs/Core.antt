@@ -1,8 +1,7 @@
 -- What an instruction works on (GA22-6821, "System Structure"): the current PSW, the sixteen general
 -- registers and main storage.
 use Rattle.std.specs.Prelude.{ℕ, List, replicate}
-use Rattle.std.specs.Prelude.{◌/◌}
-use Rattle.s360_model.specs.Storage.{Storage, block_size}
+use Rattle.s360_model.specs.Storage.{Storage, zero_storage}
 
 pub record Core : Type 0 where
   pub psw : ℕ
@@ -14,5 +13,5 @@ abbrev pub zero_core : ℕ → Core
 zero_core size = record {
   psw = 0;
   registers = replicate 16 0;
-  storage = record { bytes = replicate size 0; keys = replicate (size / block_size) 0 };
+  storage = zero_storage size;
 }

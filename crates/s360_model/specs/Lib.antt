@@ -4,3 +4,7 @@ pub mod Psw
 pub mod Storage
 pub mod Core
 pub mod Text
+pub mod Arithmetic
+pub mod Pairs
+pub mod Products
+pub mod Shifts

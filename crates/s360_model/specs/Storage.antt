@@ -1,6 +1,6 @@
 -- Main storage (GA22-6821, "System Structure"): bytes at addresses from 0, numbers high byte first, and
 -- a 4-bit storage key for each block of 2,048 bytes.
-use Rattle.std.specs.Prelude.{ℕ, zero, suc, ◌+◌, ◌*◌, ◌/◌, ◌%◌, ◌^◌, Bool, ◌&&◌, nat_eq, nat_le, List, length, take, drop, ◌++◌, map, slice_index}
+use Rattle.std.specs.Prelude.{ℕ, zero, suc, ◌+◌, ◌*◌, ◌/◌, ◌%◌, ◌^◌, Bool, ◌&&◌, nat_eq, nat_le, List, length, take, drop, ◌++◌, map, replicate, slice_index}
 use Rattle.std.specs.List.{range_with_len}
 
 pub record Storage : Type 0 where
@@ -14,6 +14,10 @@ block_size = 2048
 -- the sizes that a storage may have: whole blocks, from 8,192 to 1,048,576 bytes (own profile)
 abbrev pub is_storage_size : ℕ → Bool
 is_storage_size size = nat_le 8192 size && (nat_le size 1048576 && nat_eq (size % block_size) 0)
+
+-- a storage of this size with every byte and key zero
+abbrev pub zero_storage : ℕ → Storage
+zero_storage size = record { bytes = replicate size 0; keys = replicate (size / block_size) 0 }
 
 -- the number in so many successive bytes, the high byte first
 abbrev pub number_at : List ℕ → ℕ → ℕ → ℕ

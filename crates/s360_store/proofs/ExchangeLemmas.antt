@@ -5,13 +5,8 @@ use Rattle.s360_model.specs.Core.{Core}
 use Rattle.s360_store.specs.declared.place.Place.{Place}
 use Rattle.s360_store.specs.declared.place.Cell.{Cell}
 use Rattle.s360_store.specs.Places.{IsPlaceOf, Fits, value_at, with_value}
-use Rattle.s360_store.specs.Cells.{after_exchange, cells_after_exchange, IsFresh, AreCellsOf}
+use Rattle.s360_store.specs.Cells.{after_exchange, cells_after_exchange, IsFresh, AreCellsOf, AllFit}
 use Rattle.s360_store.proofs.PlaceLemmas.{value_at-same, value_at-other, with_value-twice, with_value-same_value, with_value-comm, IsPlaceOf-kept, IsPlaceOf-before}
-
--- each cell's value fits its place
-abbrev pub AllFit : List Cell → Type 0
-AllFit [] = Unit {0}
-AllFit (c ∷ cs) = Fits c.place c.value × AllFit cs
 
 -- a place that no cell has keeps its value
 pub value_at-after_exchange : (m : Core) (cs : List Cell) (p : Place) → IsFresh p cs → value_at (after_exchange m cs) p ≡ value_at m p

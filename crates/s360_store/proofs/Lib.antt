@@ -4,3 +4,8 @@ pub mod PlanLemmas
 pub mod OrderOfPlaces
 pub mod PositionLemmas
 pub mod ProtectionLemmas
+pub mod AscendingLemmas
+pub mod DifferenceLemmas
+pub mod PlannedLemmas
+pub mod KeptLemmas
+pub mod SortLemmas

@@ -122,8 +122,8 @@ IsPositionOf-set cs i p q v at here =
     in elim at as (λ o. IsPositionOf o cs q → IsPositionOf o (set cs i x) q) [
       | None ↦ λ h. IsFresh-set cs i x x q (same x) h
       | Some j ↦ λ h. record {
-          within = let w : j < length cs = h.within in omega (arith, length-set {A = Cell});
-          first = IsFresh-take_set cs i j x x q (same x) h.first;
-          is = λ d. place-set cs i j x d same ∙ h.is d;
-        }
+        within = let w : j < length cs = h.within in omega (arith, length-set {A = Cell});
+        first = IsFresh-take_set cs i j x x q (same x) h.first;
+        is = λ d. place-set cs i j x d same ∙ h.is d;
+      }
     ]

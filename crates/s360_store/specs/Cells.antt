@@ -35,3 +35,13 @@ HasEachOnce (c ∷ cs) = IsFresh c.place cs × HasEachOnce cs
 abbrev pub AreCellsOf : Core → List Cell → Type 0
 AreCellsOf m [] = Unit {0}
 AreCellsOf m (c ∷ cs) = IsPlaceOf m c.place × Fits c.place c.value × IsFresh c.place cs × AreCellsOf m cs
+
+-- each cell's value fits its place
+abbrev pub AllFit : List Cell → Type 0
+AllFit [] = Unit {0}
+AllFit (c ∷ cs) = Fits c.place c.value × AllFit cs
+
+-- each cell's value is another than the core has
+abbrev pub AllDiffer : Core → List Cell → Type 0
+AllDiffer m [] = Unit {0}
+AllDiffer m (c ∷ cs) = (value_at m c.place ≢ c.value) × AllDiffer m cs

@@ -1,8 +1,10 @@
 -- A plan: the cells that an event puts, each place at most once, in the order of their first puts.
-use Rattle.std.specs.Prelude.{Option, Some, None, ℕ, if◌then◌else◌, List, [], ◌∷◌}
+use Rattle.std.specs.Prelude.{◌≡◌, Option, Some, None, ℕ, if◌then◌else◌, List, [], ◌∷◌}
+use Rattle.s360_model.specs.Core.{Core}
 use Rattle.s360_store.specs.declared.place.Place.{Place}
 use Rattle.s360_store.specs.declared.place.Cell.{Cell}
 use Rattle.s360_store.specs.Places.{same_place}
+use Rattle.s360_store.specs.Cells.{after_exchange, AreCellsOf}
 
 -- the plan after a value is put at a place: it stands in the place's cell, or in a new one at the end
 abbrev pub after_put : List Cell → Place → ℕ → List Cell
@@ -13,3 +15,8 @@ after_put (c ∷ cs) p v = if same_place c.place p then record { place = c.place
 abbrev pub planned_value : List Cell → Place → Option ℕ
 planned_value [] p = None
 planned_value (c ∷ cs) p = if same_place c.place p then Some c.value else planned_value cs p
+
+-- the plan makes the second core of the first
+pub record IsPlanOf (m : Core) (plan : List Cell) (n : Core) : Type 0 where
+  pub cells : AreCellsOf m plan
+  pub makes : after_exchange m plan ≡ n

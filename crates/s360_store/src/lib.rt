@@ -9,6 +9,8 @@ mod place;
 mod plan;
 mod protection;
 mod storage;
+#[cfg(test)]
+mod tests;
 
 pub use fault::StoreFault;
 pub use place::{Cell, Place};

@@ -102,6 +102,7 @@ impl Plan {
     /// The number of places.
     pub fn len(&self) -> u32
         ensures len { result ≡ length self.now }
+        ensures few { result ≤ 1000000 }
         ensures once { HasEachOnce self.now }
     {
         self.cells.len() as u32

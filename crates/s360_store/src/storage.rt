@@ -1,11 +1,11 @@
 //! Main storage: its bytes, with numbers high byte first, and the storage keys of its blocks.
 //! A contract sees the record of both. Source: GA22-6821, "System Structure".
 ghost use Rattle.std.specs.Prelude.{◌≡◌, ◌<◌, ◌≤◌, ◌+◌, length, slice_index, Err, IfOk, IsOkUnless};
-ghost use Rattle.std.specs.Prelude.{nat_eq};
+ghost use Rattle.std.specs.Prelude.{◌/◌, nat_eq};
 ghost use Rattle.std.specs.Bool.{MatchBool};
 ghost use Rattle.std.specs.List.{list_all};
 ghost use Rattle.s360_model.specs.Storage.{is_storage_size, zero_storage, halfword_at, word_at};
-ghost use Rattle.s360_model.specs.Storage.{doubleword_at};
+ghost use Rattle.s360_model.specs.Storage.{doubleword_at, block_size};
 ghost use Rattle.s360_store.specs.Places.{IsStoragePlace, storage_value, with_storage_value, Fits};
 ghost use Rattle.s360_store.specs.Protection.{access, is_allowed};
 ghost use Rattle.s360_store.specs.declared.fault.StoreFault.TheVariants.{Size, Memory};
@@ -71,6 +71,7 @@ impl Storage {
     pub fn size(&self) -> u32
         ensures size { result ≡ length self.now.bytes }
         ensures below { result ≤ 1048576 }
+        ensures blocks { length self.now.keys ≡ result / block_size }
     {
         self.bytes.len() as u32
     }
@@ -150,6 +151,9 @@ impl Storage {
         ensures storage { self.new ≡ with_storage_value self.old cell.old.place cell.old.value }
         ensures cell { cell.new ≡ record { place = cell.old.place; value = storage_value self.old cell.old.place } }
         ensures fits { Fits cell.new.place cell.new.value }
+        ensures inside { IsStoragePlace self.new cell.new.place }
+        ensures restores_storage { with_storage_value self.new cell.new.place cell.new.value ≡ self.old }
+        ensures restores_cell { storage_value self.new cell.new.place ≡ cell.old.value }
     {
         match cell.place {
             Place::Byte(address) => {

@@ -1,0 +1,10 @@
+use Rattle.std.proofs.Common.{rules}
+use Rattle.std.proofs.lemmas.List.Sorted.{answers_always}
+use Rattle.s360_store.specs.declared.place.Cell.{Cell}
+use Rattle.s360_store.proofs.SortLemmas.{IsCoreChangeTo-sorted}
+use Rattle.s360_machine.proofs.core_state.Core.changes.Goals as goal
+
+pub returns-clause-change : goal.returns-clause-change
+returns-clause-change c =
+    IsCoreChangeTo-sorted c.args.self.now c.args.plan.now c.in_ok-cells.cells.items c.sort_unstable_by_key.new.self.items c.in_ok-cells.ensures.kept
+    c.sort_unstable_by_key.ensures.permutation (c.sort_unstable_by_key.ensures.sorted (λ (x : Cell). x.place) (answers_always _ _ _ (λ f a r g h. search rules)))

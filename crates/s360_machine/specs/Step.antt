@@ -1,0 +1,69 @@
+-- What an event makes of the machine.
+use Rattle.std.specs.Prelude.{ℕ, Bool, true, false, Option, Some, None, Result, Ok, Err, if◌then◌else◌, slice_set, List}
+use Rattle.s360_model.specs.Core.{Core}
+use Rattle.s360_model.specs.Psw.{wait_of}
+use Rattle.s360_model.specs.Storage.{with_run}
+use Rattle.s360_machine.specs.declared.event.Event.{Event}
+use Rattle.s360_machine.specs.declared.event.Event.TheVariants.{Cpu, Patch as patch}
+use Rattle.s360_machine.specs.declared.event.Patch.{Patch}
+use Rattle.s360_machine.specs.declared.event.Patch.TheVariants.{Bytes, Register}
+use Rattle.s360_machine.specs.declared.refusal.Refusal.{Refusal}
+use Rattle.s360_machine.specs.declared.refusal.Refusal.TheVariants.{Unbuilt}
+use Rattle.s360_machine.specs.declared.run_state.RunState.{RunState}
+use Rattle.s360_machine.specs.declared.run_state.RunState.TheVariants.{Operating, Stopped, Loading}
+use Rattle.s360_machine.specs.Machine.{Machine, storage_size}
+use Rattle.s360_machine.specs.Instruction.{Ending, Completed, Program, NotBuilt, instruction}
+use Rattle.s360_machine.specs.Refusals.{refusal_of}
+
+abbrev pub is_operating : RunState → Bool
+is_operating Operating = true
+is_operating r = false
+
+-- the machine executes instructions: it operates and the wait bit is zero
+abbrev pub is_running : Machine → Bool
+is_running m = if wait_of m.core.psw then false else is_operating m.control.run_state
+
+abbrev pub core_after : Core → Ending → Core
+core_after m (Completed n) = n
+core_after m (Program code n) = m
+core_after m NotBuilt = m
+
+-- the instruction needs a row or an interruption that is not built yet
+abbrev pub needs_more : Ending → Bool
+needs_more (Completed n) = false
+needs_more (Program code n) = true
+needs_more NotBuilt = true
+
+-- one CPU event: nothing where the machine does not run, else one instruction ("Status Switching")
+abbrev pub after_cpu : Machine → Machine
+after_cpu m = if is_running m then record m { core = core_after m.core (instruction m.core) } else m
+
+-- the core with these bytes in place of as many from an address on
+abbrev pub core_with_run : Core → ℕ → List ℕ → Core
+core_with_run m at bytes = record m { storage = record m.storage { bytes = with_run m.storage.bytes at bytes } }
+
+-- the core with another word in a register
+abbrev pub core_with_register : Core → ℕ → ℕ → Core
+core_with_register m n word = record m { registers = slice_set m.registers n word }
+
+-- a patch ignores protection and raises no condition
+abbrev pub after_patch : Machine → Patch → Machine
+after_patch m (Bytes at bytes) = record m { core = core_with_run m.core at bytes }
+after_patch m (Register n word) = record m { core = core_with_register m.core n word }
+
+-- the machine after an event that is not refused
+abbrev pub after : Machine → Event → Machine
+after m Cpu = after_cpu m
+after m (patch p) = after_patch m p
+
+-- the event is not built yet in this machine
+abbrev pub is_unbuilt : Machine → Event → Bool
+is_unbuilt m Cpu = if is_running m then needs_more (instruction m.core) else false
+is_unbuilt m (patch p) = false
+
+-- the machine after an event, or its refusal: what the event and the storage size refuse comes first
+abbrev pub step : Machine → Event → Result Machine Refusal
+step m e = accepted (refusal_of (storage_size m) e) where
+  accepted : Option Refusal → Result Machine Refusal
+  accepted (Some r) = Err r
+  accepted None = if is_unbuilt m e then Err Unbuilt else Ok (after m e)

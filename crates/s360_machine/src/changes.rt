@@ -1,0 +1,41 @@
+//! What an event alters, ready to be exchanged with the machine.
+ghost use Rattle.std.specs.Prelude.{◌≡◌, ◌<◌, length, Some, slice_get};
+ghost use Rattle.s360_machine.specs.Change.{places_of_change};
+
+use s360_store::{Cell, Place};
+use std::marker::Model;
+
+/// The places that an event alters, in their order, each with the value that stands there while the
+/// change is not made, or no longer.
+#[derive(Debug, Drop)]
+pub struct Changes {
+    pub(crate) cells: Vec<Cell>,
+}
+
+impl Model for Changes {
+    ghost use Rattle.std.specs.Prelude.{◌≤◌, length};
+    ghost use Rattle.s360_machine.specs.Change.{Change};
+
+    ghost Value = { Change };
+
+    ghost view = { λ c. record { cells = c.cells.items } };
+
+    ghost invariant = { λ c. length c.cells.items ≤ 1000000 };
+}
+
+impl Changes {
+    /// The number of places.
+    pub fn len(&self) -> u32
+        ensures { result ≡ length (places_of_change self.now) }
+    {
+        self.cells.len() as u32
+    }
+
+    /// The place at `i`, counted from 0.
+    pub fn place(&self, i: u32) -> Place
+        requires { i < length (places_of_change self.now) }
+        ensures { slice_get (places_of_change self.now) i ≡ Some result }
+    {
+        self.cells[i as usize].place
+    }
+}

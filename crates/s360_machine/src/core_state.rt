@@ -1,0 +1,184 @@
+//! What an instruction works on: the current PSW, the general registers and main storage. Source:
+//! GA22-6821, "System Structure".
+ghost use Rattle.std.specs.Prelude.{OnOk};
+ghost use Rattle.std.specs.Prelude.{◌≡◌, ◌≤◌, ◌+◌, [], length, slice_index, Err, IfOk, IsOkUnless};
+ghost use Rattle.std.specs.Bool.{MatchBool};
+ghost use Rattle.s360_model.specs.Core.{zero_core};
+ghost use Rattle.s360_model.specs.Storage.{is_storage_size};
+ghost use Rattle.s360_store.specs.Cells.{AreCellsOf, AllFit};
+ghost use Rattle.s360_store.specs.Cells.{after_exchange, cells_after_exchange};
+ghost use Rattle.s360_store.specs.Places.{IsPlaceOf, Fits, value_at, with_value};
+ghost use Rattle.s360_store.specs.declared.fault.StoreFault.TheVariants.{Size, Memory};
+ghost use Rattle.s360_store.specs.Differences.{IsCoreChangeTo};
+ghost use Rattle.s360_store.specs.Plans.{IsPlanOf};
+ghost use Rattle.s360_machine.specs.Step.{core_with_run, core_with_register};
+ghost use Rattle.s360_store.proofs.KeptLemmas.{AreKept};
+
+use s360_psw::{InstructionLength, Psw};
+use s360_store::{Cell, Place, Plan, Storage, StoreFault};
+use s360_word::{RegisterNumber, Word};
+use std::alloc::{AllocError, Global};
+use std::marker::Model;
+
+/// The current PSW, the sixteen general registers and main storage.
+#[derive(Drop)]
+pub(crate) struct Core {
+    psw: Psw,
+    registers: [Word; 16],
+    storage: Storage,
+}
+
+impl Model for Core {
+    ghost use Rattle.std.specs.Prelude.{◌≡◌, length};
+    ghost use Rattle.s360_model.specs.Core.{Core as Contents};
+    ghost use Rattle.s360_model.specs.Psw.{IsCurrentPsw};
+
+    ghost Value = { Contents };
+
+    ghost view = { λ c. record { psw = c.psw; registers = c.registers; storage = c.storage } };
+
+    ghost invariant = { λ c. length c.registers ≡ 16 };
+}
+
+impl Core {
+    /// A core with so many bytes of storage and everything zero.
+    pub(crate) fn new(alloc: Global, size: u32) -> Result<Core, StoreFault>
+        ensures zero { IfOk result (λ c. c ≡ zero_core size) }
+        ensures refused { MatchBool (is_storage_size size) (IsOkUnless result Memory) (result ≡ Err Size) }
+    {
+        let storage = Storage::new(alloc, size)?;
+        Ok(Core {
+            psw: Psw::from_u64(0),
+            registers: [0; 16],
+            storage,
+        })
+    }
+
+    /// The current PSW.
+    pub(crate) fn psw(&self) -> Psw
+        ensures { result ≡ self.now.psw }
+    {
+        self.psw
+    }
+
+    /// The word in a general register.
+    pub(crate) fn register(&self, register: RegisterNumber) -> Word
+        ensures word { result ≡ slice_index self.now.registers register }
+        ensures sixteen { length self.now.registers ≡ 16 }
+    {
+        self.registers[register.number() as usize]
+    }
+
+    /// Main storage.
+    pub(crate) fn storage(&self) -> &Storage
+        ensures { result.now ≡ self.now.storage }
+    {
+        &self.storage
+    }
+
+    /// Plans a word for a general register.
+    pub(crate) fn plan_register(
+        &self,
+        register: RegisterNumber,
+        word: Word,
+        plan: &mut Plan,
+    ) -> Result<(), AllocError>
+        requires empty { plan.old ≡ [] }
+        ensures { OnOk result (IsPlanOf self.now plan.new (core_with_register self.now register word)) }
+    {
+        let _ = &self.registers;
+        plan.put(Place::Register(register.number()), u64::from(word))
+    }
+
+    /// Plans bytes from an address on.
+    pub(crate) fn plan_bytes(&self, at: u32, bytes: &[u8], plan: &mut Plan) -> Result<(), AllocError>
+        requires empty { plan.old ≡ [] }
+        requires inside { at + length bytes.now ≤ length self.now.storage.bytes }
+        requires few { length bytes.now ≤ 256 }
+        ensures { OnOk result (IsPlanOf self.now plan.new (core_with_run self.now at bytes.now)) }
+    {
+        let inside = at <= self.storage.size();
+        prove!(inside);
+        for (i, byte) in bytes.iter().enumerate() {
+            plan.put(Place::Byte(at + i as u32), u64::from(*byte))?;
+        }
+        Ok(())
+    }
+
+    /// What stands at a place.
+    fn value(&self, place: Place) -> u64
+        requires { IsPlaceOf self.now place }
+        ensures { result ≡ value_at self.now place }
+    {
+        match place {
+            Place::Psw => self.psw.stored(0, InstructionLength::NotAvailable),
+            Place::Register(register) => u64::from(self.registers[register as usize]),
+            Place::Byte(address) => u64::from(self.storage.byte(address)),
+            Place::Key(block) => u64::from(self.storage.key(block).number()),
+            _ => unreachable!(),
+        }
+    }
+
+    /// Exchanges what stands at the cell's place with its value.
+    fn swap(&mut self, cell: &mut Cell)
+        requires inside { IsPlaceOf self.old cell.old.place }
+        requires fits { Fits cell.old.place cell.old.value }
+        ensures core { self.new ≡ with_value self.old cell.old.place cell.old.value }
+        ensures cell { cell.new ≡ record { place = cell.old.place; value = value_at self.old cell.old.place } }
+        ensures fits { Fits cell.old.place cell.new.value }
+    {
+        match cell.place {
+            Place::Psw => {
+                let taken = self.psw.stored(0, InstructionLength::NotAvailable);
+                self.psw = Psw::from_u64(cell.value);
+                cell.value = taken;
+            }
+            Place::Register(register) => {
+                let taken = u64::from(self.registers[register as usize]);
+                self.registers[register as usize] = cell.value as u32;
+                cell.value = taken;
+            }
+            Place::Byte(_) | Place::Key(_) => self.storage.swap(cell),
+            _ => unreachable!(),
+        }
+    }
+
+    /// Exchanges what stands at the cells' places with their values, one after another.
+    pub(crate) fn exchange(&mut self, cells: &mut [Cell])
+        requires { AreCellsOf self.old cells.old }
+        ensures core { self.new ≡ after_exchange self.old cells.old }
+        ensures cells { cells.new ≡ cells_after_exchange self.old cells.old }
+        ensures fit { AllFit cells.new }
+    {
+        for cell in cells.iter_mut() {
+            self.swap(cell);
+        }
+    }
+
+    /// The cells of a plan that alter their places, in the order of the plan.
+    fn altering(&self, alloc: Global, plan: &Plan) -> Result<Vec<Cell>, AllocError>
+        requires { AreCellsOf self.now plan.now }
+        ensures kept { IfOk result (λ cells. AreKept self.now plan.now cells.items) }
+        ensures few { IfOk result (λ cells. length cells.items ≤ 1000000) }
+    {
+        let mut cells = Vec::with_capacity(alloc, plan.len() as usize)?;
+        for i in 0..plan.len() {
+            let cell = plan.cell(i);
+            if self.value(cell.place) != cell.value {
+                cells.push(cell)?;
+            }
+        }
+        Ok(cells)
+    }
+
+    /// The cells of a plan that alter their places, in the order of places.
+    pub(crate) fn changes(&self, alloc: Global, plan: &Plan) -> Result<Vec<Cell>, AllocError>
+        requires { AreCellsOf self.now plan.now }
+        ensures change { IfOk result (λ cells. IsCoreChangeTo self.now cells.items (after_exchange self.now plan.now)) }
+        ensures few { IfOk result (λ cells. length cells.items ≤ 1000000) }
+    {
+        let mut cells = self.altering(alloc, plan)?;
+        cells.sort_unstable_by_key(|cell| cell.place);
+        Ok(cells)
+    }
+}

@@ -1,0 +1,22 @@
+//! The machine and its events: what an event alters is planned first, room is made for it, and then it
+//! is exchanged with the machine, which the same exchange takes back.
+//!
+//! Source: GA22-6821, "System Structure".
+#![tactic(auto)]
+
+mod changes;
+mod core_state;
+mod cpu;
+mod event;
+mod machine;
+mod refusal;
+mod run_state;
+
+#[cfg(test)]
+mod tests;
+
+pub use changes::Changes;
+pub use event::{Bytes, Event, Patch};
+pub use machine::Machine;
+pub use refusal::Refusal;
+pub use run_state::RunState;

@@ -1,0 +1,99 @@
+-- Which cells of a plan are kept, and what they make.
+use Rattle.std.proofs.Common.{◌≡◌, ◌≢◌, ◌<◌, ◌+◌, ◌++◌, ℕ, List, [], ◌∷◌, refl, ap, sym, ◌∙◌, take, get_or, length, arith, suc, zero, subst, Some, None}
+use Rattle.std.specs.List.{slice_get}
+use Rattle.std.proofs.lemmas.List.{take_more}
+use Rattle.s360_model.specs.Core.{Core}
+use Rattle.s360_store.specs.declared.place.Place.{Place}
+use Rattle.s360_store.specs.declared.place.Cell.{Cell}
+use Rattle.s360_store.specs.Places.{with_value, value_at, IsPlaceOf, Fits}
+use Rattle.s360_store.specs.Cells.{after_exchange, IsFresh, AreCellsOf, AllDiffer}
+use Rattle.s360_store.proofs.PlaceLemmas.{with_value-same_value}
+use Rattle.s360_store.proofs.PlanLemmas.{IsFresh-push}
+use Rattle.s360_store.proofs.ExchangeLemmas.{after_exchange-with_value}
+
+IsFresh-front : (cs : List Cell) (c : Cell) (p : Place) → IsFresh p (cs ++ c ∷ []) → IsFresh p cs
+IsFresh-front [] c p h = tt
+IsFresh-front (d ∷ cs) c p h = (h.0, IsFresh-front cs c p h.1)
+
+IsFresh-last : (cs : List Cell) (c : Cell) (p : Place) → IsFresh p (cs ++ c ∷ []) → p ≢ c.place
+IsFresh-last [] c p h = h.0
+IsFresh-last (d ∷ cs) c p h = IsFresh-last cs c p h.1
+
+IsFresh-at : (cs : List Cell) (i : ℕ) (d : Cell) (p : Place) → i < length cs → IsFresh p cs → p ≢ (get_or cs i d).place
+IsFresh-at [] i d p l h = absurd (omega arith)
+IsFresh-at (c ∷ cs) zero d p l h = h.0
+IsFresh-at (c ∷ cs) (suc i) d p l h = IsFresh-at cs i d p (omega arith) h.1
+
+pub AreCellsOf-push : (m : Core) (cs : List Cell) (c : Cell) → AreCellsOf m cs → IsPlaceOf m c.place → Fits c.place c.value → IsFresh c.place cs → AreCellsOf m (cs ++ c ∷ [])
+AreCellsOf-push m [] c h i f n = (i, f, tt, tt)
+AreCellsOf-push m (d ∷ cs) c h i f n = (h.0, h.1, IsFresh-push cs c d.place (λ e. n.0 (sym e)) h.2, AreCellsOf-push m cs c h.3 i f n.1)
+
+AllDiffer-push : (m : Core) (cs : List Cell) (c : Cell) → AllDiffer m cs → value_at m c.place ≢ c.value → AllDiffer m (cs ++ c ∷ [])
+AllDiffer-push m [] c h n = (n, tt)
+AllDiffer-push m (d ∷ cs) c h n = (h.0, AllDiffer-push m cs c h.1 n)
+
+-- the cell at an index of a plan
+pub record IsCellOf (m : Core) (before : List Cell) (c : Cell) : Type 0 where
+  pub inside : IsPlaceOf m c.place
+  pub fits : Fits c.place c.value
+  pub fresh : IsFresh c.place before
+
+pub IsCellOf-at : (m : Core) (cs : List Cell) (i : ℕ) (d : Cell) → i < length cs → AreCellsOf m cs → IsCellOf m (take i cs) (get_or cs i d)
+IsCellOf-at m [] i d l h = absurd (omega arith)
+IsCellOf-at m (c ∷ cs) zero d l h = record { inside = h.0; fits = h.1; fresh = tt }
+IsCellOf-at m (c ∷ cs) (suc i) d l h =
+    let rest : IsCellOf m (take i cs) (get_or cs i d) = IsCellOf-at m cs i d (omega arith) h.3
+    in record { inside = rest.inside; fits = rest.fits; fresh = (λ e. IsFresh-at cs i d c.place (omega arith) h.2 (sym e), rest.fresh) }
+
+pub IsCellOf-cell : (m : Core) (cs : List Cell) (i : ℕ) (c : Cell) → c ≡ get_or cs i c → i < length cs → AreCellsOf m cs → IsCellOf m (take i cs) c
+IsCellOf-cell m cs i c e l h = subst (λ (x : Cell). IsCellOf m (take i cs) x) (sym e) (IsCellOf-at m cs i c l h)
+
+pub after_exchange-push : (m : Core) (cs : List Cell) (c : Cell) → after_exchange m (cs ++ c ∷ []) ≡ with_value (after_exchange m cs) c.place c.value
+after_exchange-push m [] c = refl
+after_exchange-push m (d ∷ cs) c = after_exchange-push (with_value m d.place d.value) cs c
+
+-- the cells kept make the same core as the plan, alter their places, and have no other places
+pub record AreKept (m : Core) (plan kept : List Cell) : Type 0 where
+  pub cells : AreCellsOf m kept
+  pub makes : after_exchange m kept ≡ after_exchange m plan
+  pub among : (p : Place) → IsFresh p plan → IsFresh p kept
+  pub alter : AllDiffer m kept
+
+pub AreKept-skip : (m : Core) (plan kept : List Cell) (i : ℕ) (c : Cell) → c ≡ get_or plan i c → i < length plan → AreCellsOf m plan → AreKept m (take i plan) kept
+    → value_at m c.place ≡ c.value → AreKept m (take (i + 1) plan) kept
+AreKept-skip m plan kept i c e l h k v =
+    let at : IsCellOf m (take i plan) c = IsCellOf-cell m plan i c e l h
+    in let more : take (i + 1) plan ≡ take i plan ++ c ∷ [] = take_more plan i c l ∙ ap (λ (x : Cell). take i plan ++ x ∷ []) (sym e)
+    in let same : with_value (after_exchange m (take i plan)) c.place c.value ≡ after_exchange m (take i plan)
+    = sym (after_exchange-with_value m (take i plan) c.place c.value at.fresh)
+    ∙ ap (λ w. after_exchange (with_value m c.place w) (take i plan)) (sym v)
+    ∙ ap (λ n. after_exchange n (take i plan)) (with_value-same_value m c.place)
+    in record {
+      cells = k.cells;
+      makes = rw more (k.makes ∙ sym (after_exchange-push m (take i plan) c ∙ same));
+      among = λ p f. k.among p (IsFresh-front (take i plan) c p (rw more at f));
+      alter = k.alter;
+    }
+
+pub AreKept-push : (m : Core) (plan kept : List Cell) (i : ℕ) (c : Cell) → c ≡ get_or plan i c → i < length plan → AreCellsOf m plan → AreKept m (take i plan) kept
+    → value_at m c.place ≢ c.value → AreKept m (take (i + 1) plan) (kept ++ c ∷ [])
+AreKept-push m plan kept i c e l h k v =
+    let at : IsCellOf m (take i plan) c = IsCellOf-cell m plan i c e l h
+    in let fresh : IsFresh c.place kept = k.among c.place at.fresh
+    in let more : take (i + 1) plan ≡ take i plan ++ c ∷ [] = take_more plan i c l ∙ ap (λ (x : Cell). take i plan ++ x ∷ []) (sym e)
+    in record {
+      cells = AreCellsOf-push m kept c k.cells at.inside at.fits fresh;
+      makes = rw more (after_exchange-push m kept c ∙ ap (λ n. with_value n c.place c.value) k.makes ∙ sym (after_exchange-push m (take i plan) c));
+      among = λ p g. let both : IsFresh p (take i plan ++ c ∷ []) = rw more at g
+          in IsFresh-push kept c p (IsFresh-last (take i plan) c p both) (k.among p (IsFresh-front (take i plan) c p both));
+      alter = AllDiffer-push m kept c k.alter v;
+    }
+
+-- the cell that a plan answers at an index
+pub cell-at : (cs : List Cell) (i : ℕ) (c : Cell) → slice_get cs i ≡ Some c → c ≡ get_or cs i c
+cell-at [] i c h = absurd (let none : Some c ≡ None = sym h in cc)
+cell-at (d ∷ cs) zero c h = (let same : d ≡ c = cc in sym same)
+cell-at (d ∷ cs) (suc i) c h = cell-at cs i c h
+
+pub AreKept-none : (m : Core) → AreKept m [] []
+AreKept-none m = record { cells = tt; makes = refl; among = λ p h. tt; alter = tt }

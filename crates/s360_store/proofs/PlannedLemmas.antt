@@ -1,0 +1,71 @@
+-- What a plan makes of a core, one put after another.
+use Rattle.std.proofs.Common.{◌≡◌, ◌≢◌, ℕ, List, [], ◌∷◌, refl, ap, sym, ◌∙◌, Bool, true, false, cond, Some, None, unwrap_or}
+use Rattle.s360_model.specs.Core.{Core}
+use Rattle.s360_store.specs.declared.place.Place.{Place}
+use Rattle.s360_store.specs.declared.place.Cell.{Cell}
+use Rattle.s360_store.specs.Places.{same_place, with_value, value_at, IsPlaceOf, Fits}
+use Rattle.s360_store.specs.Cells.{after_exchange, IsFresh, HasEachOnce, AreCellsOf}
+use Rattle.s360_store.specs.Plans.{after_put, planned_value, IsPlanOf}
+use Rattle.s360_store.proofs.PlaceLemmas.{value_at-same, value_at-other, IsPlaceOf-kept}
+use Rattle.s360_store.proofs.PlanLemmas.{same_place-refl, same_place-true, after_exchange-after_put}
+use Rattle.s360_store.proofs.ExchangeLemmas.{value_at-after_exchange, AreCellsOf-kept}
+
+differs : (p q : Place) → same_place p q ≡ false → p ≢ q
+differs p q e s = let r : same_place p p ≡ false = rw (← s) at e in let t : same_place p p ≡ true = same_place-refl p in cc
+
+pub HasEachOnce-from : (m : Core) (cs : List Cell) → AreCellsOf m cs → HasEachOnce cs
+HasEachOnce-from m [] h = tt
+HasEachOnce-from m (c ∷ cs) h = (h.2, HasEachOnce-from m cs h.3)
+
+pub IsFresh-after_put : (cs : List Cell) (p q : Place) (v : ℕ) → q ≢ p → IsFresh q cs → IsFresh q (after_put cs p v)
+IsFresh-after_put [] p q v n h = (n, tt)
+IsFresh-after_put (c ∷ cs) p q v n h =
+    let by : (b : Bool) → IsFresh q (cond b (record { place = c.place; value = v } ∷ cs) (c ∷ after_put cs p v))
+    = λ b. elim b as (λ x. IsFresh q (cond x (record { place = c.place; value = v } ∷ cs) (c ∷ after_put cs p v)))
+    [ true ↦ (h.0, h.1) | false ↦ (h.0, IsFresh-after_put cs p q v n h.1) ]
+    in by (same_place c.place p)
+
+pub AreCellsOf-after_put : (m : Core) (cs : List Cell) (p : Place) (v : ℕ) → AreCellsOf m cs → IsPlaceOf m p → Fits p v → AreCellsOf m (after_put cs p v)
+AreCellsOf-after_put m [] p v h i f = (i, f, tt, tt)
+AreCellsOf-after_put m (c ∷ cs) p v h i f =
+    let by : (b : Bool) → same_place c.place p ≡ b → AreCellsOf m (cond b (record { place = c.place; value = v } ∷ cs) (c ∷ after_put cs p v))
+    = λ b. elim b as (λ x. same_place c.place p ≡ x → AreCellsOf m (cond x (record { place = c.place; value = v } ∷ cs) (c ∷ after_put cs p v))) [
+      | true ↦ λ e. (h.0, rw (same_place-true c.place p e) f, h.2, h.3)
+      | false ↦ λ e. (h.0, h.1, IsFresh-after_put cs p c.place v (λ s. differs c.place p e s) h.2, AreCellsOf-after_put m cs p v h.3 i f)
+    ]
+    in by (same_place c.place p) refl
+
+-- what stands at a place after the plan is the plan's value, or else the core's
+pub value_at-plan : (m : Core) (cs : List Cell) (p : Place) → AreCellsOf m cs → IsPlaceOf m p → value_at (after_exchange m cs) p ≡ unwrap_or (planned_value cs p) (value_at m p)
+value_at-plan m [] p h i = refl
+value_at-plan m (c ∷ cs) p h i =
+    let n : Core = with_value m c.place c.value
+    in let by : (b : Bool) → same_place c.place p ≡ b → value_at (after_exchange n cs) p ≡ unwrap_or (cond b (Some c.value) (planned_value cs p)) (value_at m p)
+    = λ b. elim b as (λ x. same_place c.place p ≡ x → value_at (after_exchange n cs) p ≡ unwrap_or (cond x (Some c.value) (planned_value cs p)) (value_at m p)) [
+      | true ↦ λ e. let q : c.place ≡ p = same_place-true c.place p e
+          in rw (← q) (value_at-after_exchange n cs c.place h.2 ∙ value_at-same m c.place c.value h.0)
+      | false ↦ λ e. value_at-plan n cs p (AreCellsOf-kept m cs c.place c.value h.3) (IsPlaceOf-kept m c.place p c.value i)
+          ∙ ap (λ v. unwrap_or (planned_value cs p) v) (value_at-other m c.place p c.value (differs c.place p e))
+    ]
+    in by (same_place c.place p) refl
+
+pub planned_value-fits : (m : Core) (cs : List Cell) (p : Place) (v : ℕ) → AreCellsOf m cs → planned_value cs p ≡ Some v → Fits p v
+planned_value-fits m [] p v h e = absurd (let u : Some v ≡ None = sym e in cc)
+planned_value-fits m (c ∷ cs) p v h e =
+    let by : (b : Bool) → same_place c.place p ≡ b → cond b (Some c.value) (planned_value cs p) ≡ Some v → Fits p v
+    = λ b. elim b as (λ x. same_place c.place p ≡ x → cond x (Some c.value) (planned_value cs p) ≡ Some v → Fits p v) [
+      | true ↦ λ s t. let q : c.place ≡ p = same_place-true c.place p s in let w : c.value ≡ v = cc in rw (← w, ← q) h.1
+      | false ↦ λ s t. planned_value-fits m cs p v h.3 t
+    ]
+    in by (same_place c.place p) refl e
+
+-- a plan of nothing, and one put more
+pub IsPlanOf-none : (m : Core) → IsPlanOf m [] m
+IsPlanOf-none m = record { cells = tt; makes = refl }
+
+pub IsPlanOf-put : (m : Core) (cs : List Cell) (n : Core) (p : Place) (v : ℕ) → IsPlanOf m cs n → IsPlaceOf m p → Fits p v
+    → IsPlanOf m (after_put cs p v) (with_value n p v)
+IsPlanOf-put m cs n p v h i f = record {
+  cells = AreCellsOf-after_put m cs p v h.cells i f;
+  makes = after_exchange-after_put m cs p v (HasEachOnce-from m cs h.cells) ∙ ap (λ k. with_value k p v) h.makes;
+}
