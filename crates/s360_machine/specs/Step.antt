@@ -61,9 +61,12 @@ abbrev pub is_unbuilt : Machine → Event → Bool
 is_unbuilt m Cpu = if is_running m then needs_more (instruction m.core) else false
 is_unbuilt m (patch p) = false
 
--- the machine after an event, or its refusal: what the event and the storage size refuse comes first
+-- a refusal for the event's own sake comes before that it is not built yet
+abbrev pub step_to : Option Refusal → Bool → Machine → Result Machine Refusal
+step_to (Some r) unbuilt n = Err r
+step_to None true n = Err Unbuilt
+step_to None false n = Ok n
+
+-- the machine after an event, or its refusal
 abbrev pub step : Machine → Event → Result Machine Refusal
-step m e = accepted (refusal_of (storage_size m) e) where
-  accepted : Option Refusal → Result Machine Refusal
-  accepted (Some r) = Err r
-  accepted None = if is_unbuilt m e then Err Unbuilt else Ok (after m e)
+step m e = step_to (refusal_of (storage_size m) e) (is_unbuilt m e) (after m e)

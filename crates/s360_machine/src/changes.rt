@@ -1,8 +1,11 @@
 //! What an event alters, ready to be exchanged with the machine.
-ghost use Rattle.std.specs.Prelude.{◌≡◌, ◌<◌, length, Some, slice_get};
+ghost use Rattle.std.specs.Prelude.{◌≡◌, ◌<◌, length, Some, slice_get, IfOk};
+ghost use Rattle.std.specs.List.{list_any};
+ghost use Rattle.s360_store.specs.Places.{same_place};
 ghost use Rattle.s360_machine.specs.Change.{places_of_change};
 
 use s360_store::{Cell, Place};
+use std::alloc::{AllocError, Global};
 use std::marker::Model;
 
 /// The places that an event alters, in their order, each with the value that stands there while the
@@ -37,5 +40,22 @@ impl Changes {
         ensures { slice_get (places_of_change self.now) i ≡ Some result }
     {
         self.cells[i as usize].place
+    }
+
+    /// All the places, in their order.
+    pub fn places(&self, alloc: Global) -> Result<Vec<Place>, AllocError>
+        ensures { IfOk result (λ places. places.items ≡ places_of_change self.now) }
+    {
+        self.cells.iter().map(|cell| cell.place).collect(alloc)
+    }
+
+    /// Whether a place is among them.
+    pub fn alters(&self, place: Place) -> bool
+        ensures { result ≡ list_any (λ q. same_place q place) (places_of_change self.now) }
+    {
+        self.cells
+            .iter()
+            .map(|cell| cell.place)
+            .any(|other| other.is(place))
     }
 }

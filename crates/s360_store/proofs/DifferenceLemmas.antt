@@ -1,15 +1,14 @@
 -- The places of ascending cells that alter them are those at which the cores differ.
-use Rattle.std.proofs.Common.{◌≡◌, ◌≢◌, ◌<◌, ◌≤◌, ◌+◌, ◌++◌, ℕ, List, [], ◌∷◌, refl, ap, sym, ◌∙◌, ◌⊎◌, inl, inr, arith, map, length, Bool, true, false, not, nat_eq, take, drop, suc, zero, get_or}
+use Rattle.std.proofs.Common.{◌≡◌, ◌≢◌, ◌<◌, ◌≤◌, ◌+◌, ◌++◌, ℕ, List, [], ◌∷◌, refl, ap, sym, ◌∙◌, ◌⊎◌, inl, inr, arith, map, length, Bool, true, false, not, nat_eq}
 use Rattle.std.specs.List.{range_with_len}
-use Rattle.std.proofs.lemmas.Bool.{eqb-true, eq-eqb, cases_lt}
-use Rattle.std.proofs.lemmas.List.{drop_more}
+use Rattle.std.proofs.lemmas.Bool.{eqb-true, eq-eqb}
 use Rattle.s360_model.specs.Core.{Core}
 use Rattle.s360_store.specs.declared.place.Place.{Place}
 use Rattle.s360_store.specs.declared.place.Place.TheVariants.{Psw, Register, Byte, Key}
 use Rattle.s360_store.specs.declared.place.Cell.{Cell}
 use Rattle.s360_store.specs.Places.{same_place, value_at, with_value, IsPlaceOf}
 use Rattle.s360_store.specs.Cells.{after_exchange, IsFresh, AreCellsOf, AllDiffer, places_of_cells}
-use Rattle.s360_store.specs.Order.{kind_of, number_of, IsBeforeAll, IsAscending}
+use Rattle.s360_store.specs.Order.{kind_of, IsAscending}
 use Rattle.s360_store.specs.Differences.{places_of, core_differences}
 use Rattle.s360_store.proofs.AscendingLemmas.{Among, IsKind, IsAscending-append, IsAscending-range, IsBeforeAll-kind, IsBeforeAll-append, Among-append_left, Among-append_right, Among-range, range-Among, same_ascending, IsAscending-filter, Among-filter, Among-filtered}
 use Rattle.s360_store.proofs.PlaceLemmas.{value_at-same, value_at-other, IsPlaceOf-before}

@@ -5,7 +5,7 @@ use Rattle.s360_model.specs.Core.{Core}
 use Rattle.s360_store.specs.declared.place.Place.{Place}
 use Rattle.s360_store.specs.declared.place.Cell.{Cell}
 use Rattle.s360_store.specs.Places.{IsPlaceOf, Fits, value_at, with_value}
-use Rattle.s360_store.specs.Cells.{after_exchange, cells_after_exchange, IsFresh, AreCellsOf, AllFit}
+use Rattle.s360_store.specs.Cells.{after_exchange, cells_after_exchange, IsFresh, AreCellsOf, AllFit, places_of_cells}
 use Rattle.s360_store.proofs.PlaceLemmas.{value_at-same, value_at-other, with_value-twice, with_value-same_value, with_value-comm, IsPlaceOf-kept, IsPlaceOf-before}
 
 -- a place that no cell has keeps its value
@@ -125,3 +125,8 @@ IsExchange-from m cs n items h en ei f = record {
   core = rw (en, ei) (after_exchange-twice m cs h);
   cells = rw (en, ei) (cells_after_exchange-twice m cs h);
 }
+
+-- an exchange keeps the places
+pub places_of_cells-cells_after_exchange : (m : Core) (cs : List Cell) → places_of_cells (cells_after_exchange m cs) ≡ places_of_cells cs
+places_of_cells-cells_after_exchange m [] = refl
+places_of_cells-cells_after_exchange m (c ∷ cs) = ap (λ ps. c.place ∷ ps) (places_of_cells-cells_after_exchange (with_value m c.place c.value) cs)

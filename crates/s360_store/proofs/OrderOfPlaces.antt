@@ -1,5 +1,5 @@
 -- The derived order of places is the one by kind and number.
-use Rattle.std.proofs.Common.{◌≡◌, ◌≢◌, ◌<◌, ℕ, true, false, refl, ap, sym, ◌∙◌, inl, inr, subst, arith}
+use Rattle.std.proofs.Common.{◌≡◌, ◌≢◌, ◌<◌, true, false, refl, ap, sym, inl, inr, subst, arith}
 use Rattle.std.proofs.lemmas.Cmp.{ranked}
 use Rattle.std.specs.Ordering.{is_eq, nat_cmp, MatchOrdering}
 use Rattle.std.specs.declared.cmp.Ord

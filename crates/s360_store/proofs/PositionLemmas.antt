@@ -1,6 +1,6 @@
 -- Where the cells of a plan stand, by a look at each or by the index.
-use Rattle.std.proofs.Common.{◌≡◌, ◌≢◌, ◌<◌, ◌≤◌, ◌+◌, ◌++◌, ℕ, zero, suc, Option, Some, None, List, [], ◌∷◌, Bool, true, false, cond, refl, ap, sym, ◌∙◌, take, set, get_or, length, length-append, nat_lt, arith, MatchOption}
-use Rattle.std.proofs.lemmas.Bool.{cases_lt, ltb-true, ltb-false}
+use Rattle.std.proofs.Common.{◌≡◌, ◌≢◌, ◌<◌, ◌≤◌, ◌+◌, ◌++◌, ℕ, zero, suc, Option, Some, None, List, [], ◌∷◌, Bool, true, false, cond, refl, ap, sym, ◌∙◌, take, set, get_or, length, length-append, nat_lt, arith}
+use Rattle.std.proofs.lemmas.Bool.{ltb-true, ltb-false}
 use Rattle.std.proofs.lemmas.List.{take-append-le, take_all, get_or_push, length-set}
 use Rattle.std.proofs.lemmas.List.Sums.{fails_before_first, passes_at_first}
 use Rattle.std.specs.List.{position, position_or_len}

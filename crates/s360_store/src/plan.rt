@@ -1,10 +1,11 @@
 //! The plan of an event: the values that it will put, each place at most once, in the order of
 //! their first puts. A contract sees the list of its cells.
 //!
-//! A plan of a few places is scanned. A longer one has an index by place, so that neither a put nor a
-//! look-up takes more than logarithmic time.
+//! A plan of a few places is scanned. A longer one has an index by place, so that neither a put nor
+//! a look-up takes more than logarithmic time.
 ghost use Rattle.std.specs.Prelude.{◌≡◌, ◌<◌, ◌≤◌, ◌⊎◌, ◌++◌, ◌∷◌, [], length, slice_index_or};
-ghost use Rattle.std.specs.Prelude.{OnOk, OnErr, IfOk, IsSome, Some, slice_get, position, IsTrue, ◌↔◌};
+ghost use Rattle.std.specs.Prelude.{OnOk, OnErr, IfOk, IsSome, Some, slice_get, position, IsTrue};
+ghost use Rattle.std.specs.Prelude.{◌↔◌};
 ghost use Rattle.s360_store.specs.Places.{same_place};
 ghost use Rattle.s360_store.specs.Cells.{HasEachOnce, IsFresh};
 ghost use Rattle.s360_store.specs.Plans.{after_put, planned_value};

@@ -43,15 +43,12 @@ fn sizes(rt: HostRuntime) -> Result<(), Fail> {
     }
     for size in [
         0,
-        1,
         2_048,
         6_144,
         8_191,
         8_193,
         9_216,
-        10_239,
         1_048_575,
-        1_048_577,
         1_050_624,
         0x8000_0000,
         0xFFFF_F800,
@@ -109,7 +106,6 @@ fn numbers_have_their_high_byte_first(rt: HostRuntime) -> Result<(), Fail> {
     for (address, double) in [
         (593, 0x0000_0000_0000_0012),
         (596, 0x0000_0000_1234_5678),
-        (600, 0x1234_5678_9ABC_DEF0),
         (603, 0x789A_BCDE_F000_0000),
         (8_184, 0x1234_5678_9ABC_DEF0),
     ] {

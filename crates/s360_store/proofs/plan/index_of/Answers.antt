@@ -1,4 +1,4 @@
-use Rattle.std.proofs.Common.{◌≡◌, ◌<◌, ◌++◌, ◌∷◌, [], length, get_or, take, arith}
+use Rattle.std.proofs.Common.{◌≡◌, ◌<◌, length, get_or, take, arith}
 use Rattle.std.proofs.lemmas.List.{take_more, length-take-le}
 use Rattle.s360_store.specs.declared.place.Place.TheVariants.{Psw}
 use Rattle.s360_store.specs.declared.place.Cell.{Cell}

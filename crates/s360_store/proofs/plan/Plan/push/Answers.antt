@@ -1,5 +1,4 @@
 use Rattle.std.proofs.Common.{◌≡◌, ◌<◌, ◌++◌, ◌∷◌, [], ap, ◌∙◌, length, length-append, arith}
-use Rattle.s360_store.specs.Cells.{HasEachOnce}
 use Rattle.s360_store.proofs.PlanLemmas.{HasEachOnce-push}
 use Rattle.s360_store.proofs.plan.Plan.push.Goals as goal
 

@@ -1,9 +1,8 @@
-use Rattle.std.proofs.Common.{◌≡◌, ◌<◌, ◌≤◌, ℕ, None, true, sym, ◌∙◌, length, inl, inr, arith}
+use Rattle.std.proofs.Common.{◌≡◌, ◌≤◌, ℕ, None, true, sym, ◌∙◌, length, inl, inr}
 use Rattle.std.proofs.lemmas.List.{length-set}
 use Rattle.std.specs.Option.{is_some}
 use Rattle.s360_store.specs.declared.place.Cell.{Cell}
 use Rattle.s360_store.specs.PlanIndex.{IsCellAt}
-use Rattle.s360_store.specs.Cells.{IsFresh}
 use Rattle.s360_store.specs.Plans.{planned_value}
 use Rattle.s360_store.proofs.PlanLemmas.{after_put-fresh, after_put-found, HasEachOnce-set, planned_value-fresh}
 use Rattle.s360_store.proofs.PositionLemmas.{IsPositionOf-set}

@@ -1,0 +1,4 @@
+pub mod HistoryLemmas
+pub mod LastChangeLemmas
+pub mod ForwardLemmas
+pub mod RunLemmas

@@ -1,0 +1,56 @@
+-- A run of calls leaves the start and the limit, and the events that stand by its calls and answers.
+use Rattle.std.proofs.Common.{◌≡◌, ◌+◌, ◌-◌, ◌++◌, ℕ, List, [], ◌∷◌, refl, ap, sym, ◌∙◌, length, length-append, take, arith, Ok, Err}
+use Rattle.std.proofs.lemmas.List.{take_at}
+use Rattle.s360_machine.specs.Machine.{Machine}
+use Rattle.s360_machine.specs.declared.event.Event.{Event}
+use Rattle.s360_journal.specs.declared.calls.Call.{Call}
+use Rattle.s360_journal.specs.declared.calls.Call.TheVariants.{Forward, Back, Standing as standing, LastChange}
+use Rattle.s360_journal.specs.declared.calls.Answer.{Answer}
+use Rattle.s360_journal.specs.declared.calls.Answer.TheVariants.{Forwarded, TookBack, Stands, LastChanged}
+use Rattle.s360_journal.specs.Standing.{Standing}
+use Rattle.s360_journal.specs.Calls.{events_after, standing_events, IsAnswer, IsRun}
+
+pub record Leads (s t : Standing) (events : List Event) : Type 0 where
+  pub start : t.start ≡ s.start
+  pub limit : t.limit ≡ s.limit
+  pub stands : t.events ≡ events
+
+take-push : (xs : List Event) (e : Event) → take (length (xs ++ e ∷ []) - 1) (xs ++ e ∷ []) ≡ xs
+take-push xs e =
+    let count : length (xs ++ e ∷ []) - 1 ≡ length xs = omega (arith, length-append xs (e ∷ []))
+    in let same : length xs ≡ length xs = refl
+    in rw count (rw take_at refl)
+
+pub empty_from : (cs : List Call) → length cs ≡ 0 → cs ≡ []
+empty_from [] h = refl
+empty_from (c ∷ cs) h = absurd (omega arith)
+
+unchanged : (s t : Standing) → t ≡ s → Leads s t s.events
+unchanged s t e = record { start = ap (λ (x : Standing). x.start) e; limit = ap (λ (x : Standing). x.limit) e; stands = ap (λ (x : Standing). x.events) e }
+
+Leads-IsAnswer : (s t : Standing) (c : Call) (a : Answer) → IsAnswer s c a t → Leads s t (events_after s.events c a)
+Leads-IsAnswer s t (Forward e) (Forwarded (Ok r)) h =
+    record { start = ap (λ (x : Standing). x.start) h.3; limit = ap (λ (x : Standing). x.limit) h.3; stands = ap (λ (x : Standing). x.events) h.3 }
+Leads-IsAnswer s t (Forward e) (Forwarded (Err r)) h = unchanged s t h.1
+Leads-IsAnswer s t Back (TookBack (Ok e)) h = record {
+  start = ap (λ (x : Standing). x.start) (sym h);
+  limit = ap (λ (x : Standing). x.limit) (sym h);
+  stands = sym (ap (λ (x : Standing). take (length x.events - 1) x.events) h ∙ take-push t.events e);
+}
+Leads-IsAnswer s t Back (TookBack (Err n)) h = unchanged s t h.1
+Leads-IsAnswer s t standing (Stands n) h = unchanged s t h.1
+Leads-IsAnswer s t (LastChange p) (LastChanged k) h = unchanged s t h.1
+Leads-IsAnswer s t c a h = absurd h
+
+pub Leads-IsRun : (s t : Standing) (cs : List Call) (answers : List Answer) → IsRun s cs answers t → Leads s t (standing_events s.events cs answers)
+Leads-IsRun s t [] [] h = unchanged s t h
+Leads-IsRun s t (c ∷ cs) (a ∷ answers) h =
+    let first : Leads s h.0 (events_after s.events c a) = Leads-IsAnswer s h.0 c a h.1
+    in let rest : Leads h.0 t (standing_events h.0.events cs answers) = Leads-IsRun h.0 t cs answers h.2
+    in record {
+      start = rest.start ∙ first.start;
+      limit = rest.limit ∙ first.limit;
+      stands = rest.stands ∙ ap (λ es. standing_events es cs answers) first.stands;
+    }
+Leads-IsRun s t [] (a ∷ answers) h = absurd h
+Leads-IsRun s t (c ∷ cs) [] h = absurd h

@@ -1,0 +1,13 @@
+use Rattle.std.proofs.Common.{◌∙◌, ap, []}
+use Rattle.s360_journal.specs.Rerun.{rerun}
+use Rattle.s360_journal.specs.Standing.{Standing}
+use Rattle.s360_journal.specs.Calls.{IsRun, standing_events}
+use Rattle.s360_journal.proofs.RunLemmas.{Leads, Leads-IsRun}
+use Rattle.s360_journal.proofs.calls.run_calls.Goals as goal
+
+pub returns-clause-machine : goal.returns-clause-machine
+returns-clause-machine c =
+    let s : Standing = record { start = c.args.start; events = []; limit = c.args.limit }
+    in let run : IsRun s c.args.calls.items c.in_ok-answers.answers.items c.perform_all.new.self = rw c.new-session.ensures at c.in_ok-answers.ensures.run
+    in let leads : Leads s c.perform_all.new.self (standing_events [] c.args.calls.items c.in_ok-answers.answers.items) = Leads-IsRun _ _ _ _ run
+    in c.into_machine.ensures ∙ ap (λ m. rerun m c.perform_all.new.self.events) leads.start ∙ ap (λ es. rerun c.args.start es) leads.stands

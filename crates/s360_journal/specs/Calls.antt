@@ -1,0 +1,42 @@
+-- Lists of session calls with their answers.
+use Rattle.std.specs.Prelude.{◌≡◌, ◌++◌, ◌-◌, List, [], ◌∷◌, length, take, None, Ok, Err, MatchOption, false}
+use Rattle.s360_machine.specs.declared.event.Event.{Event}
+use Rattle.s360_machine.specs.Step.{is_unbuilt}
+use Rattle.s360_machine.specs.Planned.{IsAnswerToEvent}
+use Rattle.s360_journal.specs.declared.calls.Call.{Call}
+use Rattle.s360_journal.specs.declared.calls.Call.TheVariants.{Forward, Back, Standing as standing, LastChange}
+use Rattle.s360_journal.specs.declared.calls.Answer.{Answer}
+use Rattle.s360_journal.specs.declared.calls.Answer.TheVariants.{Forwarded, TookBack, Stands, LastChanged}
+use Rattle.s360_journal.specs.Reports.{IsReport}
+use Rattle.s360_journal.specs.Rerun.{last_change_of}
+use Rattle.s360_journal.specs.Standing.{Standing, machine_of, refusal_in, alteration}
+
+-- the events that stand after a call with its answer: an accepted event is added, a step back drops the
+-- last, and all else leaves them
+abbrev pub events_after : List Event → Call → Answer → List Event
+events_after es (Forward e) (Forwarded (Ok r)) = es ++ e ∷ []
+events_after es Back (TookBack (Ok e)) = take (length es - 1) es
+events_after es c a = es
+
+-- the events that stand after calls with their answers
+abbrev pub standing_events : List Event → List Call → List Answer → List Event
+standing_events es (c ∷ cs) (a ∷ answers) = standing_events (events_after es c a) cs answers
+standing_events es cs answers = es
+
+-- the call may answer this in the session s, and leaves t
+abbrev pub IsAnswer : Standing → Call → Answer → Standing → Type 0
+IsAnswer s (Forward e) (Forwarded (Ok r)) t =
+    (refusal_in s e ≡ None) × (is_unbuilt (machine_of s) e ≡ false) × IsReport r (alteration s e) × (t ≡ record s { events = s.events ++ e ∷ [] })
+IsAnswer s (Forward e) (Forwarded (Err r)) t =
+    MatchOption (refusal_in s e) (IsAnswerToEvent {X = Event} (is_unbuilt (machine_of s) e) (Err r)) (λ q. r ≡ q) × (t ≡ s)
+IsAnswer s Back (TookBack (Ok e)) t = s ≡ record t { events = t.events ++ e ∷ [] }
+IsAnswer s Back (TookBack (Err n)) t = (s.events ≡ []) × (t ≡ s)
+IsAnswer s standing (Stands n) t = (n ≡ length s.events) × (t ≡ s)
+IsAnswer s (LastChange p) (LastChanged k) t = (k ≡ last_change_of s.start s.events p) × (t ≡ s)
+IsAnswer s c a t = ⊥
+
+-- the calls may answer these one after another, and lead from the session s to t
+abbrev pub IsRun : Standing → List Call → List Answer → Standing → Type 0
+IsRun s [] [] t = t ≡ s
+IsRun s (c ∷ cs) (a ∷ answers) t = (between : Standing) × IsAnswer s c a between × IsRun between cs answers t
+IsRun s cs answers t = ⊥

@@ -1,0 +1,5 @@
+pub mod Reports
+pub mod Rerun
+pub mod Standing
+pub mod History
+pub mod Calls

@@ -1,0 +1,34 @@
+-- What a session is seen as, and what may answer an event in it.
+use Rattle.std.specs.Prelude.{ℕ, List, length, nat_lt, if◌then◌else◌, Option, Some, None}
+use Rattle.s360_store.specs.declared.place.Place.{Place}
+use Rattle.s360_machine.specs.declared.event.Event.{Event}
+use Rattle.s360_machine.specs.declared.refusal.Refusal.{Refusal}
+use Rattle.s360_machine.specs.declared.refusal.Refusal.TheVariants.{JournalFull}
+use Rattle.s360_machine.specs.Machine.{Machine, storage_size}
+use Rattle.s360_machine.specs.Step.{after}
+use Rattle.s360_machine.specs.Refusals.{refusal_of}
+use Rattle.s360_machine.specs.Planned.{differences}
+use Rattle.s360_journal.specs.Rerun.{rerun}
+
+-- the machine at the start, the events that stand, and how many may stand
+pub record Standing : Type 0 where
+  pub start : Machine
+  pub events : List Event
+  pub limit : ℕ
+
+-- the machine now: the start with the standing events run again
+abbrev pub machine_of : Standing → Machine
+machine_of s = rerun s.start s.events
+
+-- a full journal comes after what the event's own sake refuses
+abbrev pub or_full : Option Refusal → ℕ → ℕ → Option Refusal
+or_full (Some r) count limit = Some r
+or_full None count limit = if nat_lt count limit then None else Some JournalFull
+
+-- why an event is refused, but for want of memory or as not built yet
+abbrev pub refusal_in : Standing → Event → Option Refusal
+refusal_in s e = or_full (refusal_of (storage_size (machine_of s)) e) (length s.events) s.limit
+
+-- the places that an event alters
+abbrev pub alteration : Standing → Event → List Place
+alteration s e = differences (machine_of s) (after (machine_of s) e)

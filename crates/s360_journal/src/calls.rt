@@ -1,0 +1,99 @@
+//! Lists of session calls. The contract of `run_calls` is what the whole stands for: after any list of
+//! calls, whatever each answered, the machine is its start with the standing events run again.
+ghost use Rattle.std.specs.Prelude.{◌≡◌, ◌≤◌, IfOk, OnErr, length, []};
+ghost use Rattle.s360_journal.specs.Rerun.{rerun};
+ghost use Rattle.s360_journal.specs.Calls.{IsAnswer, IsRun, standing_events};
+ghost use Rattle.s360_journal.specs.Standing.{Standing as State};
+
+use crate::report::Report;
+use crate::session::{NothingStands, Session};
+use s360_machine::{Event, Machine, Refusal};
+use s360_store::Place;
+use std::alloc::{AllocError, Global};
+use std::collections::VecDeque;
+
+/// A call of a session.
+#[derive(Debug, Drop)]
+pub enum Call {
+    /// `Session::forward`
+    Forward(Event),
+    /// `Session::back`
+    Back,
+    /// `Session::standing`
+    Standing,
+    /// `Session::last_change`
+    LastChange(Place),
+}
+
+/// What a call answered.
+#[derive(Debug, Drop)]
+pub enum Answer {
+    /// Of `Session::forward`.
+    Forwarded(Result<Report, Refusal>),
+    /// Of `Session::back`.
+    TookBack(Result<Event, NothingStands>),
+    /// Of `Session::standing`.
+    Stands(u32),
+    /// Of `Session::last_change`.
+    LastChanged(Option<u32>),
+}
+
+/// What a list of calls leaves.
+#[derive(Drop)]
+pub struct Outcome {
+    /// Each call's answer, in their order.
+    pub answers: Vec<Answer>,
+    /// The machine after all of them.
+    pub machine: Machine,
+}
+
+impl Session {
+    /// One call.
+    pub fn perform(&mut self, call: Call) -> Answer
+        ensures { IsAnswer self.old call result self.new }
+    {
+        match call {
+            Call::Forward(event) => Answer::Forwarded(self.forward(event)),
+            Call::Back => Answer::TookBack(self.back()),
+            Call::Standing => Answer::Stands(self.standing()),
+            Call::LastChange(place) => Answer::LastChanged(self.last_change(place)),
+        }
+    }
+
+    /// Calls one after another. Want of memory for their answers leaves the session as it was.
+    pub fn perform_all(
+        &mut self,
+        alloc: Global,
+        calls: Vec<Call>,
+    ) -> Result<Vec<Answer>, AllocError>
+        ensures run { IfOk result (λ answers. IsRun self.old calls.items answers.items self.new) }
+        ensures err { OnErr result (self.new ≡ self.old) }
+    {
+        let mut answers = Vec::with_capacity(alloc, calls.len())?;
+        let mut left = VecDeque::from(calls);
+        while let Some(call) = left.pop_front() {
+            answers.push_reserved(self.perform(call));
+        }
+        Ok(answers)
+    }
+}
+
+/// Runs calls one after another in a session that starts at the machine. The machine afterwards is the
+/// start with the standing events run again, and each answer is one that its call may give.
+pub fn run_calls(
+    alloc: Global,
+    start: Machine,
+    limit: u32,
+    calls: Vec<Call>,
+) -> Result<Outcome, AllocError>
+    requires { limit ≤ 10000000 }
+    ensures machine { IfOk result (λ o. o.machine ≡ rerun start (standing_events [] calls.items o.answers.items)) }
+    ensures answers { IfOk result (λ o. (end : State) × IsRun (record { start = start; events = []; limit = limit }) calls.items o.answers.items end) }
+{
+    let mut session = Session::new(alloc, start, limit);
+    let answers = session.perform_all(alloc, calls)?;
+    Ok(Outcome {
+        answers,
+        machine: session.into_machine(),
+    })
+}

@@ -1,0 +1,19 @@
+//! The session: a machine with the changes that stand, each of which can be taken back.
+//!
+//! A change's journal entry has the places that it altered with the values that are not there now. An
+//! exchange of these with the machine takes the change back, the newest first; nothing is ever run
+//! again. The contracts say what that comes to: the machine is the start with the standing events
+//! run again.
+#![tactic(auto)]
+
+mod calls;
+mod entry;
+mod report;
+mod session;
+
+#[cfg(test)]
+mod tests;
+
+pub use calls::{Answer, Call, Outcome, run_calls};
+pub use report::{Places, Report};
+pub use session::{NothingStands, Session};

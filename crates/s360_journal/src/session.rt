@@ -1,0 +1,161 @@
+//! The session: the machine, and the journal of the changes that stand.
+ghost use Rattle.std.specs.Prelude.{◌≡◌, ◌++◌, ◌∷◌, ◌≤◌, [], length, OnOk, OnErr, IfOk, Err};
+ghost use Rattle.std.specs.Prelude.{MatchOption};
+ghost use Rattle.s360_machine.specs.Step.{is_unbuilt};
+ghost use Rattle.s360_machine.specs.Planned.{IsAnswerToEvent};
+ghost use Rattle.s360_journal.specs.Reports.{IsReport};
+ghost use Rattle.s360_journal.specs.Rerun.{rerun, AreAccepted, last_change_of};
+ghost use Rattle.s360_journal.specs.Standing.{machine_of, refusal_in, alteration};
+
+use crate::entry::Entry;
+use crate::report::Report;
+use s360_machine::{Event, Machine, Refusal};
+use s360_store::Place;
+use std::alloc::Global;
+use std::marker::Model;
+use thiserror::Error;
+
+/// No change stands, so none can be taken back.
+#[derive(Clone, Copy, Debug, PartialEq, Eq, Error)]
+#[error("nothing stands")]
+pub struct NothingStands;
+
+/// A machine with the changes that stand, each of which can be taken back. A contract sees its start,
+/// its standing events and its limit. The start is not stored: it is what taking back all standing
+/// changes would give.
+#[derive(Drop)]
+pub struct Session {
+    machine: Machine,
+    entries: Vec<Entry>,
+    limit: u32,
+    alloc: Global,
+}
+
+impl Model for Session {
+    ghost use Rattle.std.specs.Prelude.{◌≤◌, length, reverse, map};
+    ghost use Rattle.s360_journal.specs.Standing.{Standing};
+    ghost use Rattle.s360_journal.specs.History.{unwound, IsHistory};
+    ghost use Rattle.s360_journal.specs.declared.entry.Entry.{Entry};
+
+    ghost Value = { Standing };
+
+    ghost view = { λ s. record { start = unwound s.machine (reverse s.entries.items); events = map (λ (x : Entry). x.event) s.entries.items; limit = s.limit } };
+
+    ghost invariant = { λ s. IsHistory s.machine (reverse s.entries.items) × (length s.entries.items ≤ s.limit) × (s.limit ≤ 10000000) };
+}
+
+impl Session {
+    /// A session that starts at the machine, where at most `limit` changes may stand. It takes no
+    /// memory.
+    pub fn new(alloc: Global, machine: Machine, limit: u32) -> Session
+        requires { limit ≤ 10000000 }
+        ensures { result ≡ record { start = machine; events = []; limit = limit } }
+    {
+        Session {
+            machine,
+            entries: Vec::new(alloc),
+            limit,
+            alloc,
+        }
+    }
+
+    /// The machine: the start with the standing events run again, none of which is refused.
+    pub fn machine(&self) -> &Machine
+        ensures rerun { result.now ≡ rerun self.now.start self.now.events }
+        ensures accepted { AreAccepted self.now.start self.now.events }
+    {
+        &self.machine
+    }
+
+    /// The machine alone.
+    pub fn into_machine(self) -> Machine
+        ensures { result ≡ rerun self.start self.events }
+    {
+        self.machine
+    }
+
+    /// The number of changes that stand.
+    pub fn standing(&self) -> u32
+        ensures { result ≡ length self.now.events }
+    {
+        self.entries.len() as u32
+    }
+
+    /// The number of the last change that altered a place, counted from 1. It takes no memory.
+    pub fn last_change(&self, place: Place) -> Option<u32>
+        ensures { result ≡ last_change_of self.now.start self.now.events place }
+    {
+        let mut number = self.entries.len();
+        while number > 0 {
+            if self.entries[number - 1].changes.alters(place) {
+                return Some(number as u32);
+            }
+            number -= 1;
+        }
+        None
+    }
+
+    /// Why an event is refused, but for want of memory or as not built yet. It takes no memory.
+    pub fn refusal(&self, event: &Event) -> Option<Refusal>
+        ensures { result ≡ refusal_in self.now event.now }
+    {
+        if let Some(refusal) = self.machine().refusal(event) {
+            return Some(refusal);
+        }
+        if self.standing() < self.limit {
+            None
+        } else {
+            Some(Refusal::JournalFull)
+        }
+    }
+
+    /// Runs an event, which then stands, also where it alters nothing. A refused one changes nothing.
+    pub fn forward(&mut self, event: Event) -> Result<Report, Refusal>
+        ensures ok { OnOk result (self.new ≡ record self.old { events = self.old.events ++ event ∷ [] }) }
+        ensures report { IfOk result (λ r. IsReport r (alteration self.old event)) }
+
+        ensures err { OnErr result (self.new ≡ self.old) }
+        ensures refused { MatchOption (refusal_in self.old event) (IsAnswerToEvent (is_unbuilt (machine_of self.old) event) result) (λ r. result ≡ Err r) }
+    {
+        if let Some(refusal) = self.refusal(&event) {
+            return Err(refusal);
+        }
+        let mut changes = match self.machine.plan(&event) {
+            Ok(changes) => changes,
+            Err(refusal) => return Err(refusal),
+        };
+        self.machine.room(&changes)?;
+        self.entries.reserve(1)?;
+        let places = changes.places(self.alloc)?;
+        // Nothing can fail from here on.
+        self.machine.swap_all(&mut changes);
+        self.entries.push_reserved(Entry { event, changes });
+        Ok(Report::of(places))
+    }
+
+    /// Takes back the last change that stands. It takes no memory.
+    pub fn back(&mut self) -> Result<Event, NothingStands>
+        ensures ok { IfOk result (λ event. self.old ≡ record self.new { events = self.new.events ++ event ∷ [] }) }
+        ensures err { OnErr result (self.new ≡ self.old) }
+        ensures nothing { OnErr result (self.old.events ≡ []) }
+    {
+        let Some(entry) = self.entries.pop() else {
+            return Err(NothingStands);
+        };
+        let Entry { event, mut changes } = entry;
+        self.machine.swap_all(&mut changes);
+        Ok(event)
+    }
+
+    /// What an event would report, or why it is refused: it is run and taken back, which restores the
+    /// session exactly.
+    pub fn preview(&mut self, event: Event) -> Result<Report, Refusal>
+        ensures same { self.new ≡ self.old }
+        ensures report { IfOk result (λ r. IsReport r (alteration self.old event)) }
+        ensures refused { MatchOption (refusal_in self.old event) (IsAnswerToEvent (is_unbuilt (machine_of self.old) event) result) (λ r. result ≡ Err r) }
+    {
+        let report = self.forward(event)?;
+        let _ = self.back();
+        Ok(report)
+    }
+}
