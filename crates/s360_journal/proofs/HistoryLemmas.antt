@@ -1,6 +1,8 @@
 -- A session's machine is its start with the standing events run again.
-use Rattle.std.proofs.Common.{◌≡◌, ◌++◌, ℕ, List, [], ◌∷◌, refl, ap, sym, ◌∙◌, map, reverse, subst, Bool, true, false, Option, Some, None, Ok, Err}
-use Rattle.std.proofs.lemmas.List.{reverse-append, reverse-reverse, map_push}
+use Rattle.std.proofs.Common.{◌≡◌, ◌-◌, ◌++◌, ℕ, zero, suc, length, List, [], ◌∷◌, refl, ap, sym, ◌∙◌, map, reverse, subst, Bool, true, false, Option, Some, None, Ok, Err}
+use Rattle.std.proofs.lemmas.List.{reverse-append, reverse-reverse, map_push, length-map}
+use Rattle.std.specs.Option.{option_map}
+use Rattle.std.specs.List.{slice_get}
 use Rattle.s360_store.proofs.ExchangeLemmas.{places_of_cells-cells_after_exchange}
 use Rattle.s360_machine.specs.declared.event.Event.{Event}
 use Rattle.s360_machine.specs.declared.refusal.Refusal.{Refusal}
@@ -11,7 +13,7 @@ use Rattle.s360_machine.specs.Change.{Change, CanSwap, after_swap, change_after_
 use Rattle.s360_machine.specs.Planned.{differences}
 use Rattle.s360_journal.specs.declared.entry.Entry.{Entry}
 use Rattle.s360_journal.specs.Rerun.{rerun, AreAccepted}
-use Rattle.s360_journal.specs.Standing.{Standing, machine_of}
+use Rattle.s360_journal.specs.Standing.{Standing, machine_of, last_of}
 use Rattle.s360_journal.specs.History.{unwound, IsHistory}
 
 -- what an event that steps says
@@ -92,3 +94,13 @@ places_of_change-after m x = places_of_cells-cells_after_exchange m.core x.cells
 pub machine_of-view : (m : Machine) (xs : List Entry) (limit : ℕ) (s : Standing) → IsHistory m (reverse xs)
     → record { start = unwound m (reverse xs); events = map (λ (x : Entry). x.event) xs; limit = limit } ≡ s → m ≡ machine_of s
 machine_of-view m xs limit s h e = sym (rerun-unwound m xs h) ∙ ap (λ t. machine_of t) e
+
+-- the event of the last entry is the last event
+slice_get-events : (xs : List Entry) (i : ℕ) → slice_get (map (λ (x : Entry). x.event) xs) i ≡ option_map (λ (x : Entry). x.event) (slice_get xs i)
+slice_get-events [] i = refl
+slice_get-events (x ∷ xs) zero = refl
+slice_get-events (x ∷ xs) (suc i) = slice_get-events xs i
+
+pub last_of-events : (xs : List Entry) → last_of (map (λ (x : Entry). x.event) xs) ≡ option_map (λ (x : Entry). x.event) (slice_get xs (length xs - 1))
+last_of-events xs =
+    ap (λ n. slice_get (map (λ (x : Entry). x.event) xs) (n - 1)) (length-map xs (λ (x : Entry). x.event)) ∙ slice_get-events xs (length xs - 1)

@@ -1,5 +1,5 @@
 -- What a session is seen as, and what may answer an event in it.
-use Rattle.std.specs.Prelude.{ℕ, List, length, nat_lt, if◌then◌else◌, Option, Some, None}
+use Rattle.std.specs.Prelude.{ℕ, ◌-◌, List, length, slice_get, nat_lt, if◌then◌else◌, Option, Some, None}
 use Rattle.s360_store.specs.declared.place.Place.{Place}
 use Rattle.s360_machine.specs.declared.event.Event.{Event}
 use Rattle.s360_machine.specs.declared.refusal.Refusal.{Refusal}
@@ -32,3 +32,7 @@ refusal_in s e = or_full (refusal_of (storage_size (machine_of s)) e) (length s.
 -- the places that an event alters
 abbrev pub alteration : Standing → Event → List Place
 alteration s e = differences (machine_of s) (after (machine_of s) e)
+
+-- the last of the events, if there is one
+abbrev pub last_of : List Event → Option Event
+last_of es = slice_get es (length es - 1)

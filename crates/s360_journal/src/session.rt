@@ -5,7 +5,8 @@ ghost use Rattle.s360_machine.specs.Step.{is_unbuilt};
 ghost use Rattle.s360_machine.specs.Planned.{IsAnswerToEvent};
 ghost use Rattle.s360_journal.specs.Reports.{IsReport};
 ghost use Rattle.s360_journal.specs.Rerun.{rerun, AreAccepted, last_change_of};
-ghost use Rattle.s360_journal.specs.Standing.{machine_of, refusal_in, alteration};
+ghost use Rattle.std.specs.Option.{option_copied};
+ghost use Rattle.s360_journal.specs.Standing.{machine_of, refusal_in, alteration, last_of};
 
 use crate::entry::Entry;
 use crate::report::Report;
@@ -79,6 +80,14 @@ impl Session {
         ensures { result ≡ length self.now.events }
     {
         self.entries.len() as u32
+    }
+
+    /// The last event that stands, if one does: the one that `back` would answer.
+    pub fn last_event(&self) -> Option<&Event>
+        ensures { option_copied result ≡ last_of self.now.events }
+    {
+        let entry = self.entries.last()?;
+        Some(&entry.event)
     }
 
     /// The number of the last change that altered a place, counted from 1. It takes no memory.
