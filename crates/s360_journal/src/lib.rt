@@ -10,7 +10,6 @@ mod calls;
 mod entry;
 mod report;
 mod session;
-
 #[cfg(test)]
 mod tests;
 

@@ -91,7 +91,12 @@ impl Core {
     }
 
     /// Plans bytes from an address on.
-    pub(crate) fn plan_bytes(&self, at: u32, bytes: &[u8], plan: &mut Plan) -> Result<(), AllocError>
+    pub(crate) fn plan_bytes(
+        &self,
+        at: u32,
+        bytes: &[u8],
+        plan: &mut Plan,
+    ) -> Result<(), AllocError>
         requires empty { plan.old ≡ [] }
         requires inside { at + length bytes.now ≤ length self.now.storage.bytes }
         requires few { length bytes.now ≤ 256 }

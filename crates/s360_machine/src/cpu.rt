@@ -65,9 +65,7 @@ fn plan_add_register(
     if interrupts(psw, code) {
         return Ok(Ended::NotBuilt);
     }
-    let psw = psw
-        .with_condition_code(code)
-        .with_instruction_address(next);
+    let psw = psw.with_condition_code(code).with_instruction_address(next);
     plan.put(Place::Register(first.number()), u64::from(sum))?;
     plan.put(Place::Psw, psw.stored(0, InstructionLength::NotAvailable))?;
     Ok(Ended::Completed)

@@ -11,7 +11,6 @@ mod event;
 mod machine;
 mod refusal;
 mod run_state;
-
 #[cfg(test)]
 mod tests;
 

@@ -22,8 +22,8 @@ loop-i-preserved c =
             few = omega (arith, length-append c.loop-i.cells.items (c.cell-cell.result ∷ []));
           })
       | else-value-cell w ↦ rw w.cells-is (record {
-          kept = AreKept-skip c.args.self.now c.args.plan.now c.loop-i.cells.items c.loop-i.i c.cell-cell.result here inside c.requires c.loop-i.invariant.kept
-              (sym c.value.ensures ∙ w.if-value-cell.false);
-          few = omega arith;
-        })
+        kept = AreKept-skip c.args.self.now c.args.plan.now c.loop-i.cells.items c.loop-i.i c.cell-cell.result here inside c.requires c.loop-i.invariant.kept
+            (sym c.value.ensures ∙ w.if-value-cell.false);
+        few = omega arith;
+      })
     ]

@@ -1,0 +1,34 @@
+-- The printed names of places, events and refusals (own profile).
+use Rattle.std.specs.Prelude.{ℕ, ◌*◌, List, ◌++◌, codes}
+use Rattle.s360_model.specs.Text.{hex_text}
+use Rattle.s360_model.specs.Storage.{block_size}
+use Rattle.s360_store.specs.declared.place.Place.{Place}
+use Rattle.s360_store.specs.declared.place.Place.TheVariants.{Psw, Register, Byte, Key, Run, External, UnitState, UnitMedia}
+use Rattle.s360_machine.specs.declared.event.Event.{Event}
+use Rattle.s360_machine.specs.declared.event.Event.TheVariants.{Cpu, Patch as patch}
+use Rattle.s360_machine.specs.declared.event.Patch.TheVariants.{Bytes, Register as register}
+use Rattle.s360_machine.specs.declared.refusal.Refusal.{Refusal}
+use Rattle.s360_machine.specs.declared.refusal.Refusal.TheVariants.{Memory, OutsideStorage, PatchTooLong, JournalFull, Unbuilt}
+
+-- a key by its block's first address
+abbrev pub place_name : Place → List ℕ
+place_name Psw = codes "p"
+place_name (Register n) = codes "r" ++ hex_text 1 n
+place_name (Byte a) = codes "s" ++ hex_text 6 a
+place_name (Key b) = codes "k" ++ hex_text 6 (b * block_size)
+place_name Run = codes "run"
+place_name External = codes "ext"
+place_name (UnitState u) = codes "u" ++ hex_text 3 u.0
+place_name (UnitMedia u) = codes "d" ++ hex_text 3 u.0
+
+abbrev pub event_name : Event → List ℕ
+event_name Cpu = codes "cpu"
+event_name (patch (Bytes at bytes)) = codes "patch s"
+event_name (patch (register n word)) = codes "patch r"
+
+abbrev pub refusal_name : Refusal → List ℕ
+refusal_name Memory = codes "memory"
+refusal_name OutsideStorage = codes "outside storage"
+refusal_name PatchTooLong = codes "patch too long"
+refusal_name JournalFull = codes "journal full"
+refusal_name Unbuilt = codes "unbuilt"

@@ -1,0 +1,207 @@
+//! What a command answers. Each command has its row in `answer`.
+ghost use Rattle.std.specs.Prelude.{◌≡◌, ◌≢◌, ◌++◌, ◌≤◌, length, take, ◌-◌, ◌<◌, IfOk, OnErr, OnOk, Some, codes};
+ghost use Rattle.std.specs.Option.{option_copied};
+ghost use Rattle.s360_model.specs.Text.{decimal};
+ghost use Rattle.s360_journal.specs.Standing.{machine_of, last_of};
+ghost use Rattle.s360_debug.specs.Answers.{answer_to, state_after, event_of, StandsPartly};
+ghost use Rattle.s360_debug.specs.Answers.{text_of_event, state_after_event, text_of_report};
+ghost use Rattle.s360_debug.specs.Answers.{refused_text, back_text, registers_text, after_registers};
+ghost use Rattle.s360_debug.specs.declared.command.LineFault.TheVariants.{Memory};
+ghost use Rattle.s360_debug.specs.Answers.{place_names, fault_text, changed_after, register_word};
+
+use crate::command::{Command, LineFault};
+use crate::names::{name_of_event, name_of_refusal, push_place};
+use crate::text::Text;
+use s360_journal::{Report, Session};
+use s360_machine::{Event, Machine, Patch, Refusal};
+use s360_store::Place;
+use s360_word::RegisterNumber;
+use std::alloc::{AllocError, Global};
+
+/// So many places of a report are named.
+const NAMED: usize = 8;
+
+/// Carries a command out, and answers its text. After want of memory an event that it offers stands or
+/// does not; a command that offers none leaves the session as it was.
+#[tactic(auto, unfolding(crate::specs::Answers::answer_to, crate::specs::Answers::state_after))]
+pub fn answer(alloc: Global, session: &mut Session, command: Command) -> Result<Text, AllocError>
+    ensures text { IfOk result (λ text. text ≡ answer_to session.old command) }
+    ensures state { OnOk result (session.new ≡ state_after session.old command) }
+    ensures memory { OnErr result (StandsPartly (event_of command) session.old session.new) }
+{
+    match command {
+        Command::Step => answer_event(alloc, session, Event::Cpu),
+        Command::PatchStorage { at, bytes } => {
+            answer_event(alloc, session, Event::Patch(Patch::Bytes { at, bytes }))
+        }
+        Command::PatchRegister(register, word) => {
+            answer_event(
+                alloc,
+                session,
+                Event::Patch(Patch::Register(register, word)),
+            )
+        }
+        Command::Back => answer_back(alloc, session),
+        Command::Standing => standing_text(alloc, session.standing()),
+        Command::ShowRegisters => registers_of(alloc, session.machine()),
+    }
+}
+
+/// Offers an event, and answers its report or its refusal.
+fn answer_event(alloc: Global, session: &mut Session, event: Event) -> Result<Text, AllocError>
+    ensures text { IfOk result (λ text. text ≡ text_of_event session.old event) }
+    ensures state { OnOk result (session.new ≡ state_after_event session.old event) }
+    ensures memory { OnErr result (StandsPartly (Some event) session.old session.new) }
+{
+    match session.forward(event) {
+        Ok(report) => report_text(alloc, session.standing(), &report),
+        Err(Refusal::Memory) => Err(AllocError),
+        Err(refusal) => refusal_text(alloc, refusal),
+    }
+}
+
+/// The report of the change with this number.
+fn report_text(alloc: Global, number: u32, report: &Report) -> Result<Text, AllocError>
+    ensures { IfOk result (λ text. text ≡ text_of_report number report.now) }
+{
+    let mut text = Text::new(alloc);
+    text.push_decimal(u64::from(number))?;
+    match report {
+        Report::Idle => text.push_text(" idle")?,
+        Report::Changed(places) => push_changed(&mut text, places.as_slice())?,
+    }
+    text.push_text("\n")?;
+    Ok(text)
+}
+
+/// Adds the number of places that were changed, and the names of the first of them.
+fn push_changed(text: &mut Text, places: &[Place]) -> Result<(), AllocError>
+    ensures { OnOk result (text.new ≡ changed_after text.old places.now) }
+{
+    text.push_text(" changed ")?;
+    text.push_decimal(places.len() as u64)?;
+    push_places(text, &places[..places.len().min(NAMED)])?;
+    if places.len() > NAMED {
+        text.push_text(" ..")?;
+    }
+    Ok(())
+}
+
+/// Adds the names of places, each after a blank.
+fn push_places(text: &mut Text, places: &[Place]) -> Result<(), AllocError>
+    ensures { OnOk result (text.new ≡ text.old ++ place_names places.now) }
+{
+    for place in places {
+        text.push_text(" ")?;
+        push_place(text, *place)?;
+    }
+    Ok(())
+}
+
+/// A refusal with its number.
+fn refusal_text(alloc: Global, refusal: Refusal) -> Result<Text, AllocError>
+    ensures { IfOk result (λ text. text ≡ refused_text refusal) }
+{
+    let mut text = Text::new(alloc);
+    text.push_text("refused ")?;
+    text.push_decimal(u64::from(refusal.number()))?;
+    text.push_text(" ")?;
+    text.push_text(name_of_refusal(refusal))?;
+    text.push_text("\n")?;
+    Ok(text)
+}
+
+/// Takes the last change back. Its text is made first, so that want of memory leaves it standing.
+fn answer_back(alloc: Global, session: &mut Session) -> Result<Text, AllocError>
+    ensures text { IfOk result (λ text. text ≡ back_text (length session.old.events) (last_of session.old.events)) }
+    ensures state { OnOk result (session.new ≡ record session.old { events = take (length session.old.events - 1) session.old.events }) }
+    ensures memory { OnErr result (session.new ≡ session.old) }
+{
+    let text = text_of_back(alloc, session.standing(), session.last_event())?;
+    let _ = session.back();
+    Ok(text)
+}
+
+/// The answer to `back` where so many changes stand, of which this is the last.
+fn text_of_back(alloc: Global, number: u32, event: Option<&Event>) -> Result<Text, AllocError>
+    ensures { IfOk result (λ text. text ≡ back_text number (option_copied event.entry)) }
+{
+    let mut text = Text::new(alloc);
+    match event {
+        None => text.push_text("nothing stands")?,
+        Some(event) => {
+            text.push_text("back ")?;
+            text.push_decimal(u64::from(number))?;
+            text.push_text(" ")?;
+            text.push_text(name_of_event(event))?;
+        }
+    }
+    text.push_text("\n")?;
+    Ok(text)
+}
+
+/// The number of changes that stand.
+fn standing_text(alloc: Global, number: u32) -> Result<Text, AllocError>
+    ensures { IfOk result (λ text. text ≡ codes "standing " ++ decimal number ++ codes "\n") }
+{
+    let mut text = Text::new(alloc);
+    text.push_text("standing ")?;
+    text.push_decimal(u64::from(number))?;
+    text.push_text("\n")?;
+    Ok(text)
+}
+
+/// The sixteen general registers, four a line.
+fn registers_of(alloc: Global, machine: &Machine) -> Result<Text, AllocError>
+    ensures { IfOk result (λ text. text ≡ registers_text machine.now.core.registers) }
+{
+    let mut text = Text::new(alloc);
+    push_registers(&mut text, machine, 0)?;
+    push_registers(&mut text, machine, 4)?;
+    push_registers(&mut text, machine, 8)?;
+    push_registers(&mut text, machine, 12)?;
+    Ok(text)
+}
+
+/// Adds the line of four registers from this one on.
+fn push_registers(text: &mut Text, machine: &Machine, first: u8) -> Result<(), AllocError>
+    requires { first ≤ 12 }
+    ensures { OnOk result (text.new ≡ after_registers text.old machine.now.core.registers first) }
+{
+    text.push_text("r")?;
+    text.push_hex(u64::from(first), 1)?;
+    push_register(text, machine, first)?;
+    push_register(text, machine, first + 1)?;
+    push_register(text, machine, first + 2)?;
+    push_register(text, machine, first + 3)?;
+    text.push_text("\n")?;
+    Ok(())
+}
+
+/// Adds a register's word after a blank.
+fn push_register(text: &mut Text, machine: &Machine, number: u8) -> Result<(), AllocError>
+    requires { number < 16 }
+    ensures { OnOk result (text.new ≡ text.old ++ register_word machine.now.core.registers number) }
+{
+    text.push_text(" ")?;
+    text.push_hex(u64::from(machine.register(RegisterNumber::new(number))), 8)
+}
+
+/// What a faulty line answers. Want of memory is no fault of the line, and has no text.
+pub(crate) fn text_of_fault(alloc: Global, fault: LineFault) -> Result<Text, AllocError>
+    ensures { IfOk result (λ text. (text ≡ fault_text fault) × (fault ≢ Memory)) }
+{
+    let mut text = Text::new(alloc);
+    text.push_text("? ")?;
+    match fault {
+        LineFault::LineTooLong => text.push_text("line too long")?,
+        LineFault::Unknown => text.push_text("unknown")?,
+        LineFault::Argument(place) => {
+            text.push_text("argument ")?;
+            text.push_decimal(u64::from(place))?;
+        }
+        LineFault::Memory => return Err(AllocError),
+    }
+    text.push_text("\n")?;
+    Ok(text)
+}

@@ -1,0 +1,65 @@
+//! The words of a line: what stands between its blanks.
+ghost use Rattle.std.specs.Prelude.{◌≡◌, ◌∷◌, [], MatchOption, nat_eq, not};
+ghost use Rattle.std.specs.List.{position};
+ghost use Rattle.s360_debug.specs.Words.{words_of};
+
+use std::marker::Model;
+
+/// The words of a line that are left, which a contract sees as their list.
+#[derive(Drop)]
+pub(crate) struct Words<'a> {
+    rest: &'a [u8],
+}
+
+impl<'a> Model for Words<'a> {
+    ghost use Rattle.std.specs.Prelude.{List, ℕ};
+    ghost use Rattle.s360_debug.specs.Words.{words_of};
+
+    ghost Value = { List (List ℕ) };
+
+    ghost view = { λ w. words_of w.rest.now };
+}
+
+impl<'a> Words<'a> {
+    /// The words of a line.
+    pub(crate) fn new(line: &'a [u8]) -> Words<'a>
+        ensures { result ≡ words_of line.now }
+    {
+        Words { rest: line }
+    }
+
+    /// The next word, if there is one.
+    pub(crate) fn next_word(&mut self) -> Option<&'a [u8]>
+        ensures { MatchOption result ((self.old ≡ []) × (self.new ≡ [])) (λ word. self.old ≡ word.now ∷ self.new) }
+    {
+        let (word, rest) = split_word(self.rest)?;
+        self.rest = rest;
+        Some(word)
+    }
+}
+
+/// Where the first byte stands that is no blank.
+fn first_other(line: &[u8]) -> Option<usize>
+    ensures { result ≡ position (λ b. not (nat_eq b 32)) line.now }
+{
+    line.iter().position(|byte| *byte != b' ')
+}
+
+/// Where the first blank stands.
+fn first_blank(line: &[u8]) -> Option<usize>
+    ensures { result ≡ position (λ b. nat_eq b 32) line.now }
+{
+    line.iter().position(|byte| *byte == b' ')
+}
+
+/// The first word of a line, and what follows it.
+fn split_word(line: &[u8]) -> Option<(&[u8], &[u8])>
+    ensures { MatchOption result (words_of line.now ≡ []) (λ r. words_of line.now ≡ r.0.now ∷ words_of r.1.now) }
+{
+    let start = first_other(line)?;
+    let line = &line[start..];
+    match first_blank(line) {
+        Some(end) => Some(line.split_at(end)),
+        None => Some((line, &[])),
+    }
+}
