@@ -22,7 +22,7 @@ impl Model for Text {
 
 impl Text {
     /// An empty text, which takes no memory.
-    pub fn new(alloc: Global) -> Text
+    pub(crate) fn new(alloc: Global) -> Text
         ensures { result ≡ [] }
     {
         Text {
@@ -39,7 +39,7 @@ impl Text {
     }
 
     /// Adds a text.
-    pub fn push_text(&mut self, text: &str) -> Result<(), AllocError>
+    pub(crate) fn push_text(&mut self, text: &str) -> Result<(), AllocError>
         ensures { OnOk result (self.new ≡ self.old ++ text.now) }
     {
         self.bytes.extend_from_slice(text.as_bytes())?;
@@ -47,7 +47,7 @@ impl Text {
     }
 
     /// Adds a number in decimal.
-    pub fn push_decimal(&mut self, number: u64) -> Result<(), AllocError>
+    pub(crate) fn push_decimal(&mut self, number: u64) -> Result<(), AllocError>
         ensures { OnOk result (self.new ≡ self.old ++ decimal number) }
     {
         let digits = format!(in self.alloc; "{number}")?;
@@ -56,7 +56,7 @@ impl Text {
     }
 
     /// Adds the low digits of a number in hexadecimal, so many of them.
-    pub fn push_hex(&mut self, number: u64, width: u8) -> Result<(), AllocError>
+    pub(crate) fn push_hex(&mut self, number: u64, width: u8) -> Result<(), AllocError>
         ensures { OnOk result (self.new ≡ self.old ++ hex_text width number) }
     {
         push_hex(&mut self.bytes, number, width)

@@ -122,7 +122,6 @@ impl Session {
     pub fn forward(&mut self, event: Event) -> Result<Report, Refusal>
         ensures ok { OnOk result (self.new ≡ record self.old { events = self.old.events ++ event ∷ [] }) }
         ensures report { IfOk result (λ r. IsReport r (alteration self.old event)) }
-
         ensures err { OnErr result (self.new ≡ self.old) }
         ensures refused { MatchOption (refusal_in self.old event) (IsAnswerToEvent (is_unbuilt (machine_of self.old) event) result) (λ r. result ≡ Err r) }
     {

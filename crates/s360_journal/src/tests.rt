@@ -559,9 +559,9 @@ fn assert_stands(
     rt: &impl Abort,
     alloc: Global,
     session: &mut Session,
-    events: [Event; 2],
+    first: Event,
+    second: Event,
 ) -> Result<(), Fail> {
-    let [first, second] = events;
     let before = picture_of(alloc, session)?;
     if let Err(refusal) = session.forward(first) {
         assert_eq!(rt; refusal, Refusal::Memory);
@@ -576,15 +576,16 @@ fn assert_stands(
 fn want_of_memory_changes_nothing(rt: HostRuntime) -> Result<(), Fail> {
     let alloc = rt.alloc();
     let mut session = session_with(alloc, 10)?;
-    assert_stands(&rt, alloc, &mut session, [Event::Cpu, Event::Cpu])?;
+    assert_stands(&rt, alloc, &mut session, Event::Cpu, Event::Cpu)?;
     let many = patch_of_bytes(alloc, 0x300, &[1; 20])?;
     let again = patch_of_bytes(alloc, 0x300, &[1; 20])?;
-    assert_stands(&rt, alloc, &mut session, [many, again])?;
+    assert_stands(&rt, alloc, &mut session, many, again)?;
     assert_stands(
         &rt,
         alloc,
         &mut session,
-        [patch_of_register(2, 1), patch_of_register(2, 1)],
+        patch_of_register(2, 1),
+        patch_of_register(2, 1),
     )?;
     assert_eq!(rt; session.standing(), 3);
     for (place, last) in [

@@ -1,22 +1,19 @@
 -- Changes of the whole machine.
-use Rattle.std.proofs.Common.{◌≡◌, ◌++◌, List, [], ◌∷◌, refl, ap, sym, ◌∙◌, true, false, Bool, cond}
+use Rattle.std.proofs.Common.{◌≡◌, ◌++◌, List, [], refl, ap, sym, ◌∙◌, true, false, Bool, cond}
 use Rattle.std.proofs.lemmas.Bool.{eq-eqb}
 use Rattle.std.proofs.lemmas.List.{append-nil}
 use Rattle.s360_model.specs.Core.{Core}
 use Rattle.s360_store.specs.declared.place.Cell.{Cell}
-use Rattle.s360_store.specs.Cells.{places_of_cells, after_exchange}
 use Rattle.s360_store.specs.Differences.{core_differences, IsCoreChangeTo}
 use Rattle.s360_machine.specs.declared.event.Event.{Event}
 use Rattle.s360_machine.specs.declared.event.Event.TheVariants.{Cpu, Patch as patch}
-use Rattle.s360_machine.specs.declared.event.Patch.{Patch}
 use Rattle.s360_machine.specs.declared.event.Patch.TheVariants.{Bytes, Register}
 use Rattle.s360_machine.specs.declared.run_state.RunState.{RunState}
 use Rattle.s360_machine.specs.declared.run_state.RunState.TheVariants.{Operating, Stopped, Loading}
 use Rattle.s360_machine.specs.Machine.{Machine, Control}
 use Rattle.s360_machine.specs.Instruction.{instruction}
-use Rattle.s360_machine.specs.Step.{after, after_cpu, after_patch, is_running, core_after}
-use Rattle.s360_machine.specs.Change.{Change}
-use Rattle.s360_machine.specs.Planned.{same_run_state, control_differences, differences, IsChangeTo}
+use Rattle.s360_machine.specs.Step.{after, is_running, core_after}
+use Rattle.s360_machine.specs.Planned.{same_run_state, control_differences, IsChangeTo}
 
 same_run_state-self : (r : RunState) → same_run_state r r ≡ true
 same_run_state-self Operating = refl

@@ -1,5 +1,5 @@
 -- A run of bytes put into storage one byte after another.
-use Rattle.std.proofs.Common.{◌≡◌, ◌<◌, ◌≤◌, ◌+◌, ◌++◌, ℕ, List, [], ◌∷◌, refl, ap, ◌∙◌, take, drop, set, get_or, length, arith, add-zero, true, false, Bool, cond}
+use Rattle.std.proofs.Common.{◌≡◌, ◌<◌, ◌≤◌, ◌+◌, ◌++◌, ℕ, List, [], ◌∷◌, ap, take, drop, set, get_or, length, arith, add-zero, true, false, Bool, cond}
 use Rattle.std.proofs.lemmas.List.{take_more, set_at, drop_more, take-append-drop, append_assoc, length-append, length-take-le, append-nil}
 use Rattle.s360_model.specs.Core.{Core}
 use Rattle.s360_store.specs.declared.place.Place.{Place}

@@ -1,6 +1,6 @@
 -- One instruction by its row (GA22-6821, "Fixed-Point Arithmetic", and "Interruptions" for the program
 -- interruption codes). So far the only row is 1A, AR; every other code is not built yet.
-use Rattle.std.specs.Prelude.{ℕ, ◌+◌, ◌/◌, ◌%◌, ◌+ℤ◌, Bool, true, false, not, ◌&&◌, nat_eq, nat_le, if◌then◌else◌, length, slice_index, slice_set}
+use Rattle.std.specs.Prelude.{ℕ, ◌+◌, ◌/◌, ◌%◌, ◌+ℤ◌, not, ◌&&◌, nat_eq, nat_le, if◌then◌else◌, length, slice_index, slice_set}
 use Rattle.s360_model.specs.Core.{Core}
 use Rattle.s360_model.specs.Numbers.{low32, signed}
 use Rattle.s360_model.specs.ConditionCodes.{signed_code}

@@ -10,7 +10,7 @@ use Rattle.s360_machine.specs.declared.event.Patch.TheVariants.{Bytes, Register}
 use Rattle.s360_machine.specs.declared.refusal.Refusal.{Refusal}
 use Rattle.s360_machine.specs.declared.refusal.Refusal.TheVariants.{Unbuilt}
 use Rattle.s360_machine.specs.declared.run_state.RunState.{RunState}
-use Rattle.s360_machine.specs.declared.run_state.RunState.TheVariants.{Operating, Stopped, Loading}
+use Rattle.s360_machine.specs.declared.run_state.RunState.TheVariants.{Operating}
 use Rattle.s360_machine.specs.Machine.{Machine, storage_size}
 use Rattle.s360_machine.specs.Instruction.{Ending, Completed, Program, NotBuilt, instruction}
 use Rattle.s360_machine.specs.Refusals.{refusal_of}

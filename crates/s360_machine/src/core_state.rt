@@ -86,6 +86,7 @@ impl Core {
         requires empty { plan.old ≡ [] }
         ensures { OnOk result (IsPlanOf self.now plan.new (core_with_register self.now register word)) }
     {
+        // Looked at, so that the invariant, sixteen registers, is known here.
         let _ = &self.registers;
         plan.put(Place::Register(register.number()), u64::from(word))
     }
@@ -102,6 +103,7 @@ impl Core {
         requires few { length bytes.now ≤ 256 }
         ensures { OnOk result (IsPlanOf self.now plan.new (core_with_run self.now at bytes.now)) }
     {
+        // Storage is small, so no address of the run passes 32 bits.
         let inside = at <= self.storage.size();
         prove!(inside);
         for (i, byte) in bytes.iter().enumerate() {

@@ -1,5 +1,5 @@
-use Rattle.std.proofs.Common.{◌≡◌, ◌<◌, ◌^◌, ap, subst, ◌∙◌, sym, refl, arith}
-use Rattle.s360_model.specs.Psw.{IsCurrentPsw, stored_psw}
+use Rattle.std.proofs.Common.{◌≡◌, subst, ◌∙◌, sym, refl, arith}
+use Rattle.s360_model.specs.Psw.{IsCurrentPsw}
 use Rattle.s360_psw.proofs.PswLemmas.{stored_psw-zero}
 use Rattle.s360_machine.proofs.InstructionLemmas.{PlansEnding-add_register}
 use Rattle.s360_machine.proofs.cpu.plan_add_register.Goals as goal

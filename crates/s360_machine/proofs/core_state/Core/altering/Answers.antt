@@ -1,8 +1,6 @@
-use Rattle.std.proofs.Common.{◌≡◌, ◌≢◌, ◌<◌, ◌≤◌, length, length-append, take, get_or, arith, sym, ◌∙◌, ◌++◌, ◌∷◌, []}
-use Rattle.std.proofs.lemmas.List.{take_all}
-use Rattle.s360_store.specs.declared.place.Cell.{Cell}
+use Rattle.std.proofs.Common.{◌≡◌, ◌≢◌, ◌<◌, length, length-append, get_or, arith, sym, ◌∙◌, ◌∷◌, []}
 use Rattle.s360_store.specs.Places.{value_at}
-use Rattle.s360_store.proofs.KeptLemmas.{AreKept, AreKept-none, AreKept-skip, AreKept-push, IsCellOf-cell, cell-at}
+use Rattle.s360_store.proofs.KeptLemmas.{AreKept-skip, AreKept-push, IsCellOf-cell, cell-at}
 use Rattle.s360_machine.proofs.core_state.Core.altering.Goals as goal
 use Rattle.s360_machine.proofs.core_state.Core.altering.Goals.{then-value-cell+in_ok-push, else-value-cell}
 

@@ -1,6 +1,5 @@
-use Rattle.std.proofs.Common.{◌≡◌, ◌≤◌, arith, take, get_or, ◌+◌, length}
+use Rattle.std.proofs.Common.{arith, take, get_or, ◌+◌}
 use Rattle.s360_store.specs.declared.place.Place.TheVariants.{Byte}
-use Rattle.s360_store.specs.Plans.{IsPlanOf, after_put}
 use Rattle.s360_store.proofs.PlannedLemmas.{IsPlanOf-none, IsPlanOf-put}
 use Rattle.s360_machine.specs.Step.{core_with_run}
 use Rattle.s360_machine.proofs.RunLemmas.{core_with_run-none, core_with_run-more, length-after_put}

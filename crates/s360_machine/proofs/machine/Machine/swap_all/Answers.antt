@@ -1,7 +1,5 @@
 use Rattle.std.proofs.Common.{◌≡◌, length, ap, ◌∙◌, sym, subst}
 use Rattle.std.proofs.lemmas.List.{take_at}
-use Rattle.s360_store.specs.declared.place.Cell.{Cell}
-use Rattle.s360_store.specs.Cells.{AreCellsOf}
 use Rattle.s360_model.specs.Core.{Core}
 use Rattle.s360_store.proofs.ExchangeLemmas.{IsExchange, IsExchange-from}
 use Rattle.s360_machine.specs.Machine.{Machine}

@@ -1,0 +1,56 @@
+//! What the program does, over any reader and writer.
+use s360_debug::{ScriptFault, run_script};
+use s360_journal::Session;
+use s360_machine::Machine;
+use std::alloc::Global;
+use std::io::{BufWriter, Read, Write};
+use thiserror::Error;
+
+/// The size of storage, in bytes.
+const STORAGE: u32 = 65_536;
+
+/// So many changes can stand.
+const LIMIT: u32 = 10_000_000;
+
+/// Why the program ends with status 1, by the part that is at fault.
+#[derive(Clone, Copy, Debug, PartialEq, Eq, Error)]
+pub(crate) enum ProgramFault {
+    /// The script was not carried out to its end.
+    #[error("script: {0}")]
+    Script(ScriptFault),
+    /// A growth was refused.
+    #[error("memory: out of memory")]
+    Memory,
+}
+
+impl From<ScriptFault> for ProgramFault {
+    fn from(fault: ScriptFault) -> ProgramFault {
+        match fault {
+            ScriptFault::Memory => ProgramFault::Memory,
+            fault => ProgramFault::Script(fault),
+        }
+    }
+}
+
+/// Carries out the script that a reader has left over a new machine, and writes its answers. The
+/// answers that come before a fault are written too.
+pub(crate) fn run<R: Read, W: Write + Drop>(
+    alloc: Global,
+    reader: &mut R,
+    writer: W,
+) -> Result<(), ProgramFault> {
+    let Ok(machine) = Machine::new(alloc, STORAGE) else {
+        return Err(ProgramFault::Memory);
+    };
+    let mut session = Session::new(alloc, machine, LIMIT);
+    let Ok(mut writer) = BufWriter::new(alloc, writer) else {
+        return Err(ProgramFault::Memory);
+    };
+    let answered = run_script(alloc, &mut session, reader, &mut writer);
+    let flushed = writer.flush();
+    answered?;
+    if flushed.is_err() {
+        return Err(ProgramFault::Script(ScriptFault::Write));
+    }
+    Ok(())
+}
