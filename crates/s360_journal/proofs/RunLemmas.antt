@@ -1,7 +1,6 @@
 -- A run of calls leaves the start and the limit, and the events that stand by its calls and answers.
-use Rattle.std.proofs.Common.{◌≡◌, ◌+◌, ◌-◌, ◌++◌, ℕ, List, [], ◌∷◌, refl, ap, sym, ◌∙◌, length, length-append, take, arith, Ok, Err}
+use Rattle.std.proofs.Common.{◌≡◌, ◌-◌, ◌++◌, List, [], ◌∷◌, refl, ap, sym, ◌∙◌, length, length-append, take, arith, Ok, Err}
 use Rattle.std.proofs.lemmas.List.{take_at}
-use Rattle.s360_machine.specs.Machine.{Machine}
 use Rattle.s360_machine.specs.declared.event.Event.{Event}
 use Rattle.s360_journal.specs.declared.calls.Call.{Call}
 use Rattle.s360_journal.specs.declared.calls.Call.TheVariants.{Forward, Back, Standing as standing, LastChange}

@@ -10,7 +10,6 @@ use Rattle.s360_journal.specs.declared.entry.Entry.{Entry}
 use Rattle.s360_journal.specs.declared.report.Report.{Report}
 use Rattle.s360_journal.specs.Reports.{IsReport}
 use Rattle.s360_journal.specs.Standing.{Standing, machine_of, refusal_in, alteration}
-use Rattle.s360_journal.specs.History.{IsHistory}
 use Rattle.s360_journal.proofs.HistoryLemmas.{machine_of-view}
 use Rattle.s360_journal.proofs.ForwardLemmas.{or_full-None, or_full-room, IsAnswerToEvent-Err, IsAnswerToEvent-Ok, built, IsHistory-forward}
 use Rattle.s360_journal.proofs.session.Session.forward.Goals as goal

@@ -1,0 +1,3 @@
+pub mod PutLemmas
+pub mod FetchLemmas
+mod KnownInstructions

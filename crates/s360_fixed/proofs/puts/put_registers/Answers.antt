@@ -1,0 +1,12 @@
+use Rattle.std.proofs.Common.{◌≡◌, arith}
+use Rattle.s360_fixed.proofs.PutLemmas.{AddsToPlan-register}
+use Rattle.s360_fixed.proofs.puts.put_registers.Goals as goal
+
+pub loop-i-preserved : goal.loop-i-preserved
+loop-i-preserved c =
+    AddsToPlan-register c.args.view.now.core c.args.plan.now c.loop-i.plan _ c.args.view.now.core.storage.bytes c.args.r1 c.args.address c.loop-i.i _ _ c.register_after.ensures (rw (c.from.ensures, c.storage.ensures.storage) at c.word-word.ensures) c.loop-i.invariant c.in_ok-put_register.ensures
+
+pub returns : goal.returns
+returns c =
+    let n : c.loop-i.i ≡ c.args.count = omega arith
+    in rw n at c.loop-i.invariant

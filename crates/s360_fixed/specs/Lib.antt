@@ -1,0 +1,12 @@
+pub mod Table
+pub mod ProgramCodes
+pub mod View
+pub mod Operands
+pub mod Settings
+pub mod Rows
+pub mod Outcomes
+pub mod Plans
+pub mod Branching
+pub mod Storing
+pub mod Fetching
+pub mod Cpu

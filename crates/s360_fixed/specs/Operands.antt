@@ -1,0 +1,66 @@
+-- The addresses of operands, their conditions and their values (GA22-6821, "System Structure",
+-- information positioning and address generation).
+use Rattle.std.specs.Prelude.{ℕ, ◌+◌, ◌%◌, ◌^◌, Bool, true, false, not, nat_eq, nat_lt, if◌then◌else◌, slice_index, List, Option, Some, None, Result, Ok, Err}
+use Rattle.s360_model.specs.Core.{Core}
+use Rattle.s360_model.specs.Psw.{protection_key_of}
+use Rattle.s360_model.specs.Storage.{halfword_at, word_at}
+use Rattle.s360_store.specs.declared.protection.Access.{Access}
+use Rattle.s360_store.specs.declared.protection.Access.TheVariants.{Fetch}
+use Rattle.s360_store.specs.declared.protection.Checked.{Checked}
+use Rattle.s360_store.specs.declared.protection.Checked.TheVariants.{Addressing, Protection}
+use Rattle.s360_store.specs.Protection.{access}
+use Rattle.s360_fixed.specs.declared.second_operand.SecondOperand.{SecondOperand}
+use Rattle.s360_fixed.specs.declared.second_operand.SecondOperand.TheVariants.{Word, Halfword, Byte, Address}
+use Rattle.s360_fixed.specs.ProgramCodes.{Conditions, no_conditions, program_code}
+use Rattle.s360_fixed.specs.declared.program_code.ProgramCode.{ProgramCode}
+
+-- what a base or an index register adds: nothing where it is register 0
+abbrev pub address_part : List ℕ → ℕ → ℕ
+address_part registers r = if nat_eq r 0 then 0 else slice_index registers r
+
+-- base plus index plus displacement, modulo 2^24
+abbrev pub operand_address : List ℕ → ℕ → ℕ → ℕ → ℕ
+operand_address registers index base displacement = (address_part registers index + address_part registers base + displacement) % 2 ^ 24
+
+abbrev pub is_outside : Checked → Bool
+is_outside Addressing = true
+is_outside c = false
+
+abbrev pub is_guarded : Checked → Bool
+is_guarded Protection = true
+is_guarded c = false
+
+-- the conditions of an access to so many bytes of storage, which lie on a boundary
+abbrev pub access_conditions : Core → ℕ → ℕ → ℕ → Access → Conditions
+access_conditions m address boundary count kind = record no_conditions {
+  specification = not (nat_eq (address % boundary) 0);
+  addressing = is_outside (access m.storage address count kind (protection_key_of m.psw));
+  protection = is_guarded (access m.storage address count kind (protection_key_of m.psw));
+}
+
+-- an operand: what keeps it from being used, and its value
+pub record Operand : Type 0 where
+  pub conditions : Conditions
+  pub value : ℕ
+
+-- a halfword extended by its sign to a word
+abbrev pub extended_halfword : ℕ → ℕ
+extended_halfword half = if nat_lt half 0x8000 then half else half + 0xFFFF_0000
+
+-- a second operand that can be used, as one in a register
+abbrev pub word_operand : ℕ → Operand
+word_operand word = record { conditions = no_conditions; value = word }
+
+-- a second operand in storage
+abbrev pub storage_operand : Core → SecondOperand → ℕ → Operand
+storage_operand m Word address = record { conditions = access_conditions m address 4 4 Fetch; value = word_at m.storage.bytes address }
+storage_operand m Halfword address = record { conditions = access_conditions m address 2 2 Fetch; value = extended_halfword (halfword_at m.storage.bytes address) }
+storage_operand m Byte address = record { conditions = access_conditions m address 1 1 Fetch; value = slice_index m.storage.bytes address }
+storage_operand m Address address = word_operand address
+
+-- the value of an operand, or what keeps it from being used
+abbrev pub fetched : Operand → Result ℕ ProgramCode
+fetched s = unless_refused (program_code s.conditions) where
+  unless_refused : Option ProgramCode → Result ℕ ProgramCode
+  unless_refused None = Ok s.value
+  unless_refused (Some code) = Err code

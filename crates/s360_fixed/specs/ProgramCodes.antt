@@ -1,0 +1,75 @@
+-- The program interruption codes, and which one is taken where several conditions hold (GA22-6821,
+-- "Interruptions", program interruption; the order is own profile).
+use Rattle.std.specs.Prelude.{ℕ, Bool, false, if◌then◌else◌, Option, Some, None, List, [], ◌∷◌}
+use Rattle.s360_fixed.specs.declared.program_code.ProgramCode.{ProgramCode}
+use Rattle.s360_fixed.specs.declared.program_code.ProgramCode.TheVariants.{Operation, Privileged, Execute}
+use Rattle.s360_fixed.specs.declared.program_code.ProgramCode.TheVariants.{Protection, Addressing, Specification}
+use Rattle.s360_fixed.specs.declared.program_code.ProgramCode.TheVariants.{Data, FixedPointOverflow, FixedPointDivide}
+
+abbrev pub number_of_code : ProgramCode → ℕ
+number_of_code Operation = 1
+number_of_code Privileged = 2
+number_of_code Execute = 3
+number_of_code Protection = 4
+number_of_code Addressing = 5
+number_of_code Specification = 6
+number_of_code Data = 7
+number_of_code FixedPointOverflow = 8
+number_of_code FixedPointDivide = 9
+
+-- what keeps an instruction from being done
+pub record Conditions : Type 0 where
+  -- its address is odd
+  pub odd_address : Bool
+  -- it is not whole inside storage
+  pub outside_fetch : Bool
+  -- its code is no operation
+  pub operation : Bool
+  -- it is privileged, in the problem state
+  pub privileged : Bool
+  -- it is the subject of an execute, and an execute
+  pub execute : Bool
+  -- an operand is off its boundary, or a register is not even
+  pub specification : Bool
+  -- an operand is outside storage
+  pub addressing : Bool
+  -- an operand is stored where the keys don't match
+  pub protection : Bool
+  -- a digit or sign is not one
+  pub bad_digit : Bool
+  -- the quotient does not fit
+  pub divide : Bool
+
+abbrev pub no_conditions : Conditions
+no_conditions = record {
+  odd_address = false;
+  outside_fetch = false;
+  operation = false;
+  privileged = false;
+  execute = false;
+  specification = false;
+  addressing = false;
+  protection = false;
+  bad_digit = false;
+  divide = false;
+}
+
+-- the code of the first condition that holds
+abbrev pub first_that_holds : List (Bool × ProgramCode) → Option ProgramCode
+first_that_holds [] = None
+first_that_holds (c ∷ others) = if c.0 then Some c.1 else first_that_holds others
+
+-- the order of the codes
+abbrev pub program_code : Conditions → Option ProgramCode
+program_code c = first_that_holds (
+    (c.odd_address, Specification)
+    ∷ (c.outside_fetch, Addressing)
+    ∷ (c.operation, Operation)
+    ∷ (c.privileged, Privileged)
+    ∷ (c.execute, Execute)
+    ∷ (c.specification, Specification)
+    ∷ (c.addressing, Addressing)
+    ∷ (c.protection, Protection)
+    ∷ (c.bad_digit, Data)
+    ∷ (c.divide, FixedPointDivide)
+    ∷ [])

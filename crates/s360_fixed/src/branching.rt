@@ -1,0 +1,131 @@
+//! Branches. The branch address is taken before the link, the count or the sum is stored. Source:
+//! GA22-6821, "Branching".
+ghost use Rattle.std.specs.Prelude.{◌≡◌, [], IfOk};
+ghost use Rattle.s360_model.specs.Numbers.{signed};
+ghost use Rattle.s360_fixed.specs.Branching.{address_after, branch_outcome, comparand_of};
+ghost use Rattle.s360_fixed.specs.Branching.{index_outcome, is_selected, link_of, register_target};
+ghost use Rattle.s360_fixed.specs.Plans.{PlansOutcome};
+ghost use Rattle.s360_fixed.specs.Rows.{is_high, is_low_or_equal, row_of};
+
+use crate::effect::Effect;
+use crate::ended::Ended;
+use crate::operation::Operation;
+use crate::registers::odd_partner;
+use crate::setting::Setting;
+use crate::view::View;
+use s360_store::Plan;
+use s360_word::{Cc, RegisterNumber, Word, add_signed, compare_signed};
+use std::alloc::AllocError;
+
+/// The branch address in a register; none in register 0.
+pub(crate) fn register_target(view: &View, r2: RegisterNumber) -> Option<u32>
+    ensures { result ≡ register_target view.now r2 }
+{
+    if r2.number() == 0 {
+        None
+    } else {
+        Some(view.register(r2))
+    }
+}
+
+/// Where the program goes on.
+fn address_after(view: &View, is_taken: bool, target: Option<u32>) -> u32
+    ensures { result ≡ address_after view.now is_taken target }
+{
+    match target {
+        Some(target) if is_taken => target,
+        _ => view.next_address(),
+    }
+}
+
+/// Whether a mask of four bits has a one for the condition code, the leftmost for 0.
+fn is_selected(mask: RegisterNumber, code: Cc) -> bool
+    ensures { result ≡ is_selected mask code }
+{
+    (mask.number() >> (3 - code.code())) % 2 == 1
+}
+
+/// Bits 32 to 63 of the PSW, with the length of this instruction and the address of the next.
+fn link_of(view: &View) -> Word
+    ensures { result ≡ link_of view.now }
+{
+    let psw = view.psw().with_instruction_address(view.next_address());
+    (psw.stored(0, view.instruction_length()) % 0x1_0000_0000) as u32
+}
+
+/// Plans a branch on condition, a branch and link or a branch on count.
+pub(crate) fn plan_branch(
+    view: &View,
+    operation: Operation,
+    r1: RegisterNumber,
+    target: Option<u32>,
+    plan: &mut Plan,
+) -> Result<Ended, AllocError>
+    requires empty { plan.old ≡ [] }
+    ensures { IfOk result (PlansOutcome view.now.core plan.new (branch_outcome (row_of operation).meaning view.now r1 target)) }
+{
+    let (effect, is_taken) = match operation {
+        Operation::BranchOnCondition => (
+            Effect::none(),
+            is_selected(r1, view.psw().condition_code()),
+        ),
+        Operation::BranchAndLink => (Effect::single(link_of(view), Setting::Kept), true),
+        Operation::BranchOnCount => {
+            let count = view.register(r1).wrapping_sub(1);
+            (Effect::single(count, Setting::Kept), count != 0)
+        }
+        _ => return Ok(Ended::Unbuilt),
+    };
+    effect.plan(view, r1, address_after(view, is_taken, target), plan)
+}
+
+/// The comparand of a branch on index: in R3 where its number is odd, else in the next register.
+fn comparand_of(view: &View, r3: RegisterNumber) -> Word
+    ensures { result ≡ comparand_of view.now r3 }
+{
+    match odd_partner(r3) {
+        Some(next) => view.register(next),
+        None => view.register(r3),
+    }
+}
+
+/// Whether the first signed word is above the second.
+fn is_above(first: Word, second: Word) -> bool
+    ensures { result ≡ is_high (signed first) (signed second) }
+{
+    compare_signed(first, second).code() == 2
+}
+
+/// Plans a branch on index high.
+pub(crate) fn plan_branch_on_index_high(
+    view: &View,
+    r1: RegisterNumber,
+    r3: RegisterNumber,
+    address: u32,
+    plan: &mut Plan,
+) -> Result<Ended, AllocError>
+    requires empty { plan.old ≡ [] }
+    ensures { IfOk result (PlansOutcome view.now.core plan.new (index_outcome is_high view.now r1 r3 address)) }
+{
+    let (sum, _) = add_signed(view.register(r1), view.register(r3));
+    let is_high = is_above(sum, comparand_of(view, r3));
+    let address = address_after(view, is_high, Some(address));
+    Effect::single(sum, Setting::Kept).plan(view, r1, address, plan)
+}
+
+/// Plans a branch on index low or equal.
+pub(crate) fn plan_branch_on_index_low_or_equal(
+    view: &View,
+    r1: RegisterNumber,
+    r3: RegisterNumber,
+    address: u32,
+    plan: &mut Plan,
+) -> Result<Ended, AllocError>
+    requires empty { plan.old ≡ [] }
+    ensures { IfOk result (PlansOutcome view.now.core plan.new (index_outcome is_low_or_equal view.now r1 r3 address)) }
+{
+    let (sum, _) = add_signed(view.register(r1), view.register(r3));
+    let is_high = is_above(sum, comparand_of(view, r3));
+    let address = address_after(view, !is_high, Some(address));
+    Effect::single(sum, Setting::Kept).plan(view, r1, address, plan)
+}

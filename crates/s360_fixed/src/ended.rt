@@ -1,0 +1,32 @@
+//! How an instruction ends. Source: GA22-6821, "Interruptions" and "Input/Output Operations".
+use crate::program_code::ProgramCode;
+use s360_word::Unit;
+
+/// An input/output instruction.
+#[derive(Clone, Copy, Debug, PartialEq, Eq, Hash)]
+pub enum IoOperation {
+    /// SIO.
+    Start,
+    /// TIO.
+    Test,
+    /// HIO.
+    Halt,
+    /// TCH.
+    TestChannel,
+}
+
+/// How an instruction ends.
+#[derive(Clone, Copy, Debug, PartialEq, Eq, Hash)]
+pub enum Ended {
+    /// It is completed.
+    Done,
+    /// A program interruption follows. Nothing is stored or loaded where the code is 1 to 7, and
+    /// where it is 9 in a division.
+    Program(ProgramCode),
+    /// A supervisor call interruption with this code follows. Nothing is stored or loaded.
+    Svc(u8),
+    /// The channels do this to a unit. Nothing is stored or loaded yet.
+    Io(IoOperation, Unit),
+    /// The instruction is not built yet.
+    Unbuilt,
+}

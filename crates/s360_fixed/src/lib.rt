@@ -1,0 +1,38 @@
+//! Instructions: their operation codes and formats, and the plans of the fixed-point, branch and
+//! shift instructions.
+//!
+//! Source: GA22-6821, "System Structure", "Fixed-Point Arithmetic", "Logical Operations" and
+//! "Branching".
+#![tactic(auto)]
+
+mod address;
+mod arithmetic;
+mod branching;
+mod cpu;
+mod decoder;
+mod effect;
+mod ended;
+mod fetch;
+mod form;
+mod load_store;
+mod operation;
+mod planner;
+mod program_code;
+mod puts;
+mod registers;
+mod second_operand;
+mod setting;
+mod shifts;
+#[cfg(test)]
+mod tests;
+mod view;
+
+pub use cpu::plan_instruction;
+pub use decoder::{decode, length_of};
+pub use ended::{Ended, IoOperation};
+pub use fetch::fetch_instruction;
+pub use form::{Form, Format};
+pub use operation::Operation;
+pub use planner::plan_fixed;
+pub use program_code::ProgramCode;
+pub use view::View;

@@ -1,0 +1,45 @@
+//! The program interruption codes. Source: GA22-6821, "Interruptions", program interruption.
+ghost use Rattle.std.specs.Prelude.{◌≡◌};
+ghost use Rattle.s360_fixed.specs.ProgramCodes.{number_of_code};
+
+/// Why an instruction interrupts the program.
+#[derive(Clone, Copy, Debug, PartialEq, Eq, Hash)]
+pub enum ProgramCode {
+    /// Code 1: no such operation.
+    Operation,
+    /// Code 2: a privileged operation in the problem state.
+    Privileged,
+    /// Code 3: the subject of an execute is an execute.
+    Execute,
+    /// Code 4: a store where the protection keys don't match.
+    Protection,
+    /// Code 5: an address outside storage.
+    Addressing,
+    /// Code 6: an odd instruction address, a boundary or a register that is not even.
+    Specification,
+    /// Code 7: a digit or sign that is not one.
+    Data,
+    /// Code 8: a fixed-point result that does not fit, where its mask is one.
+    FixedPointOverflow,
+    /// Code 9: a quotient, or a converted number, that does not fit.
+    FixedPointDivide,
+}
+
+impl ProgramCode {
+    /// The code's number, 1 to 9.
+    pub fn number(self) -> u16
+        ensures { result ≡ number_of_code self }
+    {
+        match self {
+            ProgramCode::Operation => 1,
+            ProgramCode::Privileged => 2,
+            ProgramCode::Execute => 3,
+            ProgramCode::Protection => 4,
+            ProgramCode::Addressing => 5,
+            ProgramCode::Specification => 6,
+            ProgramCode::Data => 7,
+            ProgramCode::FixedPointOverflow => 8,
+            ProgramCode::FixedPointDivide => 9,
+        }
+    }
+}
