@@ -81,7 +81,7 @@ fn read_storage_patch(alloc: Global, mut words: Words<'_>) -> Result<Command, Li
     let bytes = buffer[..count].to_vec(alloc)?;
     Ok(Command::PatchStorage {
         at,
-        bytes: Bytes::new(bytes),
+        bytes: Bytes::new(alloc, bytes)?,
     })
 }
 

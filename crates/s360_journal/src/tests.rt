@@ -36,7 +36,7 @@ fn session_with(alloc: Global, limit: u32) -> Result<Session, Fail>
 }
 
 fn patch_of_bytes(alloc: Global, at: u32, bytes: &[u8]) -> Result<Event, AllocError> {
-    let bytes = Bytes::new(Vec::from_slice(alloc, bytes)?);
+    let bytes = Bytes::new(alloc, Vec::from_slice(alloc, bytes)?)?;
     Ok(Event::Patch(Patch::Bytes { at, bytes }))
 }
 

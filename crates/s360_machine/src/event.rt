@@ -1,13 +1,15 @@
 //! The events of the machine, each of which is taken back as one change.
-ghost use Rattle.std.specs.Prelude.{◌≡◌};
+ghost use Rattle.std.specs.Prelude.{◌≡◌, IfOk};
 
 use s360_word::{RegisterNumber, Word};
+use std::alloc::{AllocError, Global};
 use std::marker::Model;
 
-/// Bytes in their order, which a contract sees as a list.
+/// Bytes in their order, which a contract sees as a list. They live on the heap with their length, so
+/// that an event in a journal is small.
 #[derive(Debug, Drop)]
 pub struct Bytes {
-    items: Vec<u8>,
+    items: Box<Vec<u8>>,
 }
 
 impl Model for Bytes {
@@ -15,15 +17,16 @@ impl Model for Bytes {
 
     ghost Value = { List ℕ };
 
-    ghost view = { λ b. b.items.items };
+    ghost view = { λ b. b.items.value.items };
 }
 
 impl Bytes {
-    /// The bytes of a vector. It takes no memory.
-    pub fn new(items: Vec<u8>) -> Bytes
-        ensures { result ≡ items.items }
+    /// The bytes of a vector.
+    pub fn new(alloc: Global, items: Vec<u8>) -> Result<Bytes, AllocError>
+        ensures { IfOk result (λ bytes. bytes ≡ items.items) }
     {
-        Bytes { items }
+        let items = Box::new(alloc, items)?;
+        Ok(Bytes { items })
     }
 
     /// The bytes.
@@ -37,7 +40,7 @@ impl Bytes {
     pub fn into_vec(self) -> Vec<u8>
         ensures { result.items ≡ self }
     {
-        self.items
+        Box::into_inner(self.items)
     }
 }
 

@@ -69,7 +69,7 @@ fn load_psw(alloc: Global, machine: &mut Machine, psw: u64) -> Result<(), AllocE
 }
 
 fn patch_of_bytes(alloc: Global, at: u32, bytes: &[u8]) -> Result<Event, AllocError> {
-    let bytes = Bytes::new(Vec::from_slice(alloc, bytes)?);
+    let bytes = Bytes::new(alloc, Vec::from_slice(alloc, bytes)?)?;
     Ok(Event::Patch(Patch::Bytes { at, bytes }))
 }
 
@@ -322,5 +322,11 @@ fn waiting_machine_is_idle(rt: HostRuntime) -> Result<(), Fail> {
         assert_places(&rt, alloc, &changes, &[], "waiting")?;
         assert!(rt; picture_of(alloc, &machine)? == before, "{psw:016X}");
     }
+    Ok(())
+}
+
+#[test]
+fn event_has_at_most_32_bytes(rt: HostRuntime) -> Result<(), Fail> {
+    assert!(rt; size_of::<Event>() <= 32);
     Ok(())
 }

@@ -148,7 +148,7 @@ fn refusals(rt: HostRuntime) -> Result<(), Fail> {
 #[test]
 fn bytes(rt: HostRuntime) -> Result<(), Fail> {
     for list in [&[][..], &[0xC1], &[0x00, 0xFF, 0x00]] {
-        let bytes = Bytes::new(Vec::from_slice(rt.alloc(), list)?);
+        let bytes = Bytes::new(rt.alloc(), Vec::from_slice(rt.alloc(), list)?)?;
         assert_eq!(rt; bytes.as_slice(), list);
         assert_eq!(rt; bytes.into_vec().as_slice(), list);
     }
