@@ -2,6 +2,7 @@ pub mod WordLemmas
 pub mod DigitLemmas
 pub mod HexTextLemmas
 pub mod PlaceNameLemmas
+pub mod ShownLemmas
 pub mod LineLemmas
 pub mod Writes
 pub mod Readings

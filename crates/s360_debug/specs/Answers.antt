@@ -1,23 +1,22 @@
 -- What a command answers, and what stands afterwards (own profile). Each line of an answer is ended by one
 -- line feed.
-use Rattle.std.specs.Prelude.{◌≡◌, ◌⊎◌, ℕ, ◌+◌, Bool, true, false, if◌then◌else◌, nat_lt, Option, Some, None, List, [], ◌∷◌, ◌++◌, codes, length, take, slice_index, ◌-◌}
-use Rattle.s360_model.specs.Text.{decimal, hex_text}
+use Rattle.std.specs.Prelude.{◌≡◌, ◌⊎◌, ℕ, ◌+◌, Bool, true, false, if◌then◌else◌, nat_lt, Option, Some, None, List, [], ◌∷◌, ◌++◌, codes, length, take, ◌-◌}
+use Rattle.s360_model.specs.Text.{decimal}
 use Rattle.s360_store.specs.declared.place.Place.{Place}
 use Rattle.s360_machine.specs.declared.event.Event.{Event}
-use Rattle.s360_machine.specs.declared.event.Event.TheVariants.{Cpu, Patch as patch}
-use Rattle.s360_machine.specs.declared.event.Patch.TheVariants.{Bytes, Register}
 use Rattle.s360_machine.specs.declared.refusal.Refusal.{Refusal}
 use Rattle.s360_machine.specs.declared.refusal.Refusal.TheVariants.{Unbuilt}
-use Rattle.s360_machine.specs.Refusals.{number_of_refusal}
 use Rattle.s360_machine.specs.Step.{is_unbuilt}
 use Rattle.s360_journal.specs.declared.report.Report.{Report}
 use Rattle.s360_journal.specs.declared.report.Report.TheVariants.{Changed, Idle}
+use Rattle.s360_journal.specs.Rerun.{last_change_of}
 use Rattle.s360_journal.specs.Standing.{Standing, machine_of, refusal_in, alteration, last_of}
 use Rattle.s360_debug.specs.declared.command.Command.{Command}
-use Rattle.s360_debug.specs.declared.command.Command.TheVariants.{Step, PatchStorage, PatchRegister, Back, Standing as standing, ShowRegisters}
+use Rattle.s360_debug.specs.declared.command.Command.TheVariants.{Offer, Back, Standing as standing, Last, Show}
 use Rattle.s360_debug.specs.declared.command.LineFault.{LineFault}
 use Rattle.s360_debug.specs.declared.command.LineFault.TheVariants.{LineTooLong, Unknown, Argument, Memory}
-use Rattle.s360_debug.specs.Names.{place_name, event_name, refusal_name}
+use Rattle.s360_debug.specs.Names.{place_name, event_name, refused_text}
+use Rattle.s360_debug.specs.Shown.{shown_text}
 
 -- the names of places, each after a blank
 abbrev pub place_names : List Place → List ℕ
@@ -40,9 +39,6 @@ abbrev pub text_of_report : ℕ → Report → List ℕ
 text_of_report number Idle = decimal number ++ codes " idle" ++ codes "\n"
 text_of_report number (Changed ps) = changed_text number ps
 
-abbrev pub refused_text : Refusal → List ℕ
-refused_text r = codes "refused " ++ decimal (number_of_refusal r) ++ codes " " ++ refusal_name r ++ codes "\n"
-
 -- what an event does: it is refused, or it stands
 abbrev pub refusal_met : Option Refusal → Bool → Option Refusal
 refusal_met (Some r) unbuilt = Some r
@@ -64,24 +60,9 @@ abbrev pub back_text : ℕ → Option Event → List ℕ
 back_text number None = codes "nothing stands" ++ codes "\n"
 back_text number (Some e) = codes "back " ++ decimal number ++ codes " " ++ event_name e ++ codes "\n"
 
--- a register's word after a blank
-abbrev pub register_word : List ℕ → ℕ → List ℕ
-register_word registers n = codes " " ++ hex_text 8 (slice_index registers n)
-
--- a text and then the line of four registers from this one on, after the name of the first
-abbrev pub after_registers : List ℕ → List ℕ → ℕ → List ℕ
-after_registers text registers n =
-    text ++ codes "r" ++ hex_text 1 n ++ register_word registers n ++ register_word registers (n + 1) ++ register_word registers (n + 2)
-    ++ register_word registers (n + 3) ++ codes "\n"
-
-abbrev pub registers_text : List ℕ → List ℕ
-registers_text registers = after_registers (after_registers (after_registers (after_registers [] registers 0) registers 4) registers 8) registers 12
-
 -- the event that a command offers, if it offers one
 abbrev pub event_of : Command → Option Event
-event_of Step = Some Cpu
-event_of (PatchStorage at bytes) = Some (patch (Bytes at bytes))
-event_of (PatchRegister n word) = Some (patch (Register n word))
+event_of (Offer e) = Some e
 event_of c = None
 
 abbrev pub text_of_event : Standing → Event → List ℕ
@@ -90,23 +71,24 @@ text_of_event s e = text_of_outcome (outcome_of s e) s e
 abbrev pub state_after_event : Standing → Event → Standing
 state_after_event s e = stood_after (outcome_of s e) s e
 
+-- the number of a place's last change
+abbrev pub last_text : Option ℕ → List ℕ
+last_text None = codes "last none" ++ codes "\n"
+last_text (Some number) = codes "last " ++ decimal number ++ codes "\n"
+
 -- a command's answer
 unfoldable pub answer_to : Standing → Command → List ℕ
-answer_to s Step = text_of_event s Cpu
-answer_to s (PatchStorage at bytes) = text_of_event s (patch (Bytes at bytes))
-answer_to s (PatchRegister n word) = text_of_event s (patch (Register n word))
+answer_to s (Offer e) = text_of_event s e
 answer_to s Back = back_text (length s.events) (last_of s.events)
 answer_to s standing = codes "standing " ++ decimal (length s.events) ++ codes "\n"
-answer_to s ShowRegisters = registers_text (machine_of s).core.registers
+answer_to s (Last place) = last_text (last_change_of s.start s.events place)
+answer_to s (Show shown) = shown_text (machine_of s) shown
 
 -- what stands after a command
 unfoldable pub state_after : Standing → Command → Standing
-state_after s Step = state_after_event s Cpu
-state_after s (PatchStorage at bytes) = state_after_event s (patch (Bytes at bytes))
-state_after s (PatchRegister n word) = state_after_event s (patch (Register n word))
+state_after s (Offer e) = state_after_event s e
 state_after s Back = record s { events = take (length s.events - 1) s.events }
-state_after s standing = s
-state_after s ShowRegisters = s
+state_after s command = s
 
 -- what a faulty line answers; want of memory is no fault of the line
 abbrev pub fault_text : LineFault → List ℕ

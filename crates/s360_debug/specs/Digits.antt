@@ -1,20 +1,25 @@
--- Numbers and bytes as an argument writes them, in digits of either case (own profile).
-use Rattle.std.specs.Prelude.{ℕ, ◌+◌, ◌*◌, ◌-◌, ◌&&◌, nat_le, if◌then◌else◌, Option, Some, None, List, [], ◌∷◌, length}
+-- Numbers as an argument writes them (own profile). Hexadecimal digits are of either case.
+use Rattle.std.specs.Prelude.{ℕ, ◌&&◌, nat_eq, nat_le, if◌then◌else◌, Option, Some, None, List, length}
+use Rattle.std.specs.List.{list_all}
 use Rattle.std.specs.Option.{option_and_then}
+use Rattle.std.specs.Char.{is_digit}
+use Rattle.std.specs.Str.Parse.{digits_value}
 
--- the value of a hexadecimal digit: 0 to 9, A to F, a to f
-abbrev pub digit_value : ℕ → Option ℕ
-digit_value b =
-    if nat_le 48 b && nat_le b 57 then Some (b - 48)
-    else (if nat_le 65 b && nat_le b 70 then Some (b - 55)
-    else (if nat_le 97 b && nat_le b 102 then Some (b - 87)
-    else None))
-
--- the number of the digits that follow a number read so far
-abbrev pub number_from : ℕ → List ℕ → Option ℕ
-number_from n [] = Some n
-number_from n (b ∷ bs) = option_and_then (λ d. number_from (n * 16 + d) bs) (digit_value b)
+-- a number of 1 to so many digits in a radix
+abbrev pub number_of_digits : ℕ → ℕ → List ℕ → Option ℕ
+number_of_digits radix most word =
+    if (nat_le 1 (length word) && nat_le (length word) most) && list_all (λ c. is_digit c radix) word
+    then Some (digits_value radix word)
+    else None
 
 -- a number of 1 to so many hexadecimal digits
 abbrev pub hex_number : ℕ → List ℕ → Option ℕ
-hex_number most word = if nat_le 1 (length word) && nat_le (length word) most then number_from 0 word else None
+hex_number most word = number_of_digits 16 most word
+
+-- a doubleword: sixteen hexadecimal digits
+abbrev pub doubleword_of : List ℕ → Option ℕ
+doubleword_of word = if nat_eq (length word) 16 then hex_number 16 word else None
+
+-- a count from 1 to so many, in 1 to 8 decimal digits
+abbrev pub count_of : ℕ → List ℕ → Option ℕ
+count_of most word = option_and_then (λ n. if nat_le 1 n && nat_le n most then Some n else None) (number_of_digits 10 8 word)

@@ -1,14 +1,17 @@
--- The printed names of places, events and refusals (own profile).
+-- The printed names of places, events, refusals and run states (own profile).
 use Rattle.std.specs.Prelude.{ℕ, ◌*◌, List, ◌++◌, codes}
-use Rattle.s360_model.specs.Text.{hex_text}
+use Rattle.s360_model.specs.Text.{decimal, hex_text}
 use Rattle.s360_model.specs.Storage.{block_size}
 use Rattle.s360_store.specs.declared.place.Place.{Place}
 use Rattle.s360_store.specs.declared.place.Place.TheVariants.{Psw, Register, Byte, Key, Run, External, UnitState, UnitMedia}
 use Rattle.s360_machine.specs.declared.event.Event.{Event}
 use Rattle.s360_machine.specs.declared.event.Event.TheVariants.{Cpu, Patch as patch}
-use Rattle.s360_machine.specs.declared.event.Patch.TheVariants.{Bytes, Register as register}
+use Rattle.s360_machine.specs.declared.event.Patch.TheVariants.{Bytes, Register as register, Psw as psw}
 use Rattle.s360_machine.specs.declared.refusal.Refusal.{Refusal}
 use Rattle.s360_machine.specs.declared.refusal.Refusal.TheVariants.{Memory, OutsideStorage, PatchTooLong, JournalFull, Unbuilt}
+use Rattle.s360_machine.specs.declared.run_state.RunState.{RunState}
+use Rattle.s360_machine.specs.declared.run_state.RunState.TheVariants.{Operating, Stopped, Loading}
+use Rattle.s360_machine.specs.Refusals.{number_of_refusal}
 
 -- a key by its block's first address
 abbrev pub place_name : Place → List ℕ
@@ -25,6 +28,7 @@ abbrev pub event_name : Event → List ℕ
 event_name Cpu = codes "cpu"
 event_name (patch (Bytes at bytes)) = codes "patch s"
 event_name (patch (register n word)) = codes "patch r"
+event_name (patch (psw doubleword)) = codes "patch p"
 
 abbrev pub refusal_name : Refusal → List ℕ
 refusal_name Memory = codes "memory"
@@ -32,3 +36,12 @@ refusal_name OutsideStorage = codes "outside storage"
 refusal_name PatchTooLong = codes "patch too long"
 refusal_name JournalFull = codes "journal full"
 refusal_name Unbuilt = codes "unbuilt"
+
+-- what a refusal answers: its number and its name
+abbrev pub refused_text : Refusal → List ℕ
+refused_text r = codes "refused " ++ decimal (number_of_refusal r) ++ codes " " ++ refusal_name r ++ codes "\n"
+
+abbrev pub run_state_name : RunState → List ℕ
+run_state_name Operating = codes "operating"
+run_state_name Stopped = codes "stopped"
+run_state_name (Loading unit) = codes "loading " ++ hex_text 3 unit.0

@@ -5,19 +5,26 @@ use Rattle.std.specs.Cmp.Lexicographic.{pointwise}
 use Rattle.std.specs.Option.{ok_or}
 use Rattle.std.specs.Result.{result_ok}
 use Rattle.hex.specs.Hex.{decode_of}
+use Rattle.s360_store.specs.declared.place.Place.TheVariants.{Psw, Register, Byte}
+use Rattle.s360_machine.specs.declared.event.Event.TheVariants.{Cpu, Patch as patch}
+use Rattle.s360_machine.specs.declared.event.Patch.TheVariants.{Bytes as bytes_patch, Register as register_patch, Psw as psw_patch}
 use Rattle.s360_debug.specs.declared.command.Command.{Command}
-use Rattle.s360_debug.specs.declared.command.Command.TheVariants.{Step, PatchStorage, PatchRegister, Back, Standing, ShowRegisters}
+use Rattle.s360_debug.specs.declared.command.Command.TheVariants.{Offer, Back, Standing, Last, Show}
+use Rattle.s360_debug.specs.declared.command.Shown.TheVariants.{Registers, Psw as psw, Storage}
 use Rattle.s360_debug.specs.declared.command.LineFault.{LineFault}
 use Rattle.s360_debug.specs.declared.command.LineFault.TheVariants.{LineTooLong, Unknown, Argument, Memory}
 use Rattle.s360_debug.specs.Words.{words_of}
-use Rattle.s360_debug.specs.Digits.{hex_number}
+use Rattle.s360_debug.specs.Digits.{hex_number, doubleword_of, count_of}
 
 abbrev pub Reading : Type 0
 Reading = Result Command LineFault
 
--- the longest line, in bytes
+-- the longest line, and the most storage that one line shows, in bytes
 abbrev pub longest_line : ℕ
 longest_line = 1024
+
+abbrev pub most_shown : ℕ
+most_shown = 256
 
 abbrev pub is_word : List ℕ → List ℕ → Bool
 is_word word name = pointwise nat_eq word name
@@ -27,18 +34,18 @@ abbrev pub and_then : {V : Type 0} → Result V LineFault → (V → Reading) �
 and_then (Ok v) next = next v
 and_then (Err f) next = Err f
 
--- a number of at most so many hexadecimal digits as the first of the words
+-- the first of the words as an argument
+abbrev pub argument : {V : Type 0} → ℕ → (List ℕ → Option V) → List (List ℕ) → Result V LineFault
+argument place value [] = Err (Argument place)
+argument place value (word ∷ words) = ok_or (value word) (Argument place)
+
+-- a number of at most so many hexadecimal digits
 abbrev pub number_argument : ℕ → ℕ → List (List ℕ) → Result ℕ LineFault
-number_argument place most [] = Err (Argument place)
-number_argument place most (word ∷ words) = ok_or (hex_number most word) (Argument place)
+number_argument place most words = argument place (hex_number most) words
 
 -- bytes of two digits each, at least one byte; no line has room for more than 512
 abbrev pub bytes_in : List ℕ → Option (List ℕ)
 bytes_in word = if nat_eq (length word) 0 || nat_lt longest_line (length word) then None else result_ok (decode_of word)
-
-abbrev pub bytes_argument : ℕ → List (List ℕ) → Result (List ℕ) LineFault
-bytes_argument place [] = Err (Argument place)
-bytes_argument place (word ∷ words) = ok_or (bytes_in word) (Argument place)
 
 -- no word is left
 abbrev pub finished : ℕ → Command → List (List ℕ) → Reading
@@ -48,35 +55,73 @@ finished place command (word ∷ words) = Err (Argument place)
 -- `patch s A BYTES`, after its first two words
 abbrev pub storage_patch : List (List ℕ) → Reading
 storage_patch words =
-    and_then (number_argument 2 6 words) (λ at. and_then (bytes_argument 3 (drop 1 words)) (λ bytes. finished 4 (PatchStorage at bytes) (drop 2 words)))
+    and_then (number_argument 2 6 words) (λ at.
+    and_then (argument 3 bytes_in (drop 1 words)) (λ bytes.
+    finished 4 (Offer (patch (bytes_patch at bytes))) (drop 2 words)))
 
 -- `patch r R W`, after its first two words
-abbrev pub register_patch : List (List ℕ) → Reading
-register_patch words =
-    and_then (number_argument 2 1 words) (λ n. and_then (number_argument 3 8 (drop 1 words)) (λ word. finished 4 (PatchRegister n word) (drop 2 words)))
+abbrev pub word_patch : List (List ℕ) → Reading
+word_patch words =
+    and_then (number_argument 2 1 words) (λ n.
+    and_then (number_argument 3 8 (drop 1 words)) (λ word.
+    finished 4 (Offer (patch (register_patch n word))) (drop 2 words)))
+
+-- `patch p Q`, after its first two words
+abbrev pub doubleword_patch : List (List ℕ) → Reading
+doubleword_patch words = and_then (argument 2 doubleword_of words) (λ q. finished 3 (Offer (patch (psw_patch q))) (drop 1 words))
 
 -- `patch` with a kind
 abbrev pub patch_reading : List (List ℕ) → Reading
 patch_reading [] = Err (Argument 1)
 patch_reading (kind ∷ words) =
     if is_word kind (codes "s") then storage_patch words
-    else (if is_word kind (codes "r") then register_patch words else Err (Argument 1))
+    else (if is_word kind (codes "r") then word_patch words
+    else (if is_word kind (codes "p") then doubleword_patch words
+    else Err (Argument 1)))
 
--- `show regs`
+-- `last s A` and `last r R`, after their first two words
+abbrev pub last_byte : List (List ℕ) → Reading
+last_byte words = and_then (number_argument 2 6 words) (λ at. finished 3 (Last (Byte at)) (drop 1 words))
+
+abbrev pub last_register : List (List ℕ) → Reading
+last_register words = and_then (number_argument 2 1 words) (λ n. finished 3 (Last (Register n)) (drop 1 words))
+
+-- `last` with a kind
+abbrev pub last_reading : List (List ℕ) → Reading
+last_reading [] = Err (Argument 1)
+last_reading (kind ∷ words) =
+    if is_word kind (codes "s") then last_byte words
+    else (if is_word kind (codes "r") then last_register words
+    else (if is_word kind (codes "p") then finished 2 (Last Psw) words
+    else Err (Argument 1)))
+
+-- `show s A N`, after its first two words
+abbrev pub show_storage : List (List ℕ) → Reading
+show_storage words =
+    and_then (number_argument 2 6 words) (λ at.
+    and_then (argument 3 (count_of most_shown) (drop 1 words)) (λ count.
+    finished 4 (Show (Storage at count)) (drop 2 words)))
+
+-- `show` with a kind
 abbrev pub show_reading : List (List ℕ) → Reading
 show_reading [] = Err (Argument 1)
-show_reading (kind ∷ words) = if is_word kind (codes "regs") then finished 2 ShowRegisters words else Err (Argument 1)
+show_reading (kind ∷ words) =
+    if is_word kind (codes "regs") then finished 2 (Show Registers) words
+    else (if is_word kind (codes "psw") then finished 2 (Show psw) words
+    else (if is_word kind (codes "s") then show_storage words
+    else Err (Argument 1)))
 
 -- a row for each first word
 abbrev pub reading_of_words : List (List ℕ) → Reading
 reading_of_words [] = Err Unknown
 reading_of_words (name ∷ words) =
-    if is_word name (codes "step") then finished 1 Step words
+    if is_word name (codes "step") then finished 1 (Offer Cpu) words
     else (if is_word name (codes "back") then finished 1 Back words
     else (if is_word name (codes "standing") then finished 1 Standing words
     else (if is_word name (codes "patch") then patch_reading words
+    else (if is_word name (codes "last") then last_reading words
     else (if is_word name (codes "show") then show_reading words
-    else Err Unknown))))
+    else Err Unknown)))))
 
 -- a line that is too long comes first
 abbrev pub reading_of : List ℕ → Reading

@@ -5,17 +5,17 @@ ghost use Rattle.s360_model.specs.Text.{decimal};
 ghost use Rattle.s360_journal.specs.Standing.{machine_of, last_of};
 ghost use Rattle.s360_debug.specs.Answers.{answer_to, state_after, event_of, StandsPartly};
 ghost use Rattle.s360_debug.specs.Answers.{text_of_event, state_after_event, text_of_report};
-ghost use Rattle.s360_debug.specs.Answers.{refused_text, back_text, registers_text, after_registers};
+ghost use Rattle.s360_debug.specs.Answers.{back_text, last_text};
 ghost use Rattle.s360_debug.specs.declared.command.LineFault.TheVariants.{Memory};
-ghost use Rattle.s360_debug.specs.Answers.{place_names, fault_text, changed_after, register_word};
+ghost use Rattle.s360_debug.specs.Answers.{place_names, fault_text, changed_after};
 
 use crate::command::{Command, LineFault};
-use crate::names::{name_of_event, name_of_refusal, push_place};
+use crate::names::{name_of_event, push_place, refusal_text};
+use crate::show::text_of_shown;
 use crate::text::Text;
 use s360_journal::{Report, Session};
-use s360_machine::{Event, Machine, Patch, Refusal};
+use s360_machine::{Event, Refusal};
 use s360_store::Place;
-use s360_word::RegisterNumber;
 use std::alloc::{AllocError, Global};
 
 /// So many places of a report are named.
@@ -30,20 +30,11 @@ pub fn answer(alloc: Global, session: &mut Session, command: Command) -> Result<
     ensures memory { OnErr result (StandsPartly (event_of command) session.old session.new) }
 {
     match command {
-        Command::Step => answer_event(alloc, session, Event::Cpu),
-        Command::PatchStorage { at, bytes } => {
-            answer_event(alloc, session, Event::Patch(Patch::Bytes { at, bytes }))
-        }
-        Command::PatchRegister(register, word) => {
-            answer_event(
-                alloc,
-                session,
-                Event::Patch(Patch::Register(register, word)),
-            )
-        }
+        Command::Offer(event) => answer_event(alloc, session, event),
         Command::Back => answer_back(alloc, session),
         Command::Standing => standing_text(alloc, session.standing()),
-        Command::ShowRegisters => registers_of(alloc, session.machine()),
+        Command::Last(place) => last_text(alloc, session.last_change(place)),
+        Command::Show(shown) => text_of_shown(alloc, session.machine(), shown),
     }
 }
 
@@ -98,19 +89,6 @@ fn push_places(text: &mut Text, places: &[Place]) -> Result<(), AllocError>
     Ok(())
 }
 
-/// A refusal with its number.
-fn refusal_text(alloc: Global, refusal: Refusal) -> Result<Text, AllocError>
-    ensures { IfOk result (λ text. text ≡ refused_text refusal) }
-{
-    let mut text = Text::new(alloc);
-    text.push_text("refused ")?;
-    text.push_decimal(u64::from(refusal.number()))?;
-    text.push_text(" ")?;
-    text.push_text(name_of_refusal(refusal))?;
-    text.push_text("\n")?;
-    Ok(text)
-}
-
 /// Takes the last change back. Its text is made first, so that want of memory leaves it standing.
 fn answer_back(alloc: Global, session: &mut Session) -> Result<Text, AllocError>
     ensures text { IfOk result (λ text. text ≡ back_text (length session.old.events) (last_of session.old.events)) }
@@ -151,40 +129,20 @@ fn standing_text(alloc: Global, number: u32) -> Result<Text, AllocError>
     Ok(text)
 }
 
-/// The sixteen general registers, four a line.
-fn registers_of(alloc: Global, machine: &Machine) -> Result<Text, AllocError>
-    ensures { IfOk result (λ text. text ≡ registers_text machine.now.core.registers) }
+/// The number of a place's last change.
+fn last_text(alloc: Global, number: Option<u32>) -> Result<Text, AllocError>
+    ensures { IfOk result (λ text. text ≡ last_text number) }
 {
     let mut text = Text::new(alloc);
-    push_registers(&mut text, machine, 0)?;
-    push_registers(&mut text, machine, 4)?;
-    push_registers(&mut text, machine, 8)?;
-    push_registers(&mut text, machine, 12)?;
-    Ok(text)
-}
-
-/// Adds the line of four registers from this one on.
-fn push_registers(text: &mut Text, machine: &Machine, first: u8) -> Result<(), AllocError>
-    requires { first ≤ 12 }
-    ensures { OnOk result (text.new ≡ after_registers text.old machine.now.core.registers first) }
-{
-    text.push_text("r")?;
-    text.push_hex(u64::from(first), 1)?;
-    push_register(text, machine, first)?;
-    push_register(text, machine, first + 1)?;
-    push_register(text, machine, first + 2)?;
-    push_register(text, machine, first + 3)?;
+    match number {
+        None => text.push_text("last none")?,
+        Some(number) => {
+            text.push_text("last ")?;
+            text.push_decimal(u64::from(number))?;
+        }
+    }
     text.push_text("\n")?;
-    Ok(())
-}
-
-/// Adds a register's word after a blank.
-fn push_register(text: &mut Text, machine: &Machine, number: u8) -> Result<(), AllocError>
-    requires { number < 16 }
-    ensures { OnOk result (text.new ≡ text.old ++ register_word machine.now.core.registers number) }
-{
-    text.push_text(" ")?;
-    text.push_hex(u64::from(machine.register(RegisterNumber::new(number))), 8)
+    Ok(text)
 }
 
 /// What a faulty line answers. Want of memory is no fault of the line, and has no text.

@@ -2,26 +2,35 @@
 ghost use Rattle.std.specs.Prelude.{◌≡◌};
 ghost use Rattle.s360_debug.specs.declared.command.LineFault.TheVariants.{Memory};
 
-use s360_machine::Bytes;
-use s360_word::{RegisterNumber, Word};
+use s360_machine::Event;
+use s360_store::Place;
 use std::alloc::AllocError;
 use thiserror::Error;
 
 /// A command with its arguments.
 #[derive(Debug, Drop)]
 pub enum Command {
-    /// `step`: one CPU event.
-    Step,
-    /// `patch s A BYTES`: bytes from an address on.
-    PatchStorage { at: u32, bytes: Bytes },
-    /// `patch r R W`: a register's word.
-    PatchRegister(RegisterNumber, Word),
+    /// `step` (one CPU event) or `patch`: an event is offered to the machine.
+    Offer(Event),
     /// `back`: the last change is taken back.
     Back,
     /// `standing`: the number of changes that stand.
     Standing,
+    /// `last`: the number of the last change that altered a place.
+    Last(Place),
+    /// `show`: a part of the machine.
+    Show(Shown),
+}
+
+/// What is shown of the machine.
+#[derive(Clone, Copy, Debug, PartialEq, Eq)]
+pub enum Shown {
     /// `show regs`: the general registers.
-    ShowRegisters,
+    Registers,
+    /// `show psw`: the PSW and the run state.
+    Psw,
+    /// `show s A N`: so many bytes of storage from an address on.
+    Storage { at: u32, count: u32 },
 }
 
 /// Why a line is no command, in the order in which it is found.

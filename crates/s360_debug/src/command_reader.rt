@@ -2,18 +2,31 @@
 //! kinds a function of its own.
 ghost use Rattle.std.specs.Prelude.{◌≡◌, ◌≤◌, ◌<◌, ◌^◌, IfOk, IfSome, drop, take, length, MatchOption, Some, None};
 ghost use Rattle.s360_debug.specs.Reading.{Reads, reading_of, reading_of_words, patch_reading};
-ghost use Rattle.s360_debug.specs.Reading.{storage_patch, register_patch, show_reading, finished};
-ghost use Rattle.s360_debug.specs.Reading.{number_argument, bytes_in, AtEnd, is_word};
+ghost use Rattle.s360_debug.specs.Reading.{storage_patch, word_patch, doubleword_patch};
+ghost use Rattle.s360_debug.specs.Reading.{last_reading, last_byte, last_register};
+ghost use Rattle.s360_debug.specs.Reading.{show_reading, show_storage, finished};
+ghost use Rattle.s360_debug.specs.Reading.{argument, number_argument, bytes_in, AtEnd, is_word};
+ghost use Rattle.s360_debug.specs.Digits.{doubleword_of, count_of};
 
-use crate::command::{Command, LineFault};
-use crate::digits::number_in_hex;
+use crate::command::{Command, LineFault, Shown};
+use crate::digits::number_in;
 use crate::words::Words;
-use s360_machine::Bytes;
+use s360_machine::{Bytes, Event, Patch};
+use s360_store::Place;
 use s360_word::RegisterNumber;
 use std::alloc::Global;
 
 /// A line has at most so many bytes.
 const LONGEST_LINE: usize = 1024;
+
+/// A doubleword has so many hexadecimal digits.
+const DOUBLEWORD_DIGITS: usize = 16;
+
+/// A count has at most so many decimal digits.
+const COUNT_DIGITS: usize = 8;
+
+/// A line shows at most so many bytes of storage.
+const MOST_SHOWN: u32 = 256;
 
 /// The command of a line, without its line end. A fault is answered whatever memory there is. A line of
 /// blanks alone is `Unknown`.
@@ -28,13 +41,15 @@ pub fn read_command(alloc: Global, line: &[u8]) -> Result<Command, LineFault>
         return Err(LineFault::Unknown);
     };
     if is(name, "step") {
-        finish(words, 1, Command::Step)
+        finish(words, 1, Command::Offer(Event::Cpu))
     } else if is(name, "back") {
         finish(words, 1, Command::Back)
     } else if is(name, "standing") {
         finish(words, 1, Command::Standing)
     } else if is(name, "patch") {
         read_patch(alloc, words)
+    } else if is(name, "last") {
+        read_last(words)
     } else if is(name, "show") {
         read_show(words)
     } else {
@@ -53,13 +68,13 @@ fn is(word: &[u8], name: &str) -> bool
 fn read_patch(alloc: Global, mut words: Words<'_>) -> Result<Command, LineFault>
     ensures { Reads (patch_reading words.entry) result }
 {
-    let Some(kind) = words.next_word() else {
-        return Err(LineFault::Argument(1));
-    };
+    let kind = words.next_word().ok_or(LineFault::Argument(1))?;
     if is(kind, "s") {
         read_storage_patch(alloc, words)
     } else if is(kind, "r") {
-        read_register_patch(words)
+        read_word_patch(words)
+    } else if is(kind, "p") {
+        read_doubleword_patch(words)
     } else {
         Err(LineFault::Argument(1))
     }
@@ -70,43 +85,75 @@ fn read_storage_patch(alloc: Global, mut words: Words<'_>) -> Result<Command, Li
     ensures { Reads (storage_patch words.entry) result }
 {
     let at = next_number(&mut words, 2, 6)?;
-    let Some(word) = words.next_word() else {
-        return Err(LineFault::Argument(3));
-    };
+    let word = words.next_word().ok_or(LineFault::Argument(3))?;
     let mut buffer = [0u8; LONGEST_LINE / 2];
     let Some(count) = decode_bytes(word, &mut buffer) else {
         return Err(LineFault::Argument(3));
     };
     expect_end(words, 4)?;
-    let bytes = buffer[..count].to_vec(alloc)?;
-    Ok(Command::PatchStorage {
-        at,
-        bytes: Bytes::new(alloc, bytes)?,
-    })
+    let bytes = Bytes::new(alloc, buffer[..count].to_vec(alloc)?)?;
+    Ok(Command::Offer(Event::Patch(Patch::Bytes { at, bytes })))
 }
 
 /// `patch r R W`
-fn read_register_patch(mut words: Words<'_>) -> Result<Command, LineFault>
-    ensures { result ≡ register_patch words.entry }
+fn read_word_patch(mut words: Words<'_>) -> Result<Command, LineFault>
+    ensures { result ≡ word_patch words.entry }
 {
     let register = next_number(&mut words, 2, 1)?;
     let word = next_number(&mut words, 3, 8)?;
-    let register = RegisterNumber::new(register as u8);
-    finish(words, 4, Command::PatchRegister(register, word))
+    let patch = Patch::Register(RegisterNumber::new(register as u8), word);
+    finish(words, 4, Command::Offer(Event::Patch(patch)))
+}
+
+/// `patch p Q`
+fn read_doubleword_patch(mut words: Words<'_>) -> Result<Command, LineFault>
+    ensures { result ≡ doubleword_patch words.entry }
+{
+    let psw = next_doubleword(&mut words, 2)?;
+    finish(words, 3, Command::Offer(Event::Patch(Patch::Psw(psw))))
+}
+
+/// `last`, by its kind.
+fn read_last(mut words: Words<'_>) -> Result<Command, LineFault>
+    ensures { result ≡ last_reading words.entry }
+{
+    let kind = words.next_word().ok_or(LineFault::Argument(1))?;
+    if is(kind, "s") {
+        let at = next_number(&mut words, 2, 6)?;
+        finish(words, 3, Command::Last(Place::Byte(at)))
+    } else if is(kind, "r") {
+        let register = next_number(&mut words, 2, 1)?;
+        finish(words, 3, Command::Last(Place::Register(register as u8)))
+    } else if is(kind, "p") {
+        finish(words, 2, Command::Last(Place::Psw))
+    } else {
+        Err(LineFault::Argument(1))
+    }
 }
 
 /// `show`, by its kind.
 fn read_show(mut words: Words<'_>) -> Result<Command, LineFault>
     ensures { result ≡ show_reading words.entry }
 {
-    let Some(kind) = words.next_word() else {
-        return Err(LineFault::Argument(1));
-    };
+    let kind = words.next_word().ok_or(LineFault::Argument(1))?;
     if is(kind, "regs") {
-        finish(words, 2, Command::ShowRegisters)
+        finish(words, 2, Command::Show(Shown::Registers))
+    } else if is(kind, "psw") {
+        finish(words, 2, Command::Show(Shown::Psw))
+    } else if is(kind, "s") {
+        read_show_storage(words)
     } else {
         Err(LineFault::Argument(1))
     }
+}
+
+/// `show s A N`
+fn read_show_storage(mut words: Words<'_>) -> Result<Command, LineFault>
+    ensures { result ≡ show_storage words.entry }
+{
+    let at = next_number(&mut words, 2, 6)?;
+    let count = next_count(&mut words, 3, MOST_SHOWN)?;
+    finish(words, 4, Command::Show(Shown::Storage { at, count }))
 }
 
 /// The command, if no word is left; the word of this number is too many.
@@ -134,10 +181,35 @@ fn next_number(words: &mut Words<'_>, place: u8, most: usize) -> Result<u32, Lin
     ensures below { IfOk result (λ n. n < 16 ^ most) }
     ensures rest { words.new ≡ drop 1 words.old }
 {
-    let Some(word) = words.next_word() else {
+    let word = words.next_word().ok_or(LineFault::Argument(place))?;
+    let Some(number) = number_in(16, word, most) else {
         return Err(LineFault::Argument(place));
     };
-    number_in_hex(word, most).ok_or(LineFault::Argument(place))
+    Ok(number as u32)
+}
+
+/// The next word as a doubleword of sixteen hexadecimal digits.
+fn next_doubleword(words: &mut Words<'_>, place: u8) -> Result<u64, LineFault>
+    ensures value { result ≡ argument place doubleword_of words.old }
+    ensures rest { words.new ≡ drop 1 words.old }
+{
+    let word = words.next_word().ok_or(LineFault::Argument(place))?;
+    if word.len() != DOUBLEWORD_DIGITS {
+        return Err(LineFault::Argument(place));
+    }
+    number_in(16, word, DOUBLEWORD_DIGITS).ok_or(LineFault::Argument(place))
+}
+
+/// The next word as a count from 1 to so many, in decimal digits.
+fn next_count(words: &mut Words<'_>, place: u8, most: u32) -> Result<u32, LineFault>
+    ensures value { result ≡ argument place (count_of most) words.old }
+    ensures rest { words.new ≡ drop 1 words.old }
+{
+    let word = words.next_word().ok_or(LineFault::Argument(place))?;
+    match number_in(10, word, COUNT_DIGITS) {
+        Some(count) if 1 <= count && count <= u64::from(most) => Ok(count as u32),
+        _ => Err(LineFault::Argument(place)),
+    }
 }
 
 /// Decodes a word of two digits a byte into a buffer, and answers the number of bytes.

@@ -10,6 +10,7 @@ mod digits;
 mod lines;
 mod names;
 mod run;
+mod show;
 #[cfg(test)]
 mod tests;
 mod text;
@@ -17,7 +18,7 @@ mod words;
 
 pub use answering::answer;
 pub use bytes::ScriptFault;
-pub use command::{Command, LineFault};
+pub use command::{Command, LineFault, Shown};
 pub use command_reader::read_command;
 pub use run::run_script;
 pub use text::Text;

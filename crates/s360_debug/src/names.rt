@@ -1,12 +1,13 @@
-//! The printed names of places, events and refusals.
-ghost use Rattle.std.specs.Prelude.{◌≡◌, ◌++◌, OnOk};
+//! The printed names of places, events, refusals and run states.
+ghost use Rattle.std.specs.Prelude.{◌≡◌, ◌++◌, IfOk, OnOk};
 ghost use Rattle.s360_model.specs.Text.{hex_text};
 ghost use Rattle.s360_debug.specs.Names.{place_name, event_name, refusal_name};
+ghost use Rattle.s360_debug.specs.Names.{refused_text, run_state_name};
 
 use crate::text::Text;
-use s360_machine::{Event, Patch, Refusal};
+use s360_machine::{Event, Patch, Refusal, RunState};
 use s360_store::Place;
-use std::alloc::AllocError;
+use std::alloc::{AllocError, Global};
 
 /// Bytes in a block, by whose first address a storage key is named.
 const BLOCK: u64 = 2048;
@@ -43,11 +44,12 @@ pub(crate) fn name_of_event(event: &Event) -> &'static str
         Event::Cpu => "cpu",
         Event::Patch(Patch::Bytes { .. }) => "patch s",
         Event::Patch(Patch::Register(..)) => "patch r",
+        Event::Patch(Patch::Psw(_)) => "patch p",
     }
 }
 
 /// The name of a refusal.
-pub(crate) fn name_of_refusal(refusal: Refusal) -> &'static str
+fn name_of_refusal(refusal: Refusal) -> &'static str
     ensures { result.now ≡ refusal_name refusal }
 {
     match refusal {
@@ -56,5 +58,29 @@ pub(crate) fn name_of_refusal(refusal: Refusal) -> &'static str
         Refusal::PatchTooLong => "patch too long",
         Refusal::JournalFull => "journal full",
         Refusal::Unbuilt => "unbuilt",
+    }
+}
+
+/// What a refusal answers: its number and its name.
+pub(crate) fn refusal_text(alloc: Global, refusal: Refusal) -> Result<Text, AllocError>
+    ensures { IfOk result (λ text. text ≡ refused_text refusal) }
+{
+    let mut text = Text::new(alloc);
+    text.push_text("refused ")?;
+    text.push_decimal(u64::from(refusal.number()))?;
+    text.push_text(" ")?;
+    text.push_text(name_of_refusal(refusal))?;
+    text.push_text("\n")?;
+    Ok(text)
+}
+
+/// Adds the name of a run state.
+pub(crate) fn push_run_state(text: &mut Text, run: RunState) -> Result<(), AllocError>
+    ensures { OnOk result (text.new ≡ text.old ++ run_state_name run) }
+{
+    match run {
+        RunState::Operating => text.push_text("operating"),
+        RunState::Stopped => text.push_text("stopped"),
+        RunState::Loading(unit) => push_numbered(text, "loading ", u64::from(unit.0), 3),
     }
 }

@@ -3,11 +3,14 @@ ghost use Rattle.std.specs.Prelude.{◌≤◌};
 
 use crate::{Command, LineFault, ScriptFault, answer, read_command, run_script};
 use s360_journal::Session;
-use s360_machine::Machine;
+use s360_machine::{Event, Machine, Patch};
 use s360_word::RegisterNumber;
 use std::alloc::Global;
 use std::io::{self, Read, Write};
+use std::process::Abort;
 use std::test::Fail;
+
+mod looking;
 
 fn session_with(alloc: Global, limit: u32) -> Result<Session, Fail>
     requires { limit ≤ 10000000 }
@@ -48,11 +51,25 @@ const NINE_BYTES_ANSWER: &str =
 
 const UNBUILT_ANSWERS: &str = "1 changed 2 s000000 s000001\nrefused 7 unbuilt\nstanding 1\n";
 
+/// L, ST and BCR.
+const LOAD_AND_STORE: &str =
+    "patch s 0 581000105010002007F2\npatch s 10 C1C2C3C4\nstep\nstep\nstep\nstep\nback\n";
+
+const LOAD_AND_STORE_ANSWERS: &str =
+    "1 changed 8 s000000 s000001 s000003 s000004 s000005 s000007 s000008 s000009\n\
+    2 changed 4 s000010 s000011 s000012 s000013\n\
+    3 changed 2 p r1\n\
+    4 changed 5 p s000020 s000021 s000022 s000023\n\
+    5 changed 1 p\n\
+    6 changed 1 p\n\
+    back 6 cpu\n";
+
 /// A script, its answers and the number of its command lines.
 const SCRIPTS: &[(&str, &str, u32)] = &[
     (ADD, ADD_ANSWERS, 7),
     (THREE_STEPS, THREE_STEPS_ANSWERS, 7),
-    ("patch s 0 0612\nstep\nstanding\n", UNBUILT_ANSWERS, 3),
+    (LOAD_AND_STORE, LOAD_AND_STORE_ANSWERS, 7),
+    ("patch s 0 0A05\nstep\nstanding\n", UNBUILT_ANSWERS, 3),
     ("", "", 0),
     ("\n \n\r\n   \n", "", 0),
     ("* step\n*\n", "", 0),
@@ -112,23 +129,32 @@ const SCRIPTS: &[(&str, &str, u32)] = &[
     ),
     ("patch r 1 1 1", "? argument 4\n", 1),
     (
-        "show\nshow s 0\nshow regs 1",
+        "show\nshow k 0\nshow regs 1",
         "? argument 1\n? argument 1\n? argument 2\n",
         3,
     ),
 ];
 
-#[test]
-fn answers_scripts(rt: HostRuntime) -> Result<(), Fail> {
-    for (script, answers, lines) in SCRIPTS {
-        let mut session = session_with(rt.alloc(), 10_000_000)?;
+/// Asserts that each script has its answers and its number of command lines.
+fn assert_scripts(
+    rt: &impl Abort,
+    alloc: Global,
+    scripts: &[(&str, &str, u32)],
+) -> Result<(), Fail> {
+    for (script, answers, lines) in scripts {
+        let mut session = session_with(alloc, 10_000_000)?;
         let mut reader = script.as_bytes();
-        let mut written = Vec::new(rt.alloc());
-        let count = run_script(rt.alloc(), &mut session, &mut reader, &mut written);
+        let mut written = Vec::new(alloc);
+        let count = run_script(alloc, &mut session, &mut reader, &mut written);
         assert_eq!(rt; count, Ok(*lines), "{script:?}");
         assert_eq!(rt; written.as_slice(), answers.as_bytes(), "{script:?}");
     }
     Ok(())
+}
+
+#[test]
+fn answers_scripts(rt: HostRuntime) -> Result<(), Fail> {
+    assert_scripts(&rt, rt.alloc(), SCRIPTS)
 }
 
 #[test]
@@ -323,7 +349,7 @@ fn reads_and_answers_a_command(rt: HostRuntime) -> Result<(), Fail> {
     let text = answer(
         rt.alloc(),
         &mut session,
-        Command::PatchRegister(register, 0x2A),
+        Command::Offer(Event::Patch(Patch::Register(register, 0x2A))),
     )?;
     assert_eq!(rt; text.as_bytes(), "2 idle\n".as_bytes());
     for (line, want) in [

@@ -48,10 +48,12 @@ fetched_view m a = record { core = m; next_address = a + length_at m.storage a; 
 
 pub instruction-unknown : (m : Core) (a : ℕ) → a ≡ instruction_address_of m.psw → program_code (fetch_conditions m.storage a) ≡ None → form_of (instruction_bytes m.storage a) ≡ None
     → instruction m ≡ record { ended = Program Operation; core = m }
+unfolding instruction
 instruction-unknown m a e h n = ap (λ b. instruction_at m b) (sym e) ∙ (ap (λ o. instruction_of m a o) n ∙ instruction_of-unknown m a h)
 
 pub instruction-form : (m : Core) (a : ℕ) (f : Form) → a ≡ instruction_address_of m.psw → program_code (fetch_conditions m.storage a) ≡ None
     → form_of (instruction_bytes m.storage a) ≡ Some f → instruction m ≡ outcome_of (fetched_view m a) f
+unfolding instruction
 instruction-form m a f e h n =
     ap (λ b. instruction_at m b) (sym e)
     ∙ (ap (λ o. instruction_of m a o) n ∙ (instruction_of-form m a f h ∙ ap (λ v. outcome_of v f) (view_at-fetched m a h)))

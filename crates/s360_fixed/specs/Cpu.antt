@@ -126,5 +126,5 @@ instruction_of m address form = unless_met (decoding_conditions m address form) 
 abbrev pub instruction_at : Core → ℕ → Outcome
 instruction_at m address = instruction_of m address (form_of (instruction_bytes m.storage address))
 
-abbrev pub instruction : Core → Outcome
+unfoldable pub instruction : Core → Outcome
 instruction m = instruction_at m (instruction_address_of m.psw)

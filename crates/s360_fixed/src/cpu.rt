@@ -29,6 +29,7 @@ fn length_of_bytes(bytes: usize) -> InstructionLength
 
 /// Plans the instruction at the instruction address: how it ends, and the values that it puts. Where
 /// memory is wanting, the plan is to be dropped.
+#[tactic(auto, unfolding(crate::specs::Cpu::instruction))]
 pub fn plan_instruction(
     psw: Psw,
     registers: &[Word; 16],

@@ -7,12 +7,12 @@ use Rattle.s360_store.specs.declared.place.Cell.{Cell}
 use Rattle.s360_store.specs.Differences.{core_differences, IsCoreChangeTo}
 use Rattle.s360_machine.specs.declared.event.Event.{Event}
 use Rattle.s360_machine.specs.declared.event.Event.TheVariants.{Cpu, Patch as patch}
-use Rattle.s360_machine.specs.declared.event.Patch.TheVariants.{Bytes, Register}
+use Rattle.s360_machine.specs.declared.event.Patch.TheVariants.{Bytes, Register, Psw}
 use Rattle.s360_machine.specs.declared.run_state.RunState.{RunState}
 use Rattle.s360_machine.specs.declared.run_state.RunState.TheVariants.{Operating, Stopped, Loading}
 use Rattle.s360_machine.specs.Machine.{Machine, Control}
-use Rattle.s360_machine.specs.Instruction.{instruction}
-use Rattle.s360_machine.specs.Step.{after, is_running, core_after}
+use Rattle.s360_fixed.specs.Cpu.{instruction}
+use Rattle.s360_machine.specs.Step.{after, is_running}
 use Rattle.s360_machine.specs.Planned.{same_run_state, control_differences, IsChangeTo}
 
 same_run_state-self : (r : RunState) → same_run_state r r ≡ true
@@ -27,11 +27,12 @@ control_differences-self c = rw (same_run_state-self c.run_state) refl
 after-core : (m : Machine) (e : Event) → after m e ≡ record m { core = (after m e).core }
 after-core m (patch (Bytes at bytes)) = refl
 after-core m (patch (Register n word)) = refl
+after-core m (patch (Psw psw)) = refl
 after-core m Cpu =
-    let by : (b : Bool) → cond b (record m { core = core_after m.core (instruction m.core) }) m
-    ≡ record m { core = (cond b (record m { core = core_after m.core (instruction m.core) }) m).core }
-    = λ b. elim b as (λ x. cond x (record m { core = core_after m.core (instruction m.core) }) m
-    ≡ record m { core = (cond x (record m { core = core_after m.core (instruction m.core) }) m).core })
+    let by : (b : Bool) → cond b (record m { core = (instruction m.core).core }) m
+    ≡ record m { core = (cond b (record m { core = (instruction m.core).core }) m).core }
+    = λ b. elim b as (λ x. cond x (record m { core = (instruction m.core).core }) m
+    ≡ record m { core = (cond x (record m { core = (instruction m.core).core }) m).core })
     [ true ↦ refl | false ↦ refl ]
     in by (is_running m)
 

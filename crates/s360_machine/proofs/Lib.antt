@@ -1,3 +1,2 @@
 pub mod RunLemmas
 pub mod ChangeLemmas
-pub mod InstructionLemmas

@@ -3,7 +3,7 @@ use Rattle.std.specs.Prelude.{ℕ, ◌+◌, Option, Some, None, length, nat_lt, 
 use Rattle.s360_machine.specs.declared.event.Event.{Event}
 use Rattle.s360_machine.specs.declared.event.Event.TheVariants.{Cpu, Patch as patch}
 use Rattle.s360_machine.specs.declared.event.Patch.{Patch}
-use Rattle.s360_machine.specs.declared.event.Patch.TheVariants.{Bytes, Register}
+use Rattle.s360_machine.specs.declared.event.Patch.TheVariants.{Bytes, Register, Psw}
 use Rattle.s360_machine.specs.declared.refusal.Refusal.{Refusal}
 use Rattle.s360_machine.specs.declared.refusal.Refusal.TheVariants.{Memory, OutsideStorage, PatchTooLong, JournalFull, Unbuilt}
 
@@ -19,6 +19,7 @@ number_of_refusal Unbuilt = 7
 abbrev pub refusal_of_patch : ℕ → Patch → Option Refusal
 refusal_of_patch size (Bytes at bytes) = if nat_lt 256 (length bytes) then Some PatchTooLong else (if nat_lt size (at + length bytes) then Some OutsideStorage else None)
 refusal_of_patch size (Register n word) = None
+refusal_of_patch size (Psw psw) = None
 
 abbrev pub refusal_of : ℕ → Event → Option Refusal
 refusal_of size Cpu = None

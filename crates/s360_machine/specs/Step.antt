@@ -1,18 +1,20 @@
 -- What an event makes of the machine.
 use Rattle.std.specs.Prelude.{ℕ, Bool, true, false, Option, Some, None, Result, Ok, Err, if◌then◌else◌, slice_set, List}
 use Rattle.s360_model.specs.Core.{Core}
-use Rattle.s360_model.specs.Psw.{wait_of}
+use Rattle.s360_model.specs.Psw.{current_psw, wait_of}
 use Rattle.s360_model.specs.Storage.{with_run}
+use Rattle.s360_fixed.specs.declared.ended.Ended.{Ended}
+use Rattle.s360_fixed.specs.declared.ended.Ended.TheVariants.{Done}
+use Rattle.s360_fixed.specs.Cpu.{instruction}
 use Rattle.s360_machine.specs.declared.event.Event.{Event}
 use Rattle.s360_machine.specs.declared.event.Event.TheVariants.{Cpu, Patch as patch}
 use Rattle.s360_machine.specs.declared.event.Patch.{Patch}
-use Rattle.s360_machine.specs.declared.event.Patch.TheVariants.{Bytes, Register}
+use Rattle.s360_machine.specs.declared.event.Patch.TheVariants.{Bytes, Register, Psw}
 use Rattle.s360_machine.specs.declared.refusal.Refusal.{Refusal}
 use Rattle.s360_machine.specs.declared.refusal.Refusal.TheVariants.{Unbuilt}
 use Rattle.s360_machine.specs.declared.run_state.RunState.{RunState}
 use Rattle.s360_machine.specs.declared.run_state.RunState.TheVariants.{Operating}
 use Rattle.s360_machine.specs.Machine.{Machine, storage_size}
-use Rattle.s360_machine.specs.Instruction.{Ending, Completed, Program, NotBuilt, instruction}
 use Rattle.s360_machine.specs.Refusals.{refusal_of}
 
 abbrev pub is_operating : RunState → Bool
@@ -23,20 +25,14 @@ is_operating r = false
 abbrev pub is_running : Machine → Bool
 is_running m = if wait_of m.core.psw then false else is_operating m.control.run_state
 
-abbrev pub core_after : Core → Ending → Core
-core_after m (Completed n) = n
-core_after m (Program code n) = m
-core_after m NotBuilt = m
-
--- the instruction needs a row or an interruption that is not built yet
-abbrev pub needs_more : Ending → Bool
-needs_more (Completed n) = false
-needs_more (Program code n) = true
-needs_more NotBuilt = true
+-- the instruction ends in an interruption, or has a row, that is not built yet
+abbrev pub needs_more : Ended → Bool
+needs_more Done = false
+needs_more ended = true
 
 -- one CPU event: nothing where the machine does not run, else one instruction ("Status Switching")
 abbrev pub after_cpu : Machine → Machine
-after_cpu m = if is_running m then record m { core = core_after m.core (instruction m.core) } else m
+after_cpu m = if is_running m then record m { core = (instruction m.core).core } else m
 
 -- the core with these bytes in place of as many from an address on
 abbrev pub core_with_run : Core → ℕ → List ℕ → Core
@@ -46,10 +42,15 @@ core_with_run m at bytes = record m { storage = record m.storage { bytes = with_
 abbrev pub core_with_register : Core → ℕ → ℕ → Core
 core_with_register m n word = record m { registers = slice_set m.registers n word }
 
+-- the core with a PSW, which keeps no interruption code and no instruction length
+abbrev pub core_with_psw : Core → ℕ → Core
+core_with_psw m psw = record m { psw = current_psw psw }
+
 -- a patch ignores protection and raises no condition
 abbrev pub after_patch : Machine → Patch → Machine
 after_patch m (Bytes at bytes) = record m { core = core_with_run m.core at bytes }
 after_patch m (Register n word) = record m { core = core_with_register m.core n word }
+after_patch m (Psw psw) = record m { core = core_with_psw m.core psw }
 
 -- the machine after an event that is not refused
 abbrev pub after : Machine → Event → Machine
@@ -58,7 +59,7 @@ after m (patch p) = after_patch m p
 
 -- the event is not built yet in this machine
 abbrev pub is_unbuilt : Machine → Event → Bool
-is_unbuilt m Cpu = if is_running m then needs_more (instruction m.core) else false
+is_unbuilt m Cpu = if is_running m then needs_more (instruction m.core).ended else false
 is_unbuilt m (patch p) = false
 
 -- a refusal for the event's own sake comes before that it is not built yet

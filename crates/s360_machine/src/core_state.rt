@@ -11,9 +11,12 @@ ghost use Rattle.s360_store.specs.Places.{IsPlaceOf, Fits, value_at, with_value}
 ghost use Rattle.s360_store.specs.declared.fault.StoreFault.TheVariants.{Size, Memory};
 ghost use Rattle.s360_store.specs.Differences.{IsCoreChangeTo};
 ghost use Rattle.s360_store.specs.Plans.{IsPlanOf};
-ghost use Rattle.s360_machine.specs.Step.{core_with_run, core_with_register};
+ghost use Rattle.s360_fixed.specs.Cpu.{instruction};
+ghost use Rattle.s360_fixed.specs.Plans.{PlansOutcome};
+ghost use Rattle.s360_machine.specs.Step.{core_with_run, core_with_register, core_with_psw};
 ghost use Rattle.s360_store.proofs.KeptLemmas.{AreKept};
 
+use s360_fixed::Ended;
 use s360_psw::{InstructionLength, Psw};
 use s360_store::{Cell, Place, Plan, Storage, StoreFault};
 use s360_word::{RegisterNumber, Word};
@@ -74,6 +77,23 @@ impl Core {
         ensures { result.now ≡ self.now.storage }
     {
         &self.storage
+    }
+
+    /// Plans the instruction at the instruction address.
+    pub(crate) fn plan_instruction(&self, plan: &mut Plan) -> Result<Ended, AllocError>
+        requires empty { plan.old ≡ [] }
+        ensures { IfOk result (PlansOutcome self.now plan.new (instruction self.now)) }
+    {
+        s360_fixed::plan_instruction(self.psw, &self.registers, &self.storage, plan)
+    }
+
+    /// Plans the PSW that a doubleword loads.
+    pub(crate) fn plan_psw(&self, doubleword: u64, plan: &mut Plan) -> Result<(), AllocError>
+        requires empty { plan.old ≡ [] }
+        ensures { OnOk result (IsPlanOf self.now plan.new (core_with_psw self.now doubleword)) }
+    {
+        let psw = Psw::from_u64(doubleword);
+        plan.put(Place::Psw, psw.stored(0, InstructionLength::NotAvailable))
     }
 
     /// Plans a word for a general register.

@@ -51,6 +51,9 @@ pub enum Patch {
     Bytes { at: u32, bytes: Bytes },
     /// A general register's word.
     Register(RegisterNumber, Word),
+    /// The current PSW, from a doubleword of which bits 16 to 33 (an interruption code and an
+    /// instruction length code) are dropped.
+    Psw(u64),
 }
 
 /// What happens to the machine at once.

@@ -6,7 +6,6 @@
 
 mod changes;
 mod core_state;
-mod cpu;
 mod event;
 mod machine;
 mod refusal;

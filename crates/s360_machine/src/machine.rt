@@ -15,10 +15,10 @@ ghost use Rattle.s360_machine.specs.Planned.{IsChangeTo, IsAnswerToEvent};
 
 use crate::changes::Changes;
 use crate::core_state::Core;
-use crate::cpu::{Ended, plan_instruction};
 use crate::event::{Event, Patch};
 use crate::refusal::Refusal;
 use crate::run_state::RunState;
+use s360_fixed::Ended;
 use s360_psw::Psw;
 use s360_store::{Plan, Storage, StoreFault};
 use s360_word::{RegisterNumber, Word};
@@ -150,9 +150,11 @@ impl Machine {
         if !self.is_running() {
             return Ok(());
         }
-        match plan_instruction(&self.core, plan)? {
-            Ended::Completed => Ok(()),
-            Ended::NotBuilt => Err(Refusal::Unbuilt),
+        match self.core.plan_instruction(plan)? {
+            Ended::Done => Ok(()),
+            Ended::Program(_) | Ended::Svc(_) | Ended::Io(..) | Ended::Unbuilt => {
+                Err(Refusal::Unbuilt)
+            }
         }
     }
 
@@ -165,6 +167,7 @@ impl Machine {
         match patch {
             Patch::Bytes { at, bytes } => self.core.plan_bytes(*at, bytes.as_slice(), plan),
             Patch::Register(register, word) => self.core.plan_register(*register, *word, plan),
+            Patch::Psw(doubleword) => self.core.plan_psw(*doubleword, plan),
         }
     }
 

@@ -3,13 +3,14 @@ ghost use Rattle.std.specs.Prelude.{◌<◌, IfOk};
 ghost use Rattle.s360_machine.specs.Change.{CanSwap};
 
 use crate::{Bytes, Changes, Event, Machine, Patch, Refusal, RunState};
-use s360_psw::{InstructionLength, Psw};
-use s360_store::{Cell, Place, StoreFault};
+use s360_psw::Psw;
+use s360_store::{Place, StoreFault};
 use s360_word::{ProtectionKey, RegisterNumber, Word};
 use std::alloc::{AllocError, Global};
 use std::process::Abort;
 use std::test::Fail;
 
+mod instructions;
 mod patching;
 
 /// All that a machine holds.
@@ -55,19 +56,6 @@ fn happen(machine: &mut Machine, event: &Event) -> Result<Changes, Refusal>
     Ok(changes)
 }
 
-/// Puts a PSW into the machine, which no event does yet.
-fn load_psw(alloc: Global, machine: &mut Machine, psw: u64) -> Result<(), AllocError> {
-    let value = Psw::from_u64(psw).stored(0, InstructionLength::NotAvailable);
-    let mut cells = Vec::with_capacity(alloc, 1)?;
-    cells.push_reserved(Cell {
-        place: Place::Psw,
-        value,
-    });
-    let mut changes = Changes { cells };
-    machine.swap_all(&mut changes);
-    Ok(())
-}
-
 fn patch_of_bytes(alloc: Global, at: u32, bytes: &[u8]) -> Result<Event, AllocError> {
     let bytes = Bytes::new(alloc, Vec::from_slice(alloc, bytes)?)?;
     Ok(Event::Patch(Patch::Bytes { at, bytes }))
@@ -91,7 +79,7 @@ fn machine_with(
     happen(&mut machine, &patch_of_register(1, first))?;
     happen(&mut machine, &patch_of_register(2, second))?;
     happen(&mut machine, &patch_of_bytes(alloc, 0x200, instruction)?)?;
-    load_psw(alloc, &mut machine, psw)?;
+    happen(&mut machine, &Event::Patch(Patch::Psw(psw)))?;
     Ok(machine)
 }
 
@@ -266,11 +254,11 @@ fn add_register(rt: HostRuntime) -> Result<(), Fail> {
 #[test]
 fn cpu_events_that_are_not_built(rt: HostRuntime) -> Result<(), Fail> {
     let alloc = rt.alloc();
-    let rows: [(&[u8], u64); 9] = [
-        // other codes
-        (&[0x06, 0x12], 0x200),
-        (&[0x07, 0xF0], 0x200),
-        (&[0x1B, 0x12], 0x200),
+    let rows: [(&[u8], u64); 12] = [
+        // codes of later chapters, and codes that no instruction has
+        (&[0x0A, 0x05], 0x200),
+        (&[0x95, 0x00, 0x00, 0x00], 0x200),
+        (&[0xD2, 0x00, 0x00, 0x00, 0x00, 0x00], 0x200),
         (&[0x00, 0x00], 0x200),
         // overflow with the mask: interruption code 8
         (&[0x1A, 0x12], 0x0800_0200),
@@ -280,6 +268,12 @@ fn cpu_events_that_are_not_built(rt: HostRuntime) -> Result<(), Fail> {
         // a fetch outside storage: interruption code 5
         (&[0x1A, 0x12], 0x1_0000),
         (&[0x1A, 0x12], 0xFF_FFFE),
+        // an odd register of a pair: interruption code 6
+        (&[0x1C, 0x12], 0x200),
+        // a division by zero: interruption code 9
+        (&[0x1D, 0x24], 0x200),
+        // a store where the keys don't match: interruption code 4
+        (&[0x50, 0x10, 0x08, 0x00], 0x0010_0000_0000_0200),
     ];
     for (instruction, psw) in rows {
         let mut machine = machine_with(alloc, 0x7FFF_FFFF, 1, instruction, psw)?;

@@ -12,15 +12,28 @@ const STORAGE: u32 = 65_536;
 /// So many changes can stand.
 const LIMIT: u32 = 10_000_000;
 
-/// Why the program ends with status 1, by the part that is at fault.
+/// Why the program does not end with status 0.
 #[derive(Clone, Copy, Debug, PartialEq, Eq, Error)]
 pub(crate) enum ProgramFault {
+    /// The command line has a word.
+    #[error("there are no options; the script is read from standard input")]
+    CommandLine,
     /// The script was not carried out to its end.
     #[error("script: {0}")]
     Script(ScriptFault),
     /// A growth was refused.
     #[error("memory: out of memory")]
     Memory,
+}
+
+impl ProgramFault {
+    /// The status: 2 for the command line, and else 1.
+    pub(crate) fn status(self) -> u8 {
+        match self {
+            ProgramFault::CommandLine => 2,
+            ProgramFault::Script(_) | ProgramFault::Memory => 1,
+        }
+    }
 }
 
 impl From<ScriptFault> for ProgramFault {

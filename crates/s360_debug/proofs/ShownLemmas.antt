@@ -1,0 +1,39 @@
+-- Lines of bytes, one byte and one line more at the end.
+use Rattle.std.proofs.Common.{◌≡◌, ◌<◌, ◌≤◌, ◌+◌, ◌-◌, ◌++◌, ℕ, List, [], ◌∷◌, ap, sym, ◌∙◌, refl, drop, get_or, length, map, append_assoc, arith}
+use Rattle.std.proofs.lemmas.List.{append-nil, take_more, get_or-drop, length-drop}
+use Rattle.std.proofs.lemmas.List.Folds.{flat_map-map}
+use Rattle.std.proofs.lemmas.List.FromFn.{map-range_with_len_more}
+use Rattle.std.proofs.lemmas.Grind.{flat_map-append}
+use Rattle.std.specs.List.{flat_map, range_with_len, slice_range}
+use Rattle.s360_model.specs.Text.{hex_text, hex_bytes}
+
+hex_bytes-push : (bytes : List ℕ) (byte : ℕ) → hex_bytes (bytes ++ byte ∷ []) ≡ hex_bytes bytes ++ hex_text 2 byte
+hex_bytes-push [] byte = append-nil (hex_text 2 byte)
+hex_bytes-push (b ∷ bytes) byte =
+    ap (λ t. hex_text 2 b ++ t) (hex_bytes-push bytes byte) ∙ sym (append_assoc (hex_text 2 b) (hex_bytes bytes) (hex_text 2 byte))
+
+slice_range-more : (bytes : List ℕ) (first end : ℕ) → first ≤ end → end < length bytes
+    → slice_range bytes first (end + 1) ≡ slice_range bytes first end ++ get_or bytes end 0 ∷ []
+slice_range-more bytes first end order inside =
+    let count : end + 1 - first ≡ end - first + 1 = omega (arith, order)
+    in let at : first + (end - first) ≡ end = omega (arith, order)
+    in let room : end - first < length (drop first bytes) = omega (arith, length-drop first bytes, order, inside)
+    in let last : get_or (drop first bytes) (end - first) 0 ≡ get_or bytes end 0
+    = get_or-drop first bytes (end - first) 0 ∙ ap (λ i. get_or bytes i 0) at
+    in rw (count, take_more (drop first bytes) (end - first) 0 room, last) refl
+
+-- the digits of one byte more
+pub hex_bytes-more : (bytes : List ℕ) (first end : ℕ) → first ≤ end → end < length bytes
+    → hex_bytes (slice_range bytes first (end + 1)) ≡ hex_bytes (slice_range bytes first end) ++ hex_text 2 (get_or bytes end 0)
+hex_bytes-more bytes first end order inside =
+    ap hex_bytes (slice_range-more bytes first end order inside) ∙ hex_bytes-push (slice_range bytes first end) (get_or bytes end 0)
+
+-- one line more
+pub lines-more : (line : ℕ → List ℕ) (n : ℕ) → flat_map line (range_with_len 0 (n + 1)) ≡ flat_map line (range_with_len 0 n) ++ line n
+lines-more line n =
+    let joined : (ns : List ℕ) → flat_map (λ t. t) (map line ns) ≡ flat_map line ns = λ ns. flat_map-map (λ t. t) line ns
+    in let at : 0 + n ≡ n = omega arith
+    in sym (joined (range_with_len 0 (n + 1)))
+    ∙ (ap (λ ts. flat_map (λ t. t) ts) (map-range_with_len_more line 0 n n at)
+    ∙ (flat_map-append (λ t. t) (map line (range_with_len 0 n)) (line n ∷ [])
+    ∙ (ap (λ t. t ++ flat_map (λ t. t) (line n ∷ [])) (joined (range_with_len 0 n)) ∙ ap (λ t. flat_map line (range_with_len 0 n) ++ t) (append-nil (line n)))))

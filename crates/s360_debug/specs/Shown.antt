@@ -1,0 +1,49 @@
+-- What is shown of a machine (own profile). Each line is ended by one line feed.
+use Rattle.std.specs.Prelude.{ℕ, ◌+◌, ◌*◌, if◌then◌else◌, List, [], ◌++◌, codes, min, slice_index}
+use Rattle.std.specs.List.{flat_map, range_with_len, slice_range}
+use Rattle.std.specs.Int.{div_ceil}
+use Rattle.s360_model.specs.Text.{hex_text, hex_bytes}
+use Rattle.s360_model.specs.Storage.{Storage as Contents, is_inside}
+use Rattle.s360_model.specs.Psw.{stored_psw}
+use Rattle.s360_machine.specs.declared.refusal.Refusal.TheVariants.{OutsideStorage}
+use Rattle.s360_machine.specs.Machine.{Machine}
+use Rattle.s360_debug.specs.declared.command.Shown.{Shown}
+use Rattle.s360_debug.specs.declared.command.Shown.TheVariants.{Registers, Psw, Storage}
+use Rattle.s360_debug.specs.Names.{refused_text, run_state_name}
+
+-- a register's word after a blank
+abbrev pub register_word : List ℕ → ℕ → List ℕ
+register_word registers n = codes " " ++ hex_text 8 (slice_index registers n)
+
+-- a text and then the line of four registers from this one on, after the name of the first
+abbrev pub after_registers : List ℕ → List ℕ → ℕ → List ℕ
+after_registers text registers n =
+    text ++ codes "r" ++ hex_text 1 n ++ register_word registers n ++ register_word registers (n + 1) ++ register_word registers (n + 2)
+    ++ register_word registers (n + 3) ++ codes "\n"
+
+abbrev pub registers_text : List ℕ → List ℕ
+registers_text registers = after_registers (after_registers (after_registers (after_registers [] registers 0) registers 4) registers 8) registers 12
+
+-- the PSW as it would be stored with no interruption code and no instruction length, and the run state
+abbrev pub psw_text : Machine → List ℕ
+psw_text m = codes "psw " ++ hex_text 16 (stored_psw m.core.psw 0 0) ++ codes " " ++ run_state_name m.control.run_state ++ codes "\n"
+
+-- the line of the bytes from one address to another, after the first
+abbrev pub bytes_line : List ℕ → ℕ → ℕ → List ℕ
+bytes_line bytes first end = hex_text 6 first ++ codes " " ++ hex_bytes (slice_range bytes first end) ++ codes "\n"
+
+-- of the bytes from one address to another, the line with this number: sixteen bytes, or those that are left
+abbrev pub numbered_line : List ℕ → ℕ → ℕ → ℕ → List ℕ
+numbered_line bytes at end number = bytes_line bytes (at + number * 16) (min end (at + number * 16 + 16))
+
+-- so many bytes from an address on, sixteen a line
+abbrev pub bytes_text : List ℕ → ℕ → ℕ → List ℕ
+bytes_text bytes at count = flat_map (numbered_line bytes at (at + count)) (range_with_len 0 (div_ceil count 16))
+
+abbrev pub storage_text : Contents → ℕ → ℕ → List ℕ
+storage_text s at count = if is_inside s at count then bytes_text s.bytes at count else refused_text OutsideStorage
+
+abbrev pub shown_text : Machine → Shown → List ℕ
+shown_text m Registers = registers_text m.core.registers
+shown_text m Psw = psw_text m
+shown_text m (Storage at count) = storage_text m.core.storage at count
