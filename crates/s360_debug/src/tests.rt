@@ -12,6 +12,9 @@ use std::test::Fail;
 
 mod looking;
 
+/// Writers have room for so many bytes from the start, so that only the script wants memory.
+const ROOM: usize = 4_096;
+
 fn session_with(alloc: Global, limit: u32) -> Result<Session, Fail>
     requires { limit ≤ 10000000 }
 {
@@ -144,7 +147,7 @@ fn assert_scripts(
     for (script, answers, lines) in scripts {
         let mut session = session_with(alloc, 10_000_000)?;
         let mut reader = script.as_bytes();
-        let mut written = Vec::new(alloc);
+        let mut written = Vec::with_capacity(alloc, ROOM)?;
         let count = run_script(alloc, &mut session, &mut reader, &mut written);
         assert_eq!(rt; count, Ok(*lines), "{script:?}");
         assert_eq!(rt; written.as_slice(), answers.as_bytes(), "{script:?}");
@@ -161,7 +164,7 @@ fn answers_scripts(rt: HostRuntime) -> Result<(), Fail> {
 fn refuses_a_change_beyond_the_limit(rt: HostRuntime) -> Result<(), Fail> {
     let mut session = session_with(rt.alloc(), 1)?;
     let mut reader = &b"patch r 1 5\npatch r 1 5\n"[..];
-    let mut written = Vec::new(rt.alloc());
+    let mut written = Vec::with_capacity(rt.alloc(), ROOM)?;
     let count = run_script(rt.alloc(), &mut session, &mut reader, &mut written);
     assert_eq!(rt; count, Ok(2));
     assert_eq!(rt;
@@ -178,7 +181,7 @@ fn refuses_a_long_patch_before_its_place(rt: HostRuntime) -> Result<(), Fail> {
         script.extend_from_slice(b"01")?;
     }
     let mut session = session_with(rt.alloc(), 1)?;
-    let mut written = Vec::new(rt.alloc());
+    let mut written = Vec::with_capacity(rt.alloc(), ROOM)?;
     let count = run_script(
         rt.alloc(),
         &mut session,
@@ -204,7 +207,7 @@ fn reads_lines_of_1024_bytes(rt: HostRuntime) -> Result<(), Fail> {
             script.push(b' ')?;
         }
         let mut session = session_with(rt.alloc(), 1)?;
-        let mut written = Vec::new(rt.alloc());
+        let mut written = Vec::with_capacity(rt.alloc(), ROOM)?;
         let count = run_script(
             rt.alloc(),
             &mut session,
@@ -224,7 +227,7 @@ fn refuses_a_script_of_1048577_bytes(rt: HostRuntime) -> Result<(), Fail> {
         script.push(b' ')?;
     }
     let mut session = session_with(rt.alloc(), 1)?;
-    let mut written = Vec::new(rt.alloc());
+    let mut written = Vec::with_capacity(rt.alloc(), ROOM)?;
     let count = run_script(
         rt.alloc(),
         &mut session,
@@ -295,7 +298,7 @@ fn answers_over_a_slow_reader_and_writer(rt: HostRuntime) -> Result<(), Fail> {
         calls: ADD.len() + 1,
     };
     let mut writer = SlowWriter {
-        taken: Vec::new(rt.alloc()),
+        taken: Vec::with_capacity(rt.alloc(), ROOM)?,
         room: ADD_ANSWERS.len(),
     };
     let count = run_script(rt.alloc(), &mut session, &mut reader, &mut writer);
@@ -311,7 +314,7 @@ fn tells_a_failed_read(rt: HostRuntime) -> Result<(), Fail> {
         left: ADD.as_bytes(),
         calls: ADD.len(),
     };
-    let mut written = Vec::new(rt.alloc());
+    let mut written = Vec::with_capacity(rt.alloc(), ROOM)?;
     let count = run_script(rt.alloc(), &mut session, &mut reader, &mut written);
     assert_eq!(rt; count, Err(ScriptFault::Read));
     assert!(rt; written.is_empty());
@@ -324,7 +327,7 @@ fn tells_a_failed_write(rt: HostRuntime) -> Result<(), Fail> {
     for room in 0..ADD_ANSWERS.len() {
         let mut session = session_with(rt.alloc(), 10)?;
         let mut writer = SlowWriter {
-            taken: Vec::new(rt.alloc()),
+            taken: Vec::with_capacity(rt.alloc(), ROOM)?,
             room,
         };
         let count = run_script(rt.alloc(), &mut session, &mut ADD.as_bytes(), &mut writer);

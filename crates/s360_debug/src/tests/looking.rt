@@ -139,7 +139,7 @@ fn shows_256_bytes_in_16_lines(rt: HostRuntime) -> Result<(), Fail> {
         want.extend_from_slice(text.as_bytes())?;
     }
     let mut session = session_with(rt.alloc(), 1)?;
-    let mut written = Vec::new(rt.alloc());
+    let mut written = Vec::with_capacity(rt.alloc(), ROOM)?;
     let mut reader = &b"show s 108 256"[..];
     let count = run_script(rt.alloc(), &mut session, &mut reader, &mut written);
     assert_eq!(rt; count, Ok(1));
