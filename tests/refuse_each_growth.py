@@ -1,9 +1,10 @@
 #!/usr/bin/env python3
-"""Runs the program's example and each test once for each of its growths of memory, with that one refused.
+"""Runs the examples and each test, and again for each growth of memory with that one refused.
 
-The program has to end with status 1, say that memory is out, and have written the answers of whole first
-lines. A test has to name want of memory as what it met in place of the right answer. A run that passes all
-the same did without the growth.
+With nothing refused an example has the answers beside it, and a test passes. With a growth refused
+the program has to end with status 1, say that memory is out, and have written the answers of whole
+first lines. A test has to name want of memory as what it met in place of the right answer. A run
+that passes all the same did without the growth.
 
 It needs what `rt ci` has built, and a C compiler. It prints what is wrong, and nothing else.
 """
@@ -50,10 +51,12 @@ def fault_of_test(done, answers):
     return f"status {done.returncode}: {said.strip()[:200]}"
 
 
-def faults(shim, folder, command, stdin, judge):
+def faults(shim, folder, command, stdin, answers, judge):
     whole, count = growths(shim, command, stdin, folder)
     if whole.returncode != 0:
         return [f"{command}: status {whole.returncode} with nothing refused"]
+    if answers is not None and whole.stdout != answers:
+        return [f"{command}: other answers with nothing refused"]
     found = []
     for nth in [*range(1, min(count, EACH) + 1), *range(EACH + 1, count + 1, STRIDE)]:
         fault = judge(run(shim, command, stdin, REFUSE_NTH=str(nth)), whole.stdout)
@@ -72,8 +75,11 @@ def tests():
 
 def main():
     program = TOP / "crates/s360dbg/out/s360dbg"
-    jobs = [([str(program)], example.read_bytes(), fault_of_program) for example in sorted(TOP.glob("examples/*.s360"))]
-    jobs += [(command, b"", fault_of_test) for command in tests()]
+    jobs = []
+    for example in sorted(TOP.glob("examples/*.s360")):
+        answers = example.with_suffix(".answers").read_bytes()
+        jobs.append(([str(program)], example.read_bytes(), answers, fault_of_program))
+    jobs += [(command, b"", None, fault_of_test) for command in tests()]
     with tempfile.TemporaryDirectory() as folder:
         shim = pathlib.Path(folder) / "refuse_nth.so"
         source = TOP / "tests/refuse_nth.c"

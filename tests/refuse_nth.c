@@ -1,4 +1,4 @@
-// Refuses one of the program's growths of memory, the one whose number is in REFUSE_NTH, counted from 1.
+// Refuses one of the program's growths of memory: the one whose number, from 1, is in REFUSE_NTH.
 // Where COUNT_FILE is set, the number of growths is written there at the end.
 #include <stdio.h>
 #include <stdlib.h>
