@@ -68,6 +68,7 @@ pub(crate) fn put_bytes(
     requires few { length plan.old + length bytes.now < 1000 }
     ensures { OnOk result (AddsToPlan view.now.core plan.old plan.new (length bytes.now) (core_with_bytes address bytes.now)) }
 {
+    // Storage is small, so no address of the run passes 32 bits.
     let _ = view.storage();
     for (i, byte) in bytes.iter().enumerate() {
         plan.put(Place::Byte(address + i as u32), u64::from(*byte))?;
@@ -119,6 +120,7 @@ pub(crate) fn put_words(
     requires few { length plan.old < 100 }
     ensures { OnOk result (AddsToPlan view.now.core plan.old plan.new (4 * count) (with_registers_stored view.now.core.registers r1 address count)) }
 {
+    // Storage is small, so no address of the run passes 32 bits.
     let _ = view.storage();
     for i in 0..count {
         let bytes = view.register(register_after(r1, i)).to_be_bytes();

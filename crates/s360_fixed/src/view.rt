@@ -74,6 +74,7 @@ impl<'a> View<'a> {
         ensures place { result ≡ Register register }
         ensures inside { IsPlaceOf self.now.core result }
     {
+        // Looked at, so that the invariant, sixteen registers, is known here.
         let _ = &self.registers;
         Place::Register(register.number())
     }
@@ -83,6 +84,7 @@ impl<'a> View<'a> {
         ensures storage { result.now ≡ self.now.core.storage }
         ensures small { length self.now.core.storage.bytes ≤ 1048576 }
     {
+        // Its clauses have the bound of the size.
         let _ = self.storage.size();
         self.storage
     }
