@@ -13,12 +13,12 @@ use std::test::Fail;
 mod branches;
 mod lists;
 
-/// A machine of 8,192 bytes with AR of registers 1 and 2 at 0, and an operation that is not built
-/// after it.
+/// A machine of 8,192 bytes with AR of registers 1 and 2 at 0, and a supervisor call, which is not
+/// built, after it.
 fn machine_with(alloc: Global, first: Word, second: Word) -> Result<Machine, Fail> {
     let mut machine = Machine::new(alloc, 8_192)?;
     for event in [
-        patch_of_bytes(alloc, 0, &[0x1A, 0x12, 0x07, 0xF0])?,
+        patch_of_bytes(alloc, 0, &[0x1A, 0x12, 0x0A, 0x05])?,
         patch_of_register(1, first),
         patch_of_register(2, second),
     ] {
@@ -184,9 +184,9 @@ fn step_and_back(rt: HostRuntime) -> Result<(), Fail> {
         &rt,
         &session.forward(Event::Cpu),
         Err(Refusal::Unbuilt),
-        "07F0",
+        "0A05",
     );
-    assert_same(&rt, &picture_of(alloc, &session)?, &after, "07F0");
+    assert_same(&rt, &picture_of(alloc, &session)?, &after, "0A05");
     assert!(rt; matches!(session.back(), Ok(Event::Cpu)));
     assert_same(&rt, &picture_of(alloc, &session)?, &start, "back");
     assert!(rt; matches!(session.back(), Err(NothingStands)));
@@ -331,12 +331,12 @@ fn limits(rt: HostRuntime) -> Result<(), Fail> {
                 Ok(&[Place::Psw, Place::Register(1)]),
                 "AR",
             );
-            // 07F0 is not built, and the journal is full
+            // 0A05 is not built, and the journal is full
             assert_answer(
                 &rt,
                 &session.forward(Event::Cpu),
                 Err(Refusal::JournalFull),
-                "07F0",
+                "0A05",
             );
         }
         assert_eq!(rt; session.standing(), limit);
