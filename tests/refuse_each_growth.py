@@ -1,5 +1,7 @@
 #!/usr/bin/env python3
-"""Runs the examples and each test, and again for each growth of memory with that one refused.
+"""Runs the examples and each test, and again with one growth of memory refused, for many of them.
+
+Each of the first EACH growths is refused in turn, and beyond them every STRIDE-th.
 
 With nothing refused an example has the answers beside it, and a test passes. With a growth refused
 the program has to end with status 1, say that memory is out, and have written the answers of whole

@@ -1,5 +1,9 @@
 #!/usr/bin/env python3
-"""Compares the program with a second machine, written from the standard in another language.
+"""Compares the program with a second machine, written in another language.
+
+Its author had read the definitions of the first, so it finds slips and not a rule that was misread.
+Each program interruption is refused as unbuilt today, so program codes are not told apart, and no
+event sets a storage key, so all are 0.
 
 Random words, PSWs, operands and instructions are patched in and stepped. Each answer is compared:
 reports, refusals, the PSW, the registers and the bytes that are shown, and these again after a step
