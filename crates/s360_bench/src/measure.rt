@@ -36,7 +36,7 @@ pub(crate) enum BenchFault {
     /// The clock cannot be read.
     #[error("no clock")]
     Clock,
-    /// An event was refused.
+    /// An event was refused for another cause than want of memory.
     #[error("refused: {0}")]
     Refused(Refusal),
     /// A growth was refused.
@@ -55,7 +55,10 @@ impl From<StoreFault> for BenchFault {
 
 impl From<Refusal> for BenchFault {
     fn from(refusal: Refusal) -> BenchFault {
-        BenchFault::Refused(refusal)
+        match refusal {
+            Refusal::Memory => BenchFault::Memory,
+            other => BenchFault::Refused(other),
+        }
     }
 }
 

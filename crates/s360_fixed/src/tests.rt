@@ -1,8 +1,9 @@
-//! Rows with values from the standard or worked by hand: an instruction at `200` of a storage of
-//! `2000` bytes, what stands before it, and the values of its plan. All numbers are hexadecimal.
+//! Rows with values from the standard or worked by hand: an instruction, what stands before it in a
+//! machine with `2000` bytes of storage, and the values of its plan. All numbers are hexadecimal.
 //!
 //! `p` is the PSW, `rX` a register, `sXXXX` bytes of storage, `kX` the key of a block, and `code` a
-//! program code. The PSW has condition code 1 at first, and all else is zero.
+//! program code. The PSW has condition code 1 and the instruction address `200` at first, and all
+//! else is zero.
 mod branches;
 mod conditions;
 mod decoding;
@@ -100,13 +101,9 @@ impl Before {
             4 => InstructionLength::TwoHalfwords,
             _ => InstructionLength::ThreeHalfwords,
         };
-        let view = View::new(
-            Psw::from_u64(self.psw),
-            &self.registers,
-            &self.storage,
-            0x200 + code.len() as u32,
-            length,
-        );
+        let psw = Psw::from_u64(self.psw);
+        let next_address = psw.instruction_address() + code.len() as u32;
+        let view = View::new(psw, &self.registers, &self.storage, next_address, length);
         let mut plan = Plan::new(alloc);
         let ended = plan_fixed(&form, &view, &mut plan)?;
         Ok((ended, plan))

@@ -1,7 +1,8 @@
 //! Lists of session calls. The contract of `run_calls` is what the whole stands for: after any list of
-//! calls, whatever each answered, the machine is its start with the standing events run again.
+//! calls, whatever each answered, the machine is its start with the standing events run again, none of
+//! which is refused on the way.
 ghost use Rattle.std.specs.Prelude.{◌≡◌, ◌≤◌, IfOk, OnErr, length, []};
-ghost use Rattle.s360_journal.specs.Rerun.{rerun};
+ghost use Rattle.s360_journal.specs.Rerun.{rerun, AreAccepted};
 ghost use Rattle.s360_journal.specs.Calls.{IsAnswer, IsRun, standing_events};
 ghost use Rattle.s360_journal.specs.Standing.{Standing as State};
 
@@ -79,7 +80,8 @@ impl Session {
 }
 
 /// Runs calls one after another in a session that starts at the machine. The machine afterwards is the
-/// start with the standing events run again, and each answer is one that its call may give.
+/// start with the standing events run again, none of which is refused on the way, and each answer is
+/// one that its call may give.
 pub fn run_calls(
     alloc: Global,
     start: Machine,
@@ -88,6 +90,7 @@ pub fn run_calls(
 ) -> Result<Outcome, AllocError>
     requires { limit ≤ 10000000 }
     ensures machine { IfOk result (λ o. o.machine ≡ rerun start (standing_events [] calls.items o.answers.items)) }
+    ensures accepted { IfOk result (λ o. AreAccepted start (standing_events [] calls.items o.answers.items)) }
     ensures answers { IfOk result (λ o. (end : State) × IsRun (record { start = start; events = []; limit = limit }) calls.items o.answers.items end) }
 {
     let mut session = Session::new(alloc, start, limit);

@@ -68,11 +68,13 @@ impl Session {
         &self.machine
     }
 
-    /// The machine alone.
+    /// The machine alone: the start with the standing events run again, none of which is refused.
     pub fn into_machine(self) -> Machine
-        ensures { result ≡ rerun self.start self.events }
+        ensures rerun { result ≡ rerun self.start self.events }
+        ensures accepted { AreAccepted self.start self.events }
     {
-        self.machine
+        let Session { machine, .. } = self;
+        machine
     }
 
     /// The number of changes that stand.
