@@ -8,16 +8,18 @@ event sets a storage key, so all are 0.
 Random words, PSWs, operands and instructions are patched in and stepped. Each answer is compared:
 reports, refusals, the PSW, the registers and the bytes that are shown, and these again after a step
 back. `second_opinion.py FIRST LAST` takes the seeds from the first to the last, and each of them
-tries 300 instructions. It needs the program as `rt ci` or `./run` has built it, and prints the
-first answer that is another.
+tries 300 instructions. It needs the program as `rt ci` or `./run` has built it. It prints the first
+answer of a seed that is another, and how many seeds had none.
 
 Source: GA22-6821, "Fixed-Point Arithmetic", "Logical Operations" and "Branching".
 """
 import operator
+import os
 import pathlib
 import random
 import subprocess
 import sys
+from concurrent.futures import ThreadPoolExecutor
 
 TOP = pathlib.Path(__file__).resolve().parent.parent
 PROGRAM = TOP / "crates/s360dbg/out/s360dbg"
@@ -413,12 +415,13 @@ def first_difference(seed):
 
 
 def main(first, last):
-    for seed in range(first, last + 1):
-        difference = first_difference(seed)
-        if difference:
-            print(difference)
-            return 1
-    return 0
+    seeds = range(first, last + 1)
+    with ThreadPoolExecutor(os.cpu_count()) as pool:
+        differences = [difference for difference in pool.map(first_difference, seeds) if difference]
+    for difference in differences:
+        print(difference)
+    print(f"{len(seeds) - len(differences)} passed, {len(differences)} failed")
+    return 1 if differences or not seeds else 0
 
 
 if __name__ == "__main__":

@@ -102,7 +102,7 @@ pub(crate) fn measure<R: Clock + Files>(
 ) -> Result<Measured, BenchFault> {
     let machine = Machine::new(alloc, size)?;
     let mut session = Session::new(alloc, machine, LIMIT);
-    let loop_bytes = Bytes::new(alloc, Vec::from_slice(alloc, &LOOP)?)?;
+    let loop_bytes = Bytes::new(Vec::from_slice(alloc, &LOOP)?);
     session.forward(Event::Patch(Patch::Bytes {
         at: START,
         bytes: loop_bytes,

@@ -4,15 +4,17 @@ use Rattle.std.specs.Prelude.{◌≡◌, ◌⊎◌, ℕ, ◌+◌, Bool, true, fa
 use Rattle.s360_model.specs.Text.{decimal}
 use Rattle.s360_store.specs.declared.place.Place.{Place}
 use Rattle.s360_machine.specs.declared.event.Event.{Event}
+use Rattle.s360_machine.specs.declared.event.Event.TheVariants.{Cpu, Patch as patch}
 use Rattle.s360_machine.specs.declared.refusal.Refusal.{Refusal}
 use Rattle.s360_machine.specs.declared.refusal.Refusal.TheVariants.{Unbuilt}
+use Rattle.s360_machine.specs.Machine.{seen}
 use Rattle.s360_machine.specs.Step.{is_unbuilt}
 use Rattle.s360_journal.specs.declared.report.Report.{Report}
 use Rattle.s360_journal.specs.declared.report.Report.TheVariants.{Changed, Idle}
 use Rattle.s360_journal.specs.Rerun.{last_change_of}
 use Rattle.s360_journal.specs.Standing.{Standing, machine_of, refusal_in, alteration, last_of}
 use Rattle.s360_debug.specs.declared.command.Command.{Command}
-use Rattle.s360_debug.specs.declared.command.Command.TheVariants.{Offer, Back, Standing as standing, Last, Show}
+use Rattle.s360_debug.specs.declared.command.Command.TheVariants.{Step, Patch, Back, Standing as standing, Last, Show}
 use Rattle.s360_debug.specs.declared.command.LineFault.{LineFault}
 use Rattle.s360_debug.specs.declared.command.LineFault.TheVariants.{LineTooLong, Unknown, Argument, Memory}
 use Rattle.s360_debug.specs.Names.{place_name, event_name, refused_text}
@@ -62,7 +64,8 @@ back_text number (Some e) = codes "back " ++ decimal number ++ codes " " ++ even
 
 -- the event that a command offers, if it offers one
 abbrev pub event_of : Command → Option Event
-event_of (Offer e) = Some e
+event_of Step = Some Cpu
+event_of (Patch p) = Some (patch p)
 event_of c = None
 
 abbrev pub text_of_event : Standing → Event → List ℕ
@@ -71,24 +74,32 @@ text_of_event s e = text_of_outcome (outcome_of s e) s e
 abbrev pub state_after_event : Standing → Event → Standing
 state_after_event s e = stood_after (outcome_of s e) s e
 
+-- what a command that offers an event answers, and what stands after it
+abbrev pub text_of_offer : Standing → Option Event → List ℕ
+text_of_offer s (Some e) = text_of_event s e
+text_of_offer s None = []
+
+abbrev pub state_after_offer : Standing → Option Event → Standing
+state_after_offer s (Some e) = state_after_event s e
+state_after_offer s None = s
+
 -- the number of a place's last change
 abbrev pub last_text : Option ℕ → List ℕ
 last_text None = codes "last none" ++ codes "\n"
 last_text (Some number) = codes "last " ++ decimal number ++ codes "\n"
 
--- a command's answer
+-- a command's answer; each that has no row of its own offers an event
 unfoldable pub answer_to : Standing → Command → List ℕ
-answer_to s (Offer e) = text_of_event s e
 answer_to s Back = back_text (length s.events) (last_of s.events)
 answer_to s standing = codes "standing " ++ decimal (length s.events) ++ codes "\n"
-answer_to s (Last place) = last_text (last_change_of s.start s.events place)
+answer_to s (Last place) = last_text (last_change_of (seen s.start) s.events place)
 answer_to s (Show shown) = shown_text (machine_of s) shown
+answer_to s command = text_of_offer s (event_of command)
 
 -- what stands after a command
 unfoldable pub state_after : Standing → Command → Standing
-state_after s (Offer e) = state_after_event s e
 state_after s Back = record s { events = take (length s.events - 1) s.events }
-state_after s command = s
+state_after s command = state_after_offer s (event_of command)
 
 -- what a faulty line answers; want of memory is no fault of the line
 abbrev pub fault_text : LineFault → List ℕ

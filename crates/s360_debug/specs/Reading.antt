@@ -6,10 +6,9 @@ use Rattle.std.specs.Option.{ok_or}
 use Rattle.std.specs.Result.{result_ok}
 use Rattle.hex.specs.Hex.{decode_of}
 use Rattle.s360_store.specs.declared.place.Place.TheVariants.{Psw, Register, Byte}
-use Rattle.s360_machine.specs.declared.event.Event.TheVariants.{Cpu, Patch as patch}
 use Rattle.s360_machine.specs.declared.event.Patch.TheVariants.{Bytes as bytes_patch, Register as register_patch, Psw as psw_patch}
 use Rattle.s360_debug.specs.declared.command.Command.{Command}
-use Rattle.s360_debug.specs.declared.command.Command.TheVariants.{Offer, Back, Standing, Last, Show}
+use Rattle.s360_debug.specs.declared.command.Command.TheVariants.{Step, Patch, Back, Standing, Last, Show}
 use Rattle.s360_debug.specs.declared.command.Shown.TheVariants.{Registers, Psw as psw, Storage}
 use Rattle.s360_debug.specs.declared.command.LineFault.{LineFault}
 use Rattle.s360_debug.specs.declared.command.LineFault.TheVariants.{LineTooLong, Unknown, Argument, Memory}
@@ -57,18 +56,18 @@ abbrev pub storage_patch : List (List ℕ) → Reading
 storage_patch words =
     and_then (number_argument 2 6 words) (λ at.
     and_then (argument 3 bytes_in (drop 1 words)) (λ bytes.
-    finished 4 (Offer (patch (bytes_patch at bytes))) (drop 2 words)))
+    finished 4 (Patch (bytes_patch at bytes)) (drop 2 words)))
 
 -- `patch r R W`, after its first two words
 abbrev pub word_patch : List (List ℕ) → Reading
 word_patch words =
     and_then (number_argument 2 1 words) (λ n.
     and_then (number_argument 3 8 (drop 1 words)) (λ word.
-    finished 4 (Offer (patch (register_patch n word))) (drop 2 words)))
+    finished 4 (Patch (register_patch n word)) (drop 2 words)))
 
 -- `patch p Q`, after its first two words
 abbrev pub doubleword_patch : List (List ℕ) → Reading
-doubleword_patch words = and_then (argument 2 doubleword_of words) (λ q. finished 3 (Offer (patch (psw_patch q))) (drop 1 words))
+doubleword_patch words = and_then (argument 2 doubleword_of words) (λ q. finished 3 (Patch (psw_patch q)) (drop 1 words))
 
 -- `patch` with a kind
 abbrev pub patch_reading : List (List ℕ) → Reading
@@ -115,7 +114,7 @@ show_reading (kind ∷ words) =
 abbrev pub reading_of_words : List (List ℕ) → Reading
 reading_of_words [] = Err Unknown
 reading_of_words (name ∷ words) =
-    if is_word name (codes "step") then finished 1 (Offer Cpu) words
+    if is_word name (codes "step") then finished 1 Step words
     else (if is_word name (codes "back") then finished 1 Back words
     else (if is_word name (codes "standing") then finished 1 Standing words
     else (if is_word name (codes "patch") then patch_reading words

@@ -1,4 +1,4 @@
-//! What a command answers. Each command has its row in `answer`.
+//! What a command answers. Each command has its row in `answer`; those that offer an event share one.
 ghost use Rattle.std.specs.Prelude.{◌≡◌, ◌≢◌, ◌++◌, ◌≤◌, length, take, ◌-◌, ◌<◌, IfOk, OnErr, OnOk, Some, codes};
 ghost use Rattle.std.specs.Option.{option_copied};
 ghost use Rattle.s360_model.specs.Text.{decimal};
@@ -30,11 +30,14 @@ pub fn answer(alloc: Global, session: &mut Session, command: Command) -> Result<
     ensures memory { OnErr result (StandsPartly (event_of command) session.old session.new) }
 {
     match command {
-        Command::Offer(event) => answer_event(alloc, session, event),
         Command::Back => answer_back(alloc, session),
         Command::Standing => standing_text(alloc, session.standing()),
         Command::Last(place) => last_text(alloc, session.last_change(place)),
         Command::Show(shown) => text_of_shown(alloc, session.machine(), shown),
+        command => match command.into_event() {
+            Some(event) => answer_event(alloc, session, event),
+            None => unreachable!(),
+        },
     }
 }
 

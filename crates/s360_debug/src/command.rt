@@ -1,17 +1,20 @@
 //! The commands of the script language, one a line.
 ghost use Rattle.std.specs.Prelude.{◌≡◌};
+ghost use Rattle.s360_debug.specs.Answers.{event_of};
 ghost use Rattle.s360_debug.specs.declared.command.LineFault.TheVariants.{Memory};
 
-use s360_machine::Event;
+use s360_machine::{Event, Patch};
 use s360_store::Place;
 use std::alloc::AllocError;
 use thiserror::Error;
 
-/// A command with its arguments.
+/// A command with its arguments: a variant for each first word.
 #[derive(Debug, Drop)]
 pub enum Command {
-    /// `step` (one CPU event) or `patch`: an event is offered to the machine.
-    Offer(Event),
+    /// `step`: one CPU event.
+    Step,
+    /// `patch`: a part of the machine is given a value from outside.
+    Patch(Patch),
     /// `back`: the last change is taken back.
     Back,
     /// `standing`: the number of changes that stand.
@@ -20,6 +23,19 @@ pub enum Command {
     Last(Place),
     /// `show`: a part of the machine.
     Show(Shown),
+}
+
+impl Command {
+    /// The event that the command offers, if it offers one.
+    pub fn into_event(self) -> Option<Event>
+        ensures { result ≡ event_of self }
+    {
+        match self {
+            Command::Step => Some(Event::Cpu),
+            Command::Patch(patch) => Some(Event::Patch(patch)),
+            Command::Back | Command::Standing | Command::Last(_) | Command::Show(_) => None,
+        }
+    }
 }
 
 /// What is shown of the machine.

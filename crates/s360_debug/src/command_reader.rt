@@ -11,7 +11,7 @@ ghost use Rattle.s360_debug.specs.Digits.{doubleword_of, count_of};
 use crate::command::{Command, LineFault, Shown};
 use crate::digits::number_in;
 use crate::words::Words;
-use s360_machine::{Bytes, Event, Patch};
+use s360_machine::{Bytes, Patch};
 use s360_store::Place;
 use s360_word::RegisterNumber;
 use std::alloc::Global;
@@ -41,7 +41,7 @@ pub fn read_command(alloc: Global, line: &[u8]) -> Result<Command, LineFault>
         return Err(LineFault::Unknown);
     };
     if is(name, "step") {
-        finish(words, 1, Command::Offer(Event::Cpu))
+        finish(words, 1, Command::Step)
     } else if is(name, "back") {
         finish(words, 1, Command::Back)
     } else if is(name, "standing") {
@@ -91,8 +91,8 @@ fn read_storage_patch(alloc: Global, mut words: Words<'_>) -> Result<Command, Li
         return Err(LineFault::Argument(3));
     };
     expect_end(words, 4)?;
-    let bytes = Bytes::new(alloc, buffer[..count].to_vec(alloc)?)?;
-    Ok(Command::Offer(Event::Patch(Patch::Bytes { at, bytes })))
+    let bytes = Bytes::new(buffer[..count].to_vec(alloc)?);
+    Ok(Command::Patch(Patch::Bytes { at, bytes }))
 }
 
 /// `patch r R W`
@@ -102,7 +102,7 @@ fn read_word_patch(mut words: Words<'_>) -> Result<Command, LineFault>
     let register = next_number(&mut words, 2, 1)?;
     let word = next_number(&mut words, 3, 8)?;
     let patch = Patch::Register(RegisterNumber::new(register as u8), word);
-    finish(words, 4, Command::Offer(Event::Patch(patch)))
+    finish(words, 4, Command::Patch(patch))
 }
 
 /// `patch p Q`
@@ -110,7 +110,7 @@ fn read_doubleword_patch(mut words: Words<'_>) -> Result<Command, LineFault>
     ensures { result ≡ doubleword_patch words.entry }
 {
     let psw = next_doubleword(&mut words, 2)?;
-    finish(words, 3, Command::Offer(Event::Patch(Patch::Psw(psw))))
+    finish(words, 3, Command::Patch(Patch::Psw(psw)))
 }
 
 /// `last`, by its kind.

@@ -11,8 +11,6 @@ mod lines;
 mod names;
 mod run;
 mod show;
-#[cfg(test)]
-mod tests;
 mod text;
 mod words;
 

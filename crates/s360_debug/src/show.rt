@@ -1,5 +1,6 @@
 //! What is shown of the machine. Each part has its row in `text_of_shown`.
 ghost use Rattle.std.specs.Prelude.{◌≡◌, ◌++◌, ◌≤◌, ◌<◌, length, IfOk, OnOk};
+ghost use Rattle.s360_machine.specs.Machine.{seen};
 ghost use Rattle.s360_debug.specs.Shown.{shown_text, registers_text, after_registers, register_word};
 ghost use Rattle.s360_debug.specs.Shown.{psw_text, storage_text, bytes_line};
 
@@ -21,7 +22,7 @@ pub(crate) fn text_of_shown(
     machine: &Machine,
     shown: Shown,
 ) -> Result<Text, AllocError>
-    ensures { IfOk result (λ text. text ≡ shown_text machine.now shown) }
+    ensures { IfOk result (λ text. text ≡ shown_text (seen machine.now.whole) shown) }
 {
     match shown {
         Shown::Registers => registers_of(alloc, machine),
@@ -32,7 +33,7 @@ pub(crate) fn text_of_shown(
 
 /// The sixteen general registers, four a line.
 fn registers_of(alloc: Global, machine: &Machine) -> Result<Text, AllocError>
-    ensures { IfOk result (λ text. text ≡ registers_text machine.now.core.registers) }
+    ensures { IfOk result (λ text. text ≡ registers_text machine.now.whole.core.registers) }
 {
     let mut text = Text::new(alloc);
     push_registers(&mut text, machine, 0)?;
@@ -45,7 +46,7 @@ fn registers_of(alloc: Global, machine: &Machine) -> Result<Text, AllocError>
 /// Adds the line of four registers from this one on.
 fn push_registers(text: &mut Text, machine: &Machine, first: u8) -> Result<(), AllocError>
     requires { first ≤ 12 }
-    ensures { OnOk result (text.new ≡ after_registers text.old machine.now.core.registers first) }
+    ensures { OnOk result (text.new ≡ after_registers text.old machine.now.whole.core.registers first) }
 {
     text.push_text("r")?;
     text.push_hex(u64::from(first), 1)?;
@@ -60,7 +61,7 @@ fn push_registers(text: &mut Text, machine: &Machine, first: u8) -> Result<(), A
 /// Adds a register's word after a blank.
 fn push_register(text: &mut Text, machine: &Machine, number: u8) -> Result<(), AllocError>
     requires { number < 16 }
-    ensures { OnOk result (text.new ≡ text.old ++ register_word machine.now.core.registers number) }
+    ensures { OnOk result (text.new ≡ text.old ++ register_word machine.now.whole.core.registers number) }
 {
     text.push_text(" ")?;
     text.push_hex(u64::from(machine.register(RegisterNumber::new(number))), 8)
@@ -68,7 +69,7 @@ fn push_register(text: &mut Text, machine: &Machine, number: u8) -> Result<(), A
 
 /// The PSW, with no interruption code and no instruction length, and the run state.
 fn psw_of(alloc: Global, machine: &Machine) -> Result<Text, AllocError>
-    ensures { IfOk result (λ text. text ≡ psw_text machine.now) }
+    ensures { IfOk result (λ text. text ≡ psw_text (seen machine.now.whole)) }
 {
     let mut text = Text::new(alloc);
     text.push_text("psw ")?;

@@ -1,3 +1,1 @@
 pub mod PutLemmas
-pub mod FetchLemmas
-mod KnownInstructions

@@ -1,7 +1,7 @@
 -- What a put adds to a plan.
 use Rattle.std.proofs.Common.{◌≡◌, ◌<◌, ◌≤◌, ◌+◌, ◌++◌, ◌*◌, ◌%◌, suc, Some, slice_index, ℕ, List, [], ◌∷◌, Bool, true, false, cond, length, take, drop, set, get_or, arith, refl, ap, add-zero}
 use Rattle.std.proofs.lemmas.List.{take_more, set_at, drop_more, take-append-drop, append_assoc, length-append, length-take-le, append-nil}
-use Rattle.s360_model.specs.Core.{Core}
+use Rattle.s360_model.specs.Core.{Core, core_with_bytes}
 use Rattle.s360_store.specs.declared.place.Place.{Place}
 use Rattle.s360_store.specs.declared.place.Place.TheVariants.{Byte}
 use Rattle.s360_store.specs.declared.place.Cell.{Cell}
@@ -13,7 +13,7 @@ use Rattle.s360_fixed.specs.Plans.{AddsToPlan}
 use Rattle.std.specs.Int.{bytes_high_first}
 use Rattle.s360_model.specs.Storage.{word_at}
 use Rattle.s360_fixed.specs.Outcomes.{core_with_register}
-use Rattle.s360_fixed.specs.Storing.{core_with_bytes, with_registers_loaded, with_registers_stored}
+use Rattle.s360_fixed.specs.Storing.{with_registers_loaded, with_registers_stored}
 
 pub length-after_put : (cs : List Cell) (p : Place) (v : ℕ) → length (after_put cs p v) ≤ length cs + 1
 length-after_put [] p v = omega arith
@@ -55,11 +55,11 @@ spliced-more xs bs at i h inner =
     in let next : at + (i + 1) ≡ at + i + 1 = omega arith
     in rw (n, n1, drop_more xs (at + i) 0 inner, set_at _ _ _ (get_or bs i 0) (at + i) front, take_more bs i 0 h, next) (simp append_assoc)
 
-core_with_bytes-more : (n : Core) (at : ℕ) (bs : List ℕ) (i : ℕ) → i < length bs → at + i < length n.storage.bytes
+pub core_with_bytes-more : (n : Core) (at : ℕ) (bs : List ℕ) (i : ℕ) → i < length bs → at + i < length n.storage.bytes
     → with_value (core_with_bytes at (take i bs) n) (Byte (at + i)) (get_or bs i 0) ≡ core_with_bytes at (take (i + 1) bs) n
 core_with_bytes-more n at bs i h l = ap (λ x. record n { storage = record n.storage { bytes = x } }) (spliced-more n.storage.bytes bs at i h l)
 
-core_with_bytes-none : (n : Core) (at : ℕ) → core_with_bytes at [] n ≡ n
+pub core_with_bytes-none : (n : Core) (at : ℕ) → core_with_bytes at [] n ≡ n
 core_with_bytes-none n at =
     let e : take at n.storage.bytes ++ [] ++ drop (at + 0) n.storage.bytes ≡ n.storage.bytes
     = rw (add-zero, append-nil) (take-append-drop at n.storage.bytes)

@@ -9,4 +9,4 @@ pub mod Plans
 pub mod Branching
 pub mod Storing
 pub mod Fetching
-pub mod Cpu
+pub mod Fixed

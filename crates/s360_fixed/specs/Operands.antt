@@ -7,12 +7,13 @@ use Rattle.s360_model.specs.Storage.{halfword_at, word_at}
 use Rattle.s360_store.specs.declared.protection.Access.{Access}
 use Rattle.s360_store.specs.declared.protection.Access.TheVariants.{Fetch}
 use Rattle.s360_store.specs.declared.protection.Checked.{Checked}
-use Rattle.s360_store.specs.declared.protection.Checked.TheVariants.{Addressing, Protection}
+use Rattle.s360_store.specs.declared.protection.Checked.TheVariants.{Clear, Addressing, Protection}
 use Rattle.s360_store.specs.Protection.{access}
 use Rattle.s360_fixed.specs.declared.second_operand.SecondOperand.{SecondOperand}
 use Rattle.s360_fixed.specs.declared.second_operand.SecondOperand.TheVariants.{Word, Halfword, Byte, Address}
 use Rattle.s360_fixed.specs.ProgramCodes.{Conditions, no_conditions, program_code}
 use Rattle.s360_fixed.specs.declared.program_code.ProgramCode.{ProgramCode}
+use Rattle.s360_fixed.specs.declared.program_code.ProgramCode.TheVariants.{Addressing as addressing_code, Protection as protection_code}
 
 -- what a base or an index register adds: nothing where it is register 0
 abbrev pub address_part : List ℕ → ℕ → ℕ
@@ -29,6 +30,12 @@ is_outside c = false
 abbrev pub is_guarded : Checked → Bool
 is_guarded Protection = true
 is_guarded c = false
+
+-- the program code of what an access meets
+abbrev pub code_of_access : Checked → Option ProgramCode
+code_of_access Clear = None
+code_of_access Addressing = Some addressing_code
+code_of_access Protection = Some protection_code
 
 -- the conditions of an access to so many bytes of storage, which lie on a boundary
 abbrev pub access_conditions : Core → ℕ → ℕ → ℕ → Access → Conditions

@@ -33,12 +33,9 @@ abbrev pub with_register : List ℕ → ℕ → Option ℕ → List ℕ
 with_register registers r None = registers
 with_register registers r (Some word) = slice_set registers r word
 
--- the core with another word in a register, where there is one; and with another PSW
+-- the core with another word in a register, where there is one
 abbrev pub core_with_register : ℕ → Option ℕ → Core → Core
 core_with_register r word m = record m { registers = with_register m.registers r word }
-
-abbrev pub core_with_psw : ℕ → Core → Core
-core_with_psw psw m = record m { psw = psw }
 
 -- the outcome where R1, the register after it and the condition code are altered, and the program goes on
 -- at an address

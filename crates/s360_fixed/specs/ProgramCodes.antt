@@ -21,8 +21,12 @@ number_of_code FixedPointDivide = 9
 pub record Conditions : Type 0 where
   -- its address is odd
   pub odd_address : Bool
-  -- it is not whole inside storage
-  pub outside_fetch : Bool
+  -- its first halfword is outside storage, or must not be fetched
+  pub outside_first : Bool
+  pub protected_first : Bool
+  -- the whole of it is
+  pub outside_rest : Bool
+  pub protected_rest : Bool
   -- its code is no operation
   pub operation : Bool
   -- it is privileged, in the problem state
@@ -43,7 +47,10 @@ pub record Conditions : Type 0 where
 abbrev pub no_conditions : Conditions
 no_conditions = record {
   odd_address = false;
-  outside_fetch = false;
+  outside_first = false;
+  protected_first = false;
+  outside_rest = false;
+  protected_rest = false;
   operation = false;
   privileged = false;
   execute = false;
@@ -63,7 +70,10 @@ first_that_holds (c ∷ others) = if c.0 then Some c.1 else first_that_holds oth
 abbrev pub program_code : Conditions → Option ProgramCode
 program_code c = first_that_holds (
     (c.odd_address, Specification)
-    ∷ (c.outside_fetch, Addressing)
+    ∷ (c.outside_first, Addressing)
+    ∷ (c.protected_first, Protection)
+    ∷ (c.outside_rest, Addressing)
+    ∷ (c.protected_rest, Protection)
     ∷ (c.operation, Operation)
     ∷ (c.privileged, Privileged)
     ∷ (c.execute, Execute)

@@ -1,19 +1,15 @@
 -- The rows that store registers and load several of them (GA22-6821, "Fixed-Point Arithmetic" and "Logical
 -- Operations").
-use Rattle.std.specs.Prelude.{ℕ, zero, suc, ◌+◌, ◌-◌, ◌*◌, ◌%◌, List, length, slice_index, slice_set}
+use Rattle.std.specs.Prelude.{ℕ, zero, suc, ◌+◌, ◌-◌, ◌*◌, ◌%◌, List, length, slice_index}
 use Rattle.std.specs.Int.{bytes_high_first}
-use Rattle.s360_model.specs.Core.{Core}
+use Rattle.s360_model.specs.Core.{Core, core_with_bytes, core_with_psw, core_with_word}
 use Rattle.s360_model.specs.Psw.{with_instruction_address}
-use Rattle.s360_model.specs.Storage.{with_run, word_at}
+use Rattle.s360_model.specs.Storage.{word_at}
 use Rattle.s360_store.specs.declared.protection.Access.TheVariants.{Fetch, Store}
 use Rattle.s360_fixed.specs.declared.ended.Ended.TheVariants.{Done}
 use Rattle.s360_fixed.specs.Operands.{access_conditions}
-use Rattle.s360_fixed.specs.Outcomes.{unless_met, core_with_psw}
+use Rattle.s360_fixed.specs.Outcomes.{unless_met}
 use Rattle.s360_fixed.specs.View.{View, Outcome, register_of}
-
--- the core with these bytes in place of as many from an address on
-abbrev pub core_with_bytes : ℕ → List ℕ → Core → Core
-core_with_bytes address bytes m = record m { storage = record m.storage { bytes = with_run m.storage.bytes address bytes } }
 
 -- the PSW after an instruction that sets no condition code and does not branch
 abbrev pub next_psw : View → ℕ
@@ -42,10 +38,6 @@ with_registers_stored registers r1 address zero m = m
 with_registers_stored registers r1 address (suc n) m =
     core_with_bytes (address + 4 * n) (bytes_high_first 4 (slice_index registers ((r1 + n) % 16)))
     (with_registers_stored registers r1 address n m)
-
--- a register with another word
-abbrev pub core_with_word : ℕ → ℕ → Core → Core
-core_with_word r word m = record m { registers = slice_set m.registers r word }
 
 -- the core with so many registers, from R1 on, loaded with successive words
 abbrev pub with_registers_loaded : List ℕ → ℕ → ℕ → ℕ → Core → Core

@@ -1,6 +1,9 @@
-//! The instruction at the instruction address: its bytes, and its plan. Source: GA22-6821, "System
+//! The bytes of the instruction at an address. Source: GA22-6821, "System
 //! Structure", program execution, and "Interruptions", program interruption.
-ghost use Rattle.std.specs.Prelude.{◌≡◌, ◌<◌, ◌≤◌, ◌+◌, IfErr, IfOk, None, OnOk, Some, length, slice_index};
+ghost use Rattle.std.specs.Prelude.{◌≡◌, ◌<◌, ◌≤◌, ◌+◌, IfErr, IfOk, IfNone, None, OnOk, Some, length, slice_index};
+ghost use Rattle.s360_store.specs.declared.protection.Access.TheVariants.{Fetch};
+ghost use Rattle.s360_store.specs.Protection.{access};
+ghost use Rattle.s360_fixed.specs.Operands.{code_of_access};
 ghost use Rattle.s360_fixed.specs.Fetching.{fetch_conditions, instruction_bytes, length_at};
 ghost use Rattle.s360_fixed.specs.Table.{instruction_length};
 ghost use Rattle.arrayvec.specs.ArrayVec.{array_vec_len};
@@ -9,13 +12,31 @@ ghost use Rattle.s360_fixed.specs.ProgramCodes.{program_code};
 use crate::decoder::length_of;
 use crate::program_code::ProgramCode;
 use arrayvec::ArrayVec;
-use s360_store::Storage;
+use s360_store::{Access, Checked, Storage};
+use s360_word::ProtectionKey;
 
-/// The bytes of the instruction at an address: as many as its first byte tells. An odd address is
-/// program code 6, and an instruction that is not whole inside storage 5.
-pub fn fetch_instruction(storage: &Storage, address: u32) -> Result<ArrayVec<u8, 6>, ProgramCode>
-    ensures refused { IfErr result (λ code. program_code (fetch_conditions storage.now address) ≡ Some code) }
-    ensures none { OnOk result (program_code (fetch_conditions storage.now address) ≡ None) }
+/// What keeps so many bytes from being fetched.
+fn refusal(storage: &Storage, address: u32, count: u32, key: ProtectionKey) -> Option<ProgramCode>
+    ensures code { result ≡ code_of_access (access storage.now address count Fetch key) }
+    ensures inside { IfNone result (address + count ≤ length storage.now.bytes) }
+{
+    match storage.check(address, count, Access::Fetch, key) {
+        Checked::Addressing => Some(ProgramCode::Addressing),
+        Checked::Protection => Some(ProgramCode::Protection),
+        Checked::Clear => None,
+    }
+}
+
+/// The bytes of the instruction at an address, fetched with a protection key: as many as its first
+/// byte tells. An odd address is program code 6, and an instruction that is not whole inside storage
+/// 5. No fetch is protected yet.
+pub fn fetch_instruction(
+    storage: &Storage,
+    address: u32,
+    key: ProtectionKey,
+) -> Result<ArrayVec<u8, 6>, ProgramCode>
+    ensures refused { IfErr result (λ code. program_code (fetch_conditions storage.now address key) ≡ Some code) }
+    ensures none { OnOk result (program_code (fetch_conditions storage.now address key) ≡ None) }
     ensures begun { IfOk result (λ bytes. 0 < array_vec_len bytes) }
     ensures whole { IfOk result (λ bytes. array_vec_len bytes ≡ instruction_length (slice_index bytes.items 0)) }
     ensures length { IfOk result (λ bytes. array_vec_len bytes ≡ length_at storage.now address) }
@@ -25,14 +46,15 @@ pub fn fetch_instruction(storage: &Storage, address: u32) -> Result<ArrayVec<u8,
     if address % 2 == 1 {
         return Err(ProgramCode::Specification);
     }
-    let size = u64::from(storage.size());
-    if u64::from(address) + 2 > size {
-        return Err(ProgramCode::Addressing);
+    if let Some(code) = refusal(storage, address, 2, key) {
+        return Err(code);
     }
     let length = u32::from(length_of(storage.byte(address)));
-    if u64::from(address) + u64::from(length) > size {
-        return Err(ProgramCode::Addressing);
+    if let Some(code) = refusal(storage, address, length, key) {
+        return Err(code);
     }
+    // Storage is small, so no address of the instruction passes 32 bits.
+    let _ = storage.size();
     let mut bytes = ArrayVec::new();
     for at in address..address + length {
         bytes.push(storage.byte(at));

@@ -73,7 +73,7 @@ pub enum Form {
 
 impl Form {
     ghost use Rattle.std.specs.Prelude.{◌≡◌};
-    ghost use Rattle.s360_fixed.specs.Cpu.{is_fixed};
+    ghost use Rattle.s360_fixed.specs.Fixed.{is_fixed};
 
     /// Whether it is a fixed-point, branch or shift instruction, which `plan_fixed` plans.
     pub fn is_fixed(&self) -> bool

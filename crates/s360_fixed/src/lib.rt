@@ -8,7 +8,6 @@
 mod address;
 mod arithmetic;
 mod branching;
-mod cpu;
 mod decoder;
 mod effect;
 mod ended;
@@ -23,11 +22,8 @@ mod registers;
 mod second_operand;
 mod setting;
 mod shifts;
-#[cfg(test)]
-mod tests;
 mod view;
 
-pub use cpu::plan_instruction;
 pub use decoder::{decode, length_of};
 pub use ended::{Ended, IoOperation};
 pub use fetch::fetch_instruction;

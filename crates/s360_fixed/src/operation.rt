@@ -137,7 +137,7 @@ pub enum Operation {
 
 impl Operation {
     ghost use Rattle.std.specs.Prelude.{◌≡◌};
-    ghost use Rattle.s360_fixed.specs.Cpu.{is_branch, is_rs, is_store, is_two_operand};
+    ghost use Rattle.s360_fixed.specs.Fixed.{is_branch, is_rs, is_store, is_two_operand};
     ghost use Rattle.s360_fixed.specs.Rows.{row_of};
 
     /// Whether it has a result of R1 and a second operand.

@@ -1,7 +1,7 @@
 //! The plan of a fixed-point, branch or shift instruction. Source: GA22-6821, "Fixed-Point
 //! Arithmetic", "Logical Operations" and "Branching".
 ghost use Rattle.std.specs.Prelude.{◌≡◌, ◌&&◌, [], IfOk, IsTrue};
-ghost use Rattle.s360_fixed.specs.Cpu.{is_fixed, outcome_of, rr_outcome, rs_outcome, rx_outcome};
+ghost use Rattle.s360_fixed.specs.Fixed.{fixed_outcome, is_fixed, rr_outcome, rs_outcome, rx_outcome};
 ghost use Rattle.s360_fixed.specs.Outcomes.{is_odd, needs_pair, storage_row_outcome};
 ghost use Rattle.s360_fixed.specs.Plans.{PlansOutcome};
 ghost use Rattle.s360_fixed.specs.Rows.{row_of};
@@ -160,7 +160,7 @@ fn plan_rs(
 pub fn plan_fixed(form: &Form, view: &View, plan: &mut Plan) -> Result<Ended, AllocError>
     requires fixed { IsTrue (is_fixed form.now) }
     requires empty { plan.old ≡ [] }
-    ensures { IfOk result (PlansOutcome view.now.core plan.new (outcome_of view.now form.now)) }
+    ensures { IfOk result (PlansOutcome view.now.core plan.new (fixed_outcome view.now form.now)) }
 {
     match *form {
         Form::Rr { operation, r1, r2 } => plan_rr(view, operation, r1, r2, plan),

@@ -1,8 +1,9 @@
 //! Puts into the plan of an instruction.
 ghost use Rattle.std.specs.Prelude.{◌≡◌, ◌<◌, ◌≤◌, ◌+◌, ◌*◌, ◌%◌, IfOk, OnOk, OnSome, length};
-ghost use Rattle.s360_fixed.specs.Outcomes.{core_with_psw, core_with_register};
+ghost use Rattle.s360_model.specs.Core.{core_with_bytes, core_with_psw};
+ghost use Rattle.s360_fixed.specs.Outcomes.{core_with_register};
 ghost use Rattle.s360_fixed.specs.Plans.{AddsToPlan};
-ghost use Rattle.s360_fixed.specs.Storing.{core_with_bytes, next_psw};
+ghost use Rattle.s360_fixed.specs.Storing.{next_psw};
 ghost use Rattle.s360_fixed.specs.Storing.{with_registers_loaded, with_registers_stored};
 ghost use Rattle.s360_fixed.specs.declared.ended.Ended.TheVariants.{Done};
 

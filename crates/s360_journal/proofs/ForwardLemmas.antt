@@ -5,10 +5,10 @@ use Rattle.std.proofs.lemmas.List.{reverse-append}
 use Rattle.s360_machine.specs.declared.event.Event.{Event}
 use Rattle.s360_machine.specs.declared.refusal.Refusal.{Refusal}
 use Rattle.s360_machine.specs.declared.refusal.Refusal.TheVariants.{JournalFull}
-use Rattle.s360_machine.specs.Machine.{Machine, storage_size}
+use Rattle.s360_machine.specs.Machine.{Machine, Whole, storage_size, seen}
 use Rattle.s360_machine.specs.Refusals.{refusal_of}
 use Rattle.s360_machine.specs.Step.{step, after, is_unbuilt}
-use Rattle.s360_machine.specs.Change.{Change, CanSwap, after_swap, change_after_swap, places_of_change}
+use Rattle.s360_machine.specs.Change.{Change, CanSwap, NeedsNoRoom, after_swap, change_after_swap, places_of_change}
 use Rattle.s360_machine.specs.Planned.{differences, IsChangeTo, IsAnswerToEvent}
 use Rattle.s360_journal.specs.declared.entry.Entry.{Entry}
 use Rattle.s360_journal.specs.Standing.{or_full}
@@ -42,14 +42,15 @@ built X true x h = absurd h
 built X false x h = refl
 
 -- the journal with the exchanged change of an accepted event at its end
-pub IsHistory-forward : (m n : Machine) (xs : List Entry) (e : Event) (x y : Change) → IsHistory m (reverse xs)
-    → refusal_of (storage_size m) e ≡ None → is_unbuilt m e ≡ false → IsChangeTo m x (after m e)
-    → n ≡ after_swap m x → y ≡ change_after_swap m x → CanSwap n y → after_swap n y ≡ m
-    → IsHistory n (reverse (xs ++ record { event = e; changes = y } ∷ []))
-IsHistory-forward m n xs e x y h accepted ready change n_is y_is can back =
-    let leads : after m e ≡ n = sym change.makes ∙ sym n_is
-    in let one : step m e ≡ Ok n = step-Ok m e accepted ready ∙ ap (λ k. Ok k) leads
-    in let lists : places_of_change y ≡ differences m n
-    = ap (λ z. places_of_change z) y_is ∙ places_of_change-after m x ∙ change.lists ∙ ap (λ k. differences m k) leads
-    in subst (λ l. IsHistory n l) (sym (reverse-append xs (record { event = e; changes = y } ∷ [])))
-    (IsHistory-push m n (reverse xs) (record { event = e; changes = y }) h can back one lists)
+pub IsHistory-forward : (w v : Whole) (xs : List Entry) (e : Event) (x y : Change) → IsHistory w (reverse xs)
+    → refusal_of (storage_size (seen w)) e ≡ None → is_unbuilt (seen w) e ≡ false → IsChangeTo w x (after (seen w) e)
+    → v ≡ after_swap w x → y ≡ change_after_swap w x → CanSwap v y → NeedsNoRoom y → after_swap v y ≡ w
+    → IsHistory v (reverse (xs ++ record { event = e; changes = y } ∷ []))
+IsHistory-forward w v xs e x y h accepted ready change v_is y_is can no_room back =
+    let m : Machine = seen w
+    in let leads : after m e ≡ seen v = sym change.makes ∙ ap (λ k. seen k) (sym v_is)
+    in let one : step m e ≡ Ok (seen v) = step-Ok m e accepted ready ∙ ap (λ k. Ok k) leads
+    in let lists : places_of_change y ≡ differences m (seen v)
+    = ap (λ z. places_of_change z) y_is ∙ places_of_change-after w x ∙ change.lists ∙ ap (λ k. differences m k) leads
+    in subst (λ l. IsHistory v l) (sym (reverse-append xs (record { event = e; changes = y } ∷ [])))
+    (IsHistory-push w v (reverse xs) (record { event = e; changes = y }) h can no_room back one lists)

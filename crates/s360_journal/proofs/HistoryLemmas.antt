@@ -3,13 +3,13 @@ use Rattle.std.proofs.Common.{◌≡◌, ◌-◌, ◌++◌, ℕ, zero, suc, leng
 use Rattle.std.proofs.lemmas.List.{reverse-append, reverse-reverse, map_push, length-map}
 use Rattle.std.specs.Option.{option_map}
 use Rattle.std.specs.List.{slice_get}
-use Rattle.s360_store.proofs.ExchangeLemmas.{places_of_cells-cells_after_exchange}
 use Rattle.s360_machine.specs.declared.event.Event.{Event}
 use Rattle.s360_machine.specs.declared.refusal.Refusal.{Refusal}
-use Rattle.s360_machine.specs.Machine.{Machine, storage_size}
+use Rattle.s360_machine.specs.Machine.{Machine, Whole, storage_size, seen}
 use Rattle.s360_machine.specs.Refusals.{refusal_of}
 use Rattle.s360_machine.specs.Step.{step_to, step, after, is_unbuilt}
-use Rattle.s360_machine.specs.Change.{Change, CanSwap, after_swap, change_after_swap, places_of_change}
+use Rattle.s360_machine.specs.Change.{Change, CanSwap, NeedsNoRoom, after_swap, change_after_swap, places_of_change}
+use Rattle.s360_machine.proofs.SwapLemmas.{places_of_change-after_swap}
 use Rattle.s360_machine.specs.Planned.{differences}
 use Rattle.s360_journal.specs.declared.entry.Entry.{Entry}
 use Rattle.s360_journal.specs.Rerun.{rerun, AreAccepted}
@@ -50,50 +50,52 @@ pub events-newest : (x : Entry) (xs : List Entry) → map (λ (y : Entry). y.eve
 events-newest x xs = ap (λ l. map (λ (y : Entry). y.event) l) (reverse-append (x ∷ []) xs) ∙ map_push (λ (y : Entry). y.event) (reverse xs) x
 
 -- the start with the events run again is the machine
-pub rerun-newest : (m : Machine) (xs : List Entry) → IsHistory m xs → rerun (unwound m xs) (map (λ (x : Entry). x.event) (reverse xs)) ≡ m
-rerun-newest m [] h = refl
-rerun-newest m (x ∷ xs) h =
-    let before : Machine = after_swap m x.changes
-    in let one : IsStep before x.event m = IsStep-from before x.event m h.1
-    in ap (λ l. rerun (unwound before xs) l) (events-newest x xs)
-    ∙ rerun-push (unwound before xs) (map (λ (y : Entry). y.event) (reverse xs)) x.event
-    ∙ ap (λ n. after n x.event) (rerun-newest before xs h.3)
+pub rerun-newest : (w : Whole) (xs : List Entry) → IsHistory w xs → rerun (seen (unwound w xs)) (map (λ (x : Entry). x.event) (reverse xs)) ≡ seen w
+rerun-newest w [] h = refl
+rerun-newest w (x ∷ xs) h =
+    let before : Whole = after_swap w x.changes
+    in let one : IsStep (seen before) x.event (seen w) = IsStep-from (seen before) x.event (seen w) h.2
+    in ap (λ l. rerun (seen (unwound before xs)) l) (events-newest x xs)
+    ∙ rerun-push (seen (unwound before xs)) (map (λ (y : Entry). y.event) (reverse xs)) x.event
+    ∙ ap (λ n. after n x.event) (rerun-newest before xs h.4)
     ∙ one.leads
 
-AreAccepted-newest : (m : Machine) (xs : List Entry) → IsHistory m xs → AreAccepted (unwound m xs) (map (λ (x : Entry). x.event) (reverse xs))
-AreAccepted-newest m [] h = tt
-AreAccepted-newest m (x ∷ xs) h =
-    let before : Machine = after_swap m x.changes
-    in let one : IsStep before x.event m = IsStep-from before x.event m h.1
-    in let here : step before x.event ≡ Ok (after before x.event) = h.1 ∙ ap (λ n. Ok n) (sym one.leads)
-    in rw (events-newest x xs) (AreAccepted-push (unwound before xs) (map (λ (y : Entry). y.event) (reverse xs)) x.event (AreAccepted-newest before xs h.3)
-    (subst (λ n. step n x.event ≡ Ok (after n x.event)) (sym (rerun-newest before xs h.3)) here))
+AreAccepted-newest : (w : Whole) (xs : List Entry) → IsHistory w xs → AreAccepted (seen (unwound w xs)) (map (λ (x : Entry). x.event) (reverse xs))
+AreAccepted-newest w [] h = tt
+AreAccepted-newest w (x ∷ xs) h =
+    let before : Whole = after_swap w x.changes
+    in let one : IsStep (seen before) x.event (seen w) = IsStep-from (seen before) x.event (seen w) h.2
+    in let here : step (seen before) x.event ≡ Ok (after (seen before) x.event) = h.2 ∙ ap (λ n. Ok n) (sym one.leads)
+    in rw (events-newest x xs) (AreAccepted-push (seen (unwound before xs)) (map (λ (y : Entry). y.event) (reverse xs)) x.event (AreAccepted-newest before xs h.4)
+    (subst (λ n. step n x.event ≡ Ok (after n x.event)) (sym (rerun-newest before xs h.4)) here))
 
-pub rerun-unwound : (m : Machine) (xs : List Entry) → IsHistory m (reverse xs) → rerun (unwound m (reverse xs)) (map (λ (x : Entry). x.event) xs) ≡ m
-rerun-unwound m xs h =
-    ap (λ l. rerun (unwound m (reverse xs)) (map (λ (x : Entry). x.event) l)) (sym (reverse-reverse xs)) ∙ rerun-newest m (reverse xs) h
+pub rerun-unwound : (w : Whole) (xs : List Entry) → IsHistory w (reverse xs) → rerun (seen (unwound w (reverse xs))) (map (λ (x : Entry). x.event) xs) ≡ seen w
+rerun-unwound w xs h =
+    ap (λ l. rerun (seen (unwound w (reverse xs))) (map (λ (x : Entry). x.event) l)) (sym (reverse-reverse xs)) ∙ rerun-newest w (reverse xs) h
 
-pub AreAccepted-unwound : (m : Machine) (xs : List Entry) → IsHistory m (reverse xs) → AreAccepted (unwound m (reverse xs)) (map (λ (x : Entry). x.event) xs)
-AreAccepted-unwound m xs h =
-    subst (λ l. AreAccepted (unwound m (reverse xs)) (map (λ (x : Entry). x.event) l)) (reverse-reverse xs) (AreAccepted-newest m (reverse xs) h)
+pub AreAccepted-unwound : (w : Whole) (xs : List Entry) → IsHistory w (reverse xs) → AreAccepted (seen (unwound w (reverse xs))) (map (λ (x : Entry). x.event) xs)
+AreAccepted-unwound w xs h =
+    subst (λ l. AreAccepted (seen (unwound w (reverse xs))) (map (λ (x : Entry). x.event) l)) (reverse-reverse xs) (AreAccepted-newest w (reverse xs) h)
 
 -- a change more, as its exchange left it
-pub IsHistory-push : (m n : Machine) (xs : List Entry) (x : Entry) → IsHistory m xs → CanSwap n x.changes → after_swap n x.changes ≡ m
-    → step m x.event ≡ Ok n → places_of_change x.changes ≡ differences m n → IsHistory n (x ∷ xs)
-IsHistory-push m n xs x h can back one places = (
+pub IsHistory-push : (w v : Whole) (xs : List Entry) (x : Entry) → IsHistory w xs → CanSwap v x.changes → NeedsNoRoom x.changes
+    → after_swap v x.changes ≡ w → step (seen w) x.event ≡ Ok (seen v) → places_of_change x.changes ≡ differences (seen w) (seen v)
+    → IsHistory v (x ∷ xs)
+IsHistory-push w v xs x h can no_room back one places = (
   can,
-  subst (λ k. step k x.event ≡ Ok n) (sym back) one,
-  subst (λ k. places_of_change x.changes ≡ differences k n) (sym back) places,
+  no_room,
+  subst (λ k. step (seen k) x.event ≡ Ok (seen v)) (sym back) one,
+  subst (λ k. places_of_change x.changes ≡ differences (seen k) (seen v)) (sym back) places,
   subst (λ k. IsHistory k xs) (sym back) h,
 )
 
-pub places_of_change-after : (m : Machine) (x : Change) → places_of_change (change_after_swap m x) ≡ places_of_change x
-places_of_change-after m x = places_of_cells-cells_after_exchange m.core x.cells
+pub places_of_change-after : (w : Whole) (x : Change) → places_of_change (change_after_swap w x) ≡ places_of_change x
+places_of_change-after w x = places_of_change-after_swap w x
 
--- the machine that a session holds is the one that its contracts speak of
-pub machine_of-view : (m : Machine) (xs : List Entry) (limit : ℕ) (s : Standing) → IsHistory m (reverse xs)
-    → record { start = unwound m (reverse xs); events = map (λ (x : Entry). x.event) xs; limit = limit } ≡ s → m ≡ machine_of s
-machine_of-view m xs limit s h e = sym (rerun-unwound m xs h) ∙ ap (λ t. machine_of t) e
+-- the machine that is seen of a session's whole is the one that its contracts speak of
+pub machine_of-view : (w : Whole) (xs : List Entry) (limit : ℕ) (s : Standing) → IsHistory w (reverse xs)
+    → record { start = unwound w (reverse xs); events = map (λ (x : Entry). x.event) xs; limit = limit } ≡ s → seen w ≡ machine_of s
+machine_of-view w xs limit s h e = sym (rerun-unwound w xs h) ∙ ap (λ t. machine_of t) e
 
 -- the event of the last entry is the last event
 slice_get-events : (xs : List Entry) (i : ℕ) → slice_get (map (λ (x : Entry). x.event) xs) i ≡ option_map (λ (x : Entry). x.event) (slice_get xs i)

@@ -5,7 +5,7 @@ use Rattle.std.specs.List.{list_any}
 use Rattle.s360_store.specs.declared.place.Place.{Place}
 use Rattle.s360_store.specs.Places.{same_place}
 use Rattle.s360_machine.specs.declared.event.Event.{Event}
-use Rattle.s360_machine.specs.Machine.{Machine}
+use Rattle.s360_machine.specs.Machine.{Machine, Whole, seen}
 use Rattle.s360_machine.specs.Step.{after}
 use Rattle.s360_machine.specs.Change.{after_swap, places_of_change}
 use Rattle.s360_machine.specs.Planned.{differences}
@@ -38,24 +38,24 @@ abbrev pub newest_with : List Entry → Place → Option ℕ
 newest_with [] p = None
 newest_with (x ∷ xs) p = cond (has_place x p) (Some (length xs + 1)) (newest_with xs p)
 
-pub last_change_of-newest : (m : Machine) (xs : List Entry) (p : Place) → IsHistory m xs
-    → last_change_of (unwound m xs) (map (λ (x : Entry). x.event) (reverse xs)) p ≡ newest_with xs p
-last_change_of-newest m [] p h = refl
-last_change_of-newest m (x ∷ xs) p h =
-    let before : Machine = after_swap m x.changes
-    in let start : Machine = unwound before xs
+pub last_change_of-newest : (w : Whole) (xs : List Entry) (p : Place) → IsHistory w xs
+    → last_change_of (seen (unwound w xs)) (map (λ (x : Entry). x.event) (reverse xs)) p ≡ newest_with xs p
+last_change_of-newest w [] p h = refl
+last_change_of-newest w (x ∷ xs) p h =
+    let before : Whole = after_swap w x.changes
+    in let start : Machine = seen (unwound before xs)
     in let events : List Event = map (λ (y : Entry). y.event) (reverse xs)
-    in let one : IsStep before x.event m = IsStep-from before x.event m h.1
+    in let one : IsStep (seen before) x.event (seen w) = IsStep-from (seen before) x.event (seen w) h.2
     in let here : alters (rerun start events) x.event p ≡ has_place x p
-    = ap (λ n. alters n x.event p) (rerun-newest before xs h.3)
-    ∙ ap (λ n. list_any (λ q. same_place q p) (differences before n)) one.leads
-    ∙ ap (λ ps. list_any (λ q. same_place q p) ps) (sym h.2)
+    = ap (λ n. alters n x.event p) (rerun-newest before xs h.4)
+    ∙ ap (λ n. list_any (λ q. same_place q p) (differences (seen before) n)) one.leads
+    ∙ ap (λ ps. list_any (λ q. same_place q p) ps) (sym h.3)
     in let count : 1 + length events ≡ length xs + 1 = omega (arith, length-map (reverse xs) (λ (y : Entry). y.event), length-reverse xs)
     in ap (λ l. last_change_of start l p) (events-newest x xs)
     ∙ last_numbered_from-push 1 start events x.event p
     ∙ ap (λ b. cond b (Some (1 + length events)) (last_change_of start events p)) here
     ∙ ap (λ n. cond (has_place x p) (Some n) (last_change_of start events p)) count
-    ∙ ap (λ o. cond (has_place x p) (Some (length xs + 1)) o) (last_change_of-newest before xs p h.3)
+    ∙ ap (λ o. cond (has_place x p) (Some (length xs + 1)) o) (last_change_of-newest before xs p h.4)
 
 -- the newest of the first entries stands before those before it
 pub reverse-take_more : (xs : List Entry) (n : ℕ) (d : Entry) → n < length xs → reverse (take (n + 1) xs) ≡ get_or xs n d ∷ reverse (take n xs)
@@ -64,11 +64,11 @@ reverse-take_more xs n d l = ap (λ ys. reverse ys) (take_more xs n d l) ∙ rev
 pub length-reverse_take : (xs : List Entry) (n : ℕ) → n ≤ length xs → length (reverse (take n xs)) ≡ n
 length-reverse_take xs n l = length-reverse (take n xs) ∙ length-take-le n xs l
 
-pub last_change_of-entries : (m : Machine) (xs : List Entry) (p : Place) → IsHistory m (reverse xs)
-    → last_change_of (unwound m (reverse xs)) (map (λ (x : Entry). x.event) xs) p ≡ newest_with (reverse xs) p
-last_change_of-entries m xs p h =
-    ap (λ l. last_change_of (unwound m (reverse xs)) (map (λ (x : Entry). x.event) l) p) (sym (reverse-reverse xs))
-    ∙ last_change_of-newest m (reverse xs) p h
+pub last_change_of-entries : (w : Whole) (xs : List Entry) (p : Place) → IsHistory w (reverse xs)
+    → last_change_of (seen (unwound w (reverse xs))) (map (λ (x : Entry). x.event) xs) p ≡ newest_with (reverse xs) p
+last_change_of-entries w xs p h =
+    ap (λ l. last_change_of (seen (unwound w (reverse xs))) (map (λ (x : Entry). x.event) l) p) (sym (reverse-reverse xs))
+    ∙ last_change_of-newest w (reverse xs) p h
 
 -- the newest of the first n entries decides where it has the place
 pub newest_with-more : (xs : List Entry) (n : ℕ) (d : Entry) (p : Place) → 0 < n → n ≤ length xs

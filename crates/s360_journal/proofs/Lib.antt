@@ -2,3 +2,4 @@ pub mod HistoryLemmas
 pub mod LastChangeLemmas
 pub mod ForwardLemmas
 pub mod RunLemmas
+pub mod LawLemmas

@@ -1,6 +1,7 @@
 -- Lists of session calls with their answers.
 use Rattle.std.specs.Prelude.{◌≡◌, ◌++◌, ◌-◌, List, [], ◌∷◌, length, take, None, Ok, Err, MatchOption, false}
 use Rattle.s360_machine.specs.declared.event.Event.{Event}
+use Rattle.s360_machine.specs.Machine.{seen}
 use Rattle.s360_machine.specs.Step.{is_unbuilt}
 use Rattle.s360_machine.specs.Planned.{IsAnswerToEvent}
 use Rattle.s360_journal.specs.declared.calls.Call.{Call}
@@ -32,7 +33,7 @@ IsAnswer s (Forward e) (Forwarded (Err r)) t =
 IsAnswer s Back (TookBack (Ok e)) t = s ≡ record t { events = t.events ++ e ∷ [] }
 IsAnswer s Back (TookBack (Err n)) t = (s.events ≡ []) × (t ≡ s)
 IsAnswer s standing (Stands n) t = (n ≡ length s.events) × (t ≡ s)
-IsAnswer s (LastChange p) (LastChanged k) t = (k ≡ last_change_of s.start s.events p) × (t ≡ s)
+IsAnswer s (LastChange p) (LastChanged k) t = (k ≡ last_change_of (seen s.start) s.events p) × (t ≡ s)
 IsAnswer s c a t = ⊥
 
 -- the calls may answer these one after another, and lead from the session s to t

@@ -1,5 +1,6 @@
 pub mod Reports
 pub mod Rerun
+pub mod Laws
 pub mod Standing
 pub mod History
 pub mod Calls

@@ -4,21 +4,21 @@ use Rattle.s360_store.specs.declared.place.Place.{Place}
 use Rattle.s360_machine.specs.declared.event.Event.{Event}
 use Rattle.s360_machine.specs.declared.refusal.Refusal.{Refusal}
 use Rattle.s360_machine.specs.declared.refusal.Refusal.TheVariants.{JournalFull}
-use Rattle.s360_machine.specs.Machine.{Machine, storage_size}
+use Rattle.s360_machine.specs.Machine.{Machine, Whole, storage_size, seen}
 use Rattle.s360_machine.specs.Step.{after}
 use Rattle.s360_machine.specs.Refusals.{refusal_of}
 use Rattle.s360_machine.specs.Planned.{differences}
 use Rattle.s360_journal.specs.Rerun.{rerun}
 
--- the machine at the start, the events that stand, and how many may stand
+-- the whole machine at the start, the events that stand, and how many may stand
 pub record Standing : Type 0 where
-  pub start : Machine
+  pub start : Whole
   pub events : List Event
   pub limit : ℕ
 
 -- the machine now: the start with the standing events run again
 abbrev pub machine_of : Standing → Machine
-machine_of s = rerun s.start s.events
+machine_of s = rerun (seen s.start) s.events
 
 -- a full journal comes after what the event's own sake refuses
 abbrev pub or_full : Option Refusal → ℕ → ℕ → Option Refusal

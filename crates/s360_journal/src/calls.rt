@@ -2,6 +2,7 @@
 //! calls, whatever each answered, the machine is its start with the standing events run again, none of
 //! which is refused on the way.
 ghost use Rattle.std.specs.Prelude.{◌≡◌, ◌≤◌, IfOk, OnErr, length, []};
+ghost use Rattle.s360_machine.specs.Machine.{seen};
 ghost use Rattle.s360_journal.specs.Rerun.{rerun, AreAccepted};
 ghost use Rattle.s360_journal.specs.Calls.{IsAnswer, IsRun, standing_events};
 ghost use Rattle.s360_journal.specs.Standing.{Standing as State};
@@ -62,15 +63,11 @@ impl Session {
     }
 
     /// Calls one after another. Want of memory for their answers leaves the session as it was.
-    pub fn perform_all(
-        &mut self,
-        alloc: Global,
-        calls: Vec<Call>,
-    ) -> Result<Vec<Answer>, AllocError>
+    pub fn perform_all(&mut self, calls: Vec<Call>) -> Result<Vec<Answer>, AllocError>
         ensures run { IfOk result (λ answers. IsRun self.old calls.items answers.items self.new) }
         ensures err { OnErr result (self.new ≡ self.old) }
     {
-        let mut answers = Vec::with_capacity(alloc, calls.len())?;
+        let mut answers = Vec::with_capacity(self.allocator(), calls.len())?;
         let mut left = VecDeque::from(calls);
         while let Some(call) = left.pop_front() {
             answers.push_reserved(self.perform(call));
@@ -89,12 +86,12 @@ pub fn run_calls(
     calls: Vec<Call>,
 ) -> Result<Outcome, AllocError>
     requires { limit ≤ 10000000 }
-    ensures machine { IfOk result (λ o. o.machine ≡ rerun start (standing_events [] calls.items o.answers.items)) }
-    ensures accepted { IfOk result (λ o. AreAccepted start (standing_events [] calls.items o.answers.items)) }
-    ensures answers { IfOk result (λ o. (end : State) × IsRun (record { start = start; events = []; limit = limit }) calls.items o.answers.items end) }
+    ensures machine { IfOk result (λ o. seen o.machine.whole ≡ rerun (seen start.whole) (standing_events [] calls.items o.answers.items)) }
+    ensures accepted { IfOk result (λ o. AreAccepted (seen start.whole) (standing_events [] calls.items o.answers.items)) }
+    ensures answers { IfOk result (λ o. (end : State) × IsRun (record { start = start.whole; events = []; limit = limit }) calls.items o.answers.items end) }
 {
     let mut session = Session::new(alloc, start, limit);
-    let answers = session.perform_all(alloc, calls)?;
+    let answers = session.perform_all(calls)?;
     Ok(Outcome {
         answers,
         machine: session.into_machine(),

@@ -8,11 +8,11 @@
 
 mod calls;
 mod entry;
+mod laws;
 mod report;
 mod session;
-#[cfg(test)]
-mod tests;
 
 pub use calls::{Answer, Call, Outcome, run_calls};
+pub use laws::last_change_is_the_greatest;
 pub use report::{Places, Report};
 pub use session::{NothingStands, Session};

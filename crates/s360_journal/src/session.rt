@@ -1,6 +1,7 @@
 //! The session: the machine, and the journal of the changes that stand.
 ghost use Rattle.std.specs.Prelude.{◌≡◌, ◌++◌, ◌∷◌, ◌≤◌, [], length, OnOk, OnErr, IfOk, Err};
 ghost use Rattle.std.specs.Prelude.{MatchOption};
+ghost use Rattle.s360_machine.specs.Machine.{seen};
 ghost use Rattle.s360_machine.specs.Step.{is_unbuilt};
 ghost use Rattle.s360_machine.specs.Planned.{IsAnswerToEvent};
 ghost use Rattle.s360_journal.specs.Reports.{IsReport};
@@ -40,9 +41,9 @@ impl Model for Session {
 
     ghost Value = { Standing };
 
-    ghost view = { λ s. record { start = unwound s.machine (reverse s.entries.items); events = map (λ (x : Entry). x.event) s.entries.items; limit = s.limit } };
+    ghost view = { λ s. record { start = unwound s.machine.whole (reverse s.entries.items); events = map (λ (x : Entry). x.event) s.entries.items; limit = s.limit } };
 
-    ghost invariant = { λ s. IsHistory s.machine (reverse s.entries.items) × (length s.entries.items ≤ s.limit) × (s.limit ≤ 10000000) };
+    ghost invariant = { λ s. IsHistory s.machine.whole (reverse s.entries.items) × (length s.entries.items ≤ s.limit) × (s.limit ≤ 10000000) };
 }
 
 impl Session {
@@ -50,7 +51,7 @@ impl Session {
     /// memory.
     pub fn new(alloc: Global, machine: Machine, limit: u32) -> Session
         requires { limit ≤ 10000000 }
-        ensures { result ≡ record { start = machine; events = []; limit = limit } }
+        ensures { result ≡ record { start = machine.whole; events = []; limit = limit } }
     {
         Session {
             machine,
@@ -60,18 +61,23 @@ impl Session {
         }
     }
 
+    /// The allocator that it keeps.
+    pub(crate) fn allocator(&self) -> Global {
+        self.alloc
+    }
+
     /// The machine: the start with the standing events run again, none of which is refused.
     pub fn machine(&self) -> &Machine
-        ensures rerun { result.now ≡ rerun self.now.start self.now.events }
-        ensures accepted { AreAccepted self.now.start self.now.events }
+        ensures rerun { seen result.now.whole ≡ rerun (seen self.now.start) self.now.events }
+        ensures accepted { AreAccepted (seen self.now.start) self.now.events }
     {
         &self.machine
     }
 
     /// The machine alone: the start with the standing events run again, none of which is refused.
     pub fn into_machine(self) -> Machine
-        ensures rerun { result ≡ rerun self.start self.events }
-        ensures accepted { AreAccepted self.start self.events }
+        ensures rerun { seen result.whole ≡ rerun (seen self.start) self.events }
+        ensures accepted { AreAccepted (seen self.start) self.events }
     {
         let Session { machine, .. } = self;
         machine
@@ -94,7 +100,7 @@ impl Session {
 
     /// The number of the last change that altered a place, counted from 1. It takes no memory.
     pub fn last_change(&self, place: Place) -> Option<u32>
-        ensures { result ≡ last_change_of self.now.start self.now.events place }
+        ensures { result ≡ last_change_of (seen self.now.start) self.now.events place }
     {
         let mut number = self.entries.len();
         while number > 0 {
@@ -136,7 +142,7 @@ impl Session {
         };
         self.machine.room(&changes)?;
         self.entries.reserve(1)?;
-        let places = changes.places(self.alloc)?;
+        let places = changes.places()?;
         // Nothing can fail from here on.
         self.machine.swap_all(&mut changes);
         self.entries.push_reserved(Entry { event, changes });

@@ -1,2 +1,3 @@
-pub mod RunLemmas
+pub mod ControlLemmas
+pub mod SwapLemmas
 pub mod ChangeLemmas

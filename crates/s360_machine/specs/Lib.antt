@@ -1,4 +1,5 @@
 pub mod Machine
+pub mod ControlCells
 pub mod Refusals
 pub mod Step
 pub mod Change

@@ -1,4 +1,4 @@
--- The machine as one record (GA22-6821, "System Structure").
+-- The machine as one record (GA22-6821, "System Structure"), and what its code keeps of it.
 use Rattle.std.specs.Prelude.{ℕ, length}
 use Rattle.s360_model.specs.Core.{Core, zero_core}
 use Rattle.s360_machine.specs.declared.run_state.RunState.{RunState}
@@ -8,9 +8,29 @@ use Rattle.s360_machine.specs.declared.run_state.RunState.TheVariants.{Operating
 pub record Control : Type 0 where
   pub run_state : RunState
 
+-- what the written rules speak of
 pub record Machine : Type 0 where
   pub core : Core
   pub control : Control
+
+-- the whole of it: the machine, and what devices keep out of sight so that a change can be taken back.
+-- There are no devices yet, so nothing is out of sight
+pub record Whole : Type 0 where
+  pub core : Core
+  pub control : Control
+
+-- the machine that is seen of a whole
+abbrev pub seen : Whole → Machine
+seen w = record { core = w.core; control = w.control }
+
+-- room that was made for what will be put there; it is no part of the whole, and no law speaks of it. The
+-- parts that stand today are exchanged in place
+pub record Spare : Type 0 where
+
+-- a whole with room beside it
+pub record WithRoom : Type 0 where
+  pub whole : Whole
+  pub spare : Spare
 
 -- a new machine operates, with PSW, registers, storage and keys zero (own profile)
 abbrev pub new_machine : ℕ → Machine

@@ -7,7 +7,7 @@ use Rattle.s360_machine.specs.declared.run_state.RunState.{RunState}
 use Rattle.s360_machine.specs.declared.run_state.RunState.TheVariants.{Operating, Stopped, Loading}
 use Rattle.s360_machine.specs.declared.refusal.Refusal.{Refusal}
 use Rattle.s360_machine.specs.declared.refusal.Refusal.TheVariants.{Memory, Unbuilt}
-use Rattle.s360_machine.specs.Machine.{Machine, Control}
+use Rattle.s360_machine.specs.Machine.{Machine, Whole, Control, seen}
 use Rattle.s360_machine.specs.Change.{Change, CanSwap, after_swap, places_of_change}
 
 abbrev pub same_run_state : RunState → RunState → Bool
@@ -23,11 +23,11 @@ control_differences c d = if same_run_state c.run_state d.run_state then [] else
 abbrev pub differences : Machine → Machine → List Place
 differences m n = core_differences m.core n.core ++ control_differences m.control n.control
 
--- the change makes the second machine of the first, and lists the places at which the two differ
-pub record IsChangeTo (m : Machine) (x : Change) (n : Machine) : Type 0 where
-  pub can : CanSwap m x
-  pub makes : after_swap m x ≡ n
-  pub lists : places_of_change x ≡ differences m n
+-- the change makes a whole of which the machine is seen, and lists the places at which the machines differ
+pub record IsChangeTo (w : Whole) (x : Change) (n : Machine) : Type 0 where
+  pub can : CanSwap w x
+  pub makes : seen (after_swap w x) ≡ n
+  pub lists : places_of_change x ≡ differences (seen w) n
 
 -- what may answer an event that its own sake does not refuse: want of memory always; that it is not built
 -- exactly where it is not; else it is accepted

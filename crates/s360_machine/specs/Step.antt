@@ -1,11 +1,10 @@
 -- What an event makes of the machine.
-use Rattle.std.specs.Prelude.{ℕ, Bool, true, false, Option, Some, None, Result, Ok, Err, if◌then◌else◌, slice_set, List}
-use Rattle.s360_model.specs.Core.{Core}
+use Rattle.std.specs.Prelude.{Bool, true, false, Option, Some, None, Result, Ok, Err, if◌then◌else◌}
+use Rattle.s360_model.specs.Core.{core_with_bytes, core_with_psw, core_with_word}
 use Rattle.s360_model.specs.Psw.{current_psw, wait_of}
-use Rattle.s360_model.specs.Storage.{with_run}
 use Rattle.s360_fixed.specs.declared.ended.Ended.{Ended}
 use Rattle.s360_fixed.specs.declared.ended.Ended.TheVariants.{Done}
-use Rattle.s360_fixed.specs.Cpu.{instruction}
+use Rattle.s360_logic.specs.Instruction.{instruction}
 use Rattle.s360_machine.specs.declared.event.Event.{Event}
 use Rattle.s360_machine.specs.declared.event.Event.TheVariants.{Cpu, Patch as patch}
 use Rattle.s360_machine.specs.declared.event.Patch.{Patch}
@@ -32,25 +31,13 @@ needs_more ended = true
 
 -- one CPU event: nothing where the machine does not run, else one instruction ("Status Switching")
 abbrev pub after_cpu : Machine → Machine
-after_cpu m = if is_running m then record m { core = (instruction m.core).core } else m
+after_cpu m = if is_running m then record m { core = (instruction m.core).outcome.core } else m
 
--- the core with these bytes in place of as many from an address on
-abbrev pub core_with_run : Core → ℕ → List ℕ → Core
-core_with_run m at bytes = record m { storage = record m.storage { bytes = with_run m.storage.bytes at bytes } }
-
--- the core with another word in a register
-abbrev pub core_with_register : Core → ℕ → ℕ → Core
-core_with_register m n word = record m { registers = slice_set m.registers n word }
-
--- the core with a PSW, which keeps no interruption code and no instruction length
-abbrev pub core_with_psw : Core → ℕ → Core
-core_with_psw m psw = record m { psw = current_psw psw }
-
--- a patch ignores protection and raises no condition
+-- a patch ignores protection and raises no condition; a PSW keeps no interruption code and no length
 abbrev pub after_patch : Machine → Patch → Machine
-after_patch m (Bytes at bytes) = record m { core = core_with_run m.core at bytes }
-after_patch m (Register n word) = record m { core = core_with_register m.core n word }
-after_patch m (Psw psw) = record m { core = core_with_psw m.core psw }
+after_patch m (Bytes at bytes) = record m { core = core_with_bytes at bytes m.core }
+after_patch m (Register n word) = record m { core = core_with_word n word m.core }
+after_patch m (Psw psw) = record m { core = core_with_psw (current_psw psw) m.core }
 
 -- the machine after an event that is not refused
 abbrev pub after : Machine → Event → Machine
@@ -59,7 +46,7 @@ after m (patch p) = after_patch m p
 
 -- the event is not built yet in this machine
 abbrev pub is_unbuilt : Machine → Event → Bool
-is_unbuilt m Cpu = if is_running m then needs_more (instruction m.core).ended else false
+is_unbuilt m Cpu = if is_running m then needs_more (instruction m.core).outcome.ended else false
 is_unbuilt m (patch p) = false
 
 -- a refusal for the event's own sake comes before that it is not built yet

@@ -4,15 +4,17 @@ ghost use Rattle.std.specs.List.{list_any};
 ghost use Rattle.s360_store.specs.Places.{same_place};
 ghost use Rattle.s360_machine.specs.Change.{places_of_change};
 
+use crate::control_cell::ControlCell;
 use s360_store::{Cell, Place};
-use std::alloc::{AllocError, Global};
+use std::alloc::AllocError;
 use std::marker::Model;
 
 /// The places that an event alters, in their order, each with the value that stands there while the
-/// change is not made, or no longer.
+/// change is not made, or no longer: those of the core, and then those of the control part.
 #[derive(Debug, Drop)]
 pub struct Changes {
     pub(crate) cells: Vec<Cell>,
+    pub(crate) control: Vec<ControlCell>,
 }
 
 impl Model for Changes {
@@ -21,9 +23,9 @@ impl Model for Changes {
 
     ghost Value = { Change };
 
-    ghost view = { λ c. record { cells = c.cells.items } };
+    ghost view = { λ c. record { cells = c.cells.items; control = c.control.items } };
 
-    ghost invariant = { λ c. length c.cells.items ≤ 1000000 };
+    ghost invariant = { λ c. (length c.cells.items ≤ 1000000) × (length c.control.items ≤ 100) };
 }
 
 impl Changes {
@@ -31,7 +33,7 @@ impl Changes {
     pub fn len(&self) -> u32
         ensures { result ≡ length (places_of_change self.now) }
     {
-        self.cells.len() as u32
+        self.cells.len() as u32 + self.control.len() as u32
     }
 
     /// The place at `i`, counted from 0.
@@ -39,23 +41,29 @@ impl Changes {
         requires { i < length (places_of_change self.now) }
         ensures { slice_get (places_of_change self.now) i ≡ Some result }
     {
-        self.cells[i as usize].place
+        let i = i as usize;
+        match self.cells.get(i) {
+            Some(cell) => cell.place,
+            None => self.control[i - self.cells.len()].place(),
+        }
     }
 
     /// All the places, in their order.
-    pub fn places(&self, alloc: Global) -> Result<Vec<Place>, AllocError>
+    pub fn places(&self) -> Result<Vec<Place>, AllocError>
         ensures { IfOk result (λ places. places.items ≡ places_of_change self.now) }
     {
-        self.cells.iter().map(|cell| cell.place).collect(alloc)
+        let alloc = *self.cells.allocator();
+        let core = self.cells.iter().map(|cell| cell.place);
+        let control = self.control.iter().map(|cell| cell.place());
+        core.chain(control).collect(alloc)
     }
 
     /// Whether a place is among them.
     pub fn alters(&self, place: Place) -> bool
         ensures { result ≡ list_any (λ q. same_place q place) (places_of_change self.now) }
     {
-        self.cells
-            .iter()
-            .map(|cell| cell.place)
-            .any(|other| other.is(place))
+        let core = self.cells.iter().map(|cell| cell.place);
+        let control = self.control.iter().map(|cell| cell.place());
+        core.chain(control).any(|other| other.is(place))
     }
 }

@@ -3,7 +3,8 @@
 ghost use Rattle.std.specs.Prelude.{OnOk};
 ghost use Rattle.std.specs.Prelude.{◌≡◌, ◌≤◌, ◌+◌, [], length, slice_index, Err, IfOk, IsOkUnless};
 ghost use Rattle.std.specs.Bool.{MatchBool};
-ghost use Rattle.s360_model.specs.Core.{zero_core};
+ghost use Rattle.s360_model.specs.Core.{zero_core, core_with_bytes, core_with_psw, core_with_word};
+ghost use Rattle.s360_model.specs.Psw.{current_psw};
 ghost use Rattle.s360_model.specs.Storage.{is_storage_size};
 ghost use Rattle.s360_store.specs.Cells.{AreCellsOf, AllFit};
 ghost use Rattle.s360_store.specs.Cells.{after_exchange, cells_after_exchange};
@@ -11,12 +12,10 @@ ghost use Rattle.s360_store.specs.Places.{IsPlaceOf, Fits, value_at, with_value}
 ghost use Rattle.s360_store.specs.declared.fault.StoreFault.TheVariants.{Size, Memory};
 ghost use Rattle.s360_store.specs.Differences.{IsCoreChangeTo};
 ghost use Rattle.s360_store.specs.Plans.{IsPlanOf};
-ghost use Rattle.s360_fixed.specs.Cpu.{instruction};
-ghost use Rattle.s360_fixed.specs.Plans.{PlansOutcome};
-ghost use Rattle.s360_machine.specs.Step.{core_with_run, core_with_register, core_with_psw};
+ghost use Rattle.s360_logic.specs.Instruction.{PlansInstruction, instruction};
 ghost use Rattle.s360_store.proofs.KeptLemmas.{AreKept};
 
-use s360_fixed::Ended;
+use s360_logic::PlannedInstruction;
 use s360_psw::{InstructionLength, Psw};
 use s360_store::{Cell, Place, Plan, Storage, StoreFault};
 use s360_word::{RegisterNumber, Word};
@@ -80,17 +79,17 @@ impl Core {
     }
 
     /// Plans the instruction at the instruction address.
-    pub(crate) fn plan_instruction(&self, plan: &mut Plan) -> Result<Ended, AllocError>
+    pub(crate) fn plan_instruction(&self, plan: &mut Plan) -> Result<PlannedInstruction, AllocError>
         requires empty { plan.old ≡ [] }
-        ensures { IfOk result (PlansOutcome self.now plan.new (instruction self.now)) }
+        ensures { IfOk result (PlansInstruction self.now plan.new (instruction self.now)) }
     {
-        s360_fixed::plan_instruction(self.psw, &self.registers, &self.storage, plan)
+        s360_logic::plan_instruction(self.psw, &self.registers, &self.storage, plan)
     }
 
     /// Plans the PSW that a doubleword loads.
     pub(crate) fn plan_psw(&self, doubleword: u64, plan: &mut Plan) -> Result<(), AllocError>
         requires empty { plan.old ≡ [] }
-        ensures { OnOk result (IsPlanOf self.now plan.new (core_with_psw self.now doubleword)) }
+        ensures { OnOk result (IsPlanOf self.now plan.new (core_with_psw (current_psw doubleword) self.now)) }
     {
         let psw = Psw::from_u64(doubleword);
         plan.put(Place::Psw, psw.stored(0, InstructionLength::NotAvailable))
@@ -104,7 +103,7 @@ impl Core {
         plan: &mut Plan,
     ) -> Result<(), AllocError>
         requires empty { plan.old ≡ [] }
-        ensures { OnOk result (IsPlanOf self.now plan.new (core_with_register self.now register word)) }
+        ensures { OnOk result (IsPlanOf self.now plan.new (core_with_word register word self.now)) }
     {
         // Looked at, so that the invariant, sixteen registers, is known here.
         let _ = &self.registers;
@@ -121,7 +120,7 @@ impl Core {
         requires empty { plan.old ≡ [] }
         requires inside { at + length bytes.now ≤ length self.now.storage.bytes }
         requires few { length bytes.now ≤ 256 }
-        ensures { OnOk result (IsPlanOf self.now plan.new (core_with_run self.now at bytes.now)) }
+        ensures { OnOk result (IsPlanOf self.now plan.new (core_with_bytes at bytes.now self.now)) }
     {
         // Storage is small, so no address of the run passes 32 bits.
         let inside = at <= self.storage.size();

@@ -1,15 +1,13 @@
 //! The events of the machine, each of which is taken back as one change.
-ghost use Rattle.std.specs.Prelude.{◌≡◌, IfOk};
+ghost use Rattle.std.specs.Prelude.{◌≡◌};
 
 use s360_word::{RegisterNumber, Word};
-use std::alloc::{AllocError, Global};
 use std::marker::Model;
 
-/// Bytes in their order, which a contract sees as a list. They live on the heap with their length, so
-/// that an event in a journal is small.
+/// Bytes in their order, which a contract sees as a list.
 #[derive(Debug, Drop)]
 pub struct Bytes {
-    items: Box<Vec<u8>>,
+    items: Vec<u8>,
 }
 
 impl Model for Bytes {
@@ -17,16 +15,15 @@ impl Model for Bytes {
 
     ghost Value = { List ℕ };
 
-    ghost view = { λ b. b.items.value.items };
+    ghost view = { λ b. b.items.items };
 }
 
 impl Bytes {
-    /// The bytes of a vector.
-    pub fn new(alloc: Global, items: Vec<u8>) -> Result<Bytes, AllocError>
-        ensures { IfOk result (λ bytes. bytes ≡ items.items) }
+    /// The bytes of a vector. It takes no memory.
+    pub fn new(items: Vec<u8>) -> Bytes
+        ensures { result ≡ items.items }
     {
-        let items = Box::new(alloc, items)?;
-        Ok(Bytes { items })
+        Bytes { items }
     }
 
     /// The bytes.
@@ -40,7 +37,7 @@ impl Bytes {
     pub fn into_vec(self) -> Vec<u8>
         ensures { result.items ≡ self }
     {
-        Box::into_inner(self.items)
+        self.items
     }
 }
 

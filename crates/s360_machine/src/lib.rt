@@ -5,15 +5,16 @@
 #![tactic(auto)]
 
 mod changes;
+mod control;
+mod control_cell;
 mod core_state;
 mod event;
 mod machine;
 mod refusal;
 mod run_state;
-#[cfg(test)]
-mod tests;
 
 pub use changes::Changes;
+pub use control_cell::ControlCell;
 pub use event::{Bytes, Event, Patch};
 pub use machine::Machine;
 pub use refusal::Refusal;

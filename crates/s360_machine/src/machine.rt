@@ -5,8 +5,9 @@ ghost use Rattle.std.specs.Bool.{MatchBool};
 ghost use Rattle.s360_model.specs.Storage.{is_storage_size};
 ghost use Rattle.s360_store.specs.declared.fault.StoreFault.TheVariants.{Size, Memory as no_memory};
 ghost use Rattle.s360_machine.specs.declared.event.Event.TheVariants.{Cpu};
-ghost use Rattle.s360_machine.specs.Machine.{new_machine, storage_size};
+ghost use Rattle.s360_machine.specs.Machine.{Machine as Seen, new_machine, storage_size, seen};
 ghost use Rattle.s360_machine.specs.Change.{CanSwap, after_swap, change_after_swap};
+ghost use Rattle.s360_machine.specs.Change.{HasRoom, NeedsNoRoom};
 ghost use Rattle.s360_machine.specs.Step.{after, after_cpu, after_patch};
 ghost use Rattle.s360_machine.specs.Step.{is_unbuilt, is_running};
 ghost use Rattle.s360_machine.specs.Refusals.{refusal_of, refusal_of_patch};
@@ -14,6 +15,7 @@ ghost use Rattle.s360_store.specs.Plans.{IsPlanOf};
 ghost use Rattle.s360_machine.specs.Planned.{IsChangeTo, IsAnswerToEvent};
 
 use crate::changes::Changes;
+use crate::control::Control;
 use crate::core_state::Core;
 use crate::event::{Event, Patch};
 use crate::refusal::Refusal;
@@ -28,68 +30,69 @@ use std::marker::Model;
 /// A patch has at most so many bytes.
 const LONGEST_PATCH: usize = 256;
 
-/// The machine. A contract sees its record: PSW, registers, storage with its keys, and run state.
+/// The machine. A contract sees the whole of it (PSW, registers, storage with its keys, run state)
+/// with room beside it.
 #[derive(Drop)]
 pub struct Machine {
     core: Core,
-    run_state: RunState,
+    control: Control,
     alloc: Global,
 }
 
 impl Model for Machine {
-    ghost use Rattle.s360_machine.specs.Machine.{Machine as Record};
+    ghost use Rattle.s360_machine.specs.Machine.{WithRoom};
 
-    ghost Value = { Record };
+    ghost Value = { WithRoom };
 
-    ghost view = { λ m. record { core = m.core; control = record { run_state = m.run_state } } };
+    ghost view = { λ m. record { whole = record { core = m.core; control = m.control }; spare = record {} } };
 }
 
 impl Machine {
     /// A new machine with so many bytes of storage. It operates, and all else is zero.
     pub fn new(alloc: Global, size: u32) -> Result<Machine, StoreFault>
-        ensures new { IfOk result (λ m. m ≡ new_machine size) }
+        ensures new { IfOk result (λ m. seen m.whole ≡ new_machine size) }
         ensures refused { MatchBool (is_storage_size size) (IsOkUnless result no_memory) (result ≡ Err Size) }
     {
         let core = Core::new(alloc, size)?;
         Ok(Machine {
             core,
-            run_state: RunState::Operating,
+            control: Control::new(),
             alloc,
         })
     }
 
     /// The current PSW.
     pub fn psw(&self) -> Psw
-        ensures { result ≡ self.now.core.psw }
+        ensures { result ≡ self.now.whole.core.psw }
     {
         self.core.psw()
     }
 
     /// The word in a general register.
     pub fn register(&self, register: RegisterNumber) -> Word
-        ensures { result ≡ slice_index self.now.core.registers register }
+        ensures { result ≡ slice_index self.now.whole.core.registers register }
     {
         self.core.register(register)
     }
 
     /// Main storage.
     pub fn storage(&self) -> &Storage
-        ensures { result.now ≡ self.now.core.storage }
+        ensures { result.now ≡ self.now.whole.core.storage }
     {
         self.core.storage()
     }
 
     /// The run state.
     pub fn run(&self) -> RunState
-        ensures { result ≡ self.now.control.run_state }
+        ensures { result ≡ self.now.whole.control.run_state }
     {
-        self.run_state
+        self.control.run_state()
     }
 
     /// Why an event is refused whatever the machine's state, by the event and the storage size
     /// alone.
     pub fn refusal(&self, event: &Event) -> Option<Refusal>
-        ensures { result ≡ refusal_of (storage_size self.now) event.now }
+        ensures { result ≡ refusal_of (storage_size (seen self.now.whole)) event.now }
     {
         match event {
             Event::Patch(Patch::Bytes { at, bytes }) => {
@@ -109,15 +112,15 @@ impl Machine {
 
     /// Whether the machine executes instructions: it operates and does not wait.
     fn is_running(&self) -> bool
-        ensures { result ≡ is_running self.now }
+        ensures { result ≡ is_running (seen self.now.whole) }
     {
-        !self.core.psw().wait() && self.run_state == RunState::Operating
+        !self.core.psw().wait() && self.control.run_state() == RunState::Operating
     }
 
     /// What an event alters, or why it is refused.
     pub fn plan(&self, event: &Event) -> Result<Changes, Refusal>
-        ensures ok { IfOk result (λ changes. IsChangeTo self.now changes (after self.now event.now)) }
-        ensures refused { MatchOption (refusal_of (storage_size self.now) event.now) (IsAnswerToEvent (is_unbuilt self.now event.now) result) (λ r. result ≡ Err r) }
+        ensures ok { IfOk result (λ changes. IsChangeTo self.now.whole changes (after (seen self.now.whole) event.now)) }
+        ensures refused { MatchOption (refusal_of (storage_size (seen self.now.whole)) event.now) (IsAnswerToEvent (is_unbuilt (seen self.now.whole) event.now) result) (λ r. result ≡ Err r) }
     {
         if let Some(refusal) = self.refusal(event) {
             return Err(refusal);
@@ -125,15 +128,17 @@ impl Machine {
         let mut plan = Plan::new(self.alloc);
         self.plan_event(event, &mut plan)?;
         let cells = self.core.changes(self.alloc, &plan)?;
-        Ok(Changes { cells })
+        // No event alters the control part yet.
+        let control = Vec::new(self.alloc);
+        Ok(Changes { cells, control })
     }
 
     /// Plans what an event puts into the core, if its own sake does not refuse it.
     fn plan_event(&self, event: &Event, plan: &mut Plan) -> Result<(), Refusal>
         requires empty { plan.old ≡ [] }
-        requires accepted { refusal_of (storage_size self.now) event.now ≡ None }
-        ensures ok { OnOk result (IsPlanOf self.now.core plan.new (after self.now event.now).core) }
-        ensures answer { IsAnswerToEvent (is_unbuilt self.now event.now) result }
+        requires accepted { refusal_of (storage_size (seen self.now.whole)) event.now ≡ None }
+        ensures ok { OnOk result (IsPlanOf self.now.whole.core plan.new (after (seen self.now.whole) event.now).core) }
+        ensures answer { IsAnswerToEvent (is_unbuilt (seen self.now.whole) event.now) result }
     {
         match event {
             Event::Cpu => self.plan_cpu(plan),
@@ -144,13 +149,13 @@ impl Machine {
     /// Plans a CPU event.
     fn plan_cpu(&self, plan: &mut Plan) -> Result<(), Refusal>
         requires empty { plan.old ≡ [] }
-        ensures ok { OnOk result (IsPlanOf self.now.core plan.new (after_cpu self.now).core) }
-        ensures answer { IsAnswerToEvent (is_unbuilt self.now Cpu) result }
+        ensures ok { OnOk result (IsPlanOf self.now.whole.core plan.new (after_cpu (seen self.now.whole)).core) }
+        ensures answer { IsAnswerToEvent (is_unbuilt (seen self.now.whole) Cpu) result }
     {
         if !self.is_running() {
             return Ok(());
         }
-        match self.core.plan_instruction(plan)? {
+        match self.core.plan_instruction(plan)?.ended {
             Ended::Done => Ok(()),
             Ended::Program(_) | Ended::Svc(_) | Ended::Io(..) | Ended::Unbuilt => {
                 Err(Refusal::Unbuilt)
@@ -161,8 +166,8 @@ impl Machine {
     /// Plans a patch.
     fn plan_patch(&self, patch: &Patch, plan: &mut Plan) -> Result<(), AllocError>
         requires empty { plan.old ≡ [] }
-        requires accepted { refusal_of_patch (storage_size self.now) patch.now ≡ None }
-        ensures { OnOk result (IsPlanOf self.now.core plan.new (after_patch self.now patch.now).core) }
+        requires accepted { refusal_of_patch (storage_size (seen self.now.whole)) patch.now ≡ None }
+        ensures { OnOk result (IsPlanOf self.now.whole.core plan.new (after_patch (seen self.now.whole) patch.now).core) }
     {
         match patch {
             Patch::Bytes { at, bytes } => self.core.plan_bytes(*at, bytes.as_slice(), plan),
@@ -171,23 +176,29 @@ impl Machine {
         }
     }
 
-    /// Makes room for a change, after which its exchange takes no memory. The machine is as before.
-    pub fn room(&mut self, _changes: &Changes) -> Result<(), AllocError>
-        ensures { self.new ≡ self.old }
+    /// Makes room for a change, after which its exchange takes no memory. The whole is as before.
+    pub fn room(&mut self, changes: &Changes) -> Result<(), AllocError>
+        ensures whole { self.new.whole ≡ self.old.whole }
+        ensures ok { OnOk result (HasRoom self.new.spare changes.now) }
     {
+        let _ = changes;
         Ok(())
     }
 
     /// Exchanges the values at the change's places with its own. It takes no memory, and done
-    /// again it restores the machine and the change.
+    /// again it restores the whole and the change. A planned change that was made wants no room to
+    /// be taken back.
     pub fn swap_all(&mut self, changes: &mut Changes)
-        requires { CanSwap self.old changes.old }
-        ensures machine { self.new ≡ after_swap self.old changes.old }
-        ensures changes { changes.new ≡ change_after_swap self.old changes.old }
-        ensures again { CanSwap self.new changes.new }
-        ensures restores_machine { after_swap self.new changes.new ≡ self.old }
-        ensures restores_changes { change_after_swap self.new changes.new ≡ changes.old }
+        requires can { CanSwap self.old.whole changes.old }
+        requires room { HasRoom self.old.spare changes.old }
+        ensures machine { self.new.whole ≡ after_swap self.old.whole changes.old }
+        ensures changes { changes.new ≡ change_after_swap self.old.whole changes.old }
+        ensures again { CanSwap self.new.whole changes.new }
+        ensures no_room { (n : Seen) → IsChangeTo self.old.whole changes.old n → NeedsNoRoom changes.new }
+        ensures restores_machine { after_swap self.new.whole changes.new ≡ self.old.whole }
+        ensures restores_changes { change_after_swap self.new.whole changes.new ≡ changes.old }
     {
         self.core.exchange(changes.cells.as_mut_slice());
+        self.control.exchange(changes.control.as_mut_slice());
     }
 }

@@ -7,8 +7,6 @@
 
 mod instruction_length;
 mod psw;
-#[cfg(test)]
-mod tests;
 
 pub use instruction_length::InstructionLength;
 pub use psw::Psw;

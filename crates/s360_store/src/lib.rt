@@ -9,8 +9,6 @@ mod place;
 mod plan;
 mod protection;
 mod storage;
-#[cfg(test)]
-mod tests;
 
 pub use fault::StoreFault;
 pub use place::{Cell, Place};

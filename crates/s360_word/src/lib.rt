@@ -11,8 +11,6 @@ mod product;
 mod protection_key;
 mod register_number;
 mod shifts;
-#[cfg(test)]
-mod tests;
 mod unit;
 mod word;
 

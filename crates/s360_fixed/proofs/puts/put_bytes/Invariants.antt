@@ -1,6 +1,6 @@
 use Rattle.std.proofs.Common.{take}
 use Rattle.s360_fixed.specs.Plans.{AddsToPlan}
-use Rattle.s360_fixed.specs.Storing.{core_with_bytes}
+use Rattle.s360_model.specs.Core.{core_with_bytes}
 use Rattle.s360_fixed.proofs.puts.put_bytes.Given as goal
 
 abbrev pub invariant-loop-i : goal.invariant-loop-i

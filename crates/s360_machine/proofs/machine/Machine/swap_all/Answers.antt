@@ -1,32 +1,49 @@
 use Rattle.std.proofs.Common.{◌≡◌, length, ap, ◌∙◌, sym, subst}
 use Rattle.std.proofs.lemmas.List.{take_at}
-use Rattle.s360_model.specs.Core.{Core}
-use Rattle.s360_store.proofs.ExchangeLemmas.{IsExchange, IsExchange-from}
-use Rattle.s360_machine.specs.Machine.{Machine}
-use Rattle.s360_machine.specs.Change.{Change, CanSwap}
+use Rattle.s360_machine.specs.Machine.{Whole, WithRoom}
+use Rattle.s360_machine.specs.Change.{Change, CanSwap, after_swap, change_after_swap}
+use Rattle.s360_machine.proofs.SwapLemmas.{IsSwap, IsSwap-from}
 use Rattle.s360_machine.proofs.machine.Machine.swap_all.Goals as goal
-use Rattle.s360_machine.proofs.machine.Machine.swap_all.Goals.{After-exchange}
+use Rattle.s360_machine.proofs.machine.Machine.swap_all.Goals.{After-exchange-2}
 
-exchanged : (c : After-exchange) → IsExchange c.self.inside.core c.changes.inside.cells.items c.exchange.new.self c.exchange.new.cells
+abbrev whole_before : After-exchange-2 → Whole
+whole_before c = record { core = c.self.inside.core; control = c.self.inside.control }
+
+abbrev whole_after : After-exchange-2 → Whole
+whole_after c = record { core = c.exchange.new.self; control = c.exchange-2.new.self }
+
+abbrev change_before : After-exchange-2 → Change
+change_before c = record { cells = c.changes.inside.cells.items; control = c.changes.inside.control.items }
+
+abbrev change_after : After-exchange-2 → Change
+change_after c = record { cells = c.exchange.new.cells; control = c.exchange-2.new.cells }
+
+exchanged : (c : After-exchange-2) → IsSwap (whole_before c) (change_before c) (whole_after c) (change_after c)
 exchanged c =
-    let m : Machine = record { core = c.self.inside.core; control = record { run_state = c.self.inside.run_state } }
-    in let x : Change = record { cells = c.changes.inside.cells.items }
-    in let can : CanSwap m x
-    = subst (λ (y : Change). CanSwap m y) (sym c.changes.view_is) (subst (λ (n : Machine). CanSwap n c.args.changes.now) (sym c.self.view_is) c.requires)
-    in IsExchange-from _ _ _ _ can
-    (rw c.as_mut_slice.ensures.value at c.exchange.ensures.core) (rw c.as_mut_slice.ensures.value at c.exchange.ensures.cells) c.exchange.ensures.fit
+    let can : CanSwap (whole_before c) (change_before c)
+    = subst (λ (y : Change). CanSwap (whole_before c) y) (sym c.changes.view_is) (subst (λ (n : WithRoom). CanSwap n.whole c.args.changes.now) (sym c.self.view_is) c.requires.can)
+    in let core = rw c.as_mut_slice.ensures.value at c.exchange.ensures.core
+    in let control = rw c.as_mut_slice-2.ensures.value at c.exchange-2.ensures.control
+    in let cells = rw c.as_mut_slice.ensures.value at c.exchange.ensures.cells
+    in let control_cells = rw c.as_mut_slice-2.ensures.value at c.exchange-2.ensures.cells
+    in let whole : whole_after c ≡ after_swap (whole_before c) (change_before c) = cc
+    in let change : change_after c ≡ change_after_swap (whole_before c) (change_before c) = cc
+    in IsSwap-from (whole_before c) (change_before c) (whole_after c) (change_after c) can whole change c.exchange.ensures.fit
 
 pub returns-clause-again : goal.returns-clause-again
 returns-clause-again c =
     let count : length c.exchange.new.cells ≡ c.changes.inside.cells.len = cc
-    in rw take_at (exchanged c.before).again
+    in let count-2 : length c.exchange-2.new.cells ≡ c.changes.inside.control.len = cc
+    in rw (take_at, take_at) (exchanged c.before).again
 
 pub returns-clause-restores_machine : goal.returns-clause-restores_machine
 returns-clause-restores_machine c =
     let count : length c.exchange.new.cells ≡ c.changes.inside.cells.len = cc
-    in rw take_at (ap (λ (k : Core). record { core = k; control = record { run_state = c.self.inside.run_state } }) (exchanged c.before).core ∙ c.self.view_is)
+    in let count-2 : length c.exchange-2.new.cells ≡ c.changes.inside.control.len = cc
+    in rw (take_at, take_at) ((exchanged c.before).whole ∙ ap (λ (m : WithRoom). m.whole) c.self.view_is)
 
 pub returns-clause-restores_changes : goal.returns-clause-restores_changes
 returns-clause-restores_changes c =
     let count : length c.exchange.new.cells ≡ c.changes.inside.cells.len = cc
-    in rw take_at (ap (λ cs. record { cells = cs }) (exchanged c.before).cells ∙ c.changes.view_is)
+    in let count-2 : length c.exchange-2.new.cells ≡ c.changes.inside.control.len = cc
+    in rw (take_at, take_at) ((exchanged c.before).change ∙ c.changes.view_is)

@@ -1,0 +1,2 @@
+pub mod InstructionLemmas
+mod KnownInstructions

@@ -1,0 +1,78 @@
+-- One instruction: it is fetched, decoded and done by its row (GA22-6821, "System Structure", program
+-- execution, and "Interruptions").
+use Rattle.std.specs.Prelude.{◌≡◌, ℕ, ◌+◌, nat_eq, if◌then◌else◌, Option, Some, None, is_none, List}
+use Rattle.s360_model.specs.Core.{Core}
+use Rattle.s360_model.specs.Psw.{instruction_address_of, protection_key_of}
+use Rattle.s360_psw.specs.declared.instruction_length.InstructionLength.{InstructionLength}
+use Rattle.s360_psw.specs.declared.instruction_length.InstructionLength.TheVariants.{NotAvailable, OneHalfword, TwoHalfwords, ThreeHalfwords}
+use Rattle.s360_store.specs.declared.place.Cell.{Cell}
+use Rattle.s360_fixed.specs.declared.ended.Ended.TheVariants.{Program, Unbuilt}
+use Rattle.s360_fixed.specs.declared.form.Form.{Form}
+use Rattle.s360_fixed.specs.declared.program_code.ProgramCode.TheVariants.{Operation}
+use Rattle.s360_fixed.specs.Fetching.{fetch_conditions, instruction_bytes, length_at}
+use Rattle.s360_fixed.specs.Fixed.{is_fixed, fixed_outcome}
+use Rattle.s360_fixed.specs.Outcomes.{unless_met}
+use Rattle.s360_fixed.specs.Plans.{PlansOutcome}
+use Rattle.s360_fixed.specs.ProgramCodes.{Conditions, program_code}
+use Rattle.s360_fixed.specs.Table.{form_of}
+use Rattle.s360_fixed.specs.View.{Outcome, View}
+use Rattle.s360_logic.specs.declared.cpu.PlannedInstruction.{PlannedInstruction}
+
+-- what an instruction does that was decoded: so far the rows of other chapters are not built
+abbrev pub outcome_of : View → Form → Outcome
+outcome_of v form = if is_fixed form then fixed_outcome v form else record { ended = Unbuilt; core = v.core }
+
+-- a length of 2, 4 or 6 bytes as an instruction length
+abbrev pub length_of_bytes : ℕ → InstructionLength
+length_of_bytes bytes = if nat_eq bytes 2 then OneHalfword else (if nat_eq bytes 4 then TwoHalfwords else ThreeHalfwords)
+
+-- what keeps the instruction at an address from being fetched with the key of the PSW, and decoded
+abbrev pub conditions_at : Core → ℕ → Conditions
+conditions_at m address = fetch_conditions m.storage address (protection_key_of m.psw)
+
+abbrev pub decoding_conditions : Core → ℕ → Option Form → Conditions
+decoding_conditions m address form = record (conditions_at m address) { operation = is_none form }
+
+-- what the instruction at an address works on: where it could not be fetched its length is not available,
+-- and the address stays (own profile)
+abbrev pub view_at : Core → ℕ → View
+view_at m address =
+    if is_none (program_code (conditions_at m address))
+    then record {
+      core = m;
+      next_address = address + length_at m.storage address;
+      instruction_length = length_of_bytes (length_at m.storage address);
+    }
+    else record { core = m; next_address = address; instruction_length = NotAvailable }
+
+-- what it does that was fetched: a code that no instruction has is an operation exception
+abbrev pub fetched_outcome : View → Option Form → Outcome
+fetched_outcome v None = record { ended = Program Operation; core = v.core }
+fetched_outcome v (Some form) = outcome_of v form
+
+abbrev pub instruction_of : Core → ℕ → Option Form → Outcome
+instruction_of m address form = unless_met (decoding_conditions m address form) m (fetched_outcome (view_at m address) form)
+
+-- what an instruction does, and what an interruption that follows stores of it
+pub record Instruction : Type 0 where
+  pub outcome : Outcome
+  pub next_address : ℕ
+  pub instruction_length : InstructionLength
+
+-- the instruction at an address, and at the instruction address
+abbrev pub instruction_at : Core → ℕ → Instruction
+instruction_at m address = record {
+  outcome = instruction_of m address (form_of (instruction_bytes m.storage address));
+  next_address = (view_at m address).next_address;
+  instruction_length = (view_at m address).instruction_length;
+}
+
+unfoldable pub instruction : Core → Instruction
+instruction m = instruction_at m (instruction_address_of m.psw)
+
+-- an instruction ends as the definition's does, with its next address and its length, and its plan makes
+-- the definition's core
+pub record PlansInstruction (m : Core) (plan : List Cell) (i : Instruction) (planned : PlannedInstruction) : Type 0 where
+  pub plans : PlansOutcome m plan i.outcome planned.ended
+  pub next : planned.next_address ≡ i.next_address
+  pub length : planned.instruction_length ≡ i.instruction_length

@@ -1,0 +1,42 @@
+-- The places of the control part: a control cell is one of them with a value of it. Control cells are
+-- exchanged with the control part one after another: it gets their values, and they get what stood there.
+use Rattle.std.specs.Prelude.{◌≢◌, List, [], ◌∷◌, map}
+use Rattle.s360_store.specs.declared.place.Place.{Place}
+use Rattle.s360_store.specs.declared.place.Place.TheVariants.{Run}
+use Rattle.s360_machine.specs.declared.control_cell.ControlCell.{ControlCell}
+use Rattle.s360_machine.specs.declared.control_cell.ControlCell.TheVariants.{Run as run}
+use Rattle.s360_machine.specs.Machine.{Control}
+
+abbrev pub place_of_control : ControlCell → Place
+place_of_control (run state) = Run
+
+abbrev pub places_of_control : List ControlCell → List Place
+places_of_control xs = map (λ x. place_of_control x) xs
+
+-- the control part with a cell's value at its place
+abbrev pub with_control : Control → ControlCell → Control
+with_control c (run state) = record c { run_state = state }
+
+-- the cell of the same place with what stands there
+abbrev pub control_at : Control → ControlCell → ControlCell
+control_at c (run state) = run c.run_state
+
+-- the control part after the exchange
+abbrev pub control_after_exchange : Control → List ControlCell → Control
+control_after_exchange c [] = c
+control_after_exchange c (x ∷ xs) = control_after_exchange (with_control c x) xs
+
+-- the cells after the exchange
+abbrev pub control_cells_after_exchange : Control → List ControlCell → List ControlCell
+control_cells_after_exchange c [] = []
+control_cells_after_exchange c (x ∷ xs) = control_at c x ∷ control_cells_after_exchange (with_control c x) xs
+
+-- no cell has the place
+abbrev pub IsFreshControl : Place → List ControlCell → Type 0
+IsFreshControl p [] = Unit {0}
+IsFreshControl p (x ∷ xs) = (p ≢ place_of_control x) × IsFreshControl p xs
+
+-- no place comes twice
+abbrev pub HasEachControlOnce : List ControlCell → Type 0
+HasEachControlOnce [] = Unit {0}
+HasEachControlOnce (x ∷ xs) = IsFreshControl (place_of_control x) xs × HasEachControlOnce xs

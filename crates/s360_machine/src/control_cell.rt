@@ -1,0 +1,24 @@
+//! The places of the control part, each with a value of it.
+ghost use Rattle.std.specs.Prelude.{◌≡◌};
+ghost use Rattle.s360_machine.specs.ControlCells.{place_of_control};
+
+use crate::run_state::RunState;
+use s360_store::Place;
+
+/// A place of the control part with a value of it.
+#[derive(Clone, Copy, Debug, PartialEq, Eq)]
+pub enum ControlCell {
+    /// The run state.
+    Run(RunState),
+}
+
+impl ControlCell {
+    /// The place.
+    pub fn place(self) -> Place
+        ensures { result ≡ place_of_control self }
+    {
+        match self {
+            ControlCell::Run(_) => Place::Run,
+        }
+    }
+}

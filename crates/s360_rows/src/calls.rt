@@ -1,0 +1,55 @@
+//! Events and calls of a session, written as lines of a script, and the texts of their answers. None
+//! of them is there where a line is no command or memory is out.
+use s360_debug::{Command, read_command};
+use s360_journal::{Answer, Call, Report};
+use s360_machine::{Event, Refusal};
+use std::alloc::Global;
+
+/// The call that a line asks of a session; a line that shows something asks how many changes stand.
+pub(crate) fn call(alloc: Global, line: &str) -> Option<Call> {
+    Some(match read_command(alloc, line.as_bytes()).ok()? {
+        Command::Back => Call::Back,
+        Command::Last(place) => Call::LastChange(place),
+        Command::Standing | Command::Show(_) => Call::Standing,
+        command => Call::Forward(command.into_event()?),
+    })
+}
+
+/// The calls that lines ask of a session.
+pub(crate) fn calls(alloc: Global, lines: &str) -> Option<Vec<Call>> {
+    let mut calls = Vec::new(alloc);
+    for line in lines.lines() {
+        calls.push(call(alloc, line)?).ok()?;
+    }
+    Some(calls)
+}
+
+/// The event that a line offers.
+pub(crate) fn event(alloc: Global, line: &str) -> Option<Event> {
+    match call(alloc, line)? {
+        Call::Forward(event) => Some(event),
+        _ => None,
+    }
+}
+
+/// What an event was answered: the places that it altered, or why it is refused. None is where the
+/// reason is want of memory.
+pub(crate) fn text_of_report(alloc: Global, report: &Result<Report, Refusal>) -> Option<String> {
+    match report {
+        Ok(Report::Changed(places)) => format!(in alloc; "{:?}", places.as_slice()).ok(),
+        Ok(Report::Idle) => format!(in alloc; "idle").ok(),
+        Err(Refusal::Memory) => None,
+        Err(refusal) => format!(in alloc; "{refusal}").ok(),
+    }
+}
+
+/// What a call was answered.
+pub(crate) fn text_of_answer(alloc: Global, answer: &Answer) -> Option<String> {
+    match answer {
+        Answer::Forwarded(report) => text_of_report(alloc, report),
+        Answer::TookBack(Ok(event)) => format!(in alloc; "{event:?}").ok(),
+        Answer::TookBack(Err(fault)) => format!(in alloc; "{fault}").ok(),
+        Answer::Stands(count) => format!(in alloc; "{count}").ok(),
+        Answer::LastChanged(number) => format!(in alloc; "{number:?}").ok(),
+    }
+}

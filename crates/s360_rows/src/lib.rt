@@ -1,0 +1,24 @@
+//! The unit tests: what no script of the debugger reaches. There is nothing else in this crate, so that
+//! no other is proved a second time for its tests.
+#![tactic(auto)]
+
+#[cfg(test)]
+mod calls;
+#[cfg(test)]
+mod codes;
+#[cfg(test)]
+mod instructions;
+#[cfg(test)]
+mod machine;
+#[cfg(test)]
+mod plans;
+#[cfg(test)]
+mod rows;
+#[cfg(test)]
+mod scripts;
+#[cfg(test)]
+mod sessions;
+#[cfg(test)]
+mod storage;
+#[cfg(test)]
+mod words_and_psw;

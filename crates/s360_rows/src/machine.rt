@@ -1,0 +1,265 @@
+//! The machine by its own calls: its sizes, what is refused, and events that are exchanged twice.
+use crate::calls::event;
+use crate::rows::{Subject, Words, assert_rows};
+use s360_machine::{Bytes, Changes, Event, Machine, Patch, Refusal, RunState};
+use s360_psw::Psw;
+use s360_store::{Storage, StoreFault};
+use s360_word::{RegisterNumber, Word};
+use std::alloc::{AllocError, Global};
+
+fn word(machine: &Machine, number: u8) -> Word {
+    machine.register(RegisterNumber::new(number % 16))
+}
+
+/// Whether two machines show the same.
+fn are_same(first: &Machine, second: &Machine) -> bool {
+    let (one, other) = (first.storage(), second.storage());
+    if first.psw() != second.psw() || first.run() != second.run() || one.size() != other.size() {
+        return false;
+    }
+    for number in 0..16 {
+        if word(first, number) != word(second, number) {
+            return false;
+        }
+    }
+    are_alike(one, other)
+}
+
+/// Whether two storages of one size have the same bytes and keys.
+fn are_alike(one: &Storage, other: &Storage) -> bool {
+    let size = one.size().min(other.size());
+    for address in 0..size {
+        if one.byte(address) != other.byte(address) {
+            return false;
+        }
+    }
+    for block in 0..size / 2_048 {
+        if one.key(block) != other.key(block) {
+            return false;
+        }
+    }
+    true
+}
+
+/// Whether all of a storage is zero.
+fn is_zero(storage: &Storage) -> bool {
+    for address in 0..storage.size() {
+        if storage.byte(address) != 0 {
+            return false;
+        }
+    }
+    for block in 0..storage.size() / 2_048 {
+        if storage.key(block).number() != 0 {
+            return false;
+        }
+    }
+    true
+}
+
+/// A machine, and another that is always as it was.
+#[derive(Drop)]
+struct Machines {
+    machine: Machine,
+    other: Machine,
+}
+
+/// Makes an event happen.
+fn happen(machine: &mut Machine, event: &Event) -> Result<(), Refusal> {
+    let mut changes = machine.plan(event)?;
+    machine.room(&changes)?;
+    machine.swap_all(&mut changes);
+    Ok(())
+}
+
+/// The places of a change, and whether its calls about them agree.
+fn places_of(alloc: Global, changes: &Changes) -> Result<(String, bool), AllocError> {
+    let places = changes.places()?;
+    let mut agree = changes.len() as usize == places.len();
+    for i in 0..changes.len() {
+        let place = changes.place(i);
+        agree &= places.get(i as usize) == Some(&place) && changes.alters(place);
+    }
+    Ok((format!(in alloc; "{places:?}")?, agree))
+}
+
+/// Exchanges a planned change and exchanges it again, and answers its places if it is as it was.
+fn exchanged_twice(
+    alloc: Global,
+    machine: &mut Machine,
+    event: &Event,
+) -> Result<Option<String>, Refusal> {
+    let mut changes = machine.plan(event)?;
+    machine.room(&changes)?;
+    let planned = format!(in alloc; "{changes:?}")?;
+    let (before, agree) = places_of(alloc, &changes)?;
+    machine.swap_all(&mut changes);
+    let (after, still) = places_of(alloc, &changes)?;
+    machine.swap_all(&mut changes);
+    let now = format!(in alloc; "{changes:?}")?;
+    let is_right = agree && still && before == after && planned == now;
+    Ok(if is_right { Some(before) } else { None })
+}
+
+/// A patch of so many bytes.
+fn patch(alloc: Global, at: u32, count: usize) -> Option<Event> {
+    let bytes = vec![in alloc; 0xA5u8; count].ok()?;
+    let bytes = Bytes::new(bytes);
+    Some(Event::Patch(Patch::Bytes { at, bytes }))
+}
+
+/// The text of a refusal, or of none.
+fn text_of_refusal(alloc: Global, refusal: Option<Refusal>) -> Option<String> {
+    match refusal {
+        None => format!(in alloc; "accepted").ok(),
+        Some(refusal) => format!(in alloc; "{} {refusal}", refusal.number()).ok(),
+    }
+}
+
+/// The size of a new machine that operates and is zero elsewhere; or why there is none.
+fn text_of_new(alloc: Global, size: u32) -> Option<String> {
+    let machine = match Machine::new(alloc, size) {
+        Ok(machine) => machine,
+        Err(StoreFault::Memory) => return None,
+        Err(fault) => return format!(in alloc; "{fault}").ok(),
+    };
+    let mut zero = is_zero(machine.storage()) && machine.psw() == Psw::from_u64(0);
+    for number in 0..16 {
+        zero &= word(&machine, number) == 0;
+    }
+    let operates = machine.run() == RunState::Operating;
+    let size = machine.storage().size();
+    format!(in alloc; "{size:X} zero {zero} operates {operates}").ok()
+}
+
+impl Machines {
+    /// Makes an event happen to both machines.
+    fn happen(&mut self, event: &Event) -> Result<(), Refusal> {
+        happen(&mut self.machine, event)?;
+        happen(&mut self.other, event)
+    }
+
+    /// Why an event is refused, by the call that says so and by its plan. What is not built is found
+    /// by the plan alone.
+    fn refusals(&self, alloc: Global, event: &Event) -> Option<String> {
+        let known = text_of_refusal(alloc, self.machine.refusal(event))?;
+        let planned = match self.machine.plan(event) {
+            Ok(_) => None,
+            Err(Refusal::Memory) => return None,
+            Err(refusal) => Some(refusal),
+        };
+        let planned = text_of_refusal(alloc, planned)?;
+        format!(in alloc; "{known}, {planned}").ok()
+    }
+}
+
+impl Subject for Machines {
+    fn new(alloc: Global) -> Option<Machines> {
+        let machine = Machine::new(alloc, 8_192).ok()?;
+        let other = Machine::new(alloc, 8_192).ok()?;
+        Some(Machines { machine, other })
+    }
+
+    fn answer(&mut self, alloc: Global, words: &mut Words<'_>) -> Option<String> {
+        match words.next_word() {
+            "new" => text_of_new(alloc, words.word()),
+            "do" => {
+                self.happen(&event(alloc, words.behind_the_first())?).ok()?;
+                format!(in alloc; "done").ok()
+            }
+            "twice" => {
+                let event = event(alloc, words.behind_the_first())?;
+                let places = exchanged_twice(alloc, &mut self.machine, &event).ok()??;
+                let same = are_same(&self.machine, &self.other);
+                format!(in alloc; "{places} {same}").ok()
+            }
+            "refusal" => {
+                let event = event(alloc, words.behind_the_first())?;
+                self.refusals(alloc, &event)
+            }
+            "patch" => {
+                let event = patch(alloc, words.word(), words.below(0x200) as usize)?;
+                self.refusals(alloc, &event)
+            }
+            "bytes" => {
+                let bytes = patch(alloc, 0, words.below(0x200) as usize)?;
+                format!(in alloc; "{bytes:?}").ok()
+            }
+            _ => format!(in alloc; "{}", size_of::<Event>() <= 40).ok(),
+        }
+    }
+}
+
+#[test]
+fn machines_by_their_calls(rt: HostRuntime) {
+    assert_rows::<Machines>(&rt, rt.alloc(), ROWS);
+}
+
+const ROWS: &str = "
+* sizes
+new 2000 -> 2000 zero true operates true
+new 10000 -> 10000 zero true operates true
+new 100000 -> 100000 zero true operates true
+new 0 -> no storage size
+new 800 -> no storage size
+new 1FFF -> no storage size
+new 2400 -> no storage size
+new 100800 -> no storage size
+new FFFFFFFF -> no storage size
+* patches of no bytes, and at the end of storage
+patch 200 0 -> accepted, accepted
+patch 2000 0 -> accepted, accepted
+patch 2000 1 -> 2 outside storage, 2 outside storage
+patch 2001 0 -> 2 outside storage, 2 outside storage
+patch FFFFFFFF 0 -> 2 outside storage, 2 outside storage
+patch FFFFFFFF 1 -> 2 outside storage, 2 outside storage
+patch FFFFFF00 100 -> 2 outside storage, 2 outside storage
+patch FFFFFF01 100 -> 2 outside storage, 2 outside storage
+patch 0 100 -> accepted, accepted
+patch 1F00 100 -> accepted, accepted
+patch 1F01 100 -> 2 outside storage, 2 outside storage
+patch 1FFF 1 -> accepted, accepted
+patch 1FFF 2 -> 2 outside storage, 2 outside storage
+* too long comes before outside
+patch 0 101 -> 5 patch too long, 5 patch too long
+patch 1FFF 101 -> 5 patch too long, 5 patch too long
+patch FFFFFFFF 101 -> 5 patch too long, 5 patch too long
+* what is not built is no refusal for the event's own sake
+refusal step -> accepted, 7 unbuilt
+* events exchanged twice: their places, and whether all is as before
+do patch r 1 7FFFFFFF -> done
+do patch r 2 1 -> done
+do patch s 0 1A12 -> done
+do patch s 300 11223344 -> done
+twice step -> [Psw, Register(1)] true
+twice patch s 300 1122FF44 -> [Byte(770)] true
+twice patch s 300 12223345 -> [Byte(768), Byte(771)] true
+twice patch s 2FF 0011 -> [] true
+twice patch r F 1 -> [Register(15)] true
+twice patch r F 0 -> [] true
+twice patch p FFFFFFFFFFFFFFFF -> [Psw] true
+twice patch p 0000FFFFC0000000 -> [] true
+* bytes, as an event has them, and the size of an event
+bytes 0 -> Patch(Bytes { at: 0, bytes: Bytes { items: [] } })
+bytes 2 -> Patch(Bytes { at: 0, bytes: Bytes { items: [165, 165] } })
+size -> true
+";
+
+#[test]
+fn refusals_and_bytes(rt: HostRuntime) {
+    for (refusal, number) in [
+        (Refusal::Memory, 1),
+        (Refusal::OutsideStorage, 2),
+        (Refusal::PatchTooLong, 5),
+        (Refusal::JournalFull, 6),
+        (Refusal::Unbuilt, 7),
+        (Refusal::from(AllocError), 1),
+    ] {
+        assert_eq!(rt; refusal.number(), number);
+    }
+    let texts = format!(in rt.alloc(); "{}, {}", Refusal::Memory, Refusal::JournalFull);
+    assert_eq!(rt;
+        texts.as_deref(),
+        Ok("memory, journal full"),
+        "out of memory"
+    );
+}

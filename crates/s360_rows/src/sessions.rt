@@ -1,0 +1,303 @@
+//! Sessions: calls in which few changes may stand, previews, and lists of calls.
+ghost use Rattle.std.specs.Prelude.{◌≤◌};
+
+use crate::calls::{call, calls, event, text_of_answer, text_of_report};
+use crate::rows::{Subject, Words, assert_rows};
+use s360_journal::{Answer, Places, Session, run_calls};
+use s360_machine::{Bytes, Event, Machine, Patch, Refusal};
+use s360_psw::InstructionLength;
+use s360_store::Place;
+use s360_word::{RegisterNumber, Unit, Word};
+use std::alloc::Global;
+use std::test::Fail;
+
+/// AR of registers 1 and 2 at 0, then a supervisor call, which is not built; and the registers.
+const START: &str = "patch s 0 1A120A05\npatch r 1 7FFFFFFF\npatch r 2 1";
+
+/// A machine in which these lines were carried out.
+fn machine(alloc: Global) -> Option<Machine> {
+    let machine = Machine::new(alloc, 8_192).ok()?;
+    let outcome = run_calls(alloc, machine, 100, calls(alloc, START)?).ok()?;
+    // There is no text where memory was wanting, and so no machine.
+    let _ = text_of_answers(alloc, &outcome.answers)?;
+    Some(outcome.machine)
+}
+
+/// A patch of so many bytes.
+fn long_patch(alloc: Global, at: u32, count: usize) -> Option<Event> {
+    let bytes = vec![in alloc; 0xA5u8; count].ok()?;
+    let bytes = Bytes::new(bytes);
+    Some(Event::Patch(Patch::Bytes { at, bytes }))
+}
+
+/// A session.
+#[derive(Drop)]
+struct Running {
+    session: Session,
+}
+
+impl Running {
+    /// A session over the machine where at most so many changes may stand.
+    fn with_limit(alloc: Global, limit: u32) -> Option<Running>
+        requires { limit ≤ 10000000 }
+    {
+        let session = Session::new(alloc, machine(alloc)?, limit);
+        Some(Running { session })
+    }
+
+    fn register(&self, number: u8) -> Word {
+        let register = RegisterNumber::new(number % 16);
+        self.session.machine().register(register)
+    }
+
+    /// Some of what the session shows.
+    fn picture(&self, alloc: Global) -> Option<String> {
+        let psw = self.session.machine().psw();
+        let psw = psw.stored(0, InstructionLength::NotAvailable);
+        let (first, third) = (self.register(1), self.register(3));
+        let standing = self.session.standing();
+        format!(in alloc; "{psw:X} {first:X} {third:X} {standing}").ok()
+    }
+
+    /// Offers an event, and again where want of memory refuses it: a refused event changes nothing.
+    fn stands(&mut self, alloc: Global, first: Event, second: Event) -> Option<String> {
+        let before = self.picture(alloc)?;
+        let refused = self.session.forward(first).err();
+        if refused.is_some() {
+            if refused != Some(Refusal::Memory) || self.picture(alloc)? != before {
+                return format!(in alloc; "{refused:?}").ok();
+            }
+            self.session.forward(second).ok()?;
+        }
+        format!(in alloc; "stands").ok()
+    }
+
+    /// The last changes of places that the machine lacks.
+    fn of_lacking_places(&self, alloc: Global) -> Option<String> {
+        let byte = self.session.last_change(Place::Byte(0x2000));
+        let register = self.session.last_change(Place::Register(16));
+        let key = self.session.last_change(Place::Key(4));
+        let run = self.session.last_change(Place::Run);
+        let unit = self.session.last_change(Place::UnitState(Unit(0x00C)));
+        format!(in alloc; "{byte:?} {register:?} {key:?} {run:?} {unit:?}").ok()
+    }
+}
+
+impl Subject for Running {
+    fn new(alloc: Global) -> Option<Running> {
+        Running::with_limit(alloc, 10)
+    }
+
+    fn answer(&mut self, alloc: Global, words: &mut Words<'_>) -> Option<String> {
+        match words.next_word() {
+            "limit" => {
+                *self = Running::with_limit(alloc, words.below(0x100) as u32)?;
+                self.picture(alloc)
+            }
+            "picture" => self.picture(alloc),
+            "lacking" => self.of_lacking_places(alloc),
+            "event" => format!(in alloc; "{:?}", self.session.last_event()).ok(),
+            "long" => {
+                let event = long_patch(alloc, words.word(), words.below(0x200) as usize)?;
+                text_of_report(alloc, &self.session.forward(event))
+            }
+            "preview" => {
+                let report = self
+                    .session
+                    .preview(event(alloc, words.behind_the_first())?);
+                text_of_report(alloc, &report)
+            }
+            "preview_long" => {
+                let event = long_patch(alloc, words.word(), words.below(0x200) as usize)?;
+                text_of_report(alloc, &self.session.preview(event))
+            }
+            "memory" => {
+                let line = words.behind_the_first();
+                self.stands(alloc, event(alloc, line)?, event(alloc, line)?)
+            }
+            _ => {
+                let answer = self.session.perform(call(alloc, words.behind_the_first())?);
+                text_of_answer(alloc, &answer)
+            }
+        }
+    }
+}
+
+#[test]
+fn sessions(rt: HostRuntime) {
+    assert_rows::<Running>(&rt, rt.alloc(), ROWS);
+}
+
+const ROWS: &str = "
+* a limit of 0: refusals for an event's own sake come first, then a full journal, then what is not built
+limit 0 -> 0 7FFFFFFF 0 0
+long 1FFF 101 -> patch too long
+do patch s 1FFF 0102 -> outside storage
+do patch s 1FFE 0102 -> journal full
+do step -> journal full
+preview step -> journal full
+picture -> 0 7FFFFFFF 0 0
+* a limit of 1
+limit 1 -> 0 7FFFFFFF 0 0
+do patch s 300 01 -> [Byte(768)]
+long 1FFF 101 -> patch too long
+do patch s 1FFF 0102 -> outside storage
+do patch s 1FFE 0102 -> journal full
+do step -> journal full
+preview step -> journal full
+do standing -> 1
+do back -> Patch(Bytes { at: 768, bytes: Bytes { items: [1] } })
+do step -> [Psw, Register(1)]
+* the next instruction is not built, and the journal is full
+do step -> journal full
+picture -> 30000002 80000000 0 1
+* a limit of 3
+limit 3 -> 0 7FFFFFFF 0 0
+do patch s 300 01 -> [Byte(768)]
+do patch s 301 01 -> [Byte(769)]
+do patch s 302 01 -> [Byte(770)]
+long 1FFF 101 -> patch too long
+do patch s 1FFF 0102 -> outside storage
+do patch s 1FFE 0102 -> journal full
+do step -> journal full
+preview step -> journal full
+do standing -> 3
+do back -> Patch(Bytes { at: 770, bytes: Bytes { items: [1] } })
+do step -> [Psw, Register(1)]
+do step -> journal full
+do standing -> 3
+* idle events stand
+limit 2 -> 0 7FFFFFFF 0 0
+do patch r 2 1 -> idle
+do standing -> 1
+do last r 2 -> None
+do patch s 0 1A12 -> idle
+do standing -> 2
+do patch r 2 1 -> journal full
+do back -> Patch(Bytes { at: 0, bytes: Bytes { items: [26, 18] } })
+do back -> Patch(Register(RegisterNumber(2), 1))
+do standing -> 0
+* previews leave the session as it is
+limit A -> 0 7FFFFFFF 0 0
+event -> None
+do patch r 3 7 -> [Register(3)]
+preview step -> [Psw, Register(1)]
+picture -> 0 7FFFFFFF 7 1
+preview patch r 3 8 -> [Register(3)]
+picture -> 0 7FFFFFFF 7 1
+preview patch r 3 7 -> idle
+picture -> 0 7FFFFFFF 7 1
+preview patch s 2000 01 -> outside storage
+picture -> 0 7FFFFFFF 7 1
+preview_long 300 101 -> patch too long
+picture -> 0 7FFFFFFF 7 1
+do last r 3 -> Some(1)
+do last p -> None
+event -> Some(Patch(Register(RegisterNumber(3), 7)))
+* refused events leave it too
+do step -> [Psw, Register(1)]
+picture -> 30000002 80000000 7 2
+long FFFF 101 -> patch too long
+picture -> 30000002 80000000 7 2
+do patch s 2000 01 -> outside storage
+picture -> 30000002 80000000 7 2
+long FFFFFFFF 1 -> outside storage
+picture -> 30000002 80000000 7 2
+do step -> unbuilt
+picture -> 30000002 80000000 7 2
+do last r 1 -> Some(2)
+* a place that the machine lacks has no last change
+lacking -> None None None None None
+do back -> Cpu
+do back -> Patch(Register(RegisterNumber(3), 7))
+do back -> nothing stands
+picture -> 0 7FFFFFFF 0 0
+* want of memory changes nothing
+memory step -> stands
+memory patch s 300 0101010101010101010101010101010101010101 -> stands
+memory patch r 2 1 -> stands
+do standing -> 3
+do last p -> Some(1)
+do last s 313 -> Some(2)
+do last r 2 -> None
+do back -> Patch(Register(RegisterNumber(2), 1))
+do back -> Patch(Bytes { at: 768, bytes: Bytes { items: [1, 1, 1, 1, 1, 1, 1, 1, 1, 1, 1, 1, 1, 1, 1, 1, 1, 1, 1, 1] } })
+do back -> Cpu
+picture -> 0 7FFFFFFF 0 0
+";
+
+/// Calls of each kind, with changes that are taken back, idle events and refusals.
+const EACH_KIND: &str = "back
+patch s 300 01
+patch s 301 02
+last s 301
+back
+last s 301
+patch r 2 1
+standing
+patch s 2000 01
+step
+last r 1
+patch r 3 1
+standing";
+
+/// Their answers where three changes may stand.
+const ANSWERS: &str = "nothing stands
+[Byte(768)]
+[Byte(769)]
+Some(2)
+Patch(Bytes { at: 769, bytes: Bytes { items: [2] } })
+None
+idle
+2
+outside storage
+[Psw, Register(1)]
+Some(3)
+journal full
+3
+";
+
+/// The texts of answers, one a line.
+fn text_of_answers(alloc: Global, answers: &[Answer]) -> Option<String> {
+    let mut text = String::new(alloc);
+    for answer in answers {
+        text.push_str(text_of_answer(alloc, answer)?.as_str()).ok()?;
+        text.push('\n').ok()?;
+    }
+    Some(text)
+}
+
+/// The answers to a list of calls as a whole, and what is left of the machine.
+fn run(alloc: Global) -> Option<(String, Word)> {
+    let outcome = run_calls(alloc, machine(alloc)?, 3, calls(alloc, EACH_KIND)?).ok()?;
+    let word = outcome.machine.register(RegisterNumber::new(1));
+    Some((text_of_answers(alloc, &outcome.answers)?, word))
+}
+
+/// The answers to the same in a session, and what is left of its machine.
+fn perform(alloc: Global) -> Option<(String, Word)> {
+    let mut session = Session::new(alloc, machine(alloc)?, 3);
+    let answers = session.perform_all(calls(alloc, EACH_KIND)?).ok()?;
+    let machine = session.into_machine();
+    let word = machine.register(RegisterNumber::new(1));
+    Some((text_of_answers(alloc, &answers)?, word))
+}
+
+#[test]
+fn lists_of_calls(rt: HostRuntime) -> Result<(), Fail> {
+    let (answers, word) = run(rt.alloc()).ok_or("out of memory")?;
+    assert_eq!(rt; answers.as_str(), ANSWERS);
+    assert_eq!(rt; word, 0x8000_0000);
+    let (answers, word) = perform(rt.alloc()).ok_or("out of memory")?;
+    assert_eq!(rt; answers.as_str(), ANSWERS);
+    assert_eq!(rt; word, 0x8000_0000);
+    for list in [
+        &[][..],
+        &[Place::Psw],
+        &[Place::Register(1), Place::Byte(0)],
+    ] {
+        let places = Places::new(Vec::from_slice(rt.alloc(), list)?);
+        assert_eq!(rt; places.as_slice(), list);
+    }
+    Ok(())
+}

@@ -1,0 +1,164 @@
+#!/usr/bin/env python3
+"""Runs each worked row over the program, and again with all its changes taken back.
+
+    tests/rows.py [WORD ..]               over the program as `rt ci` or `./run` has built it
+    tests/rows.py --unproved [WORD ..]    by `rt try`, which proves nothing: for work in progress
+
+A row is a script `tests/rows/CHAPTER/NAME` with its answers in `NAME.stdout`, and the words of the
+command line, where there are any, in `NAME.args`, one a line. The examples, whose answers stand
+beside them in `.answers`, are rows too. With words, the rows that have one of them in their path.
+
+The answers have to be the same to the byte, with status 0 and nothing on standard error. Then the
+row is run a second time with as many `back` as changes stand at its end, and all that can be shown
+is shown. It has to be what a fresh run of the same command line shows: a row that is taken back
+whole gives the start. Unproved, only the answers are compared.
+
+It needs Python's standard library alone.
+"""
+import argparse
+import difflib
+import os
+import pathlib
+import re
+import subprocess
+import sys
+import tempfile
+from concurrent.futures import ThreadPoolExecutor
+from typing import NamedTuple
+
+TOP = pathlib.Path(__file__).resolve().parent.parent
+ROWS = TOP / "tests/rows"
+MEDIA = TOP / "tests/media"
+PROGRAM = TOP / "crates/s360dbg/out/s360dbg"
+STORAGE = 65_536
+MOST_SHOWN = 256
+SECONDS = 120
+
+
+class Row(NamedTuple):
+    name: str
+    script: bytes
+    answers: bytes
+    args: list[str]
+
+
+def rows():
+    for script in sorted(ROWS.glob("*/*")):
+        if script.suffix not in (".stdout", ".args"):
+            args = script.with_name(f"{script.name}.args")
+            words = args.read_text().splitlines() if args.exists() else []
+            answers = script.with_name(f"{script.name}.stdout").read_bytes()
+            yield Row(str(script.relative_to(ROWS)), script.read_bytes(), answers, words)
+    for script in sorted((TOP / "examples").glob("*.s360")):
+        answers = script.with_suffix(".answers").read_bytes()
+        yield Row(f"examples/{script.name}", script.read_bytes(), answers, [])
+
+
+def run(program, args, script, **how):
+    """Carries a script out, where the decks and tapes stand that its command line names."""
+    folder = MEDIA if MEDIA.is_dir() else TOP
+    return subprocess.run(
+        [program, *args], input=script, capture_output=True, cwd=folder, timeout=SECONDS, **how
+    )
+
+
+def show_lines(args):
+    """The lines that show all that can be shown."""
+    size = int(args[args.index("--storage") + 1]) if "--storage" in args else STORAGE
+    yield from ("show psw", "show regs", "standing", "last p")
+    yield from (f"last r {number:X}" for number in range(16))
+    yield from (f"show s {at:X} {MOST_SHOWN}" for at in range(0, size, MOST_SHOWN))
+
+
+def script_of(lines):
+    return "".join(f"{line}\n" for line in lines).encode()
+
+
+def difference(want, found):
+    lines = [text.decode(errors="replace").splitlines() for text in (want, found)]
+    return "\n".join(difflib.unified_diff(*lines, "wanted", "answered", lineterm=""))
+
+
+def fault_of_text(row, found):
+    if found == row.answers:
+        return None
+    return difference(row.answers, found) or "the answers differ in bytes that no line shows"
+
+
+def fault_of_answers(row, program):
+    done = run(program, row.args, row.script)
+    if done.returncode != 0 or done.stderr:
+        return f"status {done.returncode}: {done.stderr.decode(errors='replace')}"
+    return fault_of_text(row, done.stdout)
+
+
+def fault_of_taking_back(row, program):
+    """What is other than at the start, once all that stands is taken back."""
+    script = row.script + b"\n"
+    counted = run(program, row.args, script + b"standing\n").stdout.split()
+    if len(counted) < 2 or counted[-2] != b"standing":
+        return "what stands at the end is not told"
+    shown = script_of(show_lines(row.args))
+    start = run(program, row.args, shown).stdout
+    end = run(program, row.args, script + b"back\n" * int(counted[-1]) + shown).stdout
+    if not start or not end.endswith(b"\n" + start) and end != start:
+        return "taken back whole, it shows\n" + difference(start, end[-len(start) :])
+    return None
+
+
+def proved(wanted):
+    """What is wrong with each row over the program as it was built."""
+    with ThreadPoolExecutor(os.cpu_count()) as pool:
+        return list(
+            pool.map(
+                lambda row: fault_of_answers(row, PROGRAM) or fault_of_taking_back(row, PROGRAM),
+                wanted,
+            )
+        )
+
+
+def unproved(wanted):
+    """What is wrong with each row's answers, by one run of `rt try` over all of them."""
+    with tempfile.TemporaryDirectory() as folder:
+        for number, row in enumerate(wanted):
+            script = pathlib.Path(folder) / f"{number:06}"
+            script.write_bytes(row.script)
+            if row.args:
+                script.with_suffix(".args").write_text("".join(f"{word}\n" for word in row.args))
+        data = [f"--data={file.name}={file}" for file in sorted(MEDIA.glob("*"))]
+        command = ["rt", "try", "--cases", folder, *data]
+        done = subprocess.run(command, cwd=PROGRAM.parent.parent, capture_output=True)
+    # The answers of each script stand behind a line with its name, and its status in a line of
+    # standard error.
+    parts = re.split(rb"(?m)^== (\d{6})\n", done.stdout)[1:]
+    answers = {int(number): text for number, text in zip(parts[::2], parts[1::2])}
+    said = done.stderr.decode(errors="replace")
+    ends = dict(re.findall(r"(?m)^case=(\d{6}) (.*)$", said))
+    if not ends:
+        return [said] * len(wanted)
+    return [
+        fault_of_text(row, answers.get(number, b""))
+        if "status=0" in (end := ends.get(f"{number:06}", "it was not run"))
+        else end
+        for number, row in enumerate(wanted)
+    ]
+
+
+def main():
+    parser = argparse.ArgumentParser(
+        description=__doc__, formatter_class=argparse.RawTextHelpFormatter
+    )
+    parser.add_argument("--unproved", action="store_true", help="by `rt try`, with no proof")
+    parser.add_argument("words", nargs="*", metavar="WORD", help="what the path of a row has in it")
+    options = parser.parse_args()
+    wanted = [r for r in rows() if not options.words or any(w in r.name for w in options.words)]
+    faults = unproved(wanted) if options.unproved else proved(wanted)
+    failed = [(row, fault) for row, fault in zip(wanted, faults) if fault]
+    for row, fault in failed:
+        print(f"{row.name}: {fault}")
+    print(f"{len(wanted) - len(failed)} passed, {len(failed)} failed")
+    return 1 if failed or not wanted else 0
+
+
+if __name__ == "__main__":
+    sys.exit(main())
