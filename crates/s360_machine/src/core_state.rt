@@ -191,7 +191,7 @@ impl Core {
         for i in 0..plan.len() {
             let cell = plan.cell(i);
             if self.value(cell.place) != cell.value {
-                cells.push(cell)?;
+                cells.push_reserved(cell);
             }
         }
         Ok(cells)

@@ -1,8 +1,8 @@
 pub mod PlaceLemmas
 pub mod ExchangeLemmas
 pub mod PlanLemmas
+pub mod PlanPartLemmas
 pub mod OrderOfPlaces
-pub mod PositionLemmas
 pub mod ProtectionLemmas
 pub mod AscendingLemmas
 pub mod DifferenceLemmas

@@ -1,8 +1,7 @@
--- What a put does to a plan.
-use Rattle.std.proofs.Common.{◌≡◌, ◌≢◌, ◌<◌, ◌+◌, ◌++◌, ℕ, List, [], ◌∷◌, refl, ap, sym, ◌∙◌, take, set, get_or, length, arith, subst, Bool, true, false, cond, suc, zero}
-use Rattle.std.proofs.Common.{Some, None}
+-- Places that are one, and what a put does to a plan.
+use Rattle.std.proofs.Common.{◌≡◌, ◌≢◌, ◌<◌, ◌≤◌, ◌-◌, ◌++◌, ◌⊎◌, inl, inr, ℕ, List, [], ◌∷◌, refl, ap, sym, ◌∙◌, length, arith, Bool, true, false, cond}
+use Rattle.std.proofs.Common.{Some, IsSome}
 use Rattle.std.proofs.lemmas.Bool.{eq-eqb, eqb-true}
-use Rattle.std.proofs.lemmas.List.{take_more}
 use Rattle.s360_model.specs.Core.{Core}
 use Rattle.s360_store.specs.declared.place.Place.{Place}
 use Rattle.s360_store.specs.declared.place.Place.TheVariants.{Psw, Register, Byte, Key, Run, External, UnitState, UnitMedia}
@@ -10,7 +9,6 @@ use Rattle.s360_store.specs.declared.place.Cell.{Cell}
 use Rattle.s360_store.specs.Places.{with_value, same_place}
 use Rattle.s360_store.specs.Cells.{after_exchange, IsFresh, HasEachOnce}
 use Rattle.s360_store.specs.Plans.{after_put, planned_value}
-use Rattle.s360_store.specs.PlanIndex.{IsCellAt}
 use Rattle.s360_store.proofs.PlaceLemmas.{with_value-twice}
 use Rattle.s360_store.proofs.ExchangeLemmas.{after_exchange-with_value}
 
@@ -41,19 +39,17 @@ same_place-false p q h =
     = λ b. elim b as (λ x. same_place p q ≡ x → x ≡ false) [ true ↦ λ e. absurd (h (same_place-true p q e)) | false ↦ λ e. refl ]
     in by (same_place p q) refl
 
-pub after_put-fresh : (cs : List Cell) (p : Place) (v : ℕ) → IsFresh p cs → after_put cs p v ≡ cs ++ record { place = p; value = v } ∷ []
-after_put-fresh [] p v h = refl
-after_put-fresh (c ∷ cs) p v h =
-    rw (same_place-false c.place p (λ e. h.0 (sym e))) (ap (λ l. c ∷ l) (after_put-fresh cs p v h.1))
+pub differs : (p q : Place) → same_place p q ≡ false → p ≢ q
+differs p q e s = let r : same_place p p ≡ false = rw (← s) at e in let t : same_place p p ≡ true = same_place-refl p in cc
 
-pub after_put-found : (cs : List Cell) (p : Place) (v : ℕ) (i : ℕ) → IsCellAt cs i p → after_put cs p v ≡ set cs i (record { place = p; value = v })
-after_put-found [] p v i at = absurd (omega (arith, at.within))
-after_put-found (c ∷ cs) p v zero at =
-    let e : c.place ≡ p = at.is c
-    in rw (subst (λ q. same_place c.place q ≡ true) e (same_place-refl c.place)) (ap (λ q. record { place = q; value = v } ∷ cs) e)
-after_put-found (c ∷ cs) p v (suc i) at =
-    let rest : IsCellAt cs i p = record { within = omega (arith, at.within); first = at.first.1; is = at.is }
-    in rw (same_place-false c.place p (λ f. at.first.0 (sym f))) (ap (λ l. c ∷ l) (after_put-found cs p v i rest))
+pub same_place-sym : (p q : Place) → same_place p q ≡ same_place q p
+same_place-sym p q =
+    let by : (b : Bool) → same_place p q ≡ b → b ≡ same_place q p
+    = λ b. elim b as (λ x. same_place p q ≡ x → x ≡ same_place q p) [
+      | true ↦ λ e. let s : p ≡ q = same_place-true p q e in rw s (sym (same_place-refl q))
+      | false ↦ λ e. sym (same_place-false q p (λ s. differs p q e (sym s)))
+    ]
+    in by (same_place p q) refl
 
 -- a put in a plan is a value put in the core that the plan makes
 pub after_exchange-after_put : (m : Core) (cs : List Cell) (p : Place) (v : ℕ) → HasEachOnce cs → after_exchange m (after_put cs p v) ≡ with_value (after_exchange m cs) p v
@@ -71,36 +67,36 @@ after_exchange-after_put m (c ∷ cs) p v h =
     ]
     in by (same_place c.place p) refl
 
-pub IsFresh-set : (cs : List Cell) (i : ℕ) (x d : Cell) (p : Place) → x.place ≡ (get_or cs i d).place → IsFresh p cs → IsFresh p (set cs i x)
-IsFresh-set [] i x d p e h = tt
-IsFresh-set (c ∷ cs) zero x d p e h = ((λ f. h.0 (f ∙ e)), h.1)
-IsFresh-set (c ∷ cs) (suc i) x d p e h = (h.0, IsFresh-set cs i x d p e h.1)
-
-pub HasEachOnce-set : (cs : List Cell) (i : ℕ) (x d : Cell) → x.place ≡ (get_or cs i d).place → HasEachOnce cs → HasEachOnce (set cs i x)
-HasEachOnce-set [] i x d e h = tt
-HasEachOnce-set (c ∷ cs) zero x d e h = (rw e h.0, h.1)
-HasEachOnce-set (c ∷ cs) (suc i) x d e h = (IsFresh-set cs i x d c.place e h.0, HasEachOnce-set cs i x d e h.1)
-
 pub IsFresh-push : (cs : List Cell) (x : Cell) (p : Place) → p ≢ x.place → IsFresh p cs → IsFresh p (cs ++ x ∷ [])
 IsFresh-push [] x p n h = (n, tt)
 IsFresh-push (c ∷ cs) x p n h = (h.0, IsFresh-push cs x p n h.1)
 
-pub HasEachOnce-push : (cs : List Cell) (x : Cell) → IsFresh x.place cs → HasEachOnce cs → HasEachOnce (cs ++ x ∷ [])
-HasEachOnce-push [] x f h = (tt, tt)
-HasEachOnce-push (c ∷ cs) x f h = (IsFresh-push cs x c.place (λ e. f.0 (sym e)) h.0, HasEachOnce-push cs x f.1 h.1)
+pub IsFresh-after_put : (cs : List Cell) (p q : Place) (v : ℕ) → q ≢ p → IsFresh q cs → IsFresh q (after_put cs p v)
+IsFresh-after_put [] p q v n h = (n, tt)
+IsFresh-after_put (c ∷ cs) p q v n h =
+    let by : (b : Bool) → IsFresh q (cond b (record { place = c.place; value = v } ∷ cs) (c ∷ after_put cs p v))
+    = λ b. elim b as (λ x. IsFresh q (cond x (record { place = c.place; value = v } ∷ cs) (c ∷ after_put cs p v)))
+    [ true ↦ (h.0, h.1) | false ↦ (h.0, IsFresh-after_put cs p q v n h.1) ]
+    in by (same_place c.place p)
 
-pub IsFresh-more : (cs : List Cell) (i : ℕ) (d : Cell) (p : Place) → i < length cs → IsFresh p (take i cs) → p ≢ (get_or cs i d).place → IsFresh p (take (i + 1) cs)
-IsFresh-more cs i d p l h n = rw (take_more cs i d l) (IsFresh-push (take i cs) (get_or cs i d) p n h)
+-- a put keeps each place to one cell
+pub HasEachOnce-after_put : (cs : List Cell) (p : Place) (v : ℕ) → HasEachOnce cs → HasEachOnce (after_put cs p v)
+HasEachOnce-after_put [] p v h = (tt, tt)
+HasEachOnce-after_put (c ∷ cs) p v h =
+    let by : (b : Bool) → same_place c.place p ≡ b → HasEachOnce (cond b (record { place = c.place; value = v } ∷ cs) (c ∷ after_put cs p v))
+    = λ b. elim b as (λ x. same_place c.place p ≡ x → HasEachOnce (cond x (record { place = c.place; value = v } ∷ cs) (c ∷ after_put cs p v))) [
+      | true ↦ λ e. h
+      | false ↦ λ e. (IsFresh-after_put cs p c.place v (differs c.place p e) h.0, HasEachOnce-after_put cs p v h.1)
+    ]
+    in by (same_place c.place p) refl
 
-pub planned_value-fresh : (cs : List Cell) (p : Place) → IsFresh p cs → planned_value cs p ≡ None
-planned_value-fresh [] p h = refl
-planned_value-fresh (c ∷ cs) p h = rw (same_place-false c.place p (λ e. h.0 (sym e))) (planned_value-fresh cs p h.1)
-
-pub planned_value-found : (cs : List Cell) (p : Place) (i : ℕ) (d : Cell) → IsCellAt cs i p → planned_value cs p ≡ Some (get_or cs i d).value
-planned_value-found [] p i d at = absurd (omega (arith, at.within))
-planned_value-found (c ∷ cs) p zero d at =
-    let e : c.place ≡ p = at.is c
-    in rw (subst (λ q. same_place c.place q ≡ true) e (same_place-refl c.place)) refl
-planned_value-found (c ∷ cs) p (suc i) d at =
-    let rest : IsCellAt cs i p = record { within = omega (arith, at.within); first = at.first.1; is = at.is }
-    in rw (same_place-false c.place p (λ f. at.first.0 (sym f))) (planned_value-found cs p i d rest)
+-- a put at a place that is there adds none, and any other adds one
+pub length-after_put-le : (cs : List Cell) (p : Place) (v n : ℕ) → IsSome (planned_value cs p) ⊎ (length cs < n) → length cs ≤ n → length (after_put cs p v) ≤ n
+length-after_put-le [] p v n room few = elim room [ inl h ↦ absurd (cc) | inr h ↦ omega arith ]
+length-after_put-le (c ∷ cs) p v n room few =
+    let by : (b : Bool) → IsSome (cond b (Some c.value) (planned_value cs p)) ⊎ (length (c ∷ cs) < n) → length (cond b (record { place = c.place; value = v } ∷ cs) (c ∷ after_put cs p v)) ≤ n
+    = λ b. elim b as (λ x. IsSome (cond x (Some c.value) (planned_value cs p)) ⊎ (length (c ∷ cs) < n) → length (cond x (record { place = c.place; value = v } ∷ cs) (c ∷ after_put cs p v)) ≤ n) [
+      | true ↦ λ r. few
+      | false ↦ λ r. omega (arith, length-after_put-le cs p v (n - 1) (elim r [ inl h ↦ inl h | inr h ↦ inr (omega arith) ]) (omega arith))
+    ]
+    in by (same_place c.place p) room

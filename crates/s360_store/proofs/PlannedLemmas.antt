@@ -7,23 +7,12 @@ use Rattle.s360_store.specs.Places.{same_place, with_value, value_at, IsPlaceOf,
 use Rattle.s360_store.specs.Cells.{after_exchange, IsFresh, HasEachOnce, AreCellsOf}
 use Rattle.s360_store.specs.Plans.{after_put, planned_value, IsPlanOf}
 use Rattle.s360_store.proofs.PlaceLemmas.{value_at-same, value_at-other, IsPlaceOf-kept}
-use Rattle.s360_store.proofs.PlanLemmas.{same_place-refl, same_place-true, after_exchange-after_put}
+use Rattle.s360_store.proofs.PlanLemmas.{same_place-true, differs, IsFresh-after_put, after_exchange-after_put}
 use Rattle.s360_store.proofs.ExchangeLemmas.{value_at-after_exchange, AreCellsOf-kept}
-
-differs : (p q : Place) → same_place p q ≡ false → p ≢ q
-differs p q e s = let r : same_place p p ≡ false = rw (← s) at e in let t : same_place p p ≡ true = same_place-refl p in cc
 
 pub HasEachOnce-from : (m : Core) (cs : List Cell) → AreCellsOf m cs → HasEachOnce cs
 HasEachOnce-from m [] h = tt
 HasEachOnce-from m (c ∷ cs) h = (h.2, HasEachOnce-from m cs h.3)
-
-pub IsFresh-after_put : (cs : List Cell) (p q : Place) (v : ℕ) → q ≢ p → IsFresh q cs → IsFresh q (after_put cs p v)
-IsFresh-after_put [] p q v n h = (n, tt)
-IsFresh-after_put (c ∷ cs) p q v n h =
-    let by : (b : Bool) → IsFresh q (cond b (record { place = c.place; value = v } ∷ cs) (c ∷ after_put cs p v))
-    = λ b. elim b as (λ x. IsFresh q (cond x (record { place = c.place; value = v } ∷ cs) (c ∷ after_put cs p v)))
-    [ true ↦ (h.0, h.1) | false ↦ (h.0, IsFresh-after_put cs p q v n h.1) ]
-    in by (same_place c.place p)
 
 pub AreCellsOf-after_put : (m : Core) (cs : List Cell) (p : Place) (v : ℕ) → AreCellsOf m cs → IsPlaceOf m p → Fits p v → AreCellsOf m (after_put cs p v)
 AreCellsOf-after_put m [] p v h i f = (i, f, tt, tt)

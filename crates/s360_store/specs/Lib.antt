@@ -2,6 +2,6 @@ pub mod Places
 pub mod Order
 pub mod Cells
 pub mod Plans
-pub mod PlanIndex
+pub mod PlanParts
 pub mod Protection
 pub mod Differences

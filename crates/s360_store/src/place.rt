@@ -5,9 +5,10 @@ ghost use Rattle.s360_store.specs.Places.{same_place};
 use s360_word::Unit;
 
 /// A place of the machine. The order is that of the variants, and within one that of its numbers.
-#[derive(Clone, Copy, Debug, PartialEq, Eq, PartialOrd, Ord)]
+#[derive(Clone, Copy, Debug, Default, PartialEq, Eq, PartialOrd, Ord, Hash)]
 pub enum Place {
     /// The current program status word.
+    #[default]
     Psw,
     /// A general register, by its number from 0 to 15.
     Register(u8),
@@ -26,7 +27,7 @@ pub enum Place {
 }
 
 /// A place with a value of it: a PSW's 64 bits, a register's word, a byte, or a key's number.
-#[derive(Clone, Copy, Debug, PartialEq, Eq)]
+#[derive(Clone, Copy, Debug, Default, PartialEq, Eq)]
 pub struct Cell {
     pub place: Place,
     pub value: u64,

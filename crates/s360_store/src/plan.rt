@@ -1,44 +1,45 @@
 //! The plan of an event: the values that it will put, each place at most once, in the order of
 //! their first puts. A contract sees the list of its cells.
 //!
-//! A plan of a few places is scanned. A longer one has an index by place, so that neither a put nor
-//! a look-up takes more than logarithmic time.
-ghost use Rattle.std.specs.Prelude.{◌≡◌, ◌<◌, ◌≤◌, ◌⊎◌, ◌++◌, ◌∷◌, [], length, slice_index_or};
-ghost use Rattle.std.specs.Prelude.{OnOk, OnErr, IfOk, IsSome, Some, slice_get, position, IsTrue};
-ghost use Rattle.std.specs.Prelude.{◌↔◌};
+//! The first few places stand within the plan, where a look at each finds one, and take no memory.
+//! The others stand in a map that keeps their order, so that a put and a look-up take constant
+//! time.
+ghost use Rattle.std.specs.Prelude.{◌≡◌, ◌<◌, ◌≤◌, ◌⊎◌, ◌↔◌, [], length, slice_get};
+ghost use Rattle.std.specs.Prelude.{OnOk, OnErr, IsSome, Some, position, IsTrue};
 ghost use Rattle.s360_store.specs.Places.{same_place};
-ghost use Rattle.s360_store.specs.Cells.{HasEachOnce, IsFresh};
+ghost use Rattle.s360_store.specs.Cells.{HasEachOnce};
 ghost use Rattle.s360_store.specs.Plans.{after_put, planned_value};
-ghost use Rattle.s360_store.specs.PlanIndex.{IsIndexOf, IsIndexedFrom, IsPositionOf};
+ghost use Rattle.s360_store.specs.PlanParts.{cells_of, cells_of_entries};
 
 use crate::place::{Cell, Place};
+use arrayvec::ArrayVec;
+use indexmap::IndexMap;
 use std::alloc::{AllocError, Global};
-use std::collections::BTreeMap;
 use std::marker::Model;
 
-/// A plan of at most so many places is scanned.
-const SCANNED: usize = 8;
+/// So many places stand within a plan.
+const WITHIN: usize = 8;
 
 /// Values for places, each place at most once, in the order in which they were first put.
 #[derive(Drop)]
 pub struct Plan {
-    cells: Vec<Cell>,
-    /// Where each place stands, once there are more than `SCANNED`.
-    index: BTreeMap<Place, u32>,
+    /// The cells of the places that were put first.
+    few: ArrayVec<Cell, WITHIN>,
+    /// The values of the places after those, once there are any.
+    many: Option<IndexMap<Place, u64>>,
     alloc: Global,
 }
 
 impl Model for Plan {
-    ghost use Rattle.std.specs.Prelude.{List, ◌≤◌, length};
+    ghost use Rattle.std.specs.Prelude.{List};
     ghost use Rattle.s360_store.specs.declared.place.Cell.{Cell};
-    ghost use Rattle.s360_store.specs.Cells.{HasEachOnce};
-    ghost use Rattle.s360_store.specs.PlanIndex.{IsIndexedFrom};
+    ghost use Rattle.s360_store.specs.PlanParts.{plan_of_parts, ArePartsOfPlan};
 
     ghost Value = { List Cell };
 
-    ghost view = { λ p. p.cells.items };
+    ghost view = { λ p. plan_of_parts p.few.items p.many };
 
-    ghost invariant = { λ p. HasEachOnce p.cells.items × (length p.cells.items ≤ 1000000) × IsIndexedFrom 8 (⟦<Place as Ord>⟧.cmp) p.index p.cells.items };
+    ghost invariant = { λ p. ArePartsOfPlan p.few.items p.many };
 }
 
 /// Where the cell of a place stands, found by a look at each.
@@ -48,44 +49,46 @@ fn scan(cells: &[Cell], place: Place) -> Option<usize>
     cells.iter().position(|cell| cell.place.is(place))
 }
 
-/// An index of the cells by their places.
-fn index_of(alloc: Global, cells: &[Cell]) -> Result<BTreeMap<Place, u32>, AllocError>
-    requires once { HasEachOnce cells.now }
-    requires few { length cells.now ≤ 1000000 }
-    ensures { IfOk result (λ m. IsIndexOf (⟦<Place as Ord>⟧.cmp) m cells.now) }
+/// Puts a value at a place of a map. Want of memory leaves its entries as they were.
+fn insert(map: &mut IndexMap<Place, u64>, place: Place, value: u64) -> Result<(), AllocError>
+    ensures ok { OnOk result (cells_of_entries map.new.entries ≡ after_put (cells_of_entries map.old.entries) place value) }
+    ensures err { OnErr result (map.new.entries ≡ map.old.entries) }
 {
-    let mut index = BTreeMap::new(alloc);
-    for (i, cell) in cells.iter().enumerate() {
-        index.insert(cell.place, i as u32)?;
-    }
-    Ok(index)
+    map.insert(place, value)?;
+    Ok(())
 }
 
-/// Makes an index of the cells and one more, where there are enough to need it.
-fn add_to_index(
+/// Puts a value at a place of the map, which the first such put makes. Want of memory leaves its
+/// cells as they were.
+#[inline(never)]
+fn put_past_few(
     alloc: Global,
-    index: &mut BTreeMap<Place, u32>,
-    cells: &[Cell],
-    cell: Cell,
+    many: &mut Option<IndexMap<Place, u64>>,
+    place: Place,
+    value: u64,
 ) -> Result<(), AllocError>
-    requires fresh { IsFresh cell.place cells.now }
-    requires once { HasEachOnce cells.now }
-    requires few { length cells.now < 1000000 }
-    requires kept { IsIndexedFrom 8 (⟦<Place as Ord>⟧.cmp) index.old cells.now }
-    ensures ok { OnOk result (IsIndexedFrom 8 (⟦<Place as Ord>⟧.cmp) index.new (cells.now ++ cell ∷ [])) }
-    ensures err { OnErr result (IsIndexedFrom 8 (⟦<Place as Ord>⟧.cmp) index.new cells.now) }
+    ensures ok { OnOk result (cells_of many.new ≡ after_put (cells_of many.old) place value) }
+    ensures err { OnErr result (cells_of many.new ≡ cells_of many.old) }
 {
-    if cells.len() < SCANNED {
-        return Ok(());
+    match many {
+        Some(map) => insert(map, place, value)?,
+        None => {
+            let mut map = IndexMap::new(alloc);
+            insert(&mut map, place, value)?;
+            *many = Some(map);
+        }
     }
-    if cells.len() > SCANNED {
-        index.insert(cell.place, cells.len() as u32)?;
-        return Ok(());
-    }
-    let mut first = index_of(alloc, cells)?;
-    first.insert(cell.place, cells.len() as u32)?;
-    *index = first;
     Ok(())
+}
+
+/// The value that a map has for a place, if there is one.
+fn look_up(many: &Option<IndexMap<Place, u64>>, place: Place) -> Option<u64>
+    ensures { result ≡ planned_value (cells_of many.now) place }
+{
+    match many {
+        Some(map) => map.get(&place).copied(),
+        None => None,
+    }
 }
 
 impl Plan {
@@ -94,8 +97,8 @@ impl Plan {
         ensures { result ≡ [] }
     {
         Plan {
-            cells: Vec::new(alloc),
-            index: BTreeMap::new(alloc),
+            few: ArrayVec::new(),
+            many: None,
             alloc,
         }
     }
@@ -106,14 +109,18 @@ impl Plan {
         ensures few { result ≤ 1000000 }
         ensures once { HasEachOnce self.now }
     {
-        self.cells.len() as u32
+        let many = match &self.many {
+            Some(map) => map.len(),
+            None => 0,
+        };
+        (self.few.len() + many) as u32
     }
 
     /// Whether nothing was put.
     pub fn is_empty(&self) -> bool
         ensures { IsTrue result ↔ (self.now ≡ []) }
     {
-        self.cells.is_empty()
+        self.few.is_empty()
     }
 
     /// The cell at `i`, counted from 0 in the order of the first puts.
@@ -121,44 +128,37 @@ impl Plan {
         requires { i < length self.now }
         ensures { slice_get self.now i ≡ Some result }
     {
-        self.cells[i as usize]
-    }
-
-    /// Where the cell of a place stands.
-    fn position(&self, place: Place) -> Option<usize>
-        ensures { IsPositionOf result self.now place }
-    {
-        if self.cells.len() <= SCANNED {
-            scan(&self.cells, place)
-        } else {
-            self.index.get(&place).map(|at| *at as usize)
+        let i = i as usize;
+        if i < self.few.len() {
+            return self.few[i];
+        }
+        match &self.many {
+            Some(map) => {
+                let (place, value) = map.get_index(i - self.few.len()).unwrap();
+                Cell {
+                    place: *place,
+                    value: *value,
+                }
+            }
+            None => unreachable!(),
         }
     }
 
     /// Puts a value at a place. A second value for a place replaces the first. Want of memory
     /// leaves the plan as it was.
+    #[inline(always)]
     pub fn put(&mut self, place: Place, value: u64) -> Result<(), AllocError>
         requires { IsSome (planned_value self.old place) ⊎ (length self.old < 1000000) }
         ensures ok { OnOk result (self.new ≡ after_put self.old place value) }
         ensures err { OnErr result (self.new ≡ self.old) }
     {
-        match self.position(place) {
-            Some(at) => self.cells[at] = Cell { place, value },
-            None => self.push(Cell { place, value })?,
+        if let Some(at) = scan(&self.few, place) {
+            self.few[at] = Cell { place, value };
+        } else if self.few.len() < WITHIN {
+            self.few.push(Cell { place, value });
+        } else {
+            put_past_few(self.alloc, &mut self.many, place, value)?;
         }
-        Ok(())
-    }
-
-    /// Adds the cell of a place that has none.
-    fn push(&mut self, cell: Cell) -> Result<(), AllocError>
-        requires fresh { IsFresh cell.place self.old }
-        requires few { length self.old < 1000000 }
-        ensures ok { OnOk result (self.new ≡ self.old ++ cell ∷ []) }
-        ensures err { OnErr result (self.new ≡ self.old) }
-    {
-        self.cells.reserve(1)?;
-        add_to_index(self.alloc, &mut self.index, &self.cells, cell)?;
-        self.cells.push_reserved(cell);
         Ok(())
     }
 
@@ -166,7 +166,9 @@ impl Plan {
     pub fn value(&self, place: Place) -> Option<u64>
         ensures { result ≡ planned_value self.now place }
     {
-        let at = self.position(place)?;
-        Some(self.cells[at].value)
+        match scan(&self.few, place) {
+            Some(at) => Some(self.few[at].value),
+            None => look_up(&self.many, place),
+        }
     }
 }

@@ -1,32 +1,68 @@
-use Rattle.std.proofs.Common.{◌≡◌, ◌≤◌, ℕ, None, true, sym, ◌∙◌, length, inl, inr}
+use Rattle.std.proofs.Common.{◌≡◌, ◌<◌, ◌++◌, [], List, None, sym, ap, ◌∙◌, length, append-nil, arith, set}
 use Rattle.std.proofs.lemmas.List.{length-set}
-use Rattle.std.specs.Option.{is_some}
+use Rattle.std.specs.List.{refill}
+use Rattle.arrayvec.proofs.ArrayVecLemmas.{items-with_items}
 use Rattle.s360_store.specs.declared.place.Cell.{Cell}
-use Rattle.s360_store.specs.PlanIndex.{IsCellAt}
-use Rattle.s360_store.specs.Plans.{planned_value}
-use Rattle.s360_store.proofs.PlanLemmas.{after_put-fresh, after_put-found, HasEachOnce-set, planned_value-fresh}
-use Rattle.s360_store.proofs.PositionLemmas.{IsPositionOf-set}
+use Rattle.s360_store.specs.Cells.{IsFresh}
+use Rattle.s360_store.specs.Plans.{after_put}
+use Rattle.s360_store.specs.PlanParts.{cells_of, plan_of_parts, IsCellAt}
+use Rattle.s360_store.proofs.PlanPartLemmas.{IsCellAt-scan, IsFresh-scan, after_put-front, after_put-behind, ArePartsOfPlan-after_put}
 use Rattle.s360_store.proofs.plan.Plan.put.Goals as goal
+
+-- a second put at a place within the plan
+abbrev cell : goal.After-self-1 → Cell
+cell c = record { place = c.args.place; value = c.args.value }
+
+abbrev written : goal.After-self-1 → List Cell
+written c = refill (length c.self.inside.few.items) c.self.inside.few.items (set c.deref_mut.result.now c.in-Some.at (cell c))
+
+written_is : (c : goal.After-self-1) → written c ≡ set c.self.inside.few.items c.in-Some.at (cell c)
+written_is c = rw c.deref_mut.ensures.value (items-with_items c.self.inside.few (set c.self.inside.few.items c.in-Some.at (cell c)) (length-set _ _ _))
+
+front : (c : goal.After-self-1) → plan_of_parts (written c) c.self.inside.many ≡ after_put c.args.self.now c.args.place c.args.value
+front c =
+    let here : IsCellAt c.self.inside.few.items c.in-Some.at c.args.place
+    = rw c.deref.ensures.0 at (IsCellAt-scan c.deref.result.now c.args.place c.in-Some.at c.in-Some.ensures)
+    in rw (written_is c, ← c.self.view_is) (sym (after_put-front c.self.inside.few.items (cells_of c.self.inside.many) c.args.place c.args.value c.in-Some.at here))
 
 pub invariant_of-self : goal.invariant_of-self
 invariant_of-self c =
-    let x : Cell = record { place = c.args.place; value = c.args.value }
-    in let here : IsCellAt c.self.inside.cells.items c.in-Some.at c.args.place = rw c.self.view_is c.in-Some.ensures
-    in let few : length c.self.inside.cells.items ≤ 1000000 = c.self.invariant.1
-    in (
-      HasEachOnce-set c.self.inside.cells.items c.in-Some.at x x (sym (here.is x)) c.self.invariant.0,
-      rw length-set few,
-      λ many p. IsPositionOf-set c.self.inside.cells.items c.in-Some.at c.args.place p c.args.value _ here
-          (c.self.invariant.2 (rw length-set at many) p),
-    )
-
-pub push-requires-clause-few : goal.push-requires-clause-few
-push-requires-clause-few c =
-    let absent : planned_value c.args.self.now c.args.place ≡ None = planned_value-fresh _ _ c.in-None.ensures
-    in elim c.requires [ inl listed ↦ (let none : is_some {T = ℕ} None ≡ true = rw absent at listed in cc) | inr few ↦ few ]
+    let in_turn : length (written c) < 8 → c.self.inside.many ≡ None = rw (written_is c, length-set) c.self.invariant.in_turn
+    in ArePartsOfPlan-after_put c.self.inside.few.items (written c) c.self.inside.many c.self.inside.many c.args.place c.args.value c.self.invariant
+    (rw c.self.view_is c.requires) (rw c.self.view_is (front c)) in_turn
 
 pub returns-in-Some-clause-ok : goal.returns-in-Some-clause-ok
-returns-in-Some-clause-ok c = rw c.self.view_is (sym (after_put-found _ _ _ _ c.in-Some.ensures))
+returns-in-Some-clause-ok c = front c
 
-pub returns-in_ok-push-in-None-clause-ok : goal.returns-in_ok-push-in-None-clause-ok
-returns-in_ok-push-in-None-clause-ok c = c.in_ok-push-in-None.ensures.ok ∙ sym (after_put-fresh _ _ _ c.in-None.ensures)
+-- a first put at a place that stands within the plan
+next : (c : goal.After-push) → plan_of_parts c.push.new.self.items c.self.inside.many ≡ after_put c.args.self.now c.args.place c.args.value
+next c =
+    let fresh : IsFresh c.args.place c.self.inside.few.items
+    = rw c.deref.ensures.0 at (IsFresh-scan c.deref.result.now c.args.place c.in_default.ensures)
+    in let none : c.self.inside.many ≡ None = c.self.invariant.in_turn (omega arith)
+    in rw (← c.self.view_is, none, c.push.ensures.items) (append-nil _ ∙ sym (after_put-behind c.self.inside.few.items [] c.args.place c.args.value fresh))
+
+pub invariant_of-self-then-len-lt-WITHIN : goal.invariant_of-self-then-len-lt-WITHIN
+invariant_of-self-then-len-lt-WITHIN c =
+    let none : c.self.inside.many ≡ None = c.self.invariant.in_turn (omega arith)
+    in ArePartsOfPlan-after_put c.self.inside.few.items c.push.new.self.items c.self.inside.many c.self.inside.many c.args.place c.args.value c.self.invariant
+    (rw c.self.view_is c.requires) (rw c.self.view_is (next c)) (λ l. none)
+
+pub returns-then-len-lt-WITHIN-clause-ok : goal.returns-then-len-lt-WITHIN-clause-ok
+returns-then-len-lt-WITHIN-clause-ok c = next c
+
+-- a put at a place of the map
+behind : (c : goal.In_ok-put_past_few) → plan_of_parts c.self.inside.few.items c.put_past_few.new.many ≡ after_put c.args.self.now c.args.place c.args.value
+behind c =
+    let fresh : IsFresh c.args.place c.self.inside.few.items
+    = rw c.deref.ensures.0 at (IsFresh-scan c.deref.result.now c.args.place c.in_default.ensures)
+    in rw (← c.self.view_is) (ap (λ l. c.self.inside.few.items ++ l) c.in_ok-put_past_few.ensures.ok
+    ∙ sym (after_put-behind c.self.inside.few.items (cells_of c.self.inside.many) c.args.place c.args.value fresh))
+
+pub invariant_of-self-in-Continue-1 : goal.invariant_of-self-in-Continue-1
+invariant_of-self-in-Continue-1 c =
+    ArePartsOfPlan-after_put c.self.inside.few.items c.self.inside.few.items c.self.inside.many c.put_past_few.new.many c.args.place c.args.value c.self.invariant
+    (rw c.self.view_is c.requires) (rw c.self.view_is (behind c)) (λ l. absurd (omega arith))
+
+pub returns-in_ok-put_past_few-clause-ok : goal.returns-in_ok-put_past_few-clause-ok
+returns-in_ok-put_past_few-clause-ok c = behind c
