@@ -7,6 +7,7 @@
 
 mod arithmetic;
 mod condition_code;
+mod laws;
 mod product;
 mod protection_key;
 mod register_number;
@@ -19,6 +20,7 @@ pub use arithmetic::{
     negative_absolute, sub_logical, sub_signed, test,
 };
 pub use condition_code::{Cc, bits_condition};
+pub use laws::shift_overflow_is_a_lost_bit;
 pub use product::{divide, multiply};
 pub use protection_key::ProtectionKey;
 pub use register_number::RegisterNumber;

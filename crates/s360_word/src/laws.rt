@@ -1,0 +1,8 @@
+//! Laws of the definitions, each the contract of a call that does nothing.
+ghost use Rattle.s360_word.specs.Laws.{PairOverflowIsALostBit, WordOverflowIsALostBit};
+
+/// A signed left shift overflows just where a bit is lost that is unlike the sign.
+pub fn shift_overflow_is_a_lost_bit()
+    ensures word { WordOverflowIsALostBit }
+    ensures pair { PairOverflowIsALostBit }
+{}
