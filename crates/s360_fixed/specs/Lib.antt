@@ -8,5 +8,6 @@ pub mod Outcomes
 pub mod Plans
 pub mod Branching
 pub mod Storing
+pub mod Shifting
 pub mod Fetching
 pub mod Fixed

@@ -10,7 +10,9 @@ use Rattle.s360_store.specs.declared.protection.Checked.{Checked}
 use Rattle.s360_store.specs.declared.protection.Checked.TheVariants.{Clear, Addressing, Protection}
 use Rattle.s360_store.specs.Protection.{access}
 use Rattle.s360_fixed.specs.declared.second_operand.SecondOperand.{SecondOperand}
-use Rattle.s360_fixed.specs.declared.second_operand.SecondOperand.TheVariants.{Word, Halfword, Byte, Address}
+use Rattle.s360_fixed.specs.declared.second_operand.SecondOperand.TheVariants.{InStorage, Address}
+use Rattle.s360_fixed.specs.declared.second_operand.Width.{Width}
+use Rattle.s360_fixed.specs.declared.second_operand.Width.TheVariants.{Byte, Halfword, Word}
 use Rattle.s360_fixed.specs.ProgramCodes.{Conditions, no_conditions, program_code}
 use Rattle.s360_fixed.specs.declared.program_code.ProgramCode.{ProgramCode}
 use Rattle.s360_fixed.specs.declared.program_code.ProgramCode.TheVariants.{Addressing as addressing_code, Protection as protection_code}
@@ -58,11 +60,24 @@ extended_halfword half = if nat_lt half 0x8000 then half else half + 0xFFFF_0000
 abbrev pub word_operand : ℕ → Operand
 word_operand word = record { conditions = no_conditions; value = word }
 
--- a second operand in storage
+-- the bytes of an operand in storage
+abbrev pub bytes_of_width : Width → ℕ
+bytes_of_width Byte = 1
+bytes_of_width Halfword = 2
+bytes_of_width Word = 4
+
+-- the word that they are
+abbrev pub word_in : Width → List ℕ → ℕ → ℕ
+word_in Byte bytes address = slice_index bytes address
+word_in Halfword bytes address = extended_halfword (halfword_at bytes address)
+word_in Word bytes address = word_at bytes address
+
+-- a second operand in storage, on the boundary of its width, or an address
 abbrev pub storage_operand : Core → SecondOperand → ℕ → Operand
-storage_operand m Word address = record { conditions = access_conditions m address 4 4 Fetch; value = word_at m.storage.bytes address }
-storage_operand m Halfword address = record { conditions = access_conditions m address 2 2 Fetch; value = extended_halfword (halfword_at m.storage.bytes address) }
-storage_operand m Byte address = record { conditions = access_conditions m address 1 1 Fetch; value = slice_index m.storage.bytes address }
+storage_operand m (InStorage width) address = record {
+  conditions = access_conditions m address (bytes_of_width width) (bytes_of_width width) Fetch;
+  value = word_in width m.storage.bytes address;
+}
 storage_operand m Address address = word_operand address
 
 -- the value of an operand, or what keeps it from being used

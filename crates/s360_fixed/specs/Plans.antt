@@ -1,5 +1,5 @@
 -- What the plan of an instruction says of its outcome.
-use Rattle.std.specs.Prelude.{◌≡◌, ◌≤◌, ◌+◌, ℕ, List, length}
+use Rattle.std.specs.Prelude.{◌≡◌, List}
 use Rattle.s360_model.specs.Core.{Core}
 use Rattle.s360_store.specs.declared.place.Cell.{Cell}
 use Rattle.s360_store.specs.Plans.{IsPlanOf}
@@ -10,8 +10,3 @@ use Rattle.s360_fixed.specs.View.{Outcome}
 pub record PlansOutcome (m : Core) (plan : List Cell) (outcome : Outcome) (ended : Ended) : Type 0 where
   pub ends : ended ≡ outcome.ended
   pub makes : IsPlanOf m plan outcome.core
-
--- puts make of the plan of any core that of the core after them, and add at most so many places
-pub record AddsToPlan (m : Core) (old new : List Cell) (count : ℕ) (after : Core → Core) : Type 0 where
-  pub makes : (n : Core) → IsPlanOf m old n → IsPlanOf m new (after n)
-  pub few : length new ≤ length old + count

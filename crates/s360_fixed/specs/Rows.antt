@@ -1,15 +1,12 @@
--- The instruction table: for each operation where its second operand is, the exact result, and the kind
--- of condition code (GA22-6821, "Fixed-Point Arithmetic", "Logical Operations" and "Branching").
-use Rattle.std.specs.Prelude.{ℕ, ◌+◌, ◌*◌, ◌/◌, ◌%◌, Bool, not, int_lt, ℤ, pos, bit_and, bit_or, bit_xor}
+-- The instruction table: what each operation makes of its operands, the exact results, and the kinds of
+-- condition code (GA22-6821, "Fixed-Point Arithmetic", "Logical Operations" and "Branching").
+use Rattle.std.specs.Prelude.{ℕ, ◌+◌, ◌*◌, ◌/◌, ◌%◌, Bool, not, int_lt, ℤ, pos, Option, None, Some, bit_and, bit_or, bit_xor}
 use Rattle.s360_model.specs.Numbers.{signed}
 use Rattle.s360_model.specs.ConditionCodes.{sign_code, signed_code, carry_code, bits_code}
 use Rattle.s360_model.specs.Arithmetic.{signed_sum, signed_difference, signed_complement, absolute_value}
 use Rattle.s360_model.specs.Arithmetic.{negative_absolute_value, logical_sum, logical_difference}
 use Rattle.s360_model.specs.Pairs.{signed_pair_code}
 use Rattle.s360_model.specs.Products.{signed_product}
-use Rattle.s360_model.specs.Shifts.{times_power, over_power, left_word, left_words, right_word, right_words}
-use Rattle.s360_model.specs.Shifts.{logical_left_word, logical_right_word}
-use Rattle.s360_model.specs.Shifts.{logical_left_words, logical_right_words}
 use Rattle.s360_fixed.specs.declared.operation.Operation.{Operation}
 use Rattle.s360_fixed.specs.declared.operation.Operation.TheVariants.{Load, LoadHalfword}
 use Rattle.s360_fixed.specs.declared.operation.Operation.TheVariants.{LoadAndTest, LoadComplement}
@@ -37,40 +34,38 @@ use Rattle.s360_fixed.specs.declared.operation.Operation.TheVariants.{BranchOnCo
 use Rattle.s360_fixed.specs.declared.operation.Operation.TheVariants.{BranchAndLink, BranchOnCount}
 use Rattle.s360_fixed.specs.declared.operation.Operation.TheVariants.{BranchOnIndexHigh}
 use Rattle.s360_fixed.specs.declared.operation.Operation.TheVariants.{BranchOnIndexLowOrEqual}
+use Rattle.s360_fixed.specs.declared.row.Combination.{Combination}
+use Rattle.s360_fixed.specs.declared.row.Combination.TheVariants.{Second, InsertedCharacter, Tested}
+use Rattle.s360_fixed.specs.declared.row.Combination.TheVariants.{Complement, Absolute}
+use Rattle.s360_fixed.specs.declared.row.Combination.TheVariants.{NegativeAbsolute, Sum, Difference}
+use Rattle.s360_fixed.specs.declared.row.Combination.TheVariants.{LogicalSum, LogicalDifference}
+use Rattle.s360_fixed.specs.declared.row.Combination.TheVariants.{Comparison, LogicalComparison}
+use Rattle.s360_fixed.specs.declared.row.Combination.TheVariants.{BitwiseAnd, BitwiseOr}
+use Rattle.s360_fixed.specs.declared.row.Combination.TheVariants.{BitwiseExclusiveOr, LowProduct}
+use Rattle.s360_fixed.specs.declared.row.PairCombination.TheVariants.{Product, Quotient}
+use Rattle.s360_fixed.specs.declared.row.Branch.TheVariants.{OnCondition, AndLink, OnCount}
+use Rattle.s360_fixed.specs.declared.row.Shift.TheVariants.{LeftLogical, RightLogical, Left, Right}
+use Rattle.s360_fixed.specs.declared.row.IndexBranch.{IndexBranch}
+use Rattle.s360_fixed.specs.declared.row.IndexBranch.TheVariants.{High, LowOrEqual}
+use Rattle.s360_fixed.specs.declared.row.Row.{Row}
+use Rattle.s360_fixed.specs.declared.row.Row.TheVariants.{Combine, CombinePair, Branch, StoreBytes}
+use Rattle.s360_fixed.specs.declared.row.Row.TheVariants.{StoreRegisters, LoadRegisters, Shift}
+use Rattle.s360_fixed.specs.declared.row.Row.TheVariants.{ShiftPair, BranchOnIndex}
 use Rattle.s360_fixed.specs.declared.setting.Setting.{Setting}
 use Rattle.s360_fixed.specs.declared.setting.Setting.TheVariants.{Kept, Code, SignedCode}
-use Rattle.s360_fixed.specs.declared.second_operand.SecondOperand.{SecondOperand}
-use Rattle.s360_fixed.specs.declared.second_operand.SecondOperand.TheVariants.{Word, Halfword, Byte, Address}
+use Rattle.s360_fixed.specs.declared.second_operand.SecondOperand.TheVariants.{InStorage, Address}
+use Rattle.s360_fixed.specs.declared.second_operand.Width.TheVariants.{Byte, Halfword, Word}
 
--- the kinds of rows
+-- the kinds of results
 pub data Meaning : Type 0 where
-  -- R1 becomes a word of R1 and the second operand, of which the condition code is set
+  -- a word of R1 and the second operand, of which the condition code is set
   word_result : (ℕ → ℕ → ℕ) → (ℕ → Setting) → Meaning
-  -- R1 becomes the word of an exact signed result
+  -- the word of an exact signed number
   signed_result : (ℕ → ℕ → ℤ) → (ℤ → Setting) → Meaning
-  -- R1 becomes the low 32 bits of an exact unsigned result
+  -- the low 32 bits of an exact unsigned number
   logical_result : (ℕ → ℕ → ℕ) → (ℕ → Setting) → Meaning
-  -- R1 is compared with the second operand, both read in one way
+  -- none: R1 is compared with the second operand, both read in one way
   comparison : (ℕ → ℤ) → Meaning
-  -- the pair R1, R1 + 1 becomes the product of R1 + 1 and the second operand
-  multiplication : Meaning
-  -- the pair R1, R1 + 1 is divided by the second operand: remainder and quotient
-  division_of_pair : Meaning
-  -- so many low bytes of R1 are stored
-  low_bytes_stored : ℕ → Meaning
-  -- registers R1 up to R3, 15 followed by 0, and successive words
-  registers_stored registers_loaded : Meaning
-  -- R1 is shifted by the low six bits of the address
-  logical_shift : (ℕ → ℕ → ℕ) → Meaning
-  signed_shift : (ℕ → ℕ → ℕ) → (ℤ → ℕ → ℤ) → (ℤ → Setting) → Meaning
-  -- the pair R1, R1 + 1 is
-  logical_double_shift : (ℕ → ℕ → ℕ → ℕ × ℕ) → Meaning
-  signed_double_shift : (ℕ → ℕ → ℕ → ℕ × ℕ) → (ℤ → ℕ → ℤ) → (ℤ → Setting) → Meaning
-  branch_on_condition branch_and_link branch_on_count : Meaning
-  -- R1 plus R3 is compared with the comparand
-  branch_on_index : (ℤ → ℤ → Bool) → Meaning
-  -- rows of later chapters
-  elsewhere : Meaning
 
 -- the kinds of condition code
 abbrev pub kept : ℤ → Setting
@@ -118,61 +113,78 @@ inserted_character first second = first / 256 * 256 + second % 256
 abbrev pub unsigned : ℕ → ℤ
 unsigned word = pos word
 
--- when a branch on index is taken
-abbrev pub is_high : ℤ → ℤ → Bool
-is_high sum comparand = int_lt comparand sum
+-- what is made of R1 and the second operand
+abbrev pub meaning_of : Combination → Meaning
+meaning_of Second = word_result second_operand kept_word
+meaning_of InsertedCharacter = word_result inserted_character kept_word
+meaning_of Tested = word_result second_operand by_sign_of_word
+meaning_of Complement = signed_result complement_of_second by_sign_or_overflow
+meaning_of Absolute = signed_result absolute_value_of_second by_sign_or_overflow
+meaning_of NegativeAbsolute = signed_result negative_absolute_value_of_second by_sign
+meaning_of Sum = signed_result signed_sum by_sign_or_overflow
+meaning_of Difference = signed_result signed_difference by_sign_or_overflow
+meaning_of LogicalSum = logical_result logical_sum by_carry
+meaning_of LogicalDifference = logical_result logical_difference by_carry
+meaning_of Comparison = comparison signed
+meaning_of LogicalComparison = comparison unsigned
+meaning_of BitwiseAnd = word_result bit_and by_bits
+meaning_of BitwiseOr = word_result bit_or by_bits
+meaning_of BitwiseExclusiveOr = word_result bit_xor by_bits
+meaning_of LowProduct = signed_result signed_product kept
 
-abbrev pub is_low_or_equal : ℤ → ℤ → Bool
-is_low_or_equal sum comparand = not (int_lt comparand sum)
+-- when a branch on index is taken, by the sum and the comparand
+abbrev pub is_taken : IndexBranch → ℤ → ℤ → Bool
+is_taken High sum comparand = int_lt comparand sum
+is_taken LowOrEqual sum comparand = not (int_lt comparand sum)
 
--- where the second operand is, and what is made of it. In the format RR it is in a register
-pub record Row : Type 0 where
-  pub second : SecondOperand
-  pub meaning : Meaning
+-- rows of R1 and a word or a halfword. In the format RR the second operand is in a register
+abbrev pub on_word : Combination → Option Row
+on_word combination = Some (Combine (InStorage Word) combination)
 
-abbrev pub row : SecondOperand → Meaning → Row
-row second meaning = record { second = second; meaning = meaning }
+abbrev pub on_halfword : Combination → Option Row
+on_halfword combination = Some (Combine (InStorage Halfword) combination)
 
-abbrev pub row_of : Operation → Row
-row_of Load = row Word (word_result second_operand kept_word)
-row_of LoadHalfword = row Halfword (word_result second_operand kept_word)
-row_of LoadAndTest = row Word (word_result second_operand by_sign_of_word)
-row_of LoadComplement = row Word (signed_result complement_of_second by_sign_or_overflow)
-row_of LoadPositive = row Word (signed_result absolute_value_of_second by_sign_or_overflow)
-row_of LoadNegative = row Word (signed_result negative_absolute_value_of_second by_sign)
-row_of Add = row Word (signed_result signed_sum by_sign_or_overflow)
-row_of AddHalfword = row Halfword (signed_result signed_sum by_sign_or_overflow)
-row_of Subtract = row Word (signed_result signed_difference by_sign_or_overflow)
-row_of SubtractHalfword = row Halfword (signed_result signed_difference by_sign_or_overflow)
-row_of AddLogical = row Word (logical_result logical_sum by_carry)
-row_of SubtractLogical = row Word (logical_result logical_difference by_carry)
-row_of Compare = row Word (comparison signed)
-row_of CompareHalfword = row Halfword (comparison signed)
-row_of CompareLogical = row Word (comparison unsigned)
-row_of And = row Word (word_result bit_and by_bits)
-row_of Or = row Word (word_result bit_or by_bits)
-row_of ExclusiveOr = row Word (word_result bit_xor by_bits)
-row_of Multiply = row Word multiplication
-row_of MultiplyHalfword = row Halfword (signed_result signed_product kept)
-row_of Divide = row Word division_of_pair
-row_of StoreHalfword = row Address (low_bytes_stored 2)
-row_of Store = row Address (low_bytes_stored 4)
-row_of StoreCharacter = row Address (low_bytes_stored 1)
-row_of InsertCharacter = row Byte (word_result inserted_character kept_word)
-row_of LoadAddress = row Address (word_result second_operand kept_word)
-row_of StoreMultiple = row Address registers_stored
-row_of LoadMultiple = row Address registers_loaded
-row_of ShiftRightSingleLogical = row Address (logical_shift logical_right_word)
-row_of ShiftLeftSingleLogical = row Address (logical_shift logical_left_word)
-row_of ShiftRightDoubleLogical = row Address (logical_double_shift logical_right_words)
-row_of ShiftLeftDoubleLogical = row Address (logical_double_shift logical_left_words)
-row_of ShiftRightSingle = row Address (signed_shift right_word over_power by_sign)
-row_of ShiftRightDouble = row Address (signed_double_shift right_words over_power by_sign)
-row_of ShiftLeftSingle = row Address (signed_shift left_word times_power by_sign_or_overflow)
-row_of ShiftLeftDouble = row Address (signed_double_shift left_words times_power by_sign_or_pair_overflow)
-row_of BranchOnCondition = row Address branch_on_condition
-row_of BranchAndLink = row Address branch_and_link
-row_of BranchOnCount = row Address branch_on_count
-row_of BranchOnIndexHigh = row Address (branch_on_index is_high)
-row_of BranchOnIndexLowOrEqual = row Address (branch_on_index is_low_or_equal)
-row_of other = row Address elsewhere
+-- the row of an operation, where it is one of these chapters
+abbrev pub row_of : Operation → Option Row
+row_of Load = on_word Second
+row_of LoadHalfword = on_halfword Second
+row_of LoadAddress = Some (Combine Address Second)
+row_of InsertCharacter = Some (Combine (InStorage Byte) InsertedCharacter)
+row_of LoadAndTest = on_word Tested
+row_of LoadComplement = on_word Complement
+row_of LoadPositive = on_word Absolute
+row_of LoadNegative = on_word NegativeAbsolute
+row_of Add = on_word Sum
+row_of AddHalfword = on_halfword Sum
+row_of Subtract = on_word Difference
+row_of SubtractHalfword = on_halfword Difference
+row_of AddLogical = on_word LogicalSum
+row_of SubtractLogical = on_word LogicalDifference
+row_of Compare = on_word Comparison
+row_of CompareHalfword = on_halfword Comparison
+row_of CompareLogical = on_word LogicalComparison
+row_of And = on_word BitwiseAnd
+row_of Or = on_word BitwiseOr
+row_of ExclusiveOr = on_word BitwiseExclusiveOr
+row_of MultiplyHalfword = on_halfword LowProduct
+row_of Multiply = Some (CombinePair Product)
+row_of Divide = Some (CombinePair Quotient)
+row_of Store = Some (StoreBytes Word)
+row_of StoreHalfword = Some (StoreBytes Halfword)
+row_of StoreCharacter = Some (StoreBytes Byte)
+row_of StoreMultiple = Some StoreRegisters
+row_of LoadMultiple = Some LoadRegisters
+row_of ShiftLeftSingleLogical = Some (Shift LeftLogical)
+row_of ShiftRightSingleLogical = Some (Shift RightLogical)
+row_of ShiftLeftSingle = Some (Shift Left)
+row_of ShiftRightSingle = Some (Shift Right)
+row_of ShiftLeftDoubleLogical = Some (ShiftPair LeftLogical)
+row_of ShiftRightDoubleLogical = Some (ShiftPair RightLogical)
+row_of ShiftLeftDouble = Some (ShiftPair Left)
+row_of ShiftRightDouble = Some (ShiftPair Right)
+row_of BranchOnCondition = Some (Branch OnCondition)
+row_of BranchAndLink = Some (Branch AndLink)
+row_of BranchOnCount = Some (Branch OnCount)
+row_of BranchOnIndexHigh = Some (BranchOnIndex High)
+row_of BranchOnIndexLowOrEqual = Some (BranchOnIndex LowOrEqual)
+row_of other = None

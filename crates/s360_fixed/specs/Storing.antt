@@ -7,7 +7,8 @@ use Rattle.s360_model.specs.Psw.{with_instruction_address}
 use Rattle.s360_model.specs.Storage.{word_at}
 use Rattle.s360_store.specs.declared.protection.Access.TheVariants.{Fetch, Store}
 use Rattle.s360_fixed.specs.declared.ended.Ended.TheVariants.{Done}
-use Rattle.s360_fixed.specs.Operands.{access_conditions}
+use Rattle.s360_fixed.specs.declared.second_operand.Width.{Width}
+use Rattle.s360_fixed.specs.Operands.{access_conditions, bytes_of_width}
 use Rattle.s360_fixed.specs.Outcomes.{unless_met}
 use Rattle.s360_fixed.specs.View.{View, Outcome, register_of}
 
@@ -25,8 +26,8 @@ bytes_outcome bytes v address =
     unless_met (access_conditions v.core address (length bytes) (length bytes) Store) v.core (completed v (core_with_bytes address bytes v.core))
 
 -- so many low bytes of R1 are stored
-abbrev pub store_outcome : ℕ → View → ℕ → ℕ → Outcome
-store_outcome count v r1 address = bytes_outcome (bytes_high_first count (register_of v r1)) v address
+abbrev pub store_outcome : Width → View → ℕ → ℕ → Outcome
+store_outcome width v r1 address = bytes_outcome (bytes_high_first (bytes_of_width width) (register_of v r1)) v address
 
 -- how many registers there are from R1 up to R3, 15 followed by 0
 abbrev pub register_count : ℕ → ℕ → ℕ

@@ -1,18 +1,19 @@
 //! What instructions with a first operand in a register and a second operand make of the two.
 //! Source: GA22-6821, "Fixed-Point Arithmetic" and "Logical Operations".
 ghost use Rattle.std.specs.Prelude.{◌≡◌, [], IfOk, IsNone};
-ghost use Rattle.s360_fixed.specs.Outcomes.{effect_of, single, two_operand_outcome};
+ghost use Rattle.s360_fixed.specs.Outcomes.{combination_outcome, effect_of, pair_outcome, single};
 ghost use Rattle.s360_fixed.specs.Operands.{word_operand};
 ghost use Rattle.s360_fixed.specs.Plans.{PlansOutcome};
 ghost use Rattle.s360_model.specs.ConditionCodes.{bits_code};
 ghost use Rattle.s360_fixed.specs.declared.setting.Setting.TheVariants.{Code, SignedCode};
-ghost use Rattle.s360_fixed.specs.Rows.{division_of_pair, multiplication, row_of};
+ghost use Rattle.s360_fixed.specs.Rows.{meaning_of};
+ghost use Rattle.s360_fixed.specs.declared.row.PairCombination.TheVariants.{Product, Quotient};
 
 use crate::effect::Effect;
 use crate::ended::Ended;
-use crate::operation::Operation;
 use crate::program_code::ProgramCode;
 use crate::registers::odd_partner;
+use crate::row::{Combination, PairCombination};
 use crate::setting::Setting;
 use crate::view::View;
 use s360_store::Plan;
@@ -43,47 +44,57 @@ fn bits(word: Word) -> Effect
     Effect::single(word, Setting::Code(bits_condition(word)))
 }
 
-/// What an instruction makes of the word in R1 and the second operand.
-pub(crate) fn effect_on(operation: Operation, first: Word, second: Word) -> Effect
-    ensures effect { result ≡ effect_of (row_of operation).meaning first second }
+/// What is made of the word in R1 and the second operand.
+fn effect_on(combination: Combination, first: Word, second: Word) -> Effect
+    ensures effect { result ≡ effect_of (meaning_of combination) first second }
     ensures single { IsNone result.second }
 {
-    match operation {
-        Operation::Load | Operation::LoadHalfword | Operation::LoadAddress => {
-            Effect::single(second, Setting::Kept)
-        }
-        Operation::InsertCharacter => {
+    match combination {
+        Combination::Second => Effect::single(second, Setting::Kept),
+        Combination::InsertedCharacter => {
             Effect::single(first / 256 * 256 + second % 256, Setting::Kept)
         }
-        Operation::LoadAndTest => Effect::single(second, Setting::Code(test(second))),
-        Operation::LoadComplement => signed(complement(second)),
-        Operation::LoadPositive => signed(absolute(second)),
-        Operation::LoadNegative => coded(negative_absolute(second)),
-        Operation::Add | Operation::AddHalfword => signed(add_signed(first, second)),
-        Operation::Subtract | Operation::SubtractHalfword => signed(sub_signed(first, second)),
-        Operation::AddLogical => coded(add_logical(first, second)),
-        Operation::SubtractLogical => coded(sub_logical(first, second)),
-        Operation::Compare | Operation::CompareHalfword => {
-            Effect::code(compare_signed(first, second))
-        }
-        Operation::CompareLogical => Effect::code(compare_logical(first, second)),
-        Operation::And => bits(first & second),
-        Operation::Or => bits(first | second),
-        Operation::ExclusiveOr => bits(first ^ second),
-        Operation::MultiplyHalfword => Effect::single(multiply(first, second).1, Setting::Kept),
-        _ => Effect::none(),
+        Combination::Tested => Effect::single(second, Setting::Code(test(second))),
+        Combination::Complement => signed(complement(second)),
+        Combination::Absolute => signed(absolute(second)),
+        Combination::NegativeAbsolute => coded(negative_absolute(second)),
+        Combination::Sum => signed(add_signed(first, second)),
+        Combination::Difference => signed(sub_signed(first, second)),
+        Combination::LogicalSum => coded(add_logical(first, second)),
+        Combination::LogicalDifference => coded(sub_logical(first, second)),
+        Combination::Comparison => Effect::code(compare_signed(first, second)),
+        Combination::LogicalComparison => Effect::code(compare_logical(first, second)),
+        Combination::BitwiseAnd => bits(first & second),
+        Combination::BitwiseOr => bits(first | second),
+        Combination::BitwiseExclusiveOr => bits(first ^ second),
+        Combination::LowProduct => Effect::single(multiply(first, second).1, Setting::Kept),
     }
 }
 
+/// Plans what is made of R1 and a second operand that can be used.
+pub(crate) fn plan_combination(
+    view: &View,
+    combination: Combination,
+    r1: RegisterNumber,
+    second: Word,
+    plan: &mut Plan,
+) -> Result<Ended, AllocError>
+    requires empty { plan.old ≡ [] }
+    ensures { IfOk result (PlansOutcome view.now.core plan.new (combination_outcome combination view.now r1 (word_operand second))) }
+{
+    let effect = effect_on(combination, view.register(r1), second);
+    effect.plan(view, r1, view.next_address(), plan)
+}
+
 /// Plans the product of the register after R1 and the second operand, for the pair.
-fn plan_multiply(
+fn plan_product(
     view: &View,
     r1: RegisterNumber,
     second: Word,
     plan: &mut Plan,
 ) -> Result<Ended, AllocError>
     requires empty { plan.old ≡ [] }
-    ensures { IfOk result (PlansOutcome view.now.core plan.new (two_operand_outcome multiplication view.now r1 (word_operand second))) }
+    ensures { IfOk result (PlansOutcome view.now.core plan.new (pair_outcome Product view.now r1 (word_operand second))) }
 {
     let Some(next) = odd_partner(r1) else {
         return Ok(Ended::Program(ProgramCode::Specification));
@@ -94,14 +105,14 @@ fn plan_multiply(
 
 /// Plans the division of the pair by the second operand: the remainder for R1, the quotient for the
 /// register after it.
-fn plan_divide(
+fn plan_quotient(
     view: &View,
     r1: RegisterNumber,
     second: Word,
     plan: &mut Plan,
 ) -> Result<Ended, AllocError>
     requires empty { plan.old ≡ [] }
-    ensures { IfOk result (PlansOutcome view.now.core plan.new (two_operand_outcome division_of_pair view.now r1 (word_operand second))) }
+    ensures { IfOk result (PlansOutcome view.now.core plan.new (pair_outcome Quotient view.now r1 (word_operand second))) }
 {
     let Some(next) = odd_partner(r1) else {
         return Ok(Ended::Program(ProgramCode::Specification));
@@ -117,23 +128,19 @@ fn plan_divide(
     }
 }
 
-/// Plans an instruction with a result of R1 and a second operand that can be used.
-pub(crate) fn plan_two_operand(
+/// Plans what is made of the pair and a second operand that can be used.
+pub(crate) fn plan_pair(
     view: &View,
-    operation: Operation,
+    pair: PairCombination,
     r1: RegisterNumber,
     second: Word,
     plan: &mut Plan,
 ) -> Result<Ended, AllocError>
     requires empty { plan.old ≡ [] }
-    ensures { IfOk result (PlansOutcome view.now.core plan.new (two_operand_outcome (row_of operation).meaning view.now r1 (word_operand second))) }
+    ensures { IfOk result (PlansOutcome view.now.core plan.new (pair_outcome pair view.now r1 (word_operand second))) }
 {
-    match operation {
-        Operation::Multiply => plan_multiply(view, r1, second, plan),
-        Operation::Divide => plan_divide(view, r1, second, plan),
-        _ => {
-            let effect = effect_on(operation, view.register(r1), second);
-            effect.plan(view, r1, view.next_address(), plan)
-        }
+    match pair {
+        PairCombination::Product => plan_product(view, r1, second, plan),
+        PairCombination::Quotient => plan_quotient(view, r1, second, plan),
     }
 }

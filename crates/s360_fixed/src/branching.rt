@@ -5,12 +5,12 @@ ghost use Rattle.s360_model.specs.Numbers.{signed};
 ghost use Rattle.s360_fixed.specs.Branching.{address_after, branch_outcome, comparand_of};
 ghost use Rattle.s360_fixed.specs.Branching.{index_outcome, is_selected, link_of, register_target};
 ghost use Rattle.s360_fixed.specs.Plans.{PlansOutcome};
-ghost use Rattle.s360_fixed.specs.Rows.{is_high, is_low_or_equal, row_of};
+ghost use Rattle.s360_fixed.specs.Rows.{is_taken};
 
 use crate::effect::Effect;
 use crate::ended::Ended;
-use crate::operation::Operation;
 use crate::registers::odd_partner;
+use crate::row::{Branch, IndexBranch};
 use crate::setting::Setting;
 use crate::view::View;
 use s360_store::Plan;
@@ -56,25 +56,21 @@ fn link_of(view: &View) -> Word
 /// Plans a branch on condition, a branch and link or a branch on count.
 pub(crate) fn plan_branch(
     view: &View,
-    operation: Operation,
+    branch: Branch,
     r1: RegisterNumber,
     target: Option<u32>,
     plan: &mut Plan,
 ) -> Result<Ended, AllocError>
     requires empty { plan.old ≡ [] }
-    ensures { IfOk result (PlansOutcome view.now.core plan.new (branch_outcome (row_of operation).meaning view.now r1 target)) }
+    ensures { IfOk result (PlansOutcome view.now.core plan.new (branch_outcome branch view.now r1 target)) }
 {
-    let (effect, is_taken) = match operation {
-        Operation::BranchOnCondition => (
-            Effect::none(),
-            is_selected(r1, view.psw().condition_code()),
-        ),
-        Operation::BranchAndLink => (Effect::single(link_of(view), Setting::Kept), true),
-        Operation::BranchOnCount => {
+    let (effect, is_taken) = match branch {
+        Branch::OnCondition => (Effect::none(), is_selected(r1, view.psw().condition_code())),
+        Branch::AndLink => (Effect::single(link_of(view), Setting::Kept), true),
+        Branch::OnCount => {
             let count = view.register(r1).wrapping_sub(1);
             (Effect::single(count, Setting::Kept), count != 0)
         }
-        _ => return Ok(Ended::Unbuilt),
     };
     effect.plan(view, r1, address_after(view, is_taken, target), plan)
 }
@@ -89,43 +85,31 @@ fn comparand_of(view: &View, r3: RegisterNumber) -> Word
     }
 }
 
-/// Whether the first signed word is above the second.
-fn is_above(first: Word, second: Word) -> bool
-    ensures { result ≡ is_high (signed first) (signed second) }
+/// Whether a branch on index is taken, by the sum and the comparand.
+fn is_taken(branch: IndexBranch, sum: Word, comparand: Word) -> bool
+    ensures { result ≡ is_taken branch (signed sum) (signed comparand) }
 {
-    compare_signed(first, second).code() == 2
+    let is_high = compare_signed(sum, comparand).code() == 2;
+    match branch {
+        IndexBranch::High => is_high,
+        IndexBranch::LowOrEqual => !is_high,
+    }
 }
 
-/// Plans a branch on index high.
-pub(crate) fn plan_branch_on_index_high(
+/// Plans a branch on index high, or low or equal.
+pub(crate) fn plan_branch_on_index(
     view: &View,
+    branch: IndexBranch,
     r1: RegisterNumber,
     r3: RegisterNumber,
     address: u32,
     plan: &mut Plan,
 ) -> Result<Ended, AllocError>
     requires empty { plan.old ≡ [] }
-    ensures { IfOk result (PlansOutcome view.now.core plan.new (index_outcome is_high view.now r1 r3 address)) }
+    ensures { IfOk result (PlansOutcome view.now.core plan.new (index_outcome branch view.now r1 r3 address)) }
 {
     let (sum, _) = add_signed(view.register(r1), view.register(r3));
-    let is_high = is_above(sum, comparand_of(view, r3));
-    let address = address_after(view, is_high, Some(address));
-    Effect::single(sum, Setting::Kept).plan(view, r1, address, plan)
-}
-
-/// Plans a branch on index low or equal.
-pub(crate) fn plan_branch_on_index_low_or_equal(
-    view: &View,
-    r1: RegisterNumber,
-    r3: RegisterNumber,
-    address: u32,
-    plan: &mut Plan,
-) -> Result<Ended, AllocError>
-    requires empty { plan.old ≡ [] }
-    ensures { IfOk result (PlansOutcome view.now.core plan.new (index_outcome is_low_or_equal view.now r1 r3 address)) }
-{
-    let (sum, _) = add_signed(view.register(r1), view.register(r3));
-    let is_high = is_above(sum, comparand_of(view, r3));
-    let address = address_after(view, !is_high, Some(address));
+    let is_taken = is_taken(branch, sum, comparand_of(view, r3));
+    let address = address_after(view, is_taken, Some(address));
     Effect::single(sum, Setting::Kept).plan(view, r1, address, plan)
 }

@@ -1,8 +1,9 @@
 //! What an instruction makes of its registers and of the condition code, and its plan.
 use crate::ended::Ended;
-use crate::puts::{put_next_register, put_psw, put_register};
+use crate::puts::{put_if_some, put_next_if_some};
 use crate::setting::Setting;
 use crate::view::View;
+use s360_psw::Psw;
 use s360_store::Plan;
 use s360_word::{Cc, RegisterNumber, Word};
 use std::alloc::AllocError;
@@ -10,19 +11,24 @@ use std::alloc::AllocError;
 /// What an instruction makes of the register R1, of the register after it, and of the condition
 /// code.
 #[derive(Clone, Copy, Debug, PartialEq, Eq)]
-pub(crate) struct Effect {
+pub struct Effect {
+    /// The word that R1 becomes, if it is altered.
     pub first: Option<Word>,
+    /// The word that the register after it becomes, if it is altered.
     pub second: Option<Word>,
+    /// What the condition code becomes.
     pub setting: Setting,
 }
 
 impl Effect {
-    ghost use Rattle.std.specs.Prelude.{◌≡◌, ◌<◌, ◌+◌, [], IfOk, OnSome};
-    ghost use Rattle.s360_fixed.specs.Outcomes.{after_effect, condition_code_alone, double, no_effect, single};
+    ghost use Rattle.std.specs.Prelude.{◌≡◌, ◌<◌, ◌≤◌, ◌+◌, [], IfOk, OnOk, OnSome, length};
+    ghost use Rattle.s360_store.specs.Plans.{AddsToPlan, HasRegisters};
+    ghost use Rattle.s360_fixed.specs.Outcomes.{after_effect, condition_code_alone, core_after_effect};
+    ghost use Rattle.s360_fixed.specs.Outcomes.{double, no_effect, single};
     ghost use Rattle.s360_fixed.specs.Plans.{PlansOutcome};
 
     /// Nothing changes.
-    pub(crate) fn none() -> Effect
+    pub fn none() -> Effect
         ensures { result ≡ no_effect }
     {
         Effect {
@@ -33,7 +39,7 @@ impl Effect {
     }
 
     /// A condition code alone.
-    pub(crate) fn code(code: Cc) -> Effect
+    pub fn code(code: Cc) -> Effect
         ensures { result ≡ condition_code_alone code }
     {
         Effect {
@@ -44,7 +50,7 @@ impl Effect {
     }
 
     /// A result for the register R1.
-    pub(crate) fn single(word: Word, setting: Setting) -> Effect
+    pub fn single(word: Word, setting: Setting) -> Effect
         ensures { result ≡ single word setting }
     {
         Effect {
@@ -55,7 +61,7 @@ impl Effect {
     }
 
     /// Results for the register R1 and the register after it.
-    pub(crate) fn double(words: (Word, Word), setting: Setting) -> Effect
+    pub fn double(words: (Word, Word), setting: Setting) -> Effect
         ensures { result ≡ double words setting }
     {
         Effect {
@@ -65,8 +71,28 @@ impl Effect {
         }
     }
 
-    /// Plans the effect, after which the instruction at an address comes.
-    pub(crate) fn plan(
+    /// Puts the results, and a PSW with the condition code, after which the instruction at an address
+    /// comes. The plan may have puts already.
+    pub fn put(
+        self,
+        psw: Psw,
+        r1: RegisterNumber,
+        address: u32,
+        plan: &mut Plan,
+    ) -> Result<(), AllocError>
+        requires pair { OnSome self.second (r1 + 1 < 16) }
+        requires few { length plan.old + 3 ≤ 1000000 }
+        ensures { OnOk result (AddsToPlan plan.old plan.new 3 HasRegisters (core_after_effect psw r1 self address)) }
+    {
+        put_if_some(r1, self.first, plan)?;
+        put_next_if_some(r1, self.second, plan)?;
+        let psw = self.setting.psw(psw);
+        plan.put_psw(psw.with_instruction_address(address))?;
+        Ok(())
+    }
+
+    /// Plans the effect alone, after which the instruction at an address comes.
+    pub fn plan(
         self,
         view: &View,
         r1: RegisterNumber,
@@ -77,10 +103,10 @@ impl Effect {
         requires pair { OnSome self.second (r1 + 1 < 16) }
         ensures { IfOk result (PlansOutcome view.now.core plan.new (after_effect view.now.core r1 self address)) }
     {
-        put_register(view, r1, self.first, plan)?;
-        put_next_register(view, r1, self.second, plan)?;
-        let psw = self.setting.psw(view.psw());
-        put_psw(view, psw.with_instruction_address(address), plan)?;
-        Ok(self.setting.ended(view.psw()))
+        // Looked at, since its clauses have that there are sixteen registers.
+        let _ = view.register(r1);
+        let ended = self.setting.ended(view.psw());
+        self.put(view.psw(), r1, address, plan)?;
+        Ok(ended)
     }
 }

@@ -72,19 +72,26 @@ pub enum Form {
 }
 
 impl Form {
-    ghost use Rattle.std.specs.Prelude.{◌≡◌};
-    ghost use Rattle.s360_fixed.specs.Fixed.{is_fixed};
+    ghost use Rattle.std.specs.Prelude.{◌≡◌, is_some};
+    ghost use Rattle.s360_fixed.specs.Fixed.{fixed_outcome};
 
     /// Whether it is a fixed-point, branch or shift instruction, which `plan_fixed` plans.
     pub fn is_fixed(&self) -> bool
-        ensures { result ≡ is_fixed self.now }
+        ensures { result ≡ is_some (fixed_outcome self.now) }
     {
-        match self {
-            Form::Rr { operation, .. } => operation.is_two_operand() || operation.is_branch(),
-            Form::Rx { operation, .. } => {
-                operation.is_two_operand() || operation.is_branch() || operation.is_store()
-            }
-            Form::Rs { operation, .. } => operation.is_multiple_shift_or_index(),
+        match *self {
+            Form::Rr { operation, .. } => match operation.row() {
+                Some(row) => row.is_rr(),
+                None => false,
+            },
+            Form::Rx { operation, .. } => match operation.row() {
+                Some(row) => row.is_rx(),
+                None => false,
+            },
+            Form::Rs { operation, .. } => match operation.row() {
+                Some(row) => row.is_rs(),
+                None => false,
+            },
             Form::Si { .. } | Form::Ss { .. } => false,
         }
     }

@@ -2,43 +2,22 @@
 //! "Fixed-Point Arithmetic" and "Logical Operations".
 ghost use Rattle.std.specs.Prelude.{◌≡◌, ◌≤◌, ◌<◌, ◌+◌, [], IfOk, OnOk, IfNone, ◌⊎◌, length};
 ghost use Rattle.s360_store.specs.declared.protection.Access.{Access};
-ghost use Rattle.s360_fixed.specs.Operands.{access_conditions, extended_halfword, fetched, storage_operand};
+ghost use Rattle.s360_fixed.specs.Operands.{access_conditions, bytes_of_width, extended_halfword};
+ghost use Rattle.s360_fixed.specs.Operands.{fetched, storage_operand, word_in};
 ghost use Rattle.s360_fixed.specs.Plans.{PlansOutcome};
 ghost use Rattle.s360_fixed.specs.ProgramCodes.{program_code};
 ghost use Rattle.s360_fixed.specs.Storing.{bytes_outcome, load_multiple_outcome, register_count};
 ghost use Rattle.s360_fixed.specs.Storing.{store_multiple_outcome};
 
 use crate::ended::Ended;
+use crate::operand::operand_exception;
 use crate::program_code::ProgramCode;
-use crate::puts::{put_bytes, put_next_psw, put_registers, put_words};
-use crate::second_operand::SecondOperand;
+use crate::puts::{put_next_psw, put_registers, put_words};
+use crate::second_operand::{SecondOperand, Width};
 use crate::view::View;
-use s360_store::{Access, Checked, Plan};
+use s360_store::{Access, Plan};
 use s360_word::{RegisterNumber, Word};
 use std::alloc::AllocError;
-
-/// What keeps an operand of so many bytes, which lies on a boundary, from being used.
-fn refusal(
-    view: &View,
-    address: u32,
-    boundary: u32,
-    count: u32,
-    kind: Access,
-) -> Option<ProgramCode>
-    requires { 0 < boundary }
-    ensures code { result ≡ program_code (access_conditions view.now.core address boundary count kind) }
-    ensures inside { IfNone result (address + count ≤ length view.now.core.storage.bytes) }
-{
-    if address % boundary != 0 {
-        return Some(ProgramCode::Specification);
-    }
-    let key = view.psw().protection_key();
-    match view.storage().check(address, count, kind, key) {
-        Checked::Addressing => Some(ProgramCode::Addressing),
-        Checked::Protection => Some(ProgramCode::Protection),
-        Checked::Clear => None,
-    }
-}
 
 /// A halfword extended by its sign.
 fn extended(half: u16) -> Word
@@ -47,24 +26,31 @@ fn extended(half: u16) -> Word
     i32::from(half.cast_signed()).cast_unsigned()
 }
 
+/// The word that the bytes of an operand are.
+fn word_in(view: &View, width: Width, address: u32) -> Word
+    requires inside { address + bytes_of_width width ≤ length view.now.core.storage.bytes }
+    ensures { result ≡ word_in width view.now.core.storage.bytes address }
+{
+    match width {
+        Width::Byte => Word::from(view.storage().byte(address)),
+        Width::Halfword => extended(view.storage().half(address)),
+        Width::Word => view.storage().word(address),
+    }
+}
+
 /// The second operand at an address, or what keeps it from being used.
 pub(crate) fn fetch(view: &View, operand: SecondOperand, address: u32) -> Result<Word, ProgramCode>
     ensures { result ≡ fetched (storage_operand view.now.core operand address) }
 {
     match operand {
         SecondOperand::Address => Ok(address),
-        SecondOperand::Word => match refusal(view, address, 4, 4, Access::Fetch) {
-            Some(code) => Err(code),
-            None => Ok(view.storage().word(address)),
-        },
-        SecondOperand::Halfword => match refusal(view, address, 2, 2, Access::Fetch) {
-            Some(code) => Err(code),
-            None => Ok(extended(view.storage().half(address))),
-        },
-        SecondOperand::Byte => match refusal(view, address, 1, 1, Access::Fetch) {
-            Some(code) => Err(code),
-            None => Ok(Word::from(view.storage().byte(address))),
-        },
+        SecondOperand::InStorage(width) => {
+            let count = width.bytes();
+            match operand_exception(view, address, count, count, Access::Fetch) {
+                Some(code) => Err(code),
+                None => Ok(word_in(view, width, address)),
+            }
+        }
     }
 }
 
@@ -81,11 +67,14 @@ pub(crate) fn plan_store(
     ensures { IfOk result (PlansOutcome view.now.core plan.new (bytes_outcome bytes.now view.now address)) }
 {
     let count = bytes.len() as u32;
-    if let Some(code) = refusal(view, address, count, count, Access::Store) {
+    if let Some(code) = operand_exception(view, address, count, count, Access::Store) {
         return Ok(Ended::Program(code));
     }
-    put_bytes(view, address, bytes, plan)?;
-    put_next_psw(view, plan)
+    // Storage is small, so no address of the run passes 32 bits.
+    let _ = view.storage();
+    plan.put_bytes(address, bytes)?;
+    put_next_psw(view, plan)?;
+    Ok(Ended::Done)
 }
 
 /// How many registers there are from R1 up to R3, 15 followed by 0.
@@ -108,11 +97,14 @@ pub(crate) fn plan_load_multiple(
     ensures { IfOk result (PlansOutcome view.now.core plan.new (load_multiple_outcome view.now r1 r3 address)) }
 {
     let count = register_count(r1, r3);
-    if let Some(code) = refusal(view, address, 4, 4 * u32::from(count), Access::Fetch) {
+    if let Some(code) = operand_exception(view, address, 4, 4 * u32::from(count), Access::Fetch) {
         return Ok(Ended::Program(code));
     }
+    // Looked at, since its clauses have that there are sixteen registers.
+    let _ = view.register(r1);
     put_registers(view, r1, count, address, plan)?;
-    put_next_psw(view, plan)
+    put_next_psw(view, plan)?;
+    Ok(Ended::Done)
 }
 
 /// Plans the stores of registers R1 up to R3 at successive words.
@@ -127,9 +119,10 @@ pub(crate) fn plan_store_multiple(
     ensures { IfOk result (PlansOutcome view.now.core plan.new (store_multiple_outcome view.now r1 r3 address)) }
 {
     let count = register_count(r1, r3);
-    if let Some(code) = refusal(view, address, 4, 4 * u32::from(count), Access::Store) {
+    if let Some(code) = operand_exception(view, address, 4, 4 * u32::from(count), Access::Store) {
         return Ok(Ended::Program(code));
     }
     put_words(view, r1, count, address, plan)?;
-    put_next_psw(view, plan)
+    put_next_psw(view, plan)?;
+    Ok(Ended::Done)
 }

@@ -9,7 +9,7 @@ use s360_word::Cc;
 
 /// What an instruction makes of the condition code.
 #[derive(Clone, Copy, Debug, PartialEq, Eq)]
-pub(crate) enum Setting {
+pub enum Setting {
     /// It stays.
     Kept,
     /// It becomes this.
@@ -20,7 +20,7 @@ pub(crate) enum Setting {
 
 impl Setting {
     /// The PSW with the condition code.
-    pub(crate) fn psw(self, psw: Psw) -> Psw
+    pub fn psw(self, psw: Psw) -> Psw
         ensures { result ≡ psw_with psw self }
     {
         match self {
@@ -30,7 +30,7 @@ impl Setting {
     }
 
     /// How an instruction ends that is completed.
-    pub(crate) fn ended(self, psw: Psw) -> Ended
+    pub fn ended(self, psw: Psw) -> Ended
         ensures { result ≡ ended_with psw self }
     {
         match self {

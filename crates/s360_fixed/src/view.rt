@@ -2,13 +2,12 @@
 //! of the next instruction, and its own length.
 ghost use Rattle.std.specs.Prelude.{◌≡◌, ◌≤◌, length};
 ghost use Rattle.s360_model.specs.Psw.{IsCurrentPsw};
-ghost use Rattle.s360_store.specs.Places.{IsPlaceOf};
-ghost use Rattle.s360_store.specs.declared.place.Place.TheVariants.{Register};
+ghost use Rattle.s360_store.specs.Plans.{HasRegisters};
 ghost use Rattle.s360_fixed.specs.Operands.{operand_address};
 ghost use Rattle.s360_fixed.specs.View.{register_of, view_with};
 
 use s360_psw::{InstructionLength, Psw};
-use s360_store::{Place, Storage};
+use s360_store::Storage;
 use s360_word::{RegisterNumber, Word};
 use std::marker::Model;
 
@@ -56,31 +55,22 @@ impl<'a> View<'a> {
     }
 
     /// The PSW.
-    pub(crate) fn psw(&self) -> Psw
+    pub fn psw(&self) -> Psw
         ensures { result ≡ self.now.core.psw }
     {
         self.psw
     }
 
     /// The word in a register.
-    pub(crate) fn register(&self, register: RegisterNumber) -> Word
-        ensures { result ≡ register_of self.now register }
+    pub fn register(&self, register: RegisterNumber) -> Word
+        ensures word { result ≡ register_of self.now register }
+        ensures sixteen { HasRegisters self.now.core }
     {
         self.registers[register.number() as usize]
     }
 
-    /// The place of a register.
-    pub(crate) fn register_place(&self, register: RegisterNumber) -> Place
-        ensures place { result ≡ Register register }
-        ensures inside { IsPlaceOf self.now.core result }
-    {
-        // Looked at, so that the invariant, sixteen registers, is known here.
-        let _ = &self.registers;
-        Place::Register(register.number())
-    }
-
     /// Main storage.
-    pub(crate) fn storage(&self) -> &Storage
+    pub fn storage(&self) -> &Storage
         ensures storage { result.now ≡ self.now.core.storage }
         ensures small { length self.now.core.storage.bytes ≤ 1048576 }
     {
@@ -90,14 +80,14 @@ impl<'a> View<'a> {
     }
 
     /// The address of the next instruction.
-    pub(crate) fn next_address(&self) -> u32
+    pub fn next_address(&self) -> u32
         ensures { result ≡ self.now.next_address }
     {
         self.next_address
     }
 
     /// The length of the instruction.
-    pub(crate) fn instruction_length(&self) -> InstructionLength
+    pub fn instruction_length(&self) -> InstructionLength
         ensures { result ≡ self.now.instruction_length }
     {
         self.instruction_length

@@ -1,6 +1,6 @@
 -- An exchange of a change done twice restores the whole machine and the change.
 use Rattle.std.proofs.Common.{◌≡◌, ◌++◌, ap, ◌∙◌}
-use Rattle.s360_store.specs.Cells.{after_exchange, cells_after_exchange, AllFit, places_of_cells}
+use Rattle.s360_store.specs.Cells.{cells_after_exchange, AllFit, places_of_cells}
 use Rattle.s360_store.proofs.ExchangeLemmas.{after_exchange-twice, cells_after_exchange-twice, AreCellsOf-again, places_of_cells-cells_after_exchange}
 use Rattle.s360_machine.specs.ControlCells.{control_after_exchange, control_cells_after_exchange, places_of_control}
 use Rattle.s360_machine.specs.Machine.{Whole}

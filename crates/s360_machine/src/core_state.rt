@@ -91,8 +91,8 @@ impl Core {
         requires empty { plan.old ≡ [] }
         ensures { OnOk result (IsPlanOf self.now plan.new (core_with_psw (current_psw doubleword) self.now)) }
     {
-        let psw = Psw::from_u64(doubleword);
-        plan.put(Place::Psw, psw.stored(0, InstructionLength::NotAvailable))
+        plan.put_psw(Psw::from_u64(doubleword))?;
+        Ok(())
     }
 
     /// Plans a word for a general register.
@@ -105,9 +105,10 @@ impl Core {
         requires empty { plan.old ≡ [] }
         ensures { OnOk result (IsPlanOf self.now plan.new (core_with_word register word self.now)) }
     {
-        // Looked at, so that the invariant, sixteen registers, is known here.
-        let _ = &self.registers;
-        plan.put(Place::Register(register.number()), u64::from(word))
+        // Looked at, since its clauses have that there are sixteen registers.
+        let _ = self.register(register);
+        plan.put_register(register, word)?;
+        Ok(())
     }
 
     /// Plans bytes from an address on.
@@ -123,11 +124,8 @@ impl Core {
         ensures { OnOk result (IsPlanOf self.now plan.new (core_with_bytes at bytes.now self.now)) }
     {
         // Storage is small, so no address of the run passes 32 bits.
-        let inside = at <= self.storage.size();
-        prove!(inside);
-        for (i, byte) in bytes.iter().enumerate() {
-            plan.put(Place::Byte(at + i as u32), u64::from(*byte))?;
-        }
+        let _ = self.storage.size();
+        plan.put_bytes(at, bytes)?;
         Ok(())
     }
 

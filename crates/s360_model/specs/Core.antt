@@ -27,3 +27,7 @@ core_with_word r word m = record m { registers = slice_set m.registers r word }
 -- with these bytes in place of as many from an address on
 abbrev pub core_with_bytes : ℕ → List ℕ → Core → Core
 core_with_bytes address bytes m = record m { storage = record m.storage { bytes = with_run m.storage.bytes address bytes } }
+
+-- with another storage key of a block
+abbrev pub core_with_key : ℕ → ℕ → Core → Core
+core_with_key block key m = record m { storage = record m.storage { keys = slice_set m.storage.keys block key } }

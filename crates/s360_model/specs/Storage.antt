@@ -11,6 +11,10 @@ pub record Storage : Type 0 where
 abbrev pub block_size : ℕ
 block_size = 2048
 
+-- storage keys are below this number: four bits, since no fetch is protected (own profile)
+abbrev pub key_limit : ℕ
+key_limit = 16
+
 -- the sizes that a storage may have: whole blocks, from 8,192 to 1,048,576 bytes (own profile)
 abbrev pub is_storage_size : ℕ → Bool
 is_storage_size size = nat_le 8192 size && (nat_le size 1048576 && nat_eq (size % block_size) 0)

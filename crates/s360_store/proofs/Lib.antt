@@ -9,3 +9,4 @@ pub mod DifferenceLemmas
 pub mod PlannedLemmas
 pub mod KeptLemmas
 pub mod SortLemmas
+pub mod PutLemmas

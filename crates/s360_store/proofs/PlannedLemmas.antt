@@ -1,10 +1,10 @@
 -- What a plan makes of a core, one put after another.
-use Rattle.std.proofs.Common.{◌≡◌, ◌≢◌, ℕ, List, [], ◌∷◌, refl, ap, sym, ◌∙◌, Bool, true, false, cond, Some, None, unwrap_or}
+use Rattle.std.proofs.Common.{◌≡◌, ℕ, List, [], ◌∷◌, refl, ap, sym, ◌∙◌, Bool, true, false, cond, Some, None, unwrap_or}
 use Rattle.s360_model.specs.Core.{Core}
 use Rattle.s360_store.specs.declared.place.Place.{Place}
 use Rattle.s360_store.specs.declared.place.Cell.{Cell}
 use Rattle.s360_store.specs.Places.{same_place, with_value, value_at, IsPlaceOf, Fits}
-use Rattle.s360_store.specs.Cells.{after_exchange, IsFresh, HasEachOnce, AreCellsOf}
+use Rattle.s360_store.specs.Cells.{after_exchange, HasEachOnce, AreCellsOf}
 use Rattle.s360_store.specs.Plans.{after_put, planned_value, IsPlanOf}
 use Rattle.s360_store.proofs.PlaceLemmas.{value_at-same, value_at-other, IsPlaceOf-kept}
 use Rattle.s360_store.proofs.PlanLemmas.{same_place-true, differs, IsFresh-after_put, after_exchange-after_put}

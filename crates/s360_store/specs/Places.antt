@@ -1,8 +1,9 @@
 -- The places of the core: what stands at one, and the core with another value there.
-use Rattle.std.specs.Prelude.{ℕ, ◌<◌, ◌^◌, Bool, true, false, nat_eq, length, slice_index, slice_set}
-use Rattle.s360_model.specs.Core.{Core}
+use Rattle.std.specs.Prelude.{ℕ, ◌<◌, ◌^◌, Bool, true, false, nat_eq, length, slice_index, slice_set, MatchOption, Option, None, Some}
+use Rattle.std.specs.Option.{option_map_or}
+use Rattle.s360_model.specs.Core.{Core, core_with_key, core_with_psw, core_with_word}
 use Rattle.s360_model.specs.Psw.{IsCurrentPsw}
-use Rattle.s360_model.specs.Storage.{Storage}
+use Rattle.s360_model.specs.Storage.{Storage, key_limit}
 use Rattle.s360_store.specs.declared.place.Place.{Place}
 use Rattle.s360_store.specs.declared.place.Place.TheVariants.{Psw, Register, Byte, Key, Run, External, UnitState, UnitMedia}
 
@@ -18,37 +19,63 @@ same_place (UnitState u) (UnitState v) = nat_eq u.0 v.0
 same_place (UnitMedia u) (UnitMedia v) = nat_eq u.0 v.0
 same_place p q = false
 
+-- the places that a core has: its PSW, the registers by their numbers, the bytes by their addresses, and the
+-- storage keys by the numbers of their blocks
+pub data CorePlace : Type 0 where
+  psw : CorePlace
+  register byte key : ℕ → CorePlace
+
+-- a place as one of the core, where it is one
+abbrev pub core_place_of : Place → Option CorePlace
+core_place_of Psw = Some psw
+core_place_of (Register n) = Some (register n)
+core_place_of (Byte a) = Some (byte a)
+core_place_of (Key b) = Some (key b)
+core_place_of p = None
+
+-- the core has such a place
+abbrev pub HasPlace : Core → CorePlace → Type 0
+HasPlace m psw = Unit {0}
+HasPlace m (register n) = n < length m.registers
+HasPlace m (byte a) = a < length m.storage.bytes
+HasPlace m (key b) = b < length m.storage.keys
+
+-- the number is one that the place can hold
+abbrev pub CanHold : CorePlace → ℕ → Type 0
+CanHold psw v = IsCurrentPsw v
+CanHold (register n) v = v < 2 ^ 32
+CanHold (byte a) v = v < 256
+CanHold (key b) v = v < key_limit
+
+-- what stands there
+abbrev pub core_value : Core → CorePlace → ℕ
+core_value m psw = m.psw
+core_value m (register n) = slice_index m.registers n
+core_value m (byte a) = slice_index m.storage.bytes a
+core_value m (key b) = slice_index m.storage.keys b
+
+-- the core with another value there
+abbrev pub core_with_value : CorePlace → ℕ → Core → Core
+core_with_value psw v m = core_with_psw v m
+core_with_value (register n) v m = core_with_word n v m
+core_with_value (byte a) v m = record m { storage = record m.storage { bytes = slice_set m.storage.bytes a v } }
+core_with_value (key b) v m = core_with_key b v m
+
 -- the place is one of the core
 abbrev pub IsPlaceOf : Core → Place → Type 0
-IsPlaceOf m Psw = Unit {0}
-IsPlaceOf m (Register n) = n < length m.registers
-IsPlaceOf m (Byte a) = a < length m.storage.bytes
-IsPlaceOf m (Key b) = b < length m.storage.keys
-IsPlaceOf m p = ⊥
+IsPlaceOf m p = MatchOption (core_place_of p) ⊥ (HasPlace m)
 
 -- the number is one that a place of the core can hold
 abbrev pub Fits : Place → ℕ → Type 0
-Fits Psw v = IsCurrentPsw v
-Fits (Register n) v = v < 2 ^ 32
-Fits (Byte a) v = v < 256
-Fits (Key b) v = v < 16
-Fits p v = ⊥
+Fits p v = MatchOption (core_place_of p) ⊥ (λ q. CanHold q v)
 
--- what stands at a place
+-- what stands at a place of the core
 abbrev pub value_at : Core → Place → ℕ
-value_at m Psw = m.psw
-value_at m (Register n) = slice_index m.registers n
-value_at m (Byte a) = slice_index m.storage.bytes a
-value_at m (Key b) = slice_index m.storage.keys b
-value_at m p = 0
+value_at m p = option_map_or (core_value m) (core_place_of p) 0
 
--- the core with another value at a place
+-- the core with another value at a place of it
 abbrev pub with_value : Core → Place → ℕ → Core
-with_value m Psw v = record m { psw = v }
-with_value m (Register n) v = record m { registers = slice_set m.registers n v }
-with_value m (Byte a) v = record m { storage = record m.storage { bytes = slice_set m.storage.bytes a v } }
-with_value m (Key b) v = record m { storage = record m.storage { keys = slice_set m.storage.keys b v } }
-with_value m p v = m
+with_value m p v = option_map_or (λ q. core_with_value q v m) (core_place_of p) m
 
 -- the place is a byte or a storage key of the storage
 abbrev pub IsStoragePlace : Storage → Place → Type 0

@@ -1,5 +1,5 @@
 -- A plan: the cells that an event puts, each place at most once, in the order of their first puts.
-use Rattle.std.specs.Prelude.{◌≡◌, Option, Some, None, ℕ, if◌then◌else◌, List, [], ◌∷◌}
+use Rattle.std.specs.Prelude.{◌≡◌, ◌<◌, ◌≤◌, ◌+◌, Option, Some, None, ℕ, if◌then◌else◌, List, [], ◌∷◌, length}
 use Rattle.s360_model.specs.Core.{Core}
 use Rattle.s360_store.specs.declared.place.Place.{Place}
 use Rattle.s360_store.specs.declared.place.Cell.{Cell}
@@ -20,3 +20,27 @@ planned_value (c ∷ cs) p = if same_place c.place p then Some c.value else plan
 pub record IsPlanOf (m : Core) (plan : List Cell) (n : Core) : Type 0 where
   pub cells : AreCellsOf m plan
   pub makes : after_exchange m plan ≡ n
+
+-- puts make of the plan of each core that has their places that of the core after them, and add at most so
+-- many cells
+pub record AddsToPlan (old new : List Cell) (count : ℕ) (HasPlaces : Core → Type 0) (after : Core → Core) : Type 0 where
+  pub makes : (m n : Core) → HasPlaces m → IsPlanOf m old n → IsPlanOf m new (after n)
+  pub few : length new ≤ length old + count
+
+-- the core has a register, a run of bytes, a block
+abbrev pub HasRegister : ℕ → Core → Type 0
+HasRegister r m = r < length m.registers
+
+abbrev pub HasBytes : ℕ → ℕ → Core → Type 0
+HasBytes address count m = address + count ≤ length m.storage.bytes
+
+abbrev pub HasBlock : ℕ → Core → Type 0
+HasBlock block m = block < length m.storage.keys
+
+-- the core has the sixteen general registers
+abbrev pub HasRegisters : Core → Type 0
+HasRegisters m = length m.registers ≡ 16
+
+-- each core has a PSW
+abbrev pub HasPsw : Core → Type 0
+HasPsw m = Unit {0}

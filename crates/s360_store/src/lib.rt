@@ -8,6 +8,7 @@ mod fault;
 mod place;
 mod plan;
 mod protection;
+mod puts;
 mod storage;
 
 pub use fault::StoreFault;

@@ -1,0 +1,7 @@
+use Rattle.std.proofs.Common.{length, take}
+use Rattle.s360_model.specs.Core.{core_with_bytes}
+use Rattle.s360_store.specs.Plans.{AddsToPlan, HasBytes}
+use Rattle.s360_store.proofs.plan.Plan.put_bytes.Given as goal
+
+abbrev pub invariant-loop-i : goal.invariant-loop-i
+invariant-loop-i l = AddsToPlan l.initial.self l.self l.i (HasBytes l.address (length l.bytes)) (core_with_bytes l.address (take l.i l.bytes))
