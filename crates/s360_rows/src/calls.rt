@@ -1,35 +1,50 @@
 //! Events and calls of a session, written as lines of a script, and the texts of their answers. None
 //! of them is there where a line is no command or memory is out.
+use crate::rows::Words;
 use s360_debug::{Command, read_command};
 use s360_journal::{Answer, Call, Report};
-use s360_machine::{Event, Refusal};
+use s360_machine::{Bytes, Event, Patch, Refusal};
 use std::alloc::Global;
 
-/// The call that a line asks of a session; a line that shows something asks how many changes stand.
-pub(crate) fn call(alloc: Global, line: &str) -> Option<Call> {
-    Some(match read_command(alloc, line.as_bytes()).ok()? {
+/// The call that a command asks of a session; one that shows something asks how many changes stand.
+fn call_of(command: Command) -> Call {
+    match command {
+        Command::Step => Call::Forward(Event::Cpu),
+        Command::Patch(patch) => Call::Forward(Event::Patch(patch)),
         Command::Back => Call::Back,
         Command::Last(place) => Call::LastChange(place),
         Command::Standing | Command::Show(_) => Call::Standing,
-        command => Call::Forward(command.into_event()?),
-    })
+    }
+}
+
+/// The call that a line asks of a session.
+pub(crate) fn call(alloc: Global, line: &str) -> Option<Call> {
+    let command = read_command(alloc, line.as_bytes()).ok()?;
+    Some(call_of(command))
 }
 
 /// The calls that lines ask of a session.
 pub(crate) fn calls(alloc: Global, lines: &str) -> Option<Vec<Call>> {
     let mut calls = Vec::new(alloc);
     for line in lines.lines() {
-        calls.push(call(alloc, line)?).ok()?;
+        let call = call(alloc, line)?;
+        calls.push(call).ok()?;
     }
     Some(calls)
 }
 
 /// The event that a line offers.
 pub(crate) fn event(alloc: Global, line: &str) -> Option<Event> {
-    match call(alloc, line)? {
-        Call::Forward(event) => Some(event),
-        _ => None,
-    }
+    read_command(alloc, line.as_bytes()).ok()?.into_event()
+}
+
+/// A patch of so many bytes: its address and its length are the next words.
+pub(crate) fn long_patch(alloc: Global, words: &mut Words<'_>) -> Option<Event> {
+    let at = words.word();
+    let count = words.below(0x200) as usize;
+    let bytes = vec![in alloc; 0xA5u8; count].ok()?;
+    let bytes = Bytes::new(bytes);
+    Some(Event::Patch(Patch::Bytes { at, bytes }))
 }
 
 /// What an event was answered: the places that it altered, or why it is refused. None is where the

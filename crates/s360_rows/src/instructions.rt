@@ -1,391 +1,348 @@
-//! Instructions: their fetch, and what keeps one from being done. Values are from the
-//! standard or worked by hand, and all numbers are hexadecimal.
+//! Instructions: their fetch, and what keeps one from being done. Values are from the standard or
+//! worked by hand.
+use crate::plans::cells;
+use crate::rows::{Subject, Words, assert_rows, text_of_cells};
+use crate::storage::swap;
 use arrayvec::ArrayVec;
 use s360_fixed::{
     Ended, Form, ProgramCode, View, decode, fetch_instruction, length_of, plan_fixed,
 };
-use s360_logic::{PlannedInstruction, plan_instruction};
+use s360_logic::plan_instruction;
 use s360_psw::{InstructionLength, Psw};
-use s360_store::{Cell, Place, Plan, Storage};
+use s360_store::{Place, Plan, Storage};
 use s360_word::{ProtectionKey, Word};
 use std::alloc::Global;
-use std::process::Abort;
-use std::test::Fail;
 
-/// Rows that end with a program code, or that have a block of another key: an instruction, what
-/// stands before it in a machine with `2000` bytes of storage, and the values of its plan. `p` is the
-/// PSW, `rX` a register, `sXXXX` bytes of storage, `kX` the key of a block, and `code` a program
-/// code. The PSW has condition code 1 and the instruction address `200` at first, and all else is
-/// zero.
-const ROWS: &str = "
-    1D24 r2=0 r3=7 r4=0 -> code=9
-    5D200600 r2=0 r3=7 s600=00000000 -> code=9
-    1D24 r2=0 r3=80000000 r4=1 -> code=9
-    5D200600 r2=0 r3=80000000 s600=00000001 -> code=9
-    1D24 r2=80000000 r3=0 r4=FFFFFFFF -> code=9
-    5D200600 r2=80000000 r3=0 s600=FFFFFFFF -> code=9
-    1D24 r2=1 r3=0 r4=1 -> code=9
-    5D200600 r2=1 r3=0 s600=00000001 -> code=9
-    8C300001 r2=80000000 r3=1 -> code=6
-    8D300001 r2=0 r3=1 -> code=6
-    8E300001 r2=80000000 r3=1 -> code=6
-    8F300001 r2=40000000 r3=0 -> code=6
-    1A12 p=8000200 r1=7FFFFFFF r2=1 -> r1=80000000 p=38000202 code=8
-    1D24 p=200 r3=7 -> code=9
-    50100800 p=0010000000000200 k1=2 -> code=4
-    58100800 p=0010000010000200 k1=2 -> r1=0 p=0010000010000204
-    48100800 p=0010000010000200 k1=2 -> r1=0 p=0010000010000204
-    43100800 p=0010000010000200 k1=2 -> r1=0 p=0010000010000204
-    98110800 p=0010000010000200 k1=2 -> r1=0 p=0010000010000204
-    42100800 k1=2 r1=AB -> s800=AB p=10000204
-    1A12 p=8000200 r1=7FFFFFFF r2=1 -> r1=80000000 p=38000202 code=8
-    1A12 p=8000200 r1=80000000 r2=FFFFFFFF -> r1=7FFFFFFF p=38000202 code=8
-    1B12 p=8000200 r1=80000000 r2=1 -> r1=7FFFFFFF p=38000202 code=8
-    1312 p=8000200 r1=0 r2=80000000 -> r1=80000000 p=38000202 code=8
-    1012 p=8000200 r1=0 r2=80000000 -> r1=80000000 p=38000202 code=8
-    1A12 p=8000200 r1=5 r2=3 -> r1=8 p=28000202
-    1E12 p=8000200 r1=FFFFFFFF r2=2 -> r1=1 p=38000202
-    1F12 p=8000200 r1=1 r2=0 -> r1=1 p=38000202
-    1112 p=8000200 r1=0 r2=80000000 -> r1=80000000 p=18000202
-    8B200001 p=8000200 r2=40000000 -> r2=0 p=38000204 code=8
-    8F200001 p=8000200 r2=40000000 -> r2=0 r3=0 p=38000204 code=8";
-
-/// The same, where the PSW has key 1 and block 1 has key 2, the others 1: a specification comes before
-/// addressing, and addressing before protection.
-const REFUSED: &str = "
-    58105001 r5=600 -> code=6
-    5A105002 r5=600 -> code=6
-    5B105003 r5=600 -> code=6
-    48105000 r5=601 -> code=6
-    4A105001 r5=600 -> code=6
-    4C105003 r5=600 -> code=6
-    50105002 r5=600 -> code=6
-    40105001 r5=600 -> code=6
-    90115000 r5=602 -> code=6
-    98115000 r5=601 -> code=6
-    5C305000 r5=600 -> code=6
-    5D105000 r5=600 -> code=6
-    5C305000 r5=2000 -> code=6
-    5D305000 r5=2000 -> code=6
-    58105002 r5=2000 -> code=6
-    50105001 r5=2000 -> code=6
-    98115002 r5=2000 -> code=6
-    50105002 r5=800 -> code=6
-    40105001 r5=800 -> code=6
-    58105000 r5=2000 -> code=5
-    5E105000 r5=2000 -> code=5
-    48105000 r5=2000 -> code=5
-    43105000 r5=2000 -> code=5
-    50105000 r5=2000 -> code=5
-    42105000 r5=2000 -> code=5
-    5C205000 r5=2000 -> code=5
-    5D205000 r5=2000 -> code=5
-    58105000 r5=FFFFFFFC -> code=5
-    48105000 r5=FFFFFFFE -> code=5
-    98125000 r5=1FFC -> code=5
-    90125000 r5=1FFC -> code=5
-    98105000 r5=1FC4 -> code=5
-    98125000 r5=FFFFFFFC -> code=5
-    90125000 r5=FFFFFFFC -> code=5
-    50105000 r5=800 -> code=4
-    40105000 r5=FFE -> code=4
-    42105000 r5=FFF -> code=4
-    90125000 r5=7FC -> code=4
-    90125000 r5=FFC -> code=4
-    501F5000 r5=FF0800 rF=10000 -> code=4";
-
-/// The same, where `01020304` stands at the end of storage and `05060708` at 0, and register 2 has
-/// `99`. The last two addresses wrap.
-const AT_THE_END: &str = "
-    58105000 r5=1FFC -> r1=1020304 p=10000204
-    48105000 r5=1FFE -> r1=304 p=10000204
-    43105000 r5=1FFF -> r1=4 p=10000204
-    98115000 r5=1FFC -> r1=1020304 p=10000204
-    42205000 r5=1FFF -> s1FFF=99 p=10000204
-    58105004 r5=FFFFFFFC -> r1=5060708 p=10000204
-    42205001 r5=FFFFFF -> s0=99 p=10000204";
+/// The program codes, from 1 on.
+const PROGRAM_CODES: [ProgramCode; 9] = [
+    ProgramCode::Operation,
+    ProgramCode::Privileged,
+    ProgramCode::Execute,
+    ProgramCode::Protection,
+    ProgramCode::Addressing,
+    ProgramCode::Specification,
+    ProgramCode::Data,
+    ProgramCode::FixedPointOverflow,
+    ProgramCode::FixedPointDivide,
+];
 
 /// What stands before an instruction.
 #[derive(Drop)]
 struct Before {
-    psw: u64,
+    psw: Psw,
     registers: [Word; 16],
     storage: Storage,
 }
 
-/// The number of hexadecimal digits, modulo 2^64.
-fn number(digits: &[u8]) -> u64 {
-    digits.iter().fold(0u64, |number, digit| {
-        let value = match *digit {
-            b'0'..=b'9' => *digit - b'0',
-            b'A'..=b'F' => *digit - b'A' + 10,
-            _ => 0,
-        };
-        number.wrapping_mul(16).wrapping_add(u64::from(value))
-    })
-}
-
-/// The low 32 bits.
-fn word(number: u64) -> Word {
-    (number % 0x1_0000_0000) as u32
-}
-
 impl Before {
-    fn new(alloc: Global) -> Result<Before, Fail> {
-        Ok(Before {
-            psw: 0x0000_0000_1000_0200,
+    /// The PSW has condition code 1 and the instruction address `200`, and all else is zero.
+    fn new(alloc: Global) -> Option<Before> {
+        let storage = Storage::new(alloc, 0x2000).ok()?;
+        Some(Before {
+            psw: Psw::from_u64(0x0000_0000_1000_0200),
             registers: [0; 16],
-            storage: Storage::new(alloc, 0x2000)?,
+            storage,
         })
     }
 
-    /// Puts a value at a place of the storage.
-    fn put(&mut self, place: Place, value: u64) {
-        let mut cell = Cell { place, value };
+    /// Puts the bytes of hexadecimal digits into storage, and answers whether it has room for them.
+    fn store(&mut self, address: u32, digits: &str) -> bool {
+        let Some(bytes) = bytes_of(digits) else {
+            return false;
+        };
+        let mut are_stored = true;
+        for (at, byte) in (address..0x2000).zip(bytes.as_slice()) {
+            are_stored &= swap(&mut self.storage, Place::Byte(at), u64::from(*byte)).is_some();
+        }
+        are_stored
+    }
+
+    /// Sets a place to the next value.
+    fn set(&mut self, place: Place, words: &mut Words<'_>) {
         match place {
-            Place::Byte(address) if address < self.storage.size() && value < 256 => {
-                self.storage.swap(&mut cell);
+            Place::Psw => self.psw = Psw::from_u64(words.number()),
+            Place::Register(number) => self.registers[usize::from(number % 16)] = words.word(),
+            Place::Byte(address) => {
+                let are_stored = self.store(address, words.next_word());
+                words.expect(are_stored);
             }
-            Place::Key(block) if block < self.storage.size() / 2048 && value < 16 => {
-                self.storage.swap(&mut cell);
+            _ => {
+                let old = swap(&mut self.storage, place, words.number());
+                words.expect(old.is_some());
             }
-            _ => {}
         }
     }
 
-    /// Sets what the place of a token names.
-    fn set(&mut self, place: &[u8], value: &[u8]) {
-        match place {
-            [b'p'] => self.psw = number(value),
-            [b'r', register @ ..] => {
-                self.registers[(number(register) % 16) as usize] = word(number(value));
-            }
-            [b's', address @ ..] => {
-                for (at, byte) in (word(number(address))..0x2000).zip(value.chunks(2)) {
-                    self.put(Place::Byte(at), number(byte) % 256);
-                }
-            }
-            [b'k', block @ ..] => {
-                self.put(Place::Key(word(number(block))), number(value) % 16);
-            }
-            _ => {}
+    /// Sets the places that words name to the values beside them.
+    fn set_all(&mut self, words: &mut Words<'_>) {
+        for _ in 0..20 {
+            let Some(place) = words.next_place() else {
+                break;
+            };
+            self.set(place, words);
         }
     }
 
-    /// Plans an instruction.
-    fn plan(&self, rt: &impl Abort, alloc: Global, code: &[u8]) -> Result<(Ended, Plan), Fail> {
-        let form = decoded(rt, code)?.ok_or("no operation")?;
-        assert!(rt; form.is_fixed(), "{code:?}");
-        let (length, bytes) = match code.len() {
+    /// What an instruction of so many bytes sees.
+    fn view(&self, bytes: usize) -> View<'_> {
+        let (length, bytes) = match bytes {
             2 => (InstructionLength::OneHalfword, 2),
             4 => (InstructionLength::TwoHalfwords, 4),
             _ => (InstructionLength::ThreeHalfwords, 6),
         };
-        let psw = Psw::from_u64(self.psw);
-        let next_address = psw.instruction_address() + bytes;
-        let view = View::new(psw, &self.registers, &self.storage, next_address, length);
-        let mut plan = Plan::new(alloc);
-        let ended = plan_fixed(&form, &view, &mut plan)?;
-        Ok((ended, plan))
+        let next_address = self.psw.instruction_address() + bytes;
+        View::new(
+            self.psw,
+            &self.registers,
+            &self.storage,
+            next_address,
+            length,
+        )
     }
+}
+
+/// The bytes of hexadecimal digits, at most six.
+pub(crate) fn bytes_of(digits: &str) -> Option<ArrayVec<u8, 6>> {
+    let mut bytes = [0; 6];
+    let bytes = bytes.get_mut(..digits.len() / 2)?;
+    hex::decode_to_slice(digits, bytes).ok()?;
+    ArrayVec::try_from(&*bytes).ok()
 }
 
 /// The instruction that bytes are. Their number is the length of the first.
-pub(crate) fn decoded(rt: &impl Abort, code: &[u8]) -> Result<Option<Form>, Fail> {
-    let bytes = ArrayVec::try_from(code)?;
-    assert!(rt; !code.is_empty());
-    assert!(rt; code.len() == usize::from(length_of(code[0])), "{code:?}");
-    Ok(decode(&bytes))
-}
-
-/// The bytes of hexadecimal digits.
-pub(crate) fn bytes_of(digits: &str) -> Result<ArrayVec<u8, 6>, Fail> {
-    let mut bytes = ArrayVec::new();
-    for byte in digits.as_bytes().chunks(2) {
-        bytes.try_push((number(byte) % 256) as u8)?;
-    }
-    Ok(bytes)
-}
-
-/// How an instruction ends with the program code of this number.
-fn ended_with(number: u64) -> Ended {
-    match number {
-        4 => Ended::Program(ProgramCode::Protection),
-        5 => Ended::Program(ProgramCode::Addressing),
-        6 => Ended::Program(ProgramCode::Specification),
-        8 => Ended::Program(ProgramCode::FixedPointOverflow),
-        9 => Ended::Program(ProgramCode::FixedPointDivide),
-        _ => Ended::Done,
+pub(crate) fn decoded(bytes: &ArrayVec<u8, 6>) -> Option<Form> {
+    let first = *bytes.as_slice().first()?;
+    if bytes.len() == usize::from(length_of(first)) {
+        decode(bytes)
+    } else {
+        None
     }
 }
 
-/// Asserts that the plan has the values of a token, and answers how many there are.
-fn assert_values(rt: &impl Abort, row: &str, plan: &Plan, place: &[u8], value: &[u8]) -> usize {
-    match place {
-        [b'p'] => {
-            assert_eq!(rt; plan.value(Place::Psw), Some(number(value)), "{row}");
-            1
-        }
-        [b'r', register @ ..] => {
-            let register = Place::Register((number(register) % 16) as u8);
-            assert_eq!(rt; plan.value(register), Some(number(value)), "{row}");
-            1
-        }
-        [b's', address @ ..] => {
-            for (at, byte) in (word(number(address))..0x2000).zip(value.chunks(2)) {
-                let found = plan.value(Place::Byte(at));
-                assert_eq!(rt; found, Some(number(byte)), "{row}");
-            }
-            value.len() / 2
-        }
-        _ => 0,
+/// The values of a plan in the order of their places, and the program code that its instruction
+/// ends with.
+fn text_of_values(alloc: Global, plan: &Plan, ended: Ended) -> Option<String> {
+    let mut cells = cells(alloc, plan)?;
+    cells.sort_by_key(|cell| cell.place).ok()?;
+    let mut text = text_of_cells(alloc, &cells)?;
+    match ended {
+        Ended::Done => {}
+        Ended::Program(code) => write!(text, "code={:X}", code.number()).ok()?,
+        _ => return None,
     }
+    Some(text)
 }
 
-/// The place and the value of a token.
-fn parts(token: &str) -> (&[u8], &[u8]) {
-    let mut parts = token.as_bytes().split(|byte| *byte == b'=');
-    (
-        parts.next().unwrap_or_default(),
-        parts.next().unwrap_or_default(),
-    )
-}
-
-/// Asserts a row: what is before the arrow, and what stands before all rows, gives what is after it,
-/// and no more.
-fn assert_row(rt: &impl Abort, alloc: Global, first: &str, row: &str) -> Result<(), Fail> {
-    let mut before = Before::new(alloc)?;
-    let (state, expected) = row.split_once("->").ok_or("no arrow")?;
-    let (code, state) = state.split_once(" ").ok_or("no code")?;
-    for token in first.split_whitespace().chain(state.split_whitespace()) {
-        let (place, value) = parts(token);
-        before.set(place, value);
+/// How an instruction of the fixed-point chapter is planned.
+fn text_of_plan(alloc: Global, before: &Before, digits: &str) -> Option<String> {
+    let bytes = bytes_of(digits)?;
+    let form = decoded(&bytes)?;
+    if !form.is_fixed() {
+        return None;
     }
-    let (ended, plan) = before.plan(rt, alloc, bytes_of(code)?.as_slice())?;
-    let mut program_code = 0;
-    let mut count = 0usize;
-    for token in expected.split_whitespace() {
-        let (place, value) = parts(token);
-        if let [b'c', ..] = place {
-            program_code = number(value);
-        }
-        count = count.wrapping_add(assert_values(rt, row, &plan, place, value));
-    }
-    assert_eq!(rt; ended, ended_with(program_code), "{row}");
-    assert_eq!(rt; plan.len() as usize, count, "{row}");
-    Ok(())
-}
-
-/// Asserts rows, before which all this stands.
-fn assert_rows(rt: &impl Abort, alloc: Global, first: &str, rows: &str) -> Result<(), Fail> {
-    for row in rows.lines() {
-        if !row.is_empty() {
-            assert_row(rt, alloc, first, row.trim())?;
-        }
-    }
-    Ok(())
-}
-
-#[test]
-fn program_codes(rt: HostRuntime) -> Result<(), Fail> {
-    let alloc = rt.alloc();
-    assert_rows(&rt, alloc, "", ROWS)?;
-    let keys = "p=0010000010000200 k0=1 k1=2 k2=1 k3=1";
-    assert_rows(&rt, alloc, keys, REFUSED)?;
-    assert_rows(&rt, alloc, "s1FFC=01020304 s0=05060708 r2=99", AT_THE_END)?;
-    for (code, number) in [
-        (ProgramCode::Operation, 1),
-        (ProgramCode::Privileged, 2),
-        (ProgramCode::Execute, 3),
-        (ProgramCode::Protection, 4),
-        (ProgramCode::Addressing, 5),
-        (ProgramCode::Specification, 6),
-        (ProgramCode::Data, 7),
-        (ProgramCode::FixedPointOverflow, 8),
-        (ProgramCode::FixedPointDivide, 9),
-    ] {
-        assert_eq!(rt; code.number(), number, "{code:?}");
-    }
-    Ok(())
-}
-
-#[test]
-fn fetched_bytes(rt: HostRuntime) -> Result<(), Fail> {
-    let mut before = Before::new(rt.alloc())?;
-    before.set(b"s1FFA", b"D20110012002");
-    let key = ProtectionKey::new(1);
-    for (address, length) in [
-        (0x0000, Ok(2)),
-        (0x1FFA, Ok(6)),
-        (0x1FFC, Ok(2)),
-        (0x1FFE, Ok(2)),
-        (0x1FFB, Err(ProgramCode::Specification)),
-        (0x2001, Err(ProgramCode::Specification)),
-        (0x2000, Err(ProgramCode::Addressing)),
-        (0xFF_FFFE, Err(ProgramCode::Addressing)),
-    ] {
-        let found = fetch_instruction(&before.storage, address, key).map(|bytes| bytes.len());
-        assert_eq!(rt; found, length, "{address:X}");
-    }
-    before.set(b"s1FFC", b"D2");
-    before.set(b"s1FFE", b"41");
-    for address in [0x1FFC, 0x1FFE] {
-        let found = fetch_instruction(&before.storage, address, key).map(|bytes| bytes.len());
-        assert_eq!(rt; found, Err(ProgramCode::Addressing), "{address:X}");
-    }
-    Ok(())
-}
-
-/// Asserts how the instruction at the instruction address ends, with the address of the next one and
-/// its length in halfwords, and the PSW that its plan has.
-fn assert_ending(
-    rt: &impl Abort,
-    alloc: Global,
-    psw: u64,
-    code: &[u8],
-    planned: (Ended, u32, u8),
-    next: Option<u64>,
-) -> Result<(), Fail> {
-    let mut before = Before::new(alloc)?;
-    before.set(b"s200", code);
     let mut plan = Plan::new(alloc);
-    let PlannedInstruction {
-        ended,
-        next_address,
-        instruction_length,
-    } = plan_instruction(
-        Psw::from_u64(psw),
-        &before.registers,
-        &before.storage,
-        &mut plan,
-    )?;
-    let found = (ended, next_address, instruction_length.code());
-    assert_eq!(rt; found, planned, "{code:?}");
-    assert_eq!(rt; plan.value(Place::Psw), next, "{code:?}");
-    assert_eq!(rt; plan.is_empty(), next.is_none(), "{code:?}");
-    Ok(())
+    let ended = plan_fixed(&form, &before.view(bytes.len()), &mut plan).ok()?;
+    text_of_values(alloc, &plan, ended)
+}
+
+/// How many bytes are fetched at an address with key 1, or why they are not.
+fn text_of_fetch(alloc: Global, before: &Before, digits: &str) -> Option<String> {
+    let address = u32::from_str_radix(digits, 16).ok()?;
+    let key = ProtectionKey::new(1);
+    match fetch_instruction(&before.storage, address, key) {
+        Ok(bytes) => format!(in alloc; "{}", bytes.len()).ok(),
+        Err(code) => format!(in alloc; "{code:?}").ok(),
+    }
+}
+
+/// How the instruction at the instruction address ends, with the address of the next one, its own
+/// length in halfwords and the PSW of its plan, which is its last value.
+fn text_of_ending(alloc: Global, before: &Before) -> Option<String> {
+    let (registers, storage) = (&before.registers, &before.storage);
+    let mut plan = Plan::new(alloc);
+    let planned = plan_instruction(before.psw, registers, storage, &mut plan).ok()?;
+    let (ended, next) = (planned.ended, planned.next_address);
+    let length = planned.instruction_length.code();
+    let psw = plan.value(Place::Psw).unwrap_or_default();
+    let is_empty = plan.is_empty();
+    format!(in alloc; "{ended:?} {next:X} {length} p={psw:X} {is_empty}").ok()
+}
+
+/// Each program code with its number.
+fn text_of_numbers(alloc: Global) -> Option<String> {
+    let mut text = String::new(alloc);
+    for code in PROGRAM_CODES {
+        write!(text, "{code:?} {} ", code.number()).ok()?;
+    }
+    Some(text)
+}
+
+/// What stands before all rows of a kind.
+fn start_of(kind: &str) -> &'static str {
+    match kind {
+        "keyed" => "p=0010000010000200 k0=1 k1=2 k2=1 k3=1",
+        "end" => "s1FFC=01020304 s0=05060708 r2=99",
+        "fetch" => "s1FFA=D20110012002",
+        _ => "",
+    }
+}
+
+/// Instructions, each with its own start.
+#[derive(Drop)]
+struct Instructions;
+
+impl Subject for Instructions {
+    fn new(_alloc: Global) -> Option<Instructions> {
+        Some(Instructions)
+    }
+
+    fn answer(&mut self, alloc: Global, words: &mut Words<'_>) -> Option<String> {
+        let kind = words.next_word();
+        if kind == "numbers" {
+            return text_of_numbers(alloc);
+        }
+        let digits = words.next_word();
+        let mut before = Before::new(alloc)?;
+        before.set_all(&mut Words::new(start_of(kind)));
+        before.set_all(words);
+        match kind {
+            "fetch" => text_of_fetch(alloc, &before, digits),
+            "ending" => {
+                words.expect(before.store(0x200, digits));
+                text_of_ending(alloc, &before)
+            }
+            _ => text_of_plan(alloc, &before, digits),
+        }
+    }
 }
 
 #[test]
-fn endings(rt: HostRuntime) -> Result<(), Fail> {
-    let alloc = rt.alloc();
-    let done = Ended::Done;
-    let specification = Ended::Program(ProgramCode::Specification);
-    let addressing = Ended::Program(ProgramCode::Addressing);
-    let operation = Ended::Program(ProgramCode::Operation);
-    let unbuilt = Ended::Unbuilt;
-    assert_ending(&rt, alloc, 0x200, b"1A12", (done, 0x202, 1), Some(0x202))?;
-    assert_ending(
-        &rt,
-        alloc,
-        0x200,
-        b"47F00300",
-        (done, 0x204, 2),
-        Some(0x300),
-    )?;
-    assert_ending(&rt, alloc, 0x201, b"1A12", (specification, 0x201, 0), None)?;
-    assert_ending(&rt, alloc, 0x2000, b"1A12", (addressing, 0x2000, 0), None)?;
-    assert_ending(&rt, alloc, 0x200, b"0000", (operation, 0x202, 1), None)?;
-    assert_ending(&rt, alloc, 0x200, b"92000300", (unbuilt, 0x204, 2), None)?;
-    Ok(())
+fn program_codes(rt: HostRuntime) {
+    assert_rows::<Instructions>(&rt, rt.alloc(), PLANNED);
 }
+
+#[test]
+fn fetched_bytes(rt: HostRuntime) {
+    assert_rows::<Instructions>(&rt, rt.alloc(), FETCHED);
+}
+
+#[test]
+fn endings(rt: HostRuntime) {
+    assert_rows::<Instructions>(&rt, rt.alloc(), ENDINGS);
+}
+
+/// Instructions that end with a program code, or that have a block of another key: what stands
+/// before one in a machine with `2000` bytes of storage, and the values of its plan in the order of
+/// their places. `p` is the PSW, `rX` a register, `sXXXX` bytes of storage, `kX` the key of a block,
+/// and `code` a program code.
+const PLANNED: &str = "
+free 1D24 r2=0 r3=7 r4=0 -> code=9
+free 5D200600 r2=0 r3=7 s600=00000000 -> code=9
+free 1D24 r2=0 r3=80000000 r4=1 -> code=9
+free 5D200600 r2=0 r3=80000000 s600=00000001 -> code=9
+free 1D24 r2=80000000 r3=0 r4=FFFFFFFF -> code=9
+free 5D200600 r2=80000000 r3=0 s600=FFFFFFFF -> code=9
+free 1D24 r2=1 r3=0 r4=1 -> code=9
+free 5D200600 r2=1 r3=0 s600=00000001 -> code=9
+free 8C300001 r2=80000000 r3=1 -> code=6
+free 8D300001 r2=0 r3=1 -> code=6
+free 8E300001 r2=80000000 r3=1 -> code=6
+free 8F300001 r2=40000000 r3=0 -> code=6
+free 1A12 p=8000200 r1=7FFFFFFF r2=1 -> p=38000202 r1=80000000 code=8
+free 1D24 p=200 r3=7 -> code=9
+free 50100800 p=0010000000000200 k1=2 -> code=4
+free 58100800 p=0010000010000200 k1=2 -> p=10000010000204 r1=0
+free 48100800 p=0010000010000200 k1=2 -> p=10000010000204 r1=0
+free 43100800 p=0010000010000200 k1=2 -> p=10000010000204 r1=0
+free 98110800 p=0010000010000200 k1=2 -> p=10000010000204 r1=0
+free 42100800 k1=2 r1=AB -> p=10000204 s800=AB
+free 1A12 p=8000200 r1=7FFFFFFF r2=1 -> p=38000202 r1=80000000 code=8
+free 1A12 p=8000200 r1=80000000 r2=FFFFFFFF -> p=38000202 r1=7FFFFFFF code=8
+free 1B12 p=8000200 r1=80000000 r2=1 -> p=38000202 r1=7FFFFFFF code=8
+free 1312 p=8000200 r1=0 r2=80000000 -> p=38000202 r1=80000000 code=8
+free 1012 p=8000200 r1=0 r2=80000000 -> p=38000202 r1=80000000 code=8
+free 1A12 p=8000200 r1=5 r2=3 -> p=28000202 r1=8
+free 1E12 p=8000200 r1=FFFFFFFF r2=2 -> p=38000202 r1=1
+free 1F12 p=8000200 r1=1 r2=0 -> p=38000202 r1=1
+free 1112 p=8000200 r1=0 r2=80000000 -> p=18000202 r1=80000000
+free 8B200001 p=8000200 r2=40000000 -> p=38000204 r2=0 code=8
+free 8F200001 p=8000200 r2=40000000 -> p=38000204 r2=0 r3=0 code=8
+* the PSW has key 1 and block 1 has key 2, the others 1: a specification comes before
+* addressing, and addressing before protection
+keyed 58105001 r5=600 -> code=6
+keyed 5A105002 r5=600 -> code=6
+keyed 5B105003 r5=600 -> code=6
+keyed 48105000 r5=601 -> code=6
+keyed 4A105001 r5=600 -> code=6
+keyed 4C105003 r5=600 -> code=6
+keyed 50105002 r5=600 -> code=6
+keyed 40105001 r5=600 -> code=6
+keyed 90115000 r5=602 -> code=6
+keyed 98115000 r5=601 -> code=6
+keyed 5C305000 r5=600 -> code=6
+keyed 5D105000 r5=600 -> code=6
+keyed 5C305000 r5=2000 -> code=6
+keyed 5D305000 r5=2000 -> code=6
+keyed 58105002 r5=2000 -> code=6
+keyed 50105001 r5=2000 -> code=6
+keyed 98115002 r5=2000 -> code=6
+keyed 50105002 r5=800 -> code=6
+keyed 40105001 r5=800 -> code=6
+keyed 58105000 r5=2000 -> code=5
+keyed 5E105000 r5=2000 -> code=5
+keyed 48105000 r5=2000 -> code=5
+keyed 43105000 r5=2000 -> code=5
+keyed 50105000 r5=2000 -> code=5
+keyed 42105000 r5=2000 -> code=5
+keyed 5C205000 r5=2000 -> code=5
+keyed 5D205000 r5=2000 -> code=5
+keyed 58105000 r5=FFFFFFFC -> code=5
+keyed 48105000 r5=FFFFFFFE -> code=5
+keyed 98125000 r5=1FFC -> code=5
+keyed 90125000 r5=1FFC -> code=5
+keyed 98105000 r5=1FC4 -> code=5
+keyed 98125000 r5=FFFFFFFC -> code=5
+keyed 90125000 r5=FFFFFFFC -> code=5
+keyed 50105000 r5=800 -> code=4
+keyed 40105000 r5=FFE -> code=4
+keyed 42105000 r5=FFF -> code=4
+keyed 90125000 r5=7FC -> code=4
+keyed 90125000 r5=FFC -> code=4
+keyed 501F5000 r5=FF0800 rF=10000 -> code=4
+* 01020304 stands at the end of storage and 05060708 at 0, and register 2 has 99; the last
+* two addresses wrap
+end 58105000 r5=1FFC -> p=10000204 r1=1020304
+end 48105000 r5=1FFE -> p=10000204 r1=304
+end 43105000 r5=1FFF -> p=10000204 r1=4
+end 98115000 r5=1FFC -> p=10000204 r1=1020304
+end 42205000 r5=1FFF -> p=10000204 s1FFF=99
+end 58105004 r5=FFFFFFFC -> p=10000204 r1=5060708
+end 42205001 r5=FFFFFF -> p=10000204 s0=99
+* the numbers of the program codes
+numbers -> Operation 1 Privileged 2 Execute 3 Protection 4 Addressing 5 Specification 6 Data 7 \
+    FixedPointOverflow 8 FixedPointDivide 9
+";
+
+/// Addresses, and how many bytes are fetched there: `D20110012002` stands at the end.
+const FETCHED: &str = "
+fetch 0000 -> 2
+fetch 1FFA -> 6
+fetch 1FFC -> 2
+fetch 1FFE -> 2
+fetch 1FFB -> Specification
+fetch 2001 -> Specification
+fetch 2000 -> Addressing
+fetch FFFFFE -> Addressing
+fetch 1FFC s1FFC=D2 s1FFE=41 -> Addressing
+fetch 1FFE s1FFC=D2 s1FFE=41 -> Addressing
+";
+
+/// Instructions at `200`, and how the one at the instruction address ends.
+const ENDINGS: &str = "
+ending 1A12 p=200 -> Done 202 1 p=202 false
+ending 47F00300 p=200 -> Done 204 2 p=300 false
+ending 1A12 p=201 -> Program(Specification) 201 0 p=0 true
+ending 1A12 p=2000 -> Program(Addressing) 2000 0 p=0 true
+ending 0000 p=200 -> Program(Operation) 202 1 p=0 true
+ending 92000300 p=200 -> Unbuilt 204 2 p=0 true
+";

@@ -1,7 +1,7 @@
 //! The machine by its own calls: its sizes, what is refused, and events that are exchanged twice.
-use crate::calls::event;
+use crate::calls::{event, long_patch};
 use crate::rows::{Subject, Words, assert_rows};
-use s360_machine::{Bytes, Changes, Event, Machine, Patch, Refusal, RunState};
+use s360_machine::{Changes, Event, Machine, Refusal, RunState};
 use s360_psw::Psw;
 use s360_store::{Storage, StoreFault};
 use s360_word::{RegisterNumber, Word};
@@ -56,6 +56,15 @@ fn is_zero(storage: &Storage) -> bool {
     true
 }
 
+/// Why events are refused.
+const REFUSALS: [Refusal; 5] = [
+    Refusal::Memory,
+    Refusal::OutsideStorage,
+    Refusal::PatchTooLong,
+    Refusal::JournalFull,
+    Refusal::Unbuilt,
+];
+
 /// A machine, and another that is always as it was.
 #[derive(Drop)]
 struct Machines {
@@ -64,47 +73,42 @@ struct Machines {
 }
 
 /// Makes an event happen.
-fn happen(machine: &mut Machine, event: &Event) -> Result<(), Refusal> {
-    let mut changes = machine.plan(event)?;
-    machine.room(&changes)?;
+fn happen(machine: &mut Machine, event: &Event) -> Option<()> {
+    let mut changes = machine.plan(event).ok()?;
+    machine.room(&changes).ok()?;
     machine.swap_all(&mut changes);
-    Ok(())
+    Some(())
 }
 
-/// The places of a change, and whether its calls about them agree.
-fn places_of(alloc: Global, changes: &Changes) -> Result<(String, bool), AllocError> {
-    let places = changes.places()?;
+/// Exchanges a planned change and exchanges it again, and answers its places if it is as it was.
+fn exchanged_twice(alloc: Global, machine: &mut Machine, event: &Event) -> Option<String> {
+    let mut changes = machine.plan(event).ok()?;
+    machine.room(&changes).ok()?;
+    let planned = format!(in alloc; "{changes:?}").ok()?;
+    let before = places_of(alloc, &changes)?;
+    machine.swap_all(&mut changes);
+    let after = places_of(alloc, &changes)?;
+    machine.swap_all(&mut changes);
+    let now = format!(in alloc; "{changes:?}").ok()?;
+    if before == after && planned == now {
+        Some(before)
+    } else {
+        None
+    }
+}
+
+/// The places of a change, if its calls about them agree.
+fn places_of(alloc: Global, changes: &Changes) -> Option<String> {
+    let places = changes.places().ok()?;
     let mut agree = changes.len() as usize == places.len();
     for i in 0..changes.len() {
         let place = changes.place(i);
         agree &= places.get(i as usize) == Some(&place) && changes.alters(place);
     }
-    Ok((format!(in alloc; "{places:?}")?, agree))
-}
-
-/// Exchanges a planned change and exchanges it again, and answers its places if it is as it was.
-fn exchanged_twice(
-    alloc: Global,
-    machine: &mut Machine,
-    event: &Event,
-) -> Result<Option<String>, Refusal> {
-    let mut changes = machine.plan(event)?;
-    machine.room(&changes)?;
-    let planned = format!(in alloc; "{changes:?}")?;
-    let (before, agree) = places_of(alloc, &changes)?;
-    machine.swap_all(&mut changes);
-    let (after, still) = places_of(alloc, &changes)?;
-    machine.swap_all(&mut changes);
-    let now = format!(in alloc; "{changes:?}")?;
-    let is_right = agree && still && before == after && planned == now;
-    Ok(if is_right { Some(before) } else { None })
-}
-
-/// A patch of so many bytes.
-fn patch(alloc: Global, at: u32, count: usize) -> Option<Event> {
-    let bytes = vec![in alloc; 0xA5u8; count].ok()?;
-    let bytes = Bytes::new(bytes);
-    Some(Event::Patch(Patch::Bytes { at, bytes }))
+    if !agree {
+        return None;
+    }
+    format!(in alloc; "{places:?}").ok()
 }
 
 /// The text of a refusal, or of none.
@@ -115,38 +119,70 @@ fn text_of_refusal(alloc: Global, refusal: Option<Refusal>) -> Option<String> {
     }
 }
 
-/// The size of a new machine that operates and is zero elsewhere; or why there is none.
-fn text_of_new(alloc: Global, size: u32) -> Option<String> {
-    let machine = match Machine::new(alloc, size) {
-        Ok(machine) => machine,
-        Err(StoreFault::Memory) => return None,
-        Err(fault) => return format!(in alloc; "{fault}").ok(),
-    };
+/// The numbers and the texts of refusals, and of the one for want of memory.
+fn text_of_refusals(alloc: Global) -> Option<String> {
+    let mut text = String::new(alloc);
+    for refusal in REFUSALS {
+        write!(text, "{} {refusal}, ", refusal.number()).ok()?;
+    }
+    let memory = Refusal::from(AllocError);
+    write!(text, "{} {memory}", memory.number()).ok()?;
+    Some(text)
+}
+
+/// The size of a machine, whether it is zero, and whether it operates.
+fn text_of_machine(alloc: Global, machine: &Machine) -> Option<String> {
     let mut zero = is_zero(machine.storage()) && machine.psw() == Psw::from_u64(0);
     for number in 0..16 {
-        zero &= word(&machine, number) == 0;
+        zero &= word(machine, number) == 0;
     }
     let operates = machine.run() == RunState::Operating;
     let size = machine.storage().size();
     format!(in alloc; "{size:X} zero {zero} operates {operates}").ok()
 }
 
+/// What a new machine is, or why there is none.
+fn text_of_new(alloc: Global, size: u32) -> Option<String> {
+    match Machine::new(alloc, size) {
+        Ok(machine) => text_of_machine(alloc, &machine),
+        Err(StoreFault::Memory) => None,
+        Err(fault) => format!(in alloc; "{fault}").ok(),
+    }
+}
+
+/// Bytes as an event has them.
+fn text_of_bytes(alloc: Global, words: &mut Words<'_>) -> Option<String> {
+    let patch = long_patch(alloc, words)?;
+    format!(in alloc; "{patch:?}").ok()
+}
+
 impl Machines {
-    /// Makes an event happen to both machines.
-    fn happen(&mut self, event: &Event) -> Result<(), Refusal> {
-        happen(&mut self.machine, event)?;
-        happen(&mut self.other, event)
+    /// Makes the event of a line happen to both machines.
+    fn happen(&mut self, alloc: Global, line: &str) -> Option<String> {
+        let event = event(alloc, line)?;
+        happen(&mut self.machine, &event)?;
+        happen(&mut self.other, &event)?;
+        format!(in alloc; "done").ok()
     }
 
-    /// Why an event is refused, by the call that says so and by its plan. What is not built is found
-    /// by the plan alone.
-    fn refusals(&self, alloc: Global, event: &Event) -> Option<String> {
-        let known = text_of_refusal(alloc, self.machine.refusal(event))?;
-        let planned = match self.machine.plan(event) {
-            Ok(_) => None,
-            Err(Refusal::Memory) => return None,
-            Err(refusal) => Some(refusal),
-        };
+    /// The places that the event of a line alters, where it is exchanged twice, and whether the
+    /// machine is as before.
+    fn exchange(&mut self, alloc: Global, line: &str) -> Option<String> {
+        let event = event(alloc, line)?;
+        let places = exchanged_twice(alloc, &mut self.machine, &event)?;
+        let same = are_same(&self.machine, &self.other);
+        format!(in alloc; "{places} {same}").ok()
+    }
+
+    /// Why an event is refused, by the call that says so and by its plan. What is not built is
+    /// found by the plan alone.
+    fn refusals(&self, alloc: Global, event: Option<Event>) -> Option<String> {
+        let event = event?;
+        let known = text_of_refusal(alloc, self.machine.refusal(&event))?;
+        let planned = self.machine.plan(&event).err();
+        if planned == Some(Refusal::Memory) {
+            return None;
+        }
         let planned = text_of_refusal(alloc, planned)?;
         format!(in alloc; "{known}, {planned}").ok()
     }
@@ -162,28 +198,12 @@ impl Subject for Machines {
     fn answer(&mut self, alloc: Global, words: &mut Words<'_>) -> Option<String> {
         match words.next_word() {
             "new" => text_of_new(alloc, words.word()),
-            "do" => {
-                self.happen(&event(alloc, words.behind_the_first())?).ok()?;
-                format!(in alloc; "done").ok()
-            }
-            "twice" => {
-                let event = event(alloc, words.behind_the_first())?;
-                let places = exchanged_twice(alloc, &mut self.machine, &event).ok()??;
-                let same = are_same(&self.machine, &self.other);
-                format!(in alloc; "{places} {same}").ok()
-            }
-            "refusal" => {
-                let event = event(alloc, words.behind_the_first())?;
-                self.refusals(alloc, &event)
-            }
-            "patch" => {
-                let event = patch(alloc, words.word(), words.below(0x200) as usize)?;
-                self.refusals(alloc, &event)
-            }
-            "bytes" => {
-                let bytes = patch(alloc, 0, words.below(0x200) as usize)?;
-                format!(in alloc; "{bytes:?}").ok()
-            }
+            "do" => self.happen(alloc, words.behind_the_first()),
+            "twice" => self.exchange(alloc, words.behind_the_first()),
+            "refusal" => self.refusals(alloc, event(alloc, words.behind_the_first())),
+            "patch" => self.refusals(alloc, long_patch(alloc, words)),
+            "bytes" => text_of_bytes(alloc, words),
+            "refusals" => text_of_refusals(alloc),
             _ => format!(in alloc; "{}", size_of::<Event>() <= 40).ok(),
         }
     }
@@ -192,6 +212,11 @@ impl Subject for Machines {
 #[test]
 fn machines_by_their_calls(rt: HostRuntime) {
     assert_rows::<Machines>(&rt, rt.alloc(), ROWS);
+}
+
+#[test]
+fn refusals_and_bytes(rt: HostRuntime) {
+    assert_rows::<Machines>(&rt, rt.alloc(), BYTES);
 }
 
 const ROWS: &str = "
@@ -238,28 +263,14 @@ twice patch r F 1 -> [Register(15)] true
 twice patch r F 0 -> [] true
 twice patch p FFFFFFFFFFFFFFFF -> [Psw] true
 twice patch p 0000FFFFC0000000 -> [] true
-* bytes, as an event has them, and the size of an event
-bytes 0 -> Patch(Bytes { at: 0, bytes: Bytes { items: [] } })
-bytes 2 -> Patch(Bytes { at: 0, bytes: Bytes { items: [165, 165] } })
-size -> true
 ";
 
-#[test]
-fn refusals_and_bytes(rt: HostRuntime) {
-    for (refusal, number) in [
-        (Refusal::Memory, 1),
-        (Refusal::OutsideStorage, 2),
-        (Refusal::PatchTooLong, 5),
-        (Refusal::JournalFull, 6),
-        (Refusal::Unbuilt, 7),
-        (Refusal::from(AllocError), 1),
-    ] {
-        assert_eq!(rt; refusal.number(), number);
-    }
-    let texts = format!(in rt.alloc(); "{}, {}", Refusal::Memory, Refusal::JournalFull);
-    assert_eq!(rt;
-        texts.as_deref(),
-        Ok("memory, journal full"),
-        "out of memory"
-    );
-}
+/// Bytes and refusals.
+const BYTES: &str = "
+* bytes, as an event has them, and the size of an event
+bytes 0 0 -> Patch(Bytes { at: 0, bytes: Bytes { items: [] } })
+bytes 0 2 -> Patch(Bytes { at: 0, bytes: Bytes { items: [165, 165] } })
+size -> true
+* the numbers and the texts of refusals
+refusals -> 1 memory, 2 outside storage, 5 patch too long, 6 journal full, 7 unbuilt, 1 memory
+";

@@ -1,12 +1,13 @@
 //! Scripts over readers and writers that are slow or fail, and commands one by one.
 ghost use Rattle.std.specs.Prelude.{◌≤◌};
 
-use s360_debug::{LineFault, ScriptFault, answer, read_command, run_script};
+use crate::rows::{Subject, Words, assert_rows};
+use s360_debug::{Command, LineFault, ScriptFault, answer, read_command, run_script};
 use s360_journal::Session;
 use s360_machine::Machine;
 use std::alloc::Global;
 use std::io::{self, Read, Write};
-use std::test::Fail;
+use std::process::Abort;
 
 /// Writers have room for so many bytes from the start, so that only the script wants memory.
 const ROOM: usize = 4_096;
@@ -82,95 +83,132 @@ impl Write for SlowWriter {
     }
 }
 
-/// What a script leaves over a reader that gives so many bytes before it fails, and a writer that takes
-/// so many: its outcome, whether what was written is a first part of the answers, and what stands.
+/// What a script leaves over a reader that gives so many bytes before it fails, and a writer that
+/// takes so many: its outcome, the number of bytes written, whether they are a first part of the
+/// answers, and how many changes stand.
 fn outcome(alloc: Global, calls: usize, room: usize) -> Option<String> {
     let mut session = session(alloc, 10)?;
-    let mut reader = SlowReader {
-        left: ADD.as_bytes(),
-        calls,
-    };
-    let mut writer = SlowWriter {
-        taken: Vec::with_capacity(alloc, ROOM).ok()?,
-        room,
-    };
+    let left = ADD.as_bytes();
+    let mut reader = SlowReader { left, calls };
+    let taken = Vec::with_capacity(alloc, ROOM).ok()?;
+    let mut writer = SlowWriter { taken, room };
     let outcome = run_script(alloc, &mut session, &mut reader, &mut writer);
+    text_of_outcome(alloc, outcome, &writer.taken, session.standing())
+}
+
+/// The same as a text, if memory was not wanting.
+fn text_of_outcome(
+    alloc: Global,
+    outcome: Result<u32, ScriptFault>,
+    written: &[u8],
+    standing: u32,
+) -> Option<String> {
     if outcome == Err(ScriptFault::Memory) {
         return None;
     }
-    let (count, standing) = (writer.taken.len(), session.standing());
-    let first = ADD_ANSWERS.as_bytes().starts_with(writer.taken.as_slice());
-    format!(in alloc; "{outcome:?} {count} {first} {standing}").ok()
+    let first = ADD_ANSWERS.as_bytes().starts_with(written);
+    let count = written.len();
+    format!(in alloc; "{outcome:?} {count:X} {first} {standing}").ok()
+}
+
+/// Bytes that are a text, within quotes.
+fn quoted(alloc: Global, bytes: &[u8]) -> Option<String> {
+    let text = str::from_utf8(bytes).ok()?;
+    format!(in alloc; "{text:?}").ok()
 }
 
 /// The answers to a script in a session where one change may stand.
-fn answers_at_the_limit(alloc: Global, script: &str) -> Option<Vec<u8>> {
+fn answers_at_the_limit(alloc: Global, script: &str) -> Option<String> {
     let mut session = session(alloc, 1)?;
     let mut written = Vec::with_capacity(alloc, ROOM).ok()?;
     run_script(alloc, &mut session, &mut script.as_bytes(), &mut written).ok()?;
-    Some(written)
+    quoted(alloc, &written)
+}
+
+/// The answer to a command.
+fn text_of_command(alloc: Global, session: &mut Session, command: Command) -> Option<String> {
+    let text = answer(alloc, session, command).ok()?;
+    quoted(alloc, text.as_bytes())
 }
 
 /// The answer to a line, or the text of its fault.
 fn text_of_line(alloc: Global, session: &mut Session, line: &str) -> Option<String> {
     match read_command(alloc, line.as_bytes()) {
-        Ok(command) => {
-            let text = answer(alloc, session, command).ok()?;
-            String::from_utf8(text.as_bytes().to_vec(alloc).ok()?).ok()
-        }
+        Ok(command) => text_of_command(alloc, session, command),
         Err(LineFault::Memory) => None,
         Err(fault) => format!(in alloc; "{fault}").ok(),
     }
 }
 
-#[test]
-fn slow_streams_that_fail(rt: HostRuntime) -> Result<(), Fail> {
-    let alloc = rt.alloc();
-    let whole = ADD_ANSWERS.len();
-    for room in 0..whole {
-        let found = outcome(alloc, ADD.len() + 1, room).ok_or("out of memory")?;
-        let wanted = format!(in alloc; "Err(Write) {room} true")?;
-        assert!(rt;
-            found.as_str().starts_with(wanted.as_str()),
-            "{found} and not {wanted}"
-        );
+/// The texts of faults.
+fn text_of_faults(alloc: Global) -> Option<String> {
+    let (read, too_long) = (ScriptFault::Read, ScriptFault::TooLong);
+    let (write, memory) = (ScriptFault::Write, ScriptFault::Memory);
+    format!(in alloc; "{read}, {too_long}, {write}, {memory}").ok()
+}
+
+/// A session where ten changes may stand.
+#[derive(Drop)]
+struct Lines {
+    session: Session,
+}
+
+impl Subject for Lines {
+    fn new(alloc: Global) -> Option<Lines> {
+        let session = session(alloc, 10)?;
+        Some(Lines { session })
     }
-    let found = outcome(alloc, ADD.len() + 1, whole).ok_or("out of memory")?;
-    let wanted = format!(in alloc; "Ok(6) {whole} true 3")?;
-    assert_eq!(rt; found.as_str(), wanted.as_str());
-    // a reader that fails before its end
-    let found = outcome(alloc, ADD.len(), whole).ok_or("out of memory")?;
-    assert_eq!(rt; found.as_str(), "Err(Read) 0 true 0");
-    Ok(())
+
+    fn answer(&mut self, alloc: Global, words: &mut Words<'_>) -> Option<String> {
+        match words.next_word() {
+            "line" => text_of_line(alloc, &mut self.session, words.behind_the_first()),
+            "limit" => answers_at_the_limit(alloc, "patch r 1 5\npatch r 1 5\n"),
+            "whole" => outcome(alloc, ADD.len() + 1, ADD_ANSWERS.len()),
+            "cut" => outcome(alloc, ADD.len(), ADD_ANSWERS.len()),
+            _ => text_of_faults(alloc),
+        }
+    }
+}
+
+/// Asserts that a script fails at a writer that takes so many bytes, once it has taken them.
+fn assert_write_fails(rt: &impl Abort, alloc: Global, room: usize) {
+    let found = outcome(alloc, ADD.len() + 1, room).expect(rt, "out of memory");
+    let wanted = format!(in alloc; "Err(Write) {room:X} true").expect(rt, "out of memory");
+    let is_right = found.as_str().starts_with(wanted.as_str());
+    assert!(rt; is_right, "{found} and not {wanted}");
 }
 
 #[test]
-fn lines_one_by_one(rt: HostRuntime) -> Result<(), Fail> {
-    let alloc = rt.alloc();
-    let script = "patch r 1 5\npatch r 1 5\n";
-    let written = answers_at_the_limit(alloc, script).ok_or("out of memory")?;
-    let wanted = "1 changed 1 r1\nrefused 6 journal full\n";
-    assert_eq!(rt; written.as_slice(), wanted.as_bytes());
-    let mut session = session(alloc, 10).ok_or("out of memory")?;
-    for (line, wanted) in [
-        ("patch r 1 2A", "1 changed 1 r1\n"),
-        ("patch r 1 2A", "2 idle\n"),
-        ("", "unknown"),
-        ("halt", "unknown"),
-        ("show", "argument 1"),
-        ("patch r 1 1 1", "argument 4"),
-    ] {
-        let found = text_of_line(alloc, &mut session, line).ok_or("out of memory")?;
-        assert_eq!(rt; found.as_str(), wanted, "{line}");
+fn slow_streams_that_fail(rt: HostRuntime) {
+    for room in 0..ADD_ANSWERS.len() {
+        assert_write_fails(&rt, rt.alloc(), room);
     }
-    let faults = format!(in alloc;
-        "{}, {}, {}, {}",
-        ScriptFault::Read,
-        ScriptFault::TooLong,
-        ScriptFault::Write,
-        ScriptFault::Memory
-    )?;
-    let wanted = "read failed, script too long, write failed, out of memory";
-    assert_eq!(rt; faults.as_str(), wanted);
-    Ok(())
+    assert_rows::<Lines>(&rt, rt.alloc(), STREAMS);
 }
+
+#[test]
+fn lines_one_by_one(rt: HostRuntime) {
+    assert_rows::<Lines>(&rt, rt.alloc(), LINES);
+}
+
+/// Scripts over streams that give or take one byte a call.
+const STREAMS: &str = "
+* a writer with room for all answers
+whole -> Ok(6) F2 true 3
+* a reader that fails before its end
+cut -> Err(Read) 0 true 0
+";
+
+/// Commands one by one.
+const LINES: &str = r#"
+* two patches where one change may stand
+limit -> "1 changed 1 r1\nrefused 6 journal full\n"
+* lines, and their answers or their faults
+line patch r 1 2A -> "1 changed 1 r1\n"
+line patch r 1 2A -> "2 idle\n"
+line -> unknown
+line halt -> unknown
+line show -> argument 1
+line patch r 1 1 1 -> argument 4
+faults -> read failed, script too long, write failed, out of memory
+"#;

@@ -1,33 +1,26 @@
 //! Sessions: calls in which few changes may stand, previews, and lists of calls.
 ghost use Rattle.std.specs.Prelude.{◌≤◌};
 
-use crate::calls::{call, calls, event, text_of_answer, text_of_report};
+use crate::calls::{call, calls, event, long_patch, text_of_answer, text_of_report};
 use crate::rows::{Subject, Words, assert_rows};
 use s360_journal::{Answer, Places, Session, run_calls};
-use s360_machine::{Bytes, Event, Machine, Patch, Refusal};
+use s360_machine::{Machine, Refusal};
 use s360_psw::InstructionLength;
 use s360_store::Place;
 use s360_word::{RegisterNumber, Unit, Word};
 use std::alloc::Global;
-use std::test::Fail;
 
 /// AR of registers 1 and 2 at 0, then a supervisor call, which is not built; and the registers.
 const START: &str = "patch s 0 1A120A05\npatch r 1 7FFFFFFF\npatch r 2 1";
 
 /// A machine in which these lines were carried out.
 fn machine(alloc: Global) -> Option<Machine> {
+    let calls = calls(alloc, START)?;
     let machine = Machine::new(alloc, 8_192).ok()?;
-    let outcome = run_calls(alloc, machine, 100, calls(alloc, START)?).ok()?;
+    let outcome = run_calls(alloc, machine, 100, calls).ok()?;
     // There is no text where memory was wanting, and so no machine.
     let _ = text_of_answers(alloc, &outcome.answers)?;
     Some(outcome.machine)
-}
-
-/// A patch of so many bytes.
-fn long_patch(alloc: Global, at: u32, count: usize) -> Option<Event> {
-    let bytes = vec![in alloc; 0xA5u8; count].ok()?;
-    let bytes = Bytes::new(bytes);
-    Some(Event::Patch(Patch::Bytes { at, bytes }))
 }
 
 /// A session.
@@ -45,6 +38,14 @@ impl Running {
         Some(Running { session })
     }
 
+    /// Begins again with another limit.
+    fn restart(&mut self, alloc: Global, limit: u32) -> Option<String>
+        requires { limit ≤ 10000000 }
+    {
+        *self = Running::with_limit(alloc, limit)?;
+        self.picture(alloc)
+    }
+
     fn register(&self, number: u8) -> Word {
         let register = RegisterNumber::new(number % 16);
         self.session.machine().register(register)
@@ -60,16 +61,36 @@ impl Running {
     }
 
     /// Offers an event, and again where want of memory refuses it: a refused event changes nothing.
-    fn stands(&mut self, alloc: Global, first: Event, second: Event) -> Option<String> {
+    fn stands(&mut self, alloc: Global, line: &str) -> Option<String> {
+        let (first, second) = (event(alloc, line)?, event(alloc, line)?);
         let before = self.picture(alloc)?;
-        let refused = self.session.forward(first).err();
-        if refused.is_some() {
-            if refused != Some(Refusal::Memory) || self.picture(alloc)? != before {
-                return format!(in alloc; "{refused:?}").ok();
-            }
-            self.session.forward(second).ok()?;
+        let mut refused = self.session.forward(first).err();
+        if refused == Some(Refusal::Memory) && self.picture(alloc)? == before {
+            refused = self.session.forward(second).err();
         }
-        format!(in alloc; "stands").ok()
+        match refused {
+            None => format!(in alloc; "stands").ok(),
+            Some(refusal) => format!(in alloc; "{refusal:?}").ok(),
+        }
+    }
+
+    /// What an event of this kind is answered: a preview, a patch of so many bytes, or both.
+    fn report(&mut self, alloc: Global, kind: &str, words: &mut Words<'_>) -> Option<String> {
+        let event = match kind {
+            "preview" => event(alloc, words.behind_the_first())?,
+            _ => long_patch(alloc, words)?,
+        };
+        let report = match kind {
+            "long" => self.session.forward(event),
+            _ => self.session.preview(event),
+        };
+        text_of_report(alloc, &report)
+    }
+
+    /// What the call of a line is answered.
+    fn perform(&mut self, alloc: Global, line: &str) -> Option<String> {
+        let answer = self.session.perform(call(alloc, line)?);
+        text_of_answer(alloc, &answer)
     }
 
     /// The last changes of places that the machine lacks.
@@ -90,35 +111,13 @@ impl Subject for Running {
 
     fn answer(&mut self, alloc: Global, words: &mut Words<'_>) -> Option<String> {
         match words.next_word() {
-            "limit" => {
-                *self = Running::with_limit(alloc, words.below(0x100) as u32)?;
-                self.picture(alloc)
-            }
+            "limit" => self.restart(alloc, words.below(0x100) as u32),
             "picture" => self.picture(alloc),
             "lacking" => self.of_lacking_places(alloc),
             "event" => format!(in alloc; "{:?}", self.session.last_event()).ok(),
-            "long" => {
-                let event = long_patch(alloc, words.word(), words.below(0x200) as usize)?;
-                text_of_report(alloc, &self.session.forward(event))
-            }
-            "preview" => {
-                let report = self
-                    .session
-                    .preview(event(alloc, words.behind_the_first())?);
-                text_of_report(alloc, &report)
-            }
-            "preview_long" => {
-                let event = long_patch(alloc, words.word(), words.below(0x200) as usize)?;
-                text_of_report(alloc, &self.session.preview(event))
-            }
-            "memory" => {
-                let line = words.behind_the_first();
-                self.stands(alloc, event(alloc, line)?, event(alloc, line)?)
-            }
-            _ => {
-                let answer = self.session.perform(call(alloc, words.behind_the_first())?);
-                text_of_answer(alloc, &answer)
-            }
+            "memory" => self.stands(alloc, words.behind_the_first()),
+            "do" => self.perform(alloc, words.behind_the_first()),
+            kind => self.report(alloc, kind, words),
         }
     }
 }
@@ -241,7 +240,7 @@ last r 1
 patch r 3 1
 standing";
 
-/// Their answers where three changes may stand.
+/// Their answers where three changes may stand, and register 1 in the end.
 const ANSWERS: &str = "nothing stands
 [Byte(768)]
 [Byte(769)]
@@ -255,49 +254,59 @@ outside storage
 Some(3)
 journal full
 3
+80000000
 ";
+
+/// Lists of places.
+const LISTS: [&[Place]; 3] = [&[], &[Place::Psw], &[Place::Register(1), Place::Byte(0)]];
 
 /// The texts of answers, one a line.
 fn text_of_answers(alloc: Global, answers: &[Answer]) -> Option<String> {
     let mut text = String::new(alloc);
     for answer in answers {
-        text.push_str(text_of_answer(alloc, answer)?.as_str()).ok()?;
-        text.push('\n').ok()?;
+        let answer = text_of_answer(alloc, answer)?;
+        writeln!(text, "{answer}").ok()?;
     }
     Some(text)
 }
 
+/// The texts of answers, and what is left of the machine.
+fn text_of_end(alloc: Global, answers: &[Answer], machine: &Machine) -> Option<String> {
+    let mut text = text_of_answers(alloc, answers)?;
+    writeln!(text, "{:X}", machine.register(RegisterNumber::new(1))).ok()?;
+    Some(text)
+}
+
 /// The answers to a list of calls as a whole, and what is left of the machine.
-fn run(alloc: Global) -> Option<(String, Word)> {
-    let outcome = run_calls(alloc, machine(alloc)?, 3, calls(alloc, EACH_KIND)?).ok()?;
-    let word = outcome.machine.register(RegisterNumber::new(1));
-    Some((text_of_answers(alloc, &outcome.answers)?, word))
+fn run(alloc: Global) -> Option<String> {
+    let calls = calls(alloc, EACH_KIND)?;
+    let machine = machine(alloc)?;
+    let outcome = run_calls(alloc, machine, 3, calls).ok()?;
+    text_of_end(alloc, &outcome.answers, &outcome.machine)
 }
 
 /// The answers to the same in a session, and what is left of its machine.
-fn perform(alloc: Global) -> Option<(String, Word)> {
+fn perform(alloc: Global) -> Option<String> {
+    let calls = calls(alloc, EACH_KIND)?;
     let mut session = Session::new(alloc, machine(alloc)?, 3);
-    let answers = session.perform_all(calls(alloc, EACH_KIND)?).ok()?;
-    let machine = session.into_machine();
-    let word = machine.register(RegisterNumber::new(1));
-    Some((text_of_answers(alloc, &answers)?, word))
+    let answers = session.perform_all(calls).ok()?;
+    text_of_end(alloc, &answers, &session.into_machine())
+}
+
+/// Whether the places of a change are the same as a list.
+fn are_listed(alloc: Global, list: &[Place]) -> Option<bool> {
+    let places = Places::new(Vec::from_slice(alloc, list).ok()?);
+    Some(places.as_slice() == list)
 }
 
 #[test]
-fn lists_of_calls(rt: HostRuntime) -> Result<(), Fail> {
-    let (answers, word) = run(rt.alloc()).ok_or("out of memory")?;
+fn lists_of_calls(rt: HostRuntime) {
+    let answers = run(rt.alloc()).expect(&rt, "out of memory");
     assert_eq!(rt; answers.as_str(), ANSWERS);
-    assert_eq!(rt; word, 0x8000_0000);
-    let (answers, word) = perform(rt.alloc()).ok_or("out of memory")?;
+    let answers = perform(rt.alloc()).expect(&rt, "out of memory");
     assert_eq!(rt; answers.as_str(), ANSWERS);
-    assert_eq!(rt; word, 0x8000_0000);
-    for list in [
-        &[][..],
-        &[Place::Psw],
-        &[Place::Register(1), Place::Byte(0)],
-    ] {
-        let places = Places::new(Vec::from_slice(rt.alloc(), list)?);
-        assert_eq!(rt; places.as_slice(), list);
+    for list in LISTS {
+        let are_listed = are_listed(rt.alloc(), list).expect(&rt, "out of memory");
+        assert!(rt; are_listed, "{list:?}");
     }
-    Ok(())
 }
