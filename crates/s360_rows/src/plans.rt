@@ -1,6 +1,7 @@
 //! Plans and the order of places.
 use crate::rows::{Subject, Words, assert_rows, place, text_of_cells};
 use s360_store::{Cell, Place, Plan};
+use s360_word::ProtectionKey;
 use std::alloc::Global;
 use std::cmp::Ordering;
 
@@ -33,6 +34,15 @@ impl Planned {
         }
     }
 
+    /// Puts a storage key of a block.
+    fn put_key(&mut self, block: u32, key: ProtectionKey) -> Option<()> {
+        if self.plan.len() < 1_000_000 {
+            self.plan.put_key(block, key).ok()
+        } else {
+            None
+        }
+    }
+
     /// Puts values at the next places, and answers the cells of the plan.
     fn puts(&mut self, alloc: Global, words: &mut Words<'_>) -> Option<String> {
         for _ in 0..20 {
@@ -60,6 +70,10 @@ impl Subject for Planned {
                 Some(String::new(alloc))
             }
             "put" => self.puts(alloc, words),
+            "key" => {
+                self.put_key(words.word(), words.key())?;
+                self.puts(alloc, words)
+            }
             "order" => orders(alloc, words.next_place()?),
             _ => format!(in alloc; "{:?}", self.plan.value(words.next_place()?)).ok(),
         }
@@ -126,6 +140,11 @@ value s6 -> None
 value k0 -> None
 value r0 -> None
 value run -> None
+* the storage key of a block
+new ->
+key 1FF 5 -> k1FF=5
+key 1FF F s0=1 -> k1FF=F s0=1
+key 0 0 -> k1FF=F s0=1 k0=0
 * each kind of place is a key
 new ->
 value m181 -> None
