@@ -14,26 +14,34 @@ use std::marker::Model;
 #[derive(Debug, Drop)]
 pub struct Changes {
     pub(crate) cells: Vec<Cell>,
-    pub(crate) control: Vec<ControlCell>,
+    /// So far no event alters more than one place of the control part.
+    pub(crate) control: Option<ControlCell>,
 }
 
 impl Model for Changes {
-    ghost use Rattle.std.specs.Prelude.{◌≤◌, length};
+    ghost use Rattle.std.specs.Prelude.{◌≤◌, length, option_to_list};
     ghost use Rattle.s360_machine.specs.Change.{Change};
 
     ghost Value = { Change };
 
-    ghost view = { λ c. record { cells = c.cells.items; control = c.control.items } };
+    ghost view = { λ c. record { cells = c.cells.items; control = option_to_list c.control } };
 
-    ghost invariant = { λ c. (length c.cells.items ≤ 1000000) × (length c.control.items ≤ 100) };
+    ghost invariant = { λ c. length c.cells.items ≤ 1000000 };
 }
 
 impl Changes {
+    /// The cells of the control part.
+    fn control(&self) -> &[ControlCell]
+        ensures { result.now ≡ self.now.control }
+    {
+        self.control.as_slice()
+    }
+
     /// The number of places.
     pub fn len(&self) -> u32
         ensures { result ≡ length (places_of_change self.now) }
     {
-        self.cells.len() as u32 + self.control.len() as u32
+        self.cells.len() as u32 + self.control().len() as u32
     }
 
     /// The place at `i`, counted from 0.
@@ -44,7 +52,7 @@ impl Changes {
         let i = i as usize;
         match self.cells.get(i) {
             Some(cell) => cell.place,
-            None => self.control[i - self.cells.len()].place(),
+            None => self.control()[i - self.cells.len()].place(),
         }
     }
 
@@ -54,7 +62,7 @@ impl Changes {
     {
         let alloc = *self.cells.allocator();
         let core = self.cells.iter().map(|cell| cell.place);
-        let control = self.control.iter().map(|cell| cell.place());
+        let control = self.control().iter().map(|cell| cell.place());
         core.chain(control).collect(alloc)
     }
 
@@ -63,7 +71,7 @@ impl Changes {
         ensures { result ≡ list_any (λ q. same_place q place) (places_of_change self.now) }
     {
         let core = self.cells.iter().map(|cell| cell.place);
-        let control = self.control.iter().map(|cell| cell.place());
+        let control = self.control().iter().map(|cell| cell.place());
         core.chain(control).any(|other| other.is(place))
     }
 }

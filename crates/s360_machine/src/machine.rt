@@ -129,7 +129,7 @@ impl Machine {
         self.plan_event(event, &mut plan)?;
         let cells = self.core.changes(self.alloc, &plan)?;
         // No event alters the control part yet.
-        let control = Vec::new(self.alloc);
+        let control = None;
         Ok(Changes { cells, control })
     }
 
