@@ -1,3 +1,4 @@
+pub mod Places
 pub mod Reports
 pub mod Rerun
 pub mod Laws

@@ -9,10 +9,12 @@
 mod calls;
 mod entry;
 mod laws;
+mod places;
 mod report;
 mod session;
 
 pub use calls::{Answer, Call, Outcome, run_calls};
 pub use laws::last_change_is_the_greatest;
-pub use report::{Places, Report};
+pub use places::Places;
+pub use report::Report;
 pub use session::{NothingStands, Session};

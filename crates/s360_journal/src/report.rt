@@ -1,40 +1,11 @@
 //! What an accepted event altered.
-ghost use Rattle.std.specs.Prelude.{◌≡◌};
+ghost use Rattle.std.specs.Prelude.{IfOk};
+ghost use Rattle.s360_machine.specs.Change.{places_of_change};
 ghost use Rattle.s360_journal.specs.Reports.{IsReport};
 
-use s360_store::Place;
-use std::marker::Model;
-
-/// Places in their order, each once, which a contract sees as a list.
-#[derive(Debug, Drop)]
-pub struct Places {
-    items: Vec<Place>,
-}
-
-impl Model for Places {
-    ghost use Rattle.std.specs.Prelude.{List};
-    ghost use Rattle.s360_store.specs.declared.place.Place.{Place};
-
-    ghost Value = { List Place };
-
-    ghost view = { λ p. p.items.items };
-}
-
-impl Places {
-    /// The places of a vector. It takes no memory.
-    pub fn new(items: Vec<Place>) -> Places
-        ensures { result ≡ items.items }
-    {
-        Places { items }
-    }
-
-    /// The places.
-    pub fn as_slice(&self) -> &[Place]
-        ensures { result.now ≡ self.now }
-    {
-        self.items.as_slice()
-    }
-}
+use crate::places::Places;
+use s360_machine::Changes;
+use std::alloc::AllocError;
 
 /// What an accepted event altered.
 #[derive(Debug, Drop)]
@@ -46,14 +17,14 @@ pub enum Report {
 }
 
 impl Report {
-    /// The report of an event that altered these places.
-    pub(crate) fn of(places: Vec<Place>) -> Report
-        ensures { IsReport result places.items }
+    /// The report of an event that made a change.
+    #[inline(always)]
+    pub(crate) fn of(changes: &Changes) -> Result<Report, AllocError>
+        ensures { IfOk result (λ report. IsReport report (places_of_change changes.now)) }
     {
-        if places.is_empty() {
-            Report::Idle
-        } else {
-            Report::Changed(Places::new(places))
+        if changes.len() == 0 {
+            return Ok(Report::Idle);
         }
+        Ok(Report::Changed(Places::of_change(changes)?))
     }
 }

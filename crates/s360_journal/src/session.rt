@@ -142,11 +142,11 @@ impl Session {
         };
         self.machine.room(&changes)?;
         self.entries.reserve(1)?;
-        let places = changes.places()?;
+        let report = Report::of(&changes)?;
         // Nothing can fail from here on.
         self.machine.swap_all(&mut changes);
         self.entries.push_reserved(Entry { event, changes });
-        Ok(Report::of(places))
+        Ok(report)
     }
 
     /// Takes back the last change that stands. It takes no memory.

@@ -1,6 +1,6 @@
 use Rattle.std.proofs.Common.{◌∙◌, ap, subst, [], List}
 use Rattle.s360_machine.specs.declared.event.Event.{Event}
-use Rattle.s360_machine.specs.Machine.{Machine, Whole, seen}
+use Rattle.s360_machine.specs.Machine.{Whole, seen}
 use Rattle.s360_journal.specs.Rerun.{rerun, AreAccepted}
 use Rattle.s360_journal.specs.Standing.{Standing}
 use Rattle.s360_journal.specs.Calls.{IsRun, standing_events}

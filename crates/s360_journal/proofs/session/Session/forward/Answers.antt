@@ -4,7 +4,7 @@ use Rattle.s360_store.specs.declared.place.Place.{Place}
 use Rattle.s360_machine.specs.Machine.{Machine, Whole, storage_size, seen}
 use Rattle.s360_machine.specs.Refusals.{refusal_of}
 use Rattle.s360_machine.specs.Step.{after, is_unbuilt}
-use Rattle.s360_machine.specs.Change.{Change, NeedsNoRoom, after_swap, change_after_swap}
+use Rattle.s360_machine.specs.Change.{Change, NeedsNoRoom, after_swap, change_after_swap, places_of_change}
 use Rattle.s360_machine.specs.Planned.{differences, IsAnswerToEvent, IsChangeTo}
 use Rattle.s360_journal.specs.declared.entry.Entry.{Entry}
 use Rattle.s360_journal.specs.declared.report.Report.{Report}
@@ -36,16 +36,16 @@ returns-clause-refused c =
     = subst (λ (k : Machine). refusal_of (storage_size k) e ≡ None) (sym same) (or_full-None _ (length s.events) s.limit none)
     in let answer : IsAnswerToEvent {X = Change} (is_unbuilt (machine_of s) e) (Ok c.in-Ok.changes)
     = subst (λ (k : Machine). IsAnswerToEvent {X = Change} (is_unbuilt k e) (Ok c.in-Ok.changes)) same (rw accepted at c.in-Ok.ensures.refused)
-    in rw none (IsAnswerToEvent-Ok Change Report (is_unbuilt (machine_of s) e) c.in-Ok.changes c.of.result answer)
+    in rw none (IsAnswerToEvent-Ok Change Report (is_unbuilt (machine_of s) e) c.in-Ok.changes c.in_ok-report.report answer)
 
 pub returns-clause-report : goal.returns-clause-report
 returns-clause-report c =
     let s = c.args.self.now
     in let e = c.args.event
     in let same : seen c.self.inside.machine.whole ≡ machine_of s = machine_of-view c.self.inside.machine.whole c.self.inside.entries.items _ s c.self.invariant.0 c.self.view_is
-    in let places : c.in_ok-places.places.items ≡ alteration s e
-    = c.in_ok-places.ensures ∙ c.in-Ok.ensures.ok.lists ∙ ap (λ (m : Machine). differences m (after m e)) same
-    in subst (λ (ps : List Place). IsReport c.of.result ps) places c.of.ensures
+    in let lists : places_of_change c.in-Ok.changes ≡ alteration s e
+    = c.in-Ok.ensures.ok.lists ∙ ap (λ (m : Machine). differences m (after m e)) same
+    in subst (λ (ps : List Place). IsReport c.in_ok-report.report ps) lists c.in_ok-report.ensures
 
 pub invariant_of-self-2 : goal.invariant_of-self-2
 invariant_of-self-2 c =
