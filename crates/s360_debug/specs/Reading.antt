@@ -1,6 +1,6 @@
 -- The reading of a line as a command (own profile). Words are judged from left to right, and the first
 -- that is wrong, missing or too many is named by its number, the first word of the line being 0.
-use Rattle.std.specs.Prelude.{◌≡◌, ◌⊎◌, ℕ, Bool, nat_eq, nat_lt, ◌||◌, if◌then◌else◌, Option, None, Result, Ok, Err, List, [], ◌∷◌, codes, drop, length}
+use Rattle.std.specs.Prelude.{◌≡◌, ◌⊎◌, ℕ, Bool, nat_eq, nat_lt, if◌then◌else◌, Option, None, Result, Ok, Err, List, [], ◌∷◌, codes, drop, length}
 use Rattle.std.specs.Cmp.Lexicographic.{pointwise}
 use Rattle.std.specs.Option.{ok_or}
 use Rattle.std.specs.Result.{result_ok}
@@ -42,9 +42,9 @@ argument place value (word ∷ words) = ok_or (value word) (Argument place)
 abbrev pub number_argument : ℕ → ℕ → List (List ℕ) → Result ℕ LineFault
 number_argument place most words = argument place (hex_number most) words
 
--- bytes of two digits each, at least one byte; no line has room for more than 512
+-- bytes of two digits each, at least one byte
 abbrev pub bytes_in : List ℕ → Option (List ℕ)
-bytes_in word = if nat_eq (length word) 0 || nat_lt longest_line (length word) then None else result_ok (decode_of word)
+bytes_in word = if nat_eq (length word) 0 then None else result_ok (decode_of word)
 
 -- no word is left
 abbrev pub finished : ℕ → Command → List (List ℕ) → Reading

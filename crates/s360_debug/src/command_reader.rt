@@ -214,10 +214,11 @@ fn next_count(words: &mut Words<'_>, place: u8, most: u32) -> Result<u32, LineFa
 
 /// Decodes a word of two digits a byte into a buffer, and answers the number of bytes.
 fn decode_bytes(word: &[u8], buffer: &mut [u8; LONGEST_LINE / 2]) -> Option<usize>
+    requires { length word.now ≤ 1024 }
     ensures bytes { MatchOption result (bytes_in word.now ≡ None) (λ n. bytes_in word.now ≡ Some (take n buffer.new)) }
     ensures within { IfSome result (λ n. n ≤ 512) }
 {
-    if word.is_empty() || word.len() > LONGEST_LINE {
+    if word.is_empty() {
         return None;
     }
     let count = word.len() / 2;

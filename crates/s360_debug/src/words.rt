@@ -1,28 +1,31 @@
 //! The words of a line: what stands between its blanks.
-ghost use Rattle.std.specs.Prelude.{◌≡◌, ◌∷◌, [], MatchOption, nat_eq, not};
+ghost use Rattle.std.specs.Prelude.{◌≡◌, ◌≤◌, ◌+◌, ◌∷◌, [], MatchOption, IfSome, length, nat_eq, not};
 ghost use Rattle.std.specs.List.{position};
 ghost use Rattle.s360_debug.specs.Words.{words_of};
 
 use std::marker::Model;
 
-/// The words of a line that are left, which a contract sees as their list.
+/// The words that are left of a line of at most 1,024 bytes, which a contract sees as their list.
 #[derive(Drop)]
 pub(crate) struct Words<'a> {
     rest: &'a [u8],
 }
 
 impl<'a> Model for Words<'a> {
-    ghost use Rattle.std.specs.Prelude.{List, ℕ};
+    ghost use Rattle.std.specs.Prelude.{List, ℕ, ◌≤◌, length};
     ghost use Rattle.s360_debug.specs.Words.{words_of};
 
     ghost Value = { List (List ℕ) };
 
     ghost view = { λ w. words_of w.rest.now };
+
+    ghost invariant = { λ w. length w.rest.now ≤ 1024 };
 }
 
 impl<'a> Words<'a> {
-    /// The words of a line.
+    /// The words of a line, which is not too long.
     pub(crate) fn new(line: &'a [u8]) -> Words<'a>
+        requires { length line.now ≤ 1024 }
         ensures { result ≡ words_of line.now }
     {
         Words { rest: line }
@@ -30,7 +33,8 @@ impl<'a> Words<'a> {
 
     /// The next word, if there is one.
     pub(crate) fn next_word(&mut self) -> Option<&'a [u8]>
-        ensures { MatchOption result ((self.old ≡ []) × (self.new ≡ [])) (λ word. self.old ≡ word.now ∷ self.new) }
+        ensures word { MatchOption result ((self.old ≡ []) × (self.new ≡ [])) (λ word. self.old ≡ word.now ∷ self.new) }
+        ensures short { IfSome result (λ word. length word.now ≤ 1024) }
     {
         let (word, rest) = split_word(self.rest)?;
         self.rest = rest;
@@ -54,7 +58,8 @@ fn first_blank(line: &[u8]) -> Option<usize>
 
 /// The first word of a line, and what follows it.
 fn split_word(line: &[u8]) -> Option<(&[u8], &[u8])>
-    ensures { MatchOption result (words_of line.now ≡ []) (λ r. words_of line.now ≡ r.0.now ∷ words_of r.1.now) }
+    ensures word { MatchOption result (words_of line.now ≡ []) (λ r. words_of line.now ≡ r.0.now ∷ words_of r.1.now) }
+    ensures short { IfSome result (λ r. length r.0.now + length r.1.now ≤ length line.now) }
 {
     let start = first_other(line)?;
     let line = &line[start..];
