@@ -4,6 +4,7 @@ pub mod HexTextLemmas
 pub mod PlaceNameLemmas
 pub mod ShownLemmas
 pub mod LineLemmas
+pub mod StandingLemmas
 pub mod Writes
 pub mod Readings
 pub mod Runs

@@ -1,13 +1,13 @@
 -- What the answer to a line tells of its reading.
-use Rattle.std.proofs.Common.{◌≡◌, ◌≢◌, sym, refl, Option, Some, None, Result, Ok, Err, IfOk, OnOk, OnErr, inl, inr, List, ℕ}
-use Rattle.s360_journal.specs.Standing.{Standing}
-use Rattle.s360_machine.specs.declared.event.Event.{Event}
+use Rattle.std.proofs.Common.{◌≡◌, ◌≢◌, sym, refl, Result, Ok, Err, IfOk, OnOk, OnErr, inl, inr, List, ℕ}
 use Rattle.s360_debug.specs.declared.command.Command.{Command}
 use Rattle.s360_debug.specs.declared.command.LineFault.{LineFault}
 use Rattle.s360_debug.specs.declared.command.LineFault.TheVariants.{Memory}
-use Rattle.s360_debug.specs.Answers.{event_of, StandsPartly, fault_text}
+use Rattle.s360_debug.specs.Debugger.{Debugger}
+use Rattle.s360_debug.specs.Answers.{fault_text}
 use Rattle.s360_debug.specs.Reading.{Reading, Reads}
 use Rattle.s360_debug.specs.Script.{answer_to_reading, state_after_reading, StandsAfterReading}
+use Rattle.s360_debug.proofs.StandingLemmas.{StandsPartly-unmoved}
 
 pub ok_reading : (r : Reading) (c : Command) → Reads r (Ok c) → r ≡ Ok c
 ok_reading (Ok d) c (inl h) = sym h
@@ -19,24 +19,20 @@ fault_reading (Ok d) f n (inl h) = cc
 fault_reading (Ok d) f n (inr h) = absurd (n cc)
 fault_reading (Err g) f n h = sym h
 
-partly_unmoved : (e : Option Event) (s : Standing) → StandsPartly e s s
-partly_unmoved None s = refl
-partly_unmoved (Some e) s = inl refl
-
 -- what stands may be as it was
-pub unmoved : (r : Reading) (s : Standing) → StandsAfterReading r s s
-unmoved (Ok c) s = partly_unmoved (event_of c) s
-unmoved (Err f) s = refl
+pub unmoved : (r : Reading) (d : Debugger) → StandsAfterReading r d d.session
+unmoved (Ok c) d = StandsPartly-unmoved d c
+unmoved (Err f) d = refl
 
--- a faulty line answers its fault, or memory is wanting, and what stands is as it was
-pub record IsFaultAnswered {E : Type 0} (reading : Reading) (s : Standing) (result : Result (List ℕ) E) : Type 0 where
-  pub text : IfOk result (λ t. t ≡ answer_to_reading s reading)
-  pub state : OnOk result (s ≡ state_after_reading s reading)
-  pub memory : OnErr result (StandsAfterReading reading s s)
+-- a faulty line answers its fault, or memory is wanting, and what the debugger keeps is as it was
+pub record IsFaultAnswered {E : Type 0} (reading : Reading) (d : Debugger) (result : Result (List ℕ) E) : Type 0 where
+  pub text : IfOk result (λ t. t ≡ answer_to_reading d reading)
+  pub state : OnOk result (d ≡ state_after_reading d reading)
+  pub memory : OnErr result (StandsAfterReading reading d d.session)
 
-pub answer_to_fault : {E : Type 0} (reading : Reading) (f : LineFault) (s : Standing) (result : Result (List ℕ) E)
-    → Reads reading (Err f) → IfOk result (λ t. (t ≡ fault_text f) × (f ≢ Memory)) → IsFaultAnswered reading s result
-answer_to_fault reading f s (Ok t) h k =
+pub answer_to_fault : {E : Type 0} (reading : Reading) (f : LineFault) (d : Debugger) (result : Result (List ℕ) E)
+    → Reads reading (Err f) → IfOk result (λ t. (t ≡ fault_text f) × (f ≢ Memory)) → IsFaultAnswered reading d result
+answer_to_fault reading f d (Ok t) h k =
     let is : reading ≡ Err f = fault_reading reading f k.1 h
     in record { text = rw is k.0; state = rw is refl; memory = tt }
-answer_to_fault reading f s (Err e) h k = record { text = tt; state = tt; memory = unmoved reading s }
+answer_to_fault reading f d (Err e) h k = record { text = tt; state = tt; memory = unmoved reading d }

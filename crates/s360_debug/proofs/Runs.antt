@@ -3,17 +3,18 @@ use Rattle.std.proofs.Common.{◌≡◌, ◌≤◌, ◌+◌, ◌++◌, ◌∷◌
 use Rattle.std.proofs.lemmas.List.{append-nil, length-append}
 use Rattle.std.specs.Io.KnownBytes.{Appends}
 use Rattle.s360_journal.specs.Standing.{Standing}
+use Rattle.s360_debug.specs.Debugger.{Debugger}
 use Rattle.s360_debug.specs.Reading.{reading_of}
 use Rattle.s360_debug.specs.Lines.{lines_from, lines_of, is_skipped, without_return}
 use Rattle.s360_debug.specs.Script.{answer_to_reading, state_after_reading, answer_to_line, state_after_line, answers_to_lines, state_after_lines, command_lines, StandsAfterReading, IsStopped}
 use Rattle.s360_debug.proofs.Writes.{Appends-join, Appends-nothing}
 use Rattle.s360_debug.proofs.Readings.{unmoved}
 
-answers-push : (s : Standing) (ls : List (List ℕ)) (l : List ℕ) → answers_to_lines s (ls ++ l ∷ []) ≡ answers_to_lines s ls ++ answer_to_line (state_after_lines s ls) l
+answers-push : (s : Debugger) (ls : List (List ℕ)) (l : List ℕ) → answers_to_lines s (ls ++ l ∷ []) ≡ answers_to_lines s ls ++ answer_to_line (state_after_lines s ls) l
 answers-push s [] l = append-nil (answer_to_line s l)
 answers-push s (k ∷ ls) l = ap (λ x. answer_to_line s k ++ x) (answers-push (state_after_line s k) ls l) ∙ sym (append_assoc (answer_to_line s k) _ _)
 
-state-push : (s : Standing) (ls : List (List ℕ)) (l : List ℕ) → state_after_lines s (ls ++ l ∷ []) ≡ state_after_line (state_after_lines s ls) l
+state-push : (s : Debugger) (ls : List (List ℕ)) (l : List ℕ) → state_after_lines s (ls ++ l ∷ []) ≡ state_after_line (state_after_lines s ls) l
 state-push s [] l = refl
 state-push s (k ∷ ls) l = state-push (state_after_line s k) ls l
 
@@ -24,14 +25,14 @@ count-push : (ls : List (List ℕ)) (l : List ℕ) → command_lines (ls ++ l �
 count-push [] l = omega arith
 count-push (k ∷ ls) l = ap (λ n. counted k + n) (count-push ls l) ∙ sym (add_assoc (counted k) (command_lines ls) (counted l))
 
-pub record Answered (old new : Option (List ℕ)) (s t : Standing) (all left : List (List ℕ)) (count : ℕ) : Type 0 where
+pub record Answered (old new : Option (List ℕ)) (s t : Debugger) (all left : List (List ℕ)) (count : ℕ) : Type 0 where
   pub done : List (List ℕ)
   pub split : all ≡ done ++ left
   pub written : Appends old new (answers_to_lines s done)
   pub state : t ≡ state_after_lines s done
   pub number : count ≡ command_lines done
 
-pub Answered-start : (old : Option (List ℕ)) (s : Standing) (all : List (List ℕ)) → Answered old old s s all all 0
+pub Answered-start : (old : Option (List ℕ)) (s : Debugger) (all : List (List ℕ)) → Answered old old s s all all 0
 Answered-start old s all = record {
   done = [];
   split = refl;
@@ -41,7 +42,7 @@ Answered-start old s all = record {
 }
 
 -- a line more, of which this much is written
-Answered-line : (old mid new : Option (List ℕ)) (s t u : Standing) (all left : List (List ℕ)) (line : List ℕ) (n m : ℕ)
+Answered-line : (old mid new : Option (List ℕ)) (s t u : Debugger) (all left : List (List ℕ)) (line : List ℕ) (n m : ℕ)
     → Answered old mid s t all (line ∷ left) n → Appends mid new (answer_to_line t line) → u ≡ state_after_line t line → m ≡ n + counted line
     → Answered old new s u all left m
 Answered-line old mid new s t u all left line n m a w e k = record {
@@ -52,20 +53,20 @@ Answered-line old mid new s t u all left line n m a w e k = record {
   number = k ∙ ap (λ v. v + counted line) a.number ∙ sym (count-push a.done line);
 }
 
-pub Answered-skip : (old mid : Option (List ℕ)) (s t : Standing) (all left : List (List ℕ)) (line : List ℕ) (n : ℕ)
+pub Answered-skip : (old mid : Option (List ℕ)) (s t : Debugger) (all left : List (List ℕ)) (line : List ℕ) (n : ℕ)
     → Answered old mid s t all (line ∷ left) n → is_skipped line ≡ true → Answered old mid s t all left n
 unfolding answer_to_line state_after_line
 Answered-skip old mid s t all left line n a h =
     Answered-line old mid mid s t t all left line n n a (rw h (Appends-nothing mid)) (rw h refl) (rw h (omega arith))
 
-pub Answered-more : (old mid new : Option (List ℕ)) (s t u : Standing) (all left : List (List ℕ)) (line : List ℕ) (n : ℕ)
+pub Answered-more : (old mid new : Option (List ℕ)) (s t u : Debugger) (all left : List (List ℕ)) (line : List ℕ) (n : ℕ)
     → Answered old mid s t all (line ∷ left) n → is_skipped line ≡ false → Appends mid new (answer_to_reading t (reading_of line))
     → u ≡ state_after_reading t (reading_of line) → Answered old new s u all left (n + 1)
 unfolding answer_to_line state_after_line
 Answered-more old mid new s t u all left line n a h w e =
     Answered-line old mid new s t u all left line n (n + 1) a (rw h w) (rw h e) (rw h refl)
 
-pub Answered-stop : (old new : Option (List ℕ)) (s t u : Standing) (all left : List (List ℕ)) (line : List ℕ) (n : ℕ)
+pub Answered-stop : (old new : Option (List ℕ)) (s t : Debugger) (u : Standing) (all left : List (List ℕ)) (line : List ℕ) (n : ℕ)
     → Answered old new s t all (line ∷ left) n → StandsAfterReading (reading_of line) t u → IsStopped old new s u all
 Answered-stop old new s t u all left line n a h = record {
   done = a.done;
@@ -77,7 +78,7 @@ Answered-stop old new s t u all left line n a h = record {
 }
 
 -- all lines are answered
-pub Answered-all : (old new : Option (List ℕ)) (s t : Standing) (all : List (List ℕ)) (n : ℕ)
+pub Answered-all : (old new : Option (List ℕ)) (s t : Debugger) (all : List (List ℕ)) (n : ℕ)
     → Answered old new s t all [] n → (Appends old new (answers_to_lines s all)) × (t ≡ state_after_lines s all) × (n ≡ command_lines all)
 Answered-all old new s t all n a =
     let whole : all ≡ a.done = a.split ∙ append-nil a.done
@@ -101,7 +102,7 @@ lines_from-bound l [] = omega arith
 lines_from-bound l (x ∷ xs) =
     omega (arith, either_line (nat_eq x 10) (without_return l) (lines_from [] xs) (lines_from (l ++ x ∷ []) xs) (length xs + 1) (lines_from-bound [] xs) (lines_from-bound (l ++ x ∷ []) xs))
 
-pub Answered-bound : (old new : Option (List ℕ)) (s t : Standing) (text : List ℕ) (left : List (List ℕ)) (n : ℕ)
+pub Answered-bound : (old new : Option (List ℕ)) (s t : Debugger) (text : List ℕ) (left : List (List ℕ)) (n : ℕ)
     → Answered old new s t (lines_of text) left n → n + length left ≤ length text + 1
 Answered-bound old new s t text left n a =
     omega (arith, a.number, command_lines-bound a.done, ap length a.split, length-append a.done left, lines_from-bound [] text)
@@ -122,9 +123,9 @@ has_first begun (x ∷ xs) =
     either_first (nat_eq x 10) (without_return begun) (lines_from [] xs) (lines_from (begun ++ x ∷ []) xs) (has_first (begun ++ x ∷ []) xs)
 
 -- a script that is not yet read has stopped before its first line
-pub IsStopped-unread : (old remaining : Option (List ℕ)) (s : Standing) → IfSome remaining (λ text. IsStopped old old s s (lines_of text))
-IsStopped-unread old None s = tt
-IsStopped-unread old (Some text) s =
+pub IsStopped-unread : (old remaining : Option (List ℕ)) (d : Debugger) → IfSome remaining (λ text. IsStopped old old d d.session (lines_of text))
+IsStopped-unread old None d = tt
+IsStopped-unread old (Some text) d =
     let first : HasFirst (lines_of text) = has_first [] text
     in record {
       done = [];
@@ -132,5 +133,5 @@ IsStopped-unread old (Some text) s =
       left = first.left;
       split = first.split;
       written = Appends-nothing old;
-      stands = unmoved (reading_of first.next) s;
+      stands = unmoved (reading_of first.next) d;
     }

@@ -1,6 +1,6 @@
 -- What a command answers, and what stands afterwards (own profile). Each line of an answer is ended by one
 -- line feed.
-use Rattle.std.specs.Prelude.{◌≡◌, ◌⊎◌, ℕ, ◌+◌, Bool, true, false, if◌then◌else◌, nat_lt, Option, Some, None, List, [], ◌∷◌, ◌++◌, codes, length, take, ◌-◌}
+use Rattle.std.specs.Prelude.{◌≡◌, ℕ, ◌+◌, Bool, true, false, if◌then◌else◌, nat_lt, Option, Some, None, List, [], ◌∷◌, ◌++◌, codes, length, take, ◌-◌}
 use Rattle.s360_model.specs.Text.{decimal}
 use Rattle.s360_store.specs.declared.place.Place.{Place}
 use Rattle.s360_machine.specs.declared.event.Event.{Event}
@@ -13,6 +13,7 @@ use Rattle.s360_journal.specs.declared.report.Report.{Report}
 use Rattle.s360_journal.specs.declared.report.Report.TheVariants.{Changed, Idle}
 use Rattle.s360_journal.specs.Rerun.{last_change_of}
 use Rattle.s360_journal.specs.Standing.{Standing, machine_of, refusal_in, alteration, last_of}
+use Rattle.s360_debug.specs.Debugger.{Debugger}
 use Rattle.s360_debug.specs.declared.command.Command.{Command}
 use Rattle.s360_debug.specs.declared.command.Command.TheVariants.{Step, Patch, Back, Standing as standing, Last, Show}
 use Rattle.s360_debug.specs.declared.command.LineFault.{LineFault}
@@ -41,7 +42,7 @@ abbrev pub text_of_report : ℕ → Report → List ℕ
 text_of_report number Idle = decimal number ++ codes " idle" ++ codes "\n"
 text_of_report number (Changed ps) = changed_text number ps
 
--- what an event does: it is refused, or it stands
+-- why an event is refused, or that it is not
 abbrev pub refusal_met : Option Refusal → Bool → Option Refusal
 refusal_met (Some r) unbuilt = Some r
 refusal_met None true = Some Unbuilt
@@ -54,34 +55,22 @@ abbrev pub text_of_outcome : Option Refusal → Standing → Event → List ℕ
 text_of_outcome (Some r) s e = refused_text r
 text_of_outcome None s e = report_text (length s.events + 1) (alteration s e)
 
-abbrev pub stood_after : Option Refusal → Standing → Event → Standing
-stood_after (Some r) s e = s
-stood_after None s e = record s { events = s.events ++ e ∷ [] }
+abbrev pub text_of_event : Standing → Event → List ℕ
+text_of_event s e = text_of_outcome (outcome_of s e) s e
 
 abbrev pub back_text : ℕ → Option Event → List ℕ
 back_text number None = codes "nothing stands" ++ codes "\n"
 back_text number (Some e) = codes "back " ++ decimal number ++ codes " " ++ event_name e ++ codes "\n"
 
--- the event that a command offers, if it offers one
+-- the one event that a command offers, if it offers one
 abbrev pub event_of : Command → Option Event
 event_of Step = Some Cpu
 event_of (Patch p) = Some (patch p)
 event_of c = None
 
-abbrev pub text_of_event : Standing → Event → List ℕ
-text_of_event s e = text_of_outcome (outcome_of s e) s e
-
-abbrev pub state_after_event : Standing → Event → Standing
-state_after_event s e = stood_after (outcome_of s e) s e
-
--- what a command that offers an event answers, and what stands after it
 abbrev pub text_of_offer : Standing → Option Event → List ℕ
 text_of_offer s (Some e) = text_of_event s e
 text_of_offer s None = []
-
-abbrev pub state_after_offer : Standing → Option Event → Standing
-state_after_offer s (Some e) = state_after_event s e
-state_after_offer s None = s
 
 -- the number of a place's last change
 abbrev pub last_text : Option ℕ → List ℕ
@@ -89,17 +78,38 @@ last_text None = codes "last none" ++ codes "\n"
 last_text (Some number) = codes "last " ++ decimal number ++ codes "\n"
 
 -- a command's answer; each that has no row of its own offers an event
-unfoldable pub answer_to : Standing → Command → List ℕ
-answer_to s Back = back_text (length s.events) (last_of s.events)
-answer_to s standing = codes "standing " ++ decimal (length s.events) ++ codes "\n"
-answer_to s (Last place) = last_text (last_change_of (seen s.start) s.events place)
-answer_to s (Show shown) = shown_text (machine_of s) shown
-answer_to s command = text_of_offer s (event_of command)
+unfoldable pub answer_to : Debugger → Command → List ℕ
+answer_to d Back = back_text (length d.session.events) (last_of d.session.events)
+answer_to d standing = codes "standing " ++ decimal (length d.session.events) ++ codes "\n"
+answer_to d (Last place) = last_text (last_change_of (seen d.session.start) d.session.events place)
+answer_to d (Show shown) = shown_text (machine_of d.session) shown
+answer_to d command = text_of_offer d.session (event_of command)
 
--- what stands after a command
-unfoldable pub state_after : Standing → Command → Standing
-state_after s Back = record s { events = take (length s.events - 1) s.events }
-state_after s command = state_after_offer s (event_of command)
+-- an event that is offered, unless it is refused
+abbrev pub unless_refused : Option Refusal → Event → List Event
+unless_refused (Some r) e = []
+unless_refused None e = e ∷ []
+
+abbrev pub accepted_of_offer : Standing → Option Event → List Event
+accepted_of_offer s (Some e) = unless_refused (outcome_of s e) e
+accepted_of_offer s None = []
+
+-- of the events that a command offers, those that are accepted, up to where it stops
+abbrev pub accepted_events : Debugger → Command → List Event
+accepted_events d command = accepted_of_offer d.session (event_of command)
+
+-- the session in which more events stand
+abbrev pub with_events : Standing → List Event → Standing
+with_events s es = record s { events = s.events ++ es }
+
+-- what stands after a command; each that has no row of its own adds the events that are accepted
+unfoldable pub state_after : Debugger → Command → Debugger
+state_after d Back = record d { session = record d.session { events = take (length d.session.events - 1) d.session.events } }
+state_after d command = record d { session = with_events d.session (accepted_events d command) }
+
+-- after want of memory the first n of the accepted events are added, for some n
+abbrev pub StandsPartly : Debugger → Command → Standing → Type 0
+StandsPartly d command s = (n : ℕ) × (s ≡ with_events d.session (take n (accepted_events d command)))
 
 -- what a faulty line answers; want of memory is no fault of the line
 abbrev pub fault_text : LineFault → List ℕ
@@ -107,8 +117,3 @@ fault_text LineTooLong = codes "? " ++ codes "line too long" ++ codes "\n"
 fault_text Unknown = codes "? " ++ codes "unknown" ++ codes "\n"
 fault_text (Argument place) = codes "? " ++ codes "argument " ++ decimal place ++ codes "\n"
 fault_text Memory = []
-
--- after want of memory a command's event stands or does not, and one that offers no event leaves all
-abbrev pub StandsPartly : Option Event → Standing → Standing → Type 0
-StandsPartly None s t = t ≡ s
-StandsPartly (Some e) s t = (t ≡ s) ⊎ (t ≡ state_after_event s e)

@@ -2,6 +2,7 @@ pub mod Words
 pub mod Digits
 pub mod Names
 pub mod Shown
+pub mod Debugger
 pub mod Answers
 pub mod Reading
 pub mod Lines

@@ -1,10 +1,11 @@
 //! What a command answers. Each command has its row in `answer`; those that offer an event share one.
-ghost use Rattle.std.specs.Prelude.{◌≡◌, ◌≢◌, ◌++◌, ◌≤◌, length, take, ◌-◌, ◌<◌, IfOk, OnErr, OnOk, Some, codes};
+ghost use Rattle.std.specs.Prelude.{◌≡◌, ◌≢◌, ◌⊎◌, ◌++◌, ◌≤◌, length, take, ◌-◌, ◌<◌, IfOk, OnErr, OnOk, Some, codes};
 ghost use Rattle.std.specs.Option.{option_copied};
 ghost use Rattle.s360_model.specs.Text.{decimal};
 ghost use Rattle.s360_journal.specs.Standing.{machine_of, last_of};
-ghost use Rattle.s360_debug.specs.Answers.{answer_to, state_after, event_of, StandsPartly};
-ghost use Rattle.s360_debug.specs.Answers.{text_of_event, state_after_event, text_of_report};
+ghost use Rattle.s360_debug.specs.Answers.{answer_to, state_after, StandsPartly};
+ghost use Rattle.s360_debug.specs.Answers.{text_of_event, with_events, accepted_of_offer};
+ghost use Rattle.s360_debug.specs.Answers.{text_of_report};
 ghost use Rattle.s360_debug.specs.Answers.{back_text, last_text};
 ghost use Rattle.s360_debug.specs.declared.command.LineFault.TheVariants.{Memory};
 ghost use Rattle.s360_debug.specs.Answers.{place_names, fault_text, changed_after};
@@ -13,7 +14,7 @@ use crate::command::{Command, LineFault};
 use crate::names::{name_of_event, push_place, refusal_text};
 use crate::show::text_of_shown;
 use crate::text::Text;
-use s360_journal::{Report, Session};
+use s360_journal::{Breaks, Report, Session};
 use s360_machine::{Event, Refusal};
 use s360_store::Place;
 use std::alloc::{AllocError, Global};
@@ -21,13 +22,20 @@ use std::alloc::{AllocError, Global};
 /// So many places of a report are named.
 const NAMED: usize = 8;
 
-/// Carries a command out, and answers its text. After want of memory an event that it offers stands or
-/// does not; a command that offers none leaves the session as it was.
+/// Carries a command out, and answers its text. After want of memory some first ones of the events stand
+/// that it would have run, and a command that offers none leaves all as it was. No command sets a
+/// breakpoint yet.
 #[tactic(auto, unfolding(crate::specs::Answers::answer_to, crate::specs::Answers::state_after))]
-pub fn answer(alloc: Global, session: &mut Session, command: Command) -> Result<Text, AllocError>
-    ensures text { IfOk result (λ text. text ≡ answer_to session.old command) }
-    ensures state { OnOk result (session.new ≡ state_after session.old command) }
-    ensures memory { OnErr result (StandsPartly (event_of command) session.old session.new) }
+pub fn answer(
+    alloc: Global,
+    session: &mut Session,
+    breaks: &mut Breaks,
+    command: Command,
+) -> Result<Text, AllocError>
+    ensures text { IfOk result (λ text. text ≡ answer_to (record { session = session.old; breaks = breaks.old }) command) }
+    ensures state { OnOk result (record { session = session.new; breaks = breaks.new } ≡ state_after (record { session = session.old; breaks = breaks.old }) command) }
+    ensures memory { OnErr result (StandsPartly (record { session = session.old; breaks = breaks.old }) command session.new) }
+    ensures memory_breaks { OnErr result (breaks.new ≡ breaks.old) }
 {
     match command {
         Command::Back => answer_back(alloc, session),
@@ -44,8 +52,8 @@ pub fn answer(alloc: Global, session: &mut Session, command: Command) -> Result<
 /// Offers an event, and answers its report or its refusal.
 fn answer_event(alloc: Global, session: &mut Session, event: Event) -> Result<Text, AllocError>
     ensures text { IfOk result (λ text. text ≡ text_of_event session.old event) }
-    ensures state { OnOk result (session.new ≡ state_after_event session.old event) }
-    ensures memory { OnErr result (StandsPartly (Some event) session.old session.new) }
+    ensures state { OnOk result (session.new ≡ with_events session.old (accepted_of_offer session.old (Some event))) }
+    ensures memory { OnErr result ((session.new ≡ session.old) ⊎ (session.new ≡ with_events session.old (accepted_of_offer session.old (Some event)))) }
 {
     match session.forward(event) {
         Ok(report) => report_text(alloc, session.standing(), &report),

@@ -1,6 +1,7 @@
 //! A script, read whole and then answered line by line.
 ghost use Rattle.std.specs.Prelude.{◌≡◌, ◌≢◌, ◌⊎◌, ◌≤◌, ◌<◌, length, IfOk, IfSome, IfErr, OnOk, OnErr, Ok, Err};
 ghost use Rattle.std.specs.Io.KnownBytes.{Appends};
+ghost use Rattle.s360_debug.specs.Debugger.{new_debugger};
 ghost use Rattle.s360_debug.specs.Reading.{reading_of};
 ghost use Rattle.s360_debug.specs.Lines.{lines_of};
 ghost use Rattle.s360_debug.specs.Script.{answer_to_reading, state_after_reading, StandsAfterReading};
@@ -12,12 +13,13 @@ use crate::bytes::{ScriptFault, read_whole, write_whole};
 use crate::command_reader::read_command;
 use crate::lines::{Lines, skips};
 use crate::text::Text;
-use s360_journal::Session;
+use s360_journal::{Breaks, Session};
 use std::alloc::{AllocError, Global};
 use std::io::{Read, Write};
 
 /// Carries out the script that a reader has left, writes the answers, and answers the number of its
 /// command lines, faulty ones included. The script is read whole before its first line is carried out.
+/// No breakpoint is set before that line.
 pub fn run_script<R: Read, W: Write>(
     alloc: Global,
     session: &mut Session,
@@ -27,11 +29,11 @@ pub fn run_script<R: Read, W: Write>(
     ensures length { IfOk result (λ n. IfSome (R.remaining reader.old) (λ text. length text ≤ 1048576)) }
     ensures answers { IfOk result (λ n. IfSome (R.remaining reader.old) (λ text. Appends (W.contents writer.old) (W.contents writer.new) (answers_of session.old text))) }
     ensures lines { IfOk result (λ n. IfSome (R.remaining reader.old) (λ text. n ≡ lines_of_script text)) }
-    ensures state { IfOk result (λ n. IfSome (R.remaining reader.old) (λ text. session.new ≡ state_after_lines session.old (lines_of text))) }
+    ensures state { IfOk result (λ n. IfSome (R.remaining reader.old) (λ text. session.new ≡ (state_after_lines (new_debugger session.old) (lines_of text)).session)) }
     ensures unread_session { (result ≡ Err read_failed) ⊎ (result ≡ Err TooLong) → session.new ≡ session.old }
     ensures unread_writer { (result ≡ Err read_failed) ⊎ (result ≡ Err TooLong) → writer.new ≡ writer.old }
     ensures too_long { result ≡ Err TooLong → IfSome (R.remaining reader.old) (λ text. 1048576 < length text) }
-    ensures memory { result ≡ Err Memory → IfSome (R.remaining reader.old) (λ text. IsStopped (W.contents writer.old) (W.contents writer.new) session.old session.new (lines_of text)) }
+    ensures memory { result ≡ Err Memory → IfSome (R.remaining reader.old) (λ text. IsStopped (W.contents writer.old) (W.contents writer.new) (new_debugger session.old) session.new (lines_of text)) }
 {
     let script = read_whole(alloc, reader)?;
     answer_script(alloc, session, &script, writer)
@@ -47,16 +49,17 @@ fn answer_script<W: Write>(
     requires { length script.now ≤ 1048576 }
     ensures answers { OnOk result (Appends (W.contents writer.old) (W.contents writer.new) (answers_of session.old script.now)) }
     ensures lines { IfOk result (λ n. n ≡ lines_of_script script.now) }
-    ensures state { OnOk result (session.new ≡ state_after_lines session.old (lines_of script.now)) }
-    ensures memory { result ≡ Err Memory → IsStopped (W.contents writer.old) (W.contents writer.new) session.old session.new (lines_of script.now) }
+    ensures state { OnOk result (session.new ≡ (state_after_lines (new_debugger session.old) (lines_of script.now)).session) }
+    ensures memory { result ≡ Err Memory → IsStopped (W.contents writer.old) (W.contents writer.new) (new_debugger session.old) session.new (lines_of script.now) }
     ensures read { result ≢ Err read_failed }
     ensures too_long { result ≢ Err TooLong }
 {
+    let mut breaks = Breaks::new();
     let mut count = 0;
     let mut lines = Lines::new(script);
     while let Some(line) = lines.next_line() {
         if !skips(line) {
-            let text = answer_line(alloc, session, line)?;
+            let text = answer_line(alloc, session, &mut breaks, line)?;
             write_whole(writer, text.as_bytes())?;
             count += 1;
         }
@@ -65,13 +68,18 @@ fn answer_script<W: Write>(
 }
 
 /// Answers a line that is not skipped.
-fn answer_line(alloc: Global, session: &mut Session, line: &[u8]) -> Result<Text, AllocError>
-    ensures text { IfOk result (λ text. text ≡ answer_to_reading session.old (reading_of line.now)) }
-    ensures state { OnOk result (session.new ≡ state_after_reading session.old (reading_of line.now)) }
-    ensures memory { OnErr result (StandsAfterReading (reading_of line.now) session.old session.new) }
+fn answer_line(
+    alloc: Global,
+    session: &mut Session,
+    breaks: &mut Breaks,
+    line: &[u8],
+) -> Result<Text, AllocError>
+    ensures text { IfOk result (λ text. text ≡ answer_to_reading (record { session = session.old; breaks = breaks.old }) (reading_of line.now)) }
+    ensures state { OnOk result (record { session = session.new; breaks = breaks.new } ≡ state_after_reading (record { session = session.old; breaks = breaks.old }) (reading_of line.now)) }
+    ensures memory { OnErr result (StandsAfterReading (reading_of line.now) (record { session = session.old; breaks = breaks.old }) session.new) }
 {
     match read_command(alloc, line) {
-        Ok(command) => answer(alloc, session, command),
+        Ok(command) => answer(alloc, session, breaks, command),
         Err(fault) => text_of_fault(alloc, fault),
     }
 }

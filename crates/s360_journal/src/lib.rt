@@ -6,6 +6,7 @@
 //! run again.
 #![tactic(auto)]
 
+mod breaks;
 mod calls;
 mod entry;
 mod laws;
@@ -13,6 +14,7 @@ mod places;
 mod report;
 mod session;
 
+pub use breaks::Breaks;
 pub use calls::{Answer, Call, Outcome, run_calls};
 pub use laws::last_change_is_the_greatest;
 pub use places::Places;

@@ -3,7 +3,7 @@ ghost use Rattle.std.specs.Prelude.{◌≤◌};
 
 use crate::rows::{Subject, Words, assert_rows};
 use s360_debug::{Command, LineFault, ScriptFault, answer, read_command, run_script};
-use s360_journal::Session;
+use s360_journal::{Breaks, Session};
 use s360_machine::Machine;
 use std::alloc::Global;
 use std::io::{self, Read, Write};
@@ -125,18 +125,27 @@ fn answers_at_the_limit(alloc: Global, script: &str) -> Option<String> {
     quoted(alloc, &written)
 }
 
-/// The answer to a command.
-fn text_of_command(alloc: Global, session: &mut Session, command: Command) -> Option<String> {
-    let text = answer(alloc, session, command).ok()?;
-    quoted(alloc, text.as_bytes())
+/// A session where ten changes may stand, and no breakpoint.
+#[derive(Drop)]
+struct Lines {
+    session: Session,
+    breaks: Breaks,
 }
 
-/// The answer to a line, or the text of its fault.
-fn text_of_line(alloc: Global, session: &mut Session, line: &str) -> Option<String> {
-    match read_command(alloc, line.as_bytes()) {
-        Ok(command) => text_of_command(alloc, session, command),
-        Err(LineFault::Memory) => None,
-        Err(fault) => format!(in alloc; "{fault}").ok(),
+impl Lines {
+    /// The answer to a command.
+    fn text_of_command(&mut self, alloc: Global, command: Command) -> Option<String> {
+        let text = answer(alloc, &mut self.session, &mut self.breaks, command).ok()?;
+        quoted(alloc, text.as_bytes())
+    }
+
+    /// The answer to a line, or the text of its fault.
+    fn text_of_line(&mut self, alloc: Global, line: &str) -> Option<String> {
+        match read_command(alloc, line.as_bytes()) {
+            Ok(command) => self.text_of_command(alloc, command),
+            Err(LineFault::Memory) => None,
+            Err(fault) => format!(in alloc; "{fault}").ok(),
+        }
     }
 }
 
@@ -147,21 +156,16 @@ fn text_of_faults(alloc: Global) -> Option<String> {
     format!(in alloc; "{read}, {too_long}, {write}, {memory}").ok()
 }
 
-/// A session where ten changes may stand.
-#[derive(Drop)]
-struct Lines {
-    session: Session,
-}
-
 impl Subject for Lines {
     fn new(alloc: Global) -> Option<Lines> {
         let session = session(alloc, 10)?;
-        Some(Lines { session })
+        let breaks = Breaks::new();
+        Some(Lines { session, breaks })
     }
 
     fn answer(&mut self, alloc: Global, words: &mut Words<'_>) -> Option<String> {
         match words.next_word() {
-            "line" => text_of_line(alloc, &mut self.session, words.behind_the_first()),
+            "line" => self.text_of_line(alloc, words.behind_the_first()),
             "limit" => answers_at_the_limit(alloc, "patch r 1 5\npatch r 1 5\n"),
             "whole" => outcome(alloc, ADD.len() + 1, ADD_ANSWERS.len()),
             "cut" => outcome(alloc, ADD.len(), ADD_ANSWERS.len()),
