@@ -1,7 +1,8 @@
 #!/usr/bin/env python3
 """Runs each worked row and each unit test again and again with one growth of memory refused.
 
-Each of the first EACH growths is refused in turn, and beyond them every STRIDE-th.
+Each of the first EACH growths is refused in turn, and beyond them every STRIDE-th. A test that
+MOST_GROWTHS names takes at most so many.
 
 With nothing refused a row has its answers, and a test passes. With a growth refused the program has
 to end with status 1, say that memory is out, and have written the answers of whole first lines. A
@@ -25,6 +26,8 @@ WANT_OF_MEMORY = ("Memory", "AllocError", "AllocFailed", "OutOfMemory", "out of 
 # Past so many growths a row or a test is tried at every 101st alone.
 EACH = 3000
 STRIDE = 101
+# How many growths a test may take, where that is bounded.
+MOST_GROWTHS = {"s360_rows_tests plans::rising_puts": 60}
 
 
 class Subject:
@@ -60,6 +63,9 @@ class Subject:
             count = int(pathlib.Path(file.name).read_text())
         refused = [*range(1, min(count, EACH) + 1), *range(EACH + 1, count + 1, STRIDE)]
         found = []
+        most = MOST_GROWTHS.get(self.name, count)
+        if count > most:
+            found.append(f"{self.name}: {count} growths, and at most {most} are allowed")
         for nth in refused:
             fault = self.fault_of(self.run(shim, REFUSE_NTH=str(nth)))
             if fault:

@@ -4,6 +4,7 @@ use s360_store::{Cell, Place, Plan};
 use s360_word::ProtectionKey;
 use std::alloc::Global;
 use std::cmp::Ordering;
+use std::test::Fail;
 
 /// The cells of a plan, if it has the value of each.
 pub(crate) fn cells(alloc: Global, plan: &Plan) -> Option<Vec<Cell>> {
@@ -105,6 +106,23 @@ fn orders(alloc: Global, first: Place) -> Option<String> {
         text.push(order(first, place(name)?)).ok()?;
     }
     Some(text)
+}
+
+/// Puts values at so many rising places, and answers how many places the plan has.
+fn put_rising(alloc: Global, count: u32) -> Option<u32> {
+    let mut planned = Planned::new(alloc)?;
+    for address in 0..count {
+        planned.put(Place::Byte(address), 1)?;
+    }
+    Some(planned.plan.len())
+}
+
+/// Many puts take few growths, which `tests/refuse_each_growth.py` counts.
+#[test]
+fn rising_puts(rt: HostRuntime) -> Result<(), Fail> {
+    let count = put_rising(rt.alloc(), 65_535).ok_or("out of memory")?;
+    assert_eq!(rt; count, 65_535);
+    Ok(())
 }
 
 #[test]
