@@ -1,8 +1,8 @@
 //! What a command answers. Each command has its row in `answer`; those that offer an event share one.
-ghost use Rattle.std.specs.Prelude.{◌≡◌, ◌≢◌, ◌⊎◌, ◌++◌, ◌≤◌, length, take, ◌-◌, ◌<◌, IfOk, OnErr, OnOk, Some, codes};
+ghost use Rattle.std.specs.Prelude.{◌≡◌, ◌≢◌, ◌⊎◌, ◌++◌, length, take, ◌-◌, ◌<◌, IfOk, OnErr, OnOk, Some, codes};
 ghost use Rattle.std.specs.Option.{option_copied};
 ghost use Rattle.s360_model.specs.Text.{decimal};
-ghost use Rattle.s360_journal.specs.Standing.{machine_of, last_of};
+ghost use Rattle.s360_journal.specs.Standing.{last_of};
 ghost use Rattle.s360_debug.specs.Answers.{answer_to, state_after, StandsPartly};
 ghost use Rattle.s360_debug.specs.Answers.{text_of_event, with_events, accepted_of_offer};
 ghost use Rattle.s360_debug.specs.Answers.{text_of_report};

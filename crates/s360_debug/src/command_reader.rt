@@ -1,9 +1,9 @@
 //! Reads a line as a command. Each first word has its row in `read_command`, and a word that has
 //! kinds a function of its own.
 ghost use Rattle.std.specs.Prelude.{◌≡◌, ◌≤◌, ◌<◌, ◌^◌, IfOk, IfSome, drop, take, length, MatchOption, Some, None};
-ghost use Rattle.s360_debug.specs.Reading.{Reads, reading_of, reading_of_words, patch_reading};
+ghost use Rattle.s360_debug.specs.Reading.{Reads, reading_of, patch_reading};
 ghost use Rattle.s360_debug.specs.Reading.{storage_patch, word_patch, doubleword_patch};
-ghost use Rattle.s360_debug.specs.Reading.{last_reading, last_byte, last_register};
+ghost use Rattle.s360_debug.specs.Reading.{last_reading};
 ghost use Rattle.s360_debug.specs.Reading.{show_reading, show_storage, finished};
 ghost use Rattle.s360_debug.specs.Reading.{argument, number_argument, bytes_in, AtEnd, is_word};
 ghost use Rattle.s360_debug.specs.Digits.{doubleword_of, count_of};

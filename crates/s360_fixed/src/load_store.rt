@@ -1,11 +1,10 @@
 //! Operands in storage: fetching one, and storing and loading registers. Source: GA22-6821,
 //! "Fixed-Point Arithmetic" and "Logical Operations".
-ghost use Rattle.std.specs.Prelude.{◌≡◌, ◌≤◌, ◌<◌, ◌+◌, [], IfOk, OnOk, IfNone, ◌⊎◌, length};
+ghost use Rattle.std.specs.Prelude.{◌≡◌, ◌≤◌, ◌<◌, ◌+◌, [], IfOk, length};
 ghost use Rattle.s360_store.specs.declared.protection.Access.{Access};
-ghost use Rattle.s360_fixed.specs.Operands.{access_conditions, bytes_of_width, extended_halfword};
+ghost use Rattle.s360_fixed.specs.Operands.{bytes_of_width, extended_halfword};
 ghost use Rattle.s360_fixed.specs.Operands.{fetched, storage_operand, word_in};
 ghost use Rattle.s360_fixed.specs.Plans.{PlansOutcome};
-ghost use Rattle.s360_fixed.specs.ProgramCodes.{program_code};
 ghost use Rattle.s360_fixed.specs.Storing.{bytes_outcome, load_multiple_outcome, register_count};
 ghost use Rattle.s360_fixed.specs.Storing.{store_multiple_outcome};
 

@@ -1,5 +1,5 @@
 //! Puts of several registers into a plan, of several words, and of the PSW that goes on.
-ghost use Rattle.std.specs.Prelude.{◌≡◌, ◌<◌, ◌≤◌, ◌+◌, ◌*◌, OnOk, OnSome, length};
+ghost use Rattle.std.specs.Prelude.{◌<◌, ◌≤◌, ◌+◌, ◌*◌, OnOk, OnSome, length};
 ghost use Rattle.s360_model.specs.Core.{core_with_psw};
 ghost use Rattle.s360_store.specs.Plans.{AddsToPlan, HasBytes, HasPsw, HasRegisters};
 ghost use Rattle.s360_fixed.specs.Outcomes.{core_with_register};

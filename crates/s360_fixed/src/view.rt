@@ -1,9 +1,7 @@
 //! What an instruction works on: the PSW, the registers and storage as it finds them, the address
 //! of the next instruction, and its own length.
 ghost use Rattle.std.specs.Prelude.{◌≡◌, ◌≤◌, length};
-ghost use Rattle.s360_model.specs.Psw.{IsCurrentPsw};
 ghost use Rattle.s360_store.specs.Plans.{HasRegisters};
-ghost use Rattle.s360_fixed.specs.Operands.{operand_address};
 ghost use Rattle.s360_fixed.specs.View.{register_of, view_with};
 
 use s360_psw::{InstructionLength, Psw};

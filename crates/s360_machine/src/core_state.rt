@@ -33,7 +33,6 @@ pub(crate) struct Core {
 impl Model for Core {
     ghost use Rattle.std.specs.Prelude.{◌≡◌, length};
     ghost use Rattle.s360_model.specs.Core.{Core as Contents};
-    ghost use Rattle.s360_model.specs.Psw.{IsCurrentPsw};
 
     ghost Value = { Contents };
 
