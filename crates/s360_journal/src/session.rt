@@ -104,7 +104,7 @@ impl Session {
     {
         let mut number = self.entries.len();
         while number > 0 {
-            if self.entries[number - 1].changes.alters(place) {
+            if self.entries[number - 1].alters(place) {
                 return Some(number as u32);
             }
             number -= 1;
