@@ -76,6 +76,7 @@ impl Form {
     ghost use Rattle.s360_fixed.specs.Fixed.{fixed_outcome};
 
     /// Whether it is a fixed-point, branch or shift instruction, which `plan_fixed` plans.
+    #[inline(always)]
     pub fn is_fixed(&self) -> bool
         ensures { result ≡ is_some (fixed_outcome self.now) }
     {

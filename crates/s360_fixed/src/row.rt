@@ -113,6 +113,7 @@ pub(crate) enum Row {
 
 impl Row {
     /// Whether the format RR has such rows.
+    #[inline(always)]
     pub(crate) fn is_rr(self) -> bool
         ensures { result ≡ is_some (rr_outcome self) }
     {
@@ -123,6 +124,7 @@ impl Row {
     }
 
     /// Whether the format RX has such rows.
+    #[inline(always)]
     pub(crate) fn is_rx(self) -> bool
         ensures { result ≡ is_some (rx_outcome self) }
     {
@@ -133,6 +135,7 @@ impl Row {
     }
 
     /// Whether the format RS has such rows.
+    #[inline(always)]
     pub(crate) fn is_rs(self) -> bool
         ensures { result ≡ is_some (rs_outcome self) }
     {
@@ -148,6 +151,7 @@ impl Row {
 }
 
 /// A row of R1 and a word.
+#[inline(always)]
 fn on_word(combination: Combination) -> Option<Row>
     ensures { result ≡ on_word combination }
 {
@@ -155,6 +159,7 @@ fn on_word(combination: Combination) -> Option<Row>
 }
 
 /// A row of R1 and a halfword.
+#[inline(always)]
 fn on_halfword(combination: Combination) -> Option<Row>
     ensures { result ≡ on_halfword combination }
 {
@@ -163,6 +168,7 @@ fn on_halfword(combination: Combination) -> Option<Row>
 
 impl Operation {
     /// The row of the operation, where it is one of these chapters.
+    #[inline(always)]
     pub(crate) fn row(self) -> Option<Row>
         ensures { result ≡ row_of self }
     {

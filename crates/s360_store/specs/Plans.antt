@@ -2,6 +2,7 @@
 use Rattle.std.specs.Prelude.{◌≡◌, ◌<◌, ◌≤◌, ◌+◌, Option, Some, None, ℕ, if◌then◌else◌, List, [], ◌∷◌, length}
 use Rattle.s360_model.specs.Core.{Core}
 use Rattle.s360_store.specs.declared.place.Place.{Place}
+use Rattle.s360_store.specs.declared.place.Place.TheVariants.{Byte}
 use Rattle.s360_store.specs.declared.place.Cell.{Cell}
 use Rattle.s360_store.specs.Places.{same_place}
 use Rattle.s360_store.specs.Cells.{after_exchange, AreCellsOf}
@@ -10,6 +11,11 @@ use Rattle.s360_store.specs.Cells.{after_exchange, AreCellsOf}
 abbrev pub after_put : List Cell → Place → ℕ → List Cell
 after_put [] p v = record { place = p; value = v } ∷ []
 after_put (c ∷ cs) p v = if same_place c.place p then record { place = c.place; value = v } ∷ cs else (c ∷ after_put cs p v)
+
+-- the plan after bytes are put from an address on
+abbrev pub after_put_bytes : List Cell → ℕ → List ℕ → List Cell
+after_put_bytes plan address [] = plan
+after_put_bytes plan address (b ∷ bs) = after_put_bytes (after_put plan (Byte address) b) (address + 1) bs
 
 -- the value that a plan has for a place
 abbrev pub planned_value : List Cell → Place → Option ℕ

@@ -14,7 +14,7 @@ loop-i-preserved c =
     = rw (c.to_be_bytes-bytes.ensures, c.register.ensures.word, c.register_after.ensures) refl
     in let count : length c.to_be_bytes-bytes.result ≡ 4 = rw bytes refl
     in AddsToPlan-word c.args.plan.now c.loop-i.plan _ c.args.view.now.core.registers c.args.r1 c.args.address c.loop-i.i c.args.count
-    c.to_be_bytes-bytes.result (omega arith) bytes c.loop-i.invariant (rw (c.from.ensures, count) at c.in_ok-put_bytes.ensures)
+    c.to_be_bytes-bytes.result (omega arith) bytes c.loop-i.invariant (rw (c.from.ensures, count) at c.in_ok-put_bytes.ensures.ok)
 
 pub returns : goal.returns
 returns c =

@@ -1,3 +1,4 @@
+use Rattle.std.proofs.Common.{refl}
 use Rattle.s360_store.specs.declared.place.Place.TheVariants.{Psw}
 use Rattle.s360_psw.proofs.PswLemmas.{stored_psw-zero}
 use Rattle.s360_store.proofs.PutLemmas.{AddsToPlan-put}
@@ -7,3 +8,6 @@ pub returns-clause-ok : goal.returns-clause-ok
 returns-clause-ok c =
     rw (c.in_ok-put.ensures.ok, c.stored.ensures.value, stored_psw-zero)
     (AddsToPlan-put c.args.self.now Psw c.args.psw c.stored.ensures.current)
+
+pub returns-clause-cell : goal.returns-clause-cell
+returns-clause-cell c = rw (c.in_ok-put.ensures.ok, c.stored.ensures.value, stored_psw-zero) refl
