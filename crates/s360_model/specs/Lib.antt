@@ -6,5 +6,6 @@ pub mod Core
 pub mod Text
 pub mod Arithmetic
 pub mod Pairs
+pub mod Packed
 pub mod Products
 pub mod Shifts

@@ -1,1 +1,3 @@
+mod KnownPacked
+mod PackedLemmas
 mod ShiftLemmas

@@ -1,6 +1,6 @@
 -- A shift's overflow is a lost bit that is unlike the sign.
 use Rattle.std.proofs.Common.{◌≡◌, ◌≢◌, ◌<◌, ◌≤◌, ◌+◌, ◌-◌, ◌*◌, ◌%◌, ◌^◌, ◌↔◌, ℕ, zero, suc, Bool, true, false, nat_eq, nat_lt, refl, sym, ◌∙◌, ap, arith, subst}
-use Rattle.std.specs.Prelude.{ℤ, pos, ◌*ℤ◌, int_lt, not, ◌&&◌, if◌then◌else◌}
+use Rattle.std.specs.Prelude.{ℤ, pos, int_lt, not, ◌&&◌, if◌then◌else◌}
 use Rattle.std.proofs.Math.IntN.{pos-*ℤ-pos, negsuc-*ℤ-pos}
 use Rattle.std.proofs.Common.{negsuc, neg_ℤ}
 use Rattle.std.proofs.lemmas.Int.{ints}
