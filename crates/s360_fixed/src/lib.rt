@@ -32,6 +32,7 @@ pub use effect::Effect;
 pub use ended::{Ended, IoOperation};
 pub use fetch::fetch_instruction;
 pub use form::{Form, Format};
+pub use load_store::plan_store;
 pub use operand::operand_exception;
 pub use operation::Operation;
 pub use planner::plan_fixed;

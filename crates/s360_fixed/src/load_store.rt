@@ -54,7 +54,7 @@ pub(crate) fn fetch(view: &View, operand: SecondOperand, address: u32) -> Result
 }
 
 /// Plans a store of bytes, on the boundary of their number.
-pub(crate) fn plan_store(
+pub fn plan_store(
     view: &View,
     address: u32,
     bytes: &[u8],

@@ -1,2 +1,5 @@
 pub mod InstructionLemmas
+pub mod FieldLemmas
+pub mod StepLemmas
 mod KnownInstructions
+mod KnownLogic

@@ -6,24 +6,17 @@ use Rattle.s360_model.specs.Psw.{instruction_address_of, protection_key_of}
 use Rattle.s360_psw.specs.declared.instruction_length.InstructionLength.{InstructionLength}
 use Rattle.s360_psw.specs.declared.instruction_length.InstructionLength.TheVariants.{NotAvailable, OneHalfword, TwoHalfwords, ThreeHalfwords}
 use Rattle.s360_store.specs.declared.place.Cell.{Cell}
-use Rattle.s360_fixed.specs.declared.ended.Ended.TheVariants.{Program, Unbuilt}
+use Rattle.s360_fixed.specs.declared.ended.Ended.TheVariants.{Program}
 use Rattle.s360_fixed.specs.declared.form.Form.{Form}
 use Rattle.s360_fixed.specs.declared.program_code.ProgramCode.TheVariants.{Operation}
 use Rattle.s360_fixed.specs.Fetching.{fetch_conditions, instruction_bytes, length_at}
-use Rattle.s360_fixed.specs.Fixed.{fixed_outcome}
 use Rattle.s360_fixed.specs.Outcomes.{unless_met}
 use Rattle.s360_fixed.specs.Plans.{PlansOutcome}
 use Rattle.s360_fixed.specs.ProgramCodes.{Conditions, program_code}
 use Rattle.s360_fixed.specs.Table.{form_of}
 use Rattle.s360_fixed.specs.View.{Outcome, View}
 use Rattle.s360_logic.specs.declared.cpu.PlannedInstruction.{PlannedInstruction}
-
--- what an instruction does that was decoded: so far the rows of other chapters are not built
-abbrev pub outcome_of : View → Form → Outcome
-outcome_of v form = by_row (fixed_outcome form) where
-  by_row : Option (View → Outcome) → Outcome
-  by_row None = record { ended = Unbuilt; core = v.core }
-  by_row (Some outcome) = outcome v
+use Rattle.s360_logic.specs.Logic.{outcome_of}
 
 -- a length of 2, 4 or 6 bytes as an instruction length
 abbrev pub length_of_bytes : ℕ → InstructionLength

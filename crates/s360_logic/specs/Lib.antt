@@ -1,1 +1,9 @@
+pub mod Rows
+pub mod Bytes
+pub mod Operands
+pub mod Immediate
+pub mod LeftToRight
+pub mod RightToLeft
+pub mod Converting
+pub mod Logic
 pub mod Instruction

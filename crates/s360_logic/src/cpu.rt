@@ -1,11 +1,11 @@
 //! The plan of the instruction at the instruction address. Source: GA22-6821, "System Structure",
 //! program execution.
 ghost use Rattle.std.specs.Prelude.{◌≡◌, [], IfOk};
-ghost use Rattle.s360_fixed.specs.Plans.{PlansOutcome};
 ghost use Rattle.s360_fixed.specs.View.{core_with};
-ghost use Rattle.s360_logic.specs.Instruction.{PlansInstruction, instruction, length_of_bytes, outcome_of};
+ghost use Rattle.s360_logic.specs.Instruction.{PlansInstruction, instruction, length_of_bytes};
 
-use s360_fixed::{Ended, Form, ProgramCode, View, decode, fetch_instruction, plan_fixed};
+use crate::logic::plan_logic;
+use s360_fixed::{Ended, ProgramCode, View, decode, fetch_instruction};
 use s360_psw::{InstructionLength, Psw};
 use s360_store::{Plan, Storage};
 use s360_word::Word;
@@ -32,18 +32,6 @@ fn length_of_bytes(bytes: usize) -> InstructionLength
         2 => InstructionLength::OneHalfword,
         4 => InstructionLength::TwoHalfwords,
         _ => InstructionLength::ThreeHalfwords,
-    }
-}
-
-/// Plans an instruction that was decoded, by the crate that has its row.
-fn plan_form(form: &Form, view: &View, plan: &mut Plan) -> Result<Ended, AllocError>
-    requires empty { plan.old ≡ [] }
-    ensures { IfOk result (PlansOutcome view.now.core plan.new (outcome_of view.now form.now)) }
-{
-    if form.is_fixed() {
-        plan_fixed(form, view, plan)
-    } else {
-        Ok(Ended::Unbuilt)
     }
 }
 
@@ -75,7 +63,7 @@ pub fn plan_instruction(
     let next_address = address + bytes.len() as u32;
     let view = View::new(psw, registers, storage, next_address, instruction_length);
     let ended = match decode(&bytes) {
-        Some(form) => plan_form(&form, &view, plan)?,
+        Some(form) => plan_logic(&form, &view, plan)?,
         None => Ended::Program(ProgramCode::Operation),
     };
     Ok(PlannedInstruction {

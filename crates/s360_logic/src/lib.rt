@@ -1,9 +1,20 @@
-//! One instruction: fetched, decoded and planned by the crate that has its row. So far that is the
-//! crate of the fixed-point, branch and shift instructions; the rows of other chapters come here.
+//! Logical and storage-to-storage instructions, decimal conversion and execute; and one instruction:
+//! fetched, decoded and planned by its row. Rows of other chapters come here.
 //!
-//! Source: GA22-6821, "System Structure" and "Interruptions".
+//! Source: GA22-6821, "System Structure", "Logical Operations", "Fixed-Point Arithmetic", "Decimal
+//! Arithmetic", "Branching" and "Interruptions".
 #![tactic(auto)]
 
+mod bytes;
+mod converting;
 mod cpu;
+mod field;
+mod first_operand;
+mod immediate;
+mod left_to_right;
+mod logic;
+mod right_to_left;
+mod row;
 
 pub use cpu::{PlannedInstruction, plan_instruction};
+pub use logic::plan_logic;

@@ -7,7 +7,7 @@ use arrayvec::ArrayVec;
 use s360_fixed::{
     Ended, Form, ProgramCode, View, decode, fetch_instruction, length_of, plan_fixed,
 };
-use s360_logic::plan_instruction;
+use s360_logic::{plan_instruction, plan_logic};
 use s360_psw::{InstructionLength, Psw};
 use s360_store::{Place, Plan, Storage};
 use s360_word::{ProtectionKey, Word};
@@ -133,15 +133,17 @@ fn text_of_values(alloc: Global, plan: &Plan, ended: Ended) -> Option<String> {
     Some(text)
 }
 
-/// How an instruction of the fixed-point chapter is planned.
+/// How an instruction is planned, by the crate of its chapter.
 fn text_of_plan(alloc: Global, before: &Before, digits: &str) -> Option<String> {
     let bytes = bytes_of(digits)?;
     let form = decoded(&bytes)?;
-    if !form.is_fixed() {
-        return None;
-    }
+    let view = before.view(bytes.len());
     let mut plan = Plan::new(alloc);
-    let ended = plan_fixed(&form, &before.view(bytes.len()), &mut plan).ok()?;
+    let ended = if form.is_fixed() {
+        plan_fixed(&form, &view, &mut plan).ok()?
+    } else {
+        plan_logic(&form, &view, &mut plan).ok()?
+    };
     text_of_values(alloc, &plan, ended)
 }
 
@@ -219,6 +221,11 @@ impl Subject for Instructions {
 #[test]
 fn program_codes(rt: HostRuntime) {
     assert_rows::<Instructions>(&rt, rt.alloc(), PLANNED);
+}
+
+#[test]
+fn program_codes_of_logical_instructions(rt: HostRuntime) {
+    assert_rows::<Instructions>(&rt, rt.alloc(), LOGICAL);
 }
 
 #[test]
@@ -323,6 +330,104 @@ numbers -> Operation 1 Privileged 2 Execute 3 Protection 4 Addressing 5 Specific
     FixedPointOverflow 8 FixedPointDivide 9
 ";
 
+/// Logical instructions, conversions and executes that end with a program code, in the same form.
+const LOGICAL: &str = "
+free 4F100600 s600=000002147483 s606=648C -> p=10000204 r1=80000000 code=9
+free 4F100600 s600=000002147483 s606=649D -> p=10000204 r1=7FFFFFFF code=9
+free 4F100600 s600=000004294967 s606=296C -> p=10000204 r1=0 code=9
+free 4F100600 s600=100000000000 s606=000D -> p=10000204 r1=EF85C000 code=9
+free 4F100600 s600=000000000000 s606=1230 -> code=7
+free 4F100600 s600=000000000000 s606=1239 -> code=7
+free 4F100600 s600=A00000000000 s606=000C -> code=7
+free 4F100600 s600=000000000000 s606=00AC -> code=7
+free 4F100604 s604=000000000000 s60A=001C -> code=6
+free 4F100601 s601=000000000000 s607=001C -> code=6
+free 4E100604 r1=1 -> code=6
+free 4E100601 r1=1 -> code=6
+free F11150000600 r5=1FFF s600=1234 -> code=5
+free F10F06005000 r5=1FF1 s1FFF=56 s600=0C -> code=5
+free F21150000600 r5=1FFF s600=F1C2 -> code=5
+free F20F06005000 r5=1FF1 s1FFF=C7 -> code=5
+free F33150000600 r5=1FFD s600=123C -> code=5
+free F30F06005000 r5=1FF1 s1FFF=7C -> code=5
+free 4E105000 r1=1 r5=2000 -> code=5
+free 4E105000 r1=1 r5=FFFFF8 -> code=5
+free 4F105000 r5=2000 -> code=5
+free 4F105000 r5=FFFFF8 -> code=5
+free D20350000600 r5=1FFD s600=C1C2C3C4 -> code=5
+free D20306005000 r5=1FFD s1FFC=C1C2C3C4 -> code=5
+free D10150000600 r5=1FFF s600=ABCD -> code=5
+free D10106005000 r5=1FFF -> code=5
+free D30106005000 r5=1FFF -> code=5
+free D30150000600 r5=1FFF s600=ABCD -> code=5
+free D40150000600 r5=1FFF -> code=5
+free D40106005000 r5=1FFF -> code=5
+free D50150000600 r5=1FFF s1FFF=01 -> code=5
+free D50106005000 r5=1FFF s1FFF=01 -> code=5
+free D60106005000 r5=1FFF -> code=5
+free D60150000600 r5=1FFF -> code=5
+free D70150000600 r5=1FFF -> code=5
+free D70106005000 r5=1FFF -> code=5
+free DC0150000700 r5=1FFF s1FFF=01 s701=AABB -> code=5
+free DC0050000700 r5=2000 s700=AA -> code=5
+free DD0250000700 r5=1FFE s1FFE=01 s701=05 -> code=5
+free DD0050000700 r5=2000 s700=05 -> code=5
+free 44000300 p=8000200 r1=7FFFFFFF r2=1 s300=1A12 -> p=38000204 r1=80000000 code=8
+free 91FF5000 r5=2000 -> code=5
+free 91005000 r5=2000 -> code=5
+free 92AB5000 r5=2000 -> code=5
+free 92AB5000 r5=FFFFFF -> code=5
+free 93005000 r5=2000 -> code=5
+free 940F5000 r5=2000 -> code=5
+free 95105000 r5=2000 -> code=5
+free 960F5000 r5=2000 -> code=5
+free 97FF5000 r5=2000 -> code=5
+free 92FF0600 p=0010000010000200 -> code=4
+free 92000600 p=0010000010000200 -> code=4
+free 93000600 p=00F0000010000200 s600=FF -> code=4
+free 94FF0600 p=0010000010000200 s600=5A -> code=4
+free 96000600 p=0080000010000200 s600=5A -> code=4
+free 97FF0600 p=0010000010000200 -> code=4
+free D10006000700 p=0010000010000200 -> code=4
+free D20006000700 p=0010000010000200 s700=C1 -> code=4
+free D2FF06000600 p=0010000010000200 -> code=4
+free D30006000700 p=0010000010000200 -> code=4
+free D40006000700 p=0010000010000200 -> code=4
+free D60006000700 p=0010000010000200 -> code=4
+free D70006000600 p=0010000010000200 s600=C1 -> code=4
+free DC0006000700 p=0010000010000200 s700=C1 -> code=4
+free F10006000700 p=0010000010000200 s700=12 -> code=4
+free F20006000700 p=0010000010000200 s700=12 -> code=4
+free F30006000700 p=0010000010000200 s700=12 -> code=4
+free 4E100600 p=0010000010000200 -> code=4
+free 44000300 p=0010000010000200 s300=92FF0600 -> code=4
+free 44000301 p=0010000010000200 s300=92FF0600 -> code=6
+free 44000301 s300=92C10600 -> code=6
+free 44005001 r5=300 s300=1A12 -> code=6
+free 44005000 r5=10001 -> code=6
+free 44005000 r5=2000 -> code=5
+free 44000300 s300=44000400 s400=1A12 -> code=3
+free 44005000 r5=1FFC s1FFC=44000301 -> code=3
+free 44000200 s200=44000200 -> code=3
+free 44100300 r1=FF s300=44000400 s400=1A12 -> code=3
+free 44000300 -> code=1
+free 44000300 s300=1C12 -> code=6
+free 44100300 r1=10 s300=1C02 -> code=6
+free 44000300 r5=1FFF s300=D20150000600 -> code=5
+free 44100300 r1=1 r5=1FFF s300=D20050000600 -> code=5
+free 44000300 s300=4F100600 s600=000000000000 s606=0010 -> code=7
+free 44000300 s300=4F100600 s600=000002147483 s606=648C -> p=10000204 r1=80000000 code=9
+free 44000300 r2=5 s300=1D24 -> code=9
+* of two operands, an outside one comes before a protected one, and so does a function byte
+free D20006005000 p=0010000010000200 r5=2000 -> code=5
+free D70106005000 p=0010000010000200 r5=1FFF -> code=5
+free F21106005000 p=0010000010000200 r5=1FFF -> code=5
+free DC0006005000 p=0010000010000200 r5=1FFF s600=05 -> code=5
+free DC0006005000 p=0010000010000200 r5=1FFB s600=04 -> code=4
+free DD0106005000 r5=1FFF s600=0005 s1FFF=07 -> p=10000206 r1=600 r2=7
+free DD0106005000 r5=1FFF s600=0500 s1FFF=07 -> code=5
+";
+
 /// Addresses, and how many bytes are fetched there: `D20110012002` stands at the end.
 const FETCHED: &str = "
 fetch 0000 -> 2
@@ -344,5 +449,8 @@ ending 47F00300 p=200 -> Done 204 2 p=300 false
 ending 1A12 p=201 -> Program(Specification) 201 0 p=0 true
 ending 1A12 p=2000 -> Program(Addressing) 2000 0 p=0 true
 ending 0000 p=200 -> Program(Operation) 202 1 p=0 true
-ending 92000300 p=200 -> Unbuilt 204 2 p=0 true
+ending 80000300 p=200 -> Unbuilt 204 2 p=0 true
+ending 44000300 p=200 s300=0A05 -> Unbuilt 204 2 p=0 true
+ending 44000300 p=200 s300=D20007000600 s600=C1 -> Done 204 2 p=204 false
+ending 44000300 p=200 s300=45100400 -> Done 204 2 p=400 false
 ";

@@ -1,0 +1,73 @@
+-- Storage while bytes of an operand are stored, and what is planned of it.
+use Rattle.std.proofs.Common.{◌≡◌, ◌<◌, ◌≤◌, ◌+◌, ◌-◌, ◌++◌, ℕ, suc, List, [], length, take, drop, set, arith, refl, None, ap, sym, slice_set, nat_eq, ◌∙◌, true, rules}
+use Rattle.std.proofs.lemmas.List.{places, same_lists, length-append, length-set, length-take-le, set-append_left, set-append_right}
+use Rattle.s360_model.specs.Storage.{Storage, with_run}
+use Rattle.s360_model.specs.Core.{core_with_bytes}
+use Rattle.s360_store.specs.declared.place.Cell.{Cell}
+use Rattle.s360_store.specs.Plans.{AddsToPlan, HasBytes, HasRegisters}
+use Rattle.s360_store.proofs.PlannedLemmas.{IsPlanOf-none}
+use Rattle.s360_fixed.specs.declared.setting.Setting.{Setting}
+use Rattle.s360_fixed.specs.Outcomes.{core_after_effect}
+use Rattle.s360_fixed.specs.Plans.{PlansOutcome}
+use Rattle.s360_fixed.specs.Settings.{ended_with}
+use Rattle.s360_fixed.specs.View.{View}
+use Rattle.s360_logic.specs.Bytes.{completed_with, byte_at, operand_bytes, with_byte}
+use Rattle.s360_logic.specs.Operands.{FirstOperand, first_operand, stored_in}
+use Rattle.s360_logic.specs.LeftToRight.{comparison_code, left_to_right}
+
+nat_eq-same : (n : ℕ) → nat_eq n n ≡ true
+nat_eq-same n = search rules
+
+pub with_run-set : (xs run : List ℕ) (a i b : ℕ) → i < length run → a + length run ≤ length xs → set (with_run xs a run) (a + i) b ≡ with_run xs a (set run i b)
+with_run-set xs run a i b h l =
+    let na : length (take a xs) ≡ a = length-take-le a xs (omega arith)
+    in let front : a + i < length (take a xs ++ run) = omega (arith, length-append (take a xs) run)
+    in let back : a + i - a ≡ i = omega arith
+    in rw (length-set run i b, set-append_left (take a xs ++ run) (drop (a + length run) xs) (a + i) b front, set-append_right (take a xs) run a (a + i) b na (omega arith), back) refl
+
+-- the bytes of an operand, and the storage of which nothing is altered
+pub length-operand_bytes : (s : Storage) (a n : ℕ) → a + n ≤ length s.bytes → length (operand_bytes s a n) ≡ n
+length-operand_bytes s a n h = search (rules, places)
+
+pub stored_in-first : (s : Storage) (a n : ℕ) → a + n ≤ length s.bytes → stored_in (first_operand s a n) ≡ s
+stored_in-first s a n h = ap (λ (x : List ℕ). record s { bytes = x }) (same_lists _ _ (search (rules, places)) (λ k d g. grind (arith, places)))
+
+pub operand_bytes-stored : (o : FirstOperand) → o.address + length o.bytes ≤ length o.storage.bytes → operand_bytes (stored_in o) o.address (length o.bytes) ≡ o.bytes
+operand_bytes-stored o h = same_lists _ _ (search (rules, places)) (λ k d g. grind (arith, places))
+
+-- the storage after a byte of an operand is set
+pub stored_in-set : (o : FirstOperand) (i b : ℕ) → i < length o.bytes → o.address + length o.bytes ≤ length o.storage.bytes
+    → stored_in (record o { bytes = slice_set o.bytes i b }) ≡ with_byte (o.address + i) b (stored_in o)
+stored_in-set o i b h l = ap (λ (x : List ℕ). record o.storage { bytes = x }) (sym (with_run-set o.storage.bytes o.bytes o.address i b h l))
+
+left_to_right-step : (f : ℕ → Storage → ℕ) (a i n : ℕ) (s : Storage) → i < n → left_to_right f a i (n - i) s ≡ left_to_right f a (i + 1) (n - (i + 1)) (with_byte (a + i) (f i s) s)
+left_to_right-step f a i n s h = let e : n - i ≡ suc (n - (i + 1)) = omega arith in rw e refl
+
+-- one byte more from left to right
+pub left_to_right-set : (f : ℕ → Storage → ℕ) (a i n b : ℕ) (o : FirstOperand) → i < n → length o.bytes ≡ n → o.address ≡ a → a + n ≤ length o.storage.bytes → b ≡ f i (stored_in o)
+    → left_to_right f a (i + 1) (n - (i + 1)) (stored_in (record o { bytes = slice_set o.bytes i b })) ≡ left_to_right f a i (n - i) (stored_in o)
+left_to_right-set f a i n b o h len here inside e =
+    let there : with_byte (o.address + i) b (stored_in o) ≡ with_byte (a + i) (f i (stored_in o)) (stored_in o) = ap (λ x. with_byte (x + i) b (stored_in o)) here ∙ ap (λ x. with_byte (a + i) x (stored_in o)) e
+    in rw (stored_in-set o i b (omega (arith, len, h)) (omega (arith, len, here, inside)), there) (sym (left_to_right-step f a i n (stored_in o) h))
+
+-- one pair of equal bytes more
+pub comparison_code-step : (s : Storage) (first second i n : ℕ) → i < n → byte_at s (first + i) ≡ byte_at s (second + i)
+    → comparison_code s (first + (i + 1)) (second + (i + 1)) (n - (i + 1)) ≡ comparison_code s (first + i) (second + i) (n - i)
+comparison_code-step s first second i n h e =
+    let one : first + (i + 1) ≡ first + i + 1 = omega arith
+    in let other : second + (i + 1) ≡ second + i + 1 = omega arith
+    in let more : n - i ≡ suc (n - (i + 1)) = omega arith
+    in rw (one, other, more) (sym (rw (e, nat_eq-same (byte_at s (second + i))) refl))
+
+-- the bytes of an operand, and then the PSW with a condition code
+pub PlansOutcome-stored : (v : View) (q r s : List Cell) (o : FirstOperand) (setting : Setting) → q ≡ [] → HasRegisters v.core → o.storage ≡ v.core.storage → o.address + length o.bytes ≤ length o.storage.bytes
+    → AddsToPlan q r (length o.bytes) (HasBytes o.address (length o.bytes)) (core_with_bytes o.address o.bytes)
+    → AddsToPlan r s 3 HasRegisters (core_after_effect v.core.psw 0 (record { first = None; second = None; setting = setting }) v.next_address)
+    → PlansOutcome v.core s (completed_with v setting (stored_in o)) (ended_with v.core.psw setting)
+PlansOutcome-stored v q r s o setting e sixteen same inside u w =
+    let first : AddsToPlan [] r (length o.bytes) (HasBytes o.address (length o.bytes)) (core_with_bytes o.address o.bytes) = rw e at u
+    in let here : o.address + length o.bytes ≤ length v.core.storage.bytes = rw same at inside
+    in record {
+      ends = refl;
+      makes = rw same (w.makes v.core (core_with_bytes o.address o.bytes v.core) sixteen (first.makes v.core v.core here (IsPlanOf-none v.core)));
+    }

@@ -1,0 +1,13 @@
+use Rattle.std.proofs.Common.{◌≡◌, ◌-◌, length}
+use Rattle.s360_logic.specs.Operands.{field_of, stored_in}
+use Rattle.s360_logic.specs.RightToLeft.{held_first, right_to_left}
+use Rattle.s360_logic.proofs.right_to_left.make_digits.Given as goal
+
+abbrev pub invariant-loop-i : goal.invariant-loop-i
+invariant-loop-i l = record {
+  rest : right_to_left l.row l.zone (field_of l.fn.operand) l.second l.i (length l.fn.operand.bytes - l.i) l.held (stored_in l.operand) ≡ right_to_left l.row l.zone (field_of l.fn.operand) l.second 0 (length l.fn.operand.bytes) (held_first (field_of l.fn.operand) (stored_in l.fn.operand)) (stored_in l.fn.operand);
+  storage : l.operand.storage ≡ l.fn.operand.storage;
+  address : l.operand.address ≡ l.fn.operand.address;
+  count : length l.operand.bytes ≡ length l.fn.operand.bytes;
+  n : l.count ≡ length l.fn.operand.bytes;
+}

@@ -1,0 +1,35 @@
+-- Conversions between a word in a register and a packed decimal number, which is a doubleword in storage
+-- (GA22-6821, "Fixed-Point Arithmetic", CONVERT TO BINARY and CONVERT TO DECIMAL).
+use Rattle.std.specs.Prelude.{ℕ, if◌then◌else◌, ℤ, Option, Some, None}
+use Rattle.std.specs.Int.{bytes_high_first}
+use Rattle.s360_model.specs.Arithmetic.{word_of}
+use Rattle.s360_model.specs.Numbers.{fits_word, signed}
+use Rattle.s360_model.specs.Packed.{packed, packed_value}
+use Rattle.s360_model.specs.Psw.{ascii_mode_of}
+use Rattle.s360_model.specs.Storage.{doubleword_at}
+use Rattle.s360_store.specs.declared.protection.Access.TheVariants.{Fetch}
+use Rattle.s360_fixed.specs.declared.ended.Ended.TheVariants.{Done, Program}
+use Rattle.s360_fixed.specs.declared.program_code.ProgramCode.TheVariants.{Data, FixedPointDivide}
+use Rattle.s360_fixed.specs.declared.setting.Setting.TheVariants.{Kept}
+use Rattle.s360_fixed.specs.Operands.{access_conditions}
+use Rattle.s360_fixed.specs.Outcomes.{after_effect, single, unless_met}
+use Rattle.s360_fixed.specs.Storing.{bytes_outcome}
+use Rattle.s360_fixed.specs.View.{Outcome, View, register_of}
+use Rattle.s360_logic.specs.declared.row.Conversion.{Conversion}
+use Rattle.s360_logic.specs.declared.row.Conversion.TheVariants.{ToBinary, ToDecimal}
+
+-- R1 becomes the word of a number. One that does not fit a word interrupts with code 9, after R1 has its low
+-- 32 bits; a digit or sign that is none interrupts with code 7
+abbrev pub converted_outcome : Option ℤ → View → ℕ → Outcome
+converted_outcome None v r1 = record { ended = Program Data; core = v.core }
+converted_outcome (Some n) v r1 = record {
+  ended = if fits_word n then Done else Program FixedPointDivide;
+  core = (after_effect v.core r1 (single (word_of n) Kept) v.next_address).core;
+}
+
+abbrev pub conversion_outcome : Conversion → View → ℕ → ℕ → Outcome
+conversion_outcome ToBinary v r1 address =
+    unless_met (access_conditions v.core address 8 8 Fetch) v.core
+    (converted_outcome (packed_value (doubleword_at v.core.storage.bytes address)) v r1)
+conversion_outcome ToDecimal v r1 address =
+    bytes_outcome (bytes_high_first 8 (packed (ascii_mode_of v.core.psw) (signed (register_of v r1)))) v address

@@ -1,0 +1,22 @@
+-- What is stored of an instruction so far: storage of which the bytes of the first operand are others.
+use Rattle.std.specs.Prelude.{ℕ, List, length}
+use Rattle.s360_model.specs.Storage.{Storage, with_run}
+use Rattle.s360_logic.specs.declared.field.Field.{Field}
+use Rattle.s360_logic.specs.Bytes.{operand_bytes}
+
+pub record FirstOperand : Type 0 where
+  pub storage : Storage
+  pub address : ℕ
+  pub bytes : List ℕ
+
+-- the storage with them
+abbrev pub stored_in : FirstOperand → Storage
+stored_in o = record o.storage { bytes = with_run o.storage.bytes o.address o.bytes }
+
+-- nothing is stored yet
+abbrev pub first_operand : Storage → ℕ → ℕ → FirstOperand
+first_operand s address count = record { storage = s; address = address; bytes = operand_bytes s address count }
+
+-- where it is
+abbrev pub field_of : FirstOperand → Field
+field_of o = record { address = o.address; count = length o.bytes }

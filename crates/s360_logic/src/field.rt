@@ -1,0 +1,47 @@
+//! Operands in storage, and what keeps them from being used. Source: GA22-6821, "System Structure",
+//! protection feature, and "Interruptions", program interruption.
+ghost use Rattle.std.specs.Prelude.{◌≡◌, IfNone};
+ghost use Rattle.s360_model.specs.Psw.{protection_key_of};
+ghost use Rattle.s360_store.specs.Plans.{HasBytes};
+ghost use Rattle.s360_store.specs.Protection.{access};
+ghost use Rattle.s360_fixed.specs.ProgramCodes.{program_code};
+ghost use Rattle.s360_logic.specs.Bytes.{fields_conditions};
+
+use s360_fixed::{ProgramCode, View};
+use s360_store::{Access, Checked};
+
+/// An operand in storage.
+#[derive(Clone, Copy, Debug, PartialEq, Eq)]
+pub(crate) struct Field {
+    /// The address of its leftmost byte.
+    pub address: u32,
+    /// The number of its bytes.
+    pub count: u32,
+}
+
+/// What an access to an operand meets with the key of the PSW.
+pub(crate) fn check(view: &View, kind: Access, field: Field) -> Checked
+    ensures { result ≡ access view.now.core.storage field.address field.count kind (protection_key_of view.now.core.psw) }
+{
+    let key = view.psw().protection_key();
+    view.storage().check(field.address, field.count, kind, key)
+}
+
+/// What keeps two operands from being used, of which the second is fetched: one is outside storage,
+/// or one is protected, found in this order.
+pub(crate) fn fields_exception(
+    view: &View,
+    kind: Access,
+    first: Field,
+    second: Field,
+) -> Option<ProgramCode>
+    ensures code { result ≡ program_code (fields_conditions view.now kind first second) }
+    ensures first { IfNone result (HasBytes first.address first.count view.now.core) }
+    ensures second { IfNone result (HasBytes second.address second.count view.now.core) }
+{
+    match (check(view, kind, first), check(view, Access::Fetch, second)) {
+        (Checked::Addressing, _) | (_, Checked::Addressing) => Some(ProgramCode::Addressing),
+        (Checked::Protection, _) | (_, Checked::Protection) => Some(ProgramCode::Protection),
+        (Checked::Clear, Checked::Clear) => None,
+    }
+}

@@ -1,0 +1,142 @@
+//! Storage as an instruction has it so far, which stores into its first operand alone.
+ghost use Rattle.std.specs.Prelude.{◌≡◌, ◌<◌, ◌≤◌, ◌+◌, [], None, IfOk, length, slice_set};
+ghost use Rattle.s360_model.specs.Storage.{Storage as Contents};
+ghost use Rattle.s360_fixed.specs.Plans.{PlansOutcome};
+ghost use Rattle.s360_logic.specs.Bytes.{byte_at, completed_with, operand_bytes};
+ghost use Rattle.s360_logic.specs.Operands.{first_operand, stored_in};
+
+use crate::field::Field;
+use arrayvec::ArrayVec;
+use s360_fixed::{Effect, Ended, Setting, View};
+use s360_store::{Plan, Storage};
+use s360_word::RegisterNumber;
+use std::alloc::AllocError;
+use std::marker::Model;
+
+/// So many bytes has the longest operand.
+const LONGEST: usize = 256;
+
+/// Storage in which the bytes of the first operand are those that the instruction stored. A contract
+/// sees storage without them, the address of the operand, and its bytes.
+#[derive(Drop)]
+pub(crate) struct FirstOperand<'a> {
+    storage: &'a Storage,
+    address: u32,
+    bytes: ArrayVec<u8, LONGEST>,
+}
+
+impl<'a> Model for FirstOperand<'a> {
+    ghost use Rattle.std.specs.Prelude.{◌≤◌, ◌+◌, length};
+    ghost use Rattle.s360_logic.specs.Operands.{FirstOperand as Seen};
+
+    ghost Value = { Seen };
+
+    ghost view = { λ o. record { storage = o.storage.now; address = o.address; bytes = o.bytes.items } };
+
+    ghost invariant = { λ o. (o.address + length o.bytes.items ≤ length o.storage.now.bytes) × (length o.storage.now.bytes ≤ 1048576) };
+}
+
+/// What sets a condition code alone, or keeps it.
+fn condition_alone(setting: Setting) -> Effect
+    ensures { result ≡ record { first = None; second = None; setting = setting } }
+{
+    Effect {
+        first: None,
+        second: None,
+        setting,
+    }
+}
+
+impl<'a> FirstOperand<'a> {
+    /// The operand, of which nothing is stored yet.
+    pub(crate) fn new(storage: &'a Storage, field: Field) -> FirstOperand<'a>
+        requires inside { field.address + field.count ≤ length storage.now.bytes }
+        requires few { field.count ≤ 256 }
+        ensures is { result ≡ first_operand storage.now field.address field.count }
+        ensures unaltered { stored_in result ≡ storage.now }
+        ensures count { length result.bytes ≡ field.count }
+    {
+        // Storage is small, so no address of the operand passes 32 bits.
+        let _ = storage.size();
+        let mut bytes = ArrayVec::new();
+        for at in field.address..field.address + field.count {
+            bytes.push(storage.byte(at));
+        }
+        FirstOperand {
+            storage,
+            address: field.address,
+            bytes,
+        }
+    }
+
+    /// The number of its bytes.
+    pub(crate) fn len(&self) -> u32
+        ensures len { result ≡ length self.now.bytes }
+        ensures inside { self.now.address + result ≤ length self.now.storage.bytes }
+        ensures few { result ≤ 256 }
+        ensures small { length self.now.storage.bytes ≤ 1048576 }
+    {
+        self.bytes.len() as u32
+    }
+
+    /// The address of its leftmost byte.
+    pub(crate) fn address(&self) -> u32
+        ensures { result ≡ self.now.address }
+    {
+        self.address
+    }
+
+    /// Its bytes.
+    pub(crate) fn bytes(&self) -> &[u8]
+        ensures bytes { result.now ≡ self.now.bytes }
+        ensures stored { result.now ≡ operand_bytes (stored_in self.now) self.now.address (length self.now.bytes) }
+    {
+        self.bytes.as_slice()
+    }
+
+    /// The byte at an address of storage.
+    pub(crate) fn byte(&self, address: u32) -> u8
+        requires inside { address < length self.now.storage.bytes }
+        ensures { result ≡ byte_at (stored_in self.now) address }
+    {
+        match address.checked_sub(self.address) {
+            Some(i) if (i as usize) < self.bytes.len() => self.bytes[i as usize],
+            _ => self.storage.byte(address),
+        }
+    }
+
+    /// Stores the byte at `i`, counted from 0 at the left.
+    pub(crate) fn set(&mut self, i: u32, byte: u8)
+        requires inside { i < length self.old.bytes }
+        ensures { self.new ≡ record self.old { bytes = slice_set self.old.bytes i byte } }
+    {
+        self.bytes[i as usize] = byte;
+    }
+
+    /// Plans the bytes, and a condition code, after which the next instruction comes.
+    pub(crate) fn plan(
+        &self,
+        view: &View,
+        setting: Setting,
+        plan: &mut Plan,
+    ) -> Result<Ended, AllocError>
+        requires storage { self.now.storage ≡ view.now.core.storage }
+        requires empty { plan.old ≡ [] }
+        ensures { IfOk result (PlansOutcome view.now.core plan.new (completed_with view.now setting (stored_in self.now))) }
+    {
+        // Looked at, since their clauses have that there are sixteen registers, and that the operand
+        // is inside storage.
+        let _ = view.register(RegisterNumber::new(0));
+        let _ = self.len();
+        let effect = condition_alone(setting);
+        let ended = effect.setting.ended(view.psw());
+        plan.put_bytes(self.address(), self.bytes())?;
+        effect.put(
+            view.psw(),
+            RegisterNumber::new(0),
+            view.next_address(),
+            plan,
+        )?;
+        Ok(ended)
+    }
+}

@@ -1,0 +1,263 @@
+//! Rows of two operands in storage of one length, a byte after another from left to right. Source:
+//! GA22-6821, "Logical Operations".
+ghost use Rattle.std.specs.Prelude.{◌≡◌, ◌≤◌, ◌<◌, ◌+◌, ◌^◌, [], IfErr, IfOk, IfSome, IsTrue, false, not, true, length};
+ghost use Rattle.s360_fixed.specs.Plans.{PlansOutcome};
+ghost use Rattle.s360_logic.specs.LeftToRight.{combine_outcome, combined, compare_outcome};
+ghost use Rattle.s360_logic.specs.LeftToRight.{comparison_code, found_at, function_address};
+ghost use Rattle.s360_logic.specs.LeftToRight.{left_to_right, search_outcome, searches_outside};
+ghost use Rattle.s360_logic.specs.LeftToRight.{translate_and_test_outcome, translate_outcome};
+ghost use Rattle.s360_logic.specs.LeftToRight.{translated_byte, translates_outside};
+ghost use Rattle.s360_logic.specs.LeftToRight.{with_address, with_low_byte};
+ghost use Rattle.s360_logic.specs.Bytes.{byte_at};
+ghost use Rattle.s360_logic.specs.Operands.{stored_in};
+ghost use Rattle.s360_fixed.specs.declared.program_code.ProgramCode.TheVariants.{Addressing};
+
+use crate::field::{Field, check, fields_exception};
+use crate::first_operand::FirstOperand;
+use crate::immediate::plan_code;
+use crate::row::ByteCombination;
+use s360_fixed::{Effect, Ended, ProgramCode, Setting, View, operand_exception};
+use s360_store::{Access, Checked, Plan, Storage};
+use s360_word::{Cc, RegisterNumber, Word, compare_logical};
+use std::alloc::AllocError;
+
+/// How many addresses there are.
+const ADDRESSES: u32 = 1 << 24;
+
+/// Makes each byte of the operand of itself and of the byte with its number from `second` on.
+fn combine(combination: ByteCombination, operand: &mut FirstOperand, second: u32)
+    requires inside { second + length operand.old.bytes ≤ length operand.old.storage.bytes }
+    ensures stored { stored_in operand.new ≡ combined combination operand.old.address second (length operand.old.bytes) (stored_in operand.old) }
+    ensures storage { operand.new.storage ≡ operand.old.storage }
+    ensures address { operand.new.address ≡ operand.old.address }
+    ensures count { length operand.new.bytes ≡ length operand.old.bytes }
+{
+    for i in 0..operand.len() {
+        let byte = operand.byte(operand.address() + i);
+        let result = combination.of(byte, operand.byte(second + i));
+        operand.set(i, result);
+    }
+}
+
+/// Plans a row whose bytes are made of the two bytes with the same number.
+pub(crate) fn plan_combine(
+    view: &View,
+    combination: ByteCombination,
+    first: u32,
+    second: u32,
+    count: u32,
+    plan: &mut Plan,
+) -> Result<Ended, AllocError>
+    requires few { count ≤ 256 }
+    requires empty { plan.old ≡ [] }
+    ensures { IfOk result (PlansOutcome view.now.core plan.new (combine_outcome combination view.now first second count)) }
+{
+    let field = Field {
+        address: first,
+        count,
+    };
+    let other = Field {
+        address: second,
+        count,
+    };
+    if let Some(code) = fields_exception(view, Access::Store, field, other) {
+        return Ok(Ended::Program(code));
+    }
+    let mut operand = FirstOperand::new(view.storage(), field);
+    combine(combination, &mut operand, second);
+    let setting = combination.setting(operand.bytes());
+    operand.plan(view, setting, plan)
+}
+
+/// The condition code of the first bytes that differ.
+fn compared(storage: &Storage, first: u32, second: u32, count: u32) -> Cc
+    requires first { first + count ≤ length storage.now.bytes }
+    requires second { second + count ≤ length storage.now.bytes }
+    requires small { length storage.now.bytes ≤ 1048576 }
+    ensures { result ≡ comparison_code storage.now first second count }
+{
+    for i in 0..count {
+        let (a, b) = (storage.byte(first + i), storage.byte(second + i));
+        if a != b {
+            return compare_logical(Word::from(a), Word::from(b));
+        }
+    }
+    Cc::new(0)
+}
+
+/// Plans a comparison.
+pub(crate) fn plan_compare(
+    view: &View,
+    first: u32,
+    second: u32,
+    count: u32,
+    plan: &mut Plan,
+) -> Result<Ended, AllocError>
+    requires empty { plan.old ≡ [] }
+    ensures { IfOk result (PlansOutcome view.now.core plan.new (compare_outcome view.now first second count)) }
+{
+    let field = Field {
+        address: first,
+        count,
+    };
+    let other = Field {
+        address: second,
+        count,
+    };
+    match fields_exception(view, Access::Fetch, field, other) {
+        Some(code) => Ok(Ended::Program(code)),
+        None => plan_code(view, compared(view.storage(), first, second, count), plan),
+    }
+}
+
+/// Where a table has the function byte of an argument byte.
+fn function_address(table: u32, argument: u8) -> u32
+    requires { table < 2 ^ 24 }
+    ensures { result ≡ function_address table argument }
+{
+    (table + u32::from(argument)) % ADDRESSES
+}
+
+/// Makes each byte of the operand the byte of a table that it selects. `false` where one selects a
+/// byte outside storage; the operand is then to be dropped.
+fn translate(operand: &mut FirstOperand, size: u32, table: u32) -> bool
+    requires size { size ≡ length operand.old.storage.bytes }
+    requires table { table < 2 ^ 24 }
+    ensures inside { result ≡ not (translates_outside table operand.old.address 0 (length operand.old.bytes) (stored_in operand.old)) }
+    ensures stored { IsTrue result → stored_in operand.new ≡ left_to_right (translated_byte table operand.old.address) operand.old.address 0 (length operand.old.bytes) (stored_in operand.old) }
+    ensures storage { operand.new.storage ≡ operand.old.storage }
+    ensures address { operand.new.address ≡ operand.old.address }
+    ensures count { length operand.new.bytes ≡ length operand.old.bytes }
+{
+    for i in 0..operand.len() {
+        let argument = operand.byte(operand.address() + i);
+        let selected = function_address(table, argument);
+        if selected >= size {
+            return false;
+        }
+        operand.set(i, operand.byte(selected));
+    }
+    true
+}
+
+/// Plans a translation. A function byte outside storage comes before a protected first operand.
+pub(crate) fn plan_translate(
+    view: &View,
+    first: u32,
+    table: u32,
+    count: u32,
+    plan: &mut Plan,
+) -> Result<Ended, AllocError>
+    requires few { count ≤ 256 }
+    requires table { table < 2 ^ 24 }
+    requires empty { plan.old ≡ [] }
+    ensures { IfOk result (PlansOutcome view.now.core plan.new (translate_outcome view.now first table count)) }
+{
+    let field = Field {
+        address: first,
+        count,
+    };
+    let checked = check(view, Access::Store, field);
+    if checked == Checked::Addressing {
+        return Ok(Ended::Program(ProgramCode::Addressing));
+    }
+    let mut operand = FirstOperand::new(view.storage(), field);
+    if !translate(&mut operand, view.storage().size(), table) {
+        return Ok(Ended::Program(ProgramCode::Addressing));
+    }
+    if checked == Checked::Protection {
+        return Ok(Ended::Program(ProgramCode::Protection));
+    }
+    operand.plan(view, Setting::Kept, plan)
+}
+
+/// The number of the first byte that selects a byte of a table that is not zero, if there is one;
+/// or the program code where it or one before it selects a byte outside storage.
+fn search(storage: &Storage, field: Field, table: u32) -> Result<Option<u32>, ProgramCode>
+    requires inside { field.address + field.count ≤ length storage.now.bytes }
+    requires table { table < 2 ^ 24 }
+    ensures outside { IfErr result (λ code. (code ≡ Addressing) × (searches_outside table field.address 0 field.count storage.now ≡ true)) }
+    ensures found { IfOk result (λ found. (found ≡ found_at table field.address 0 field.count storage.now) × (searches_outside table field.address 0 field.count storage.now ≡ false)) }
+    ensures within { IfOk result (λ found. IfSome found (λ i. (i < field.count) × (function_address table (byte_at storage.now (field.address + i)) < length storage.now.bytes))) }
+{
+    let size = storage.size();
+    for i in 0..field.count {
+        let selected = function_address(table, storage.byte(field.address + i));
+        if selected >= size {
+            return Err(ProgramCode::Addressing);
+        }
+        if storage.byte(selected) != 0 {
+            return Ok(Some(i));
+        }
+    }
+    Ok(None)
+}
+
+/// The word with another address in bits 8 to 31.
+fn with_address(word: Word, address: u32) -> Word
+    requires { address < 2 ^ 24 }
+    ensures { result ≡ with_address word address }
+{
+    word / ADDRESSES * ADDRESSES + address
+}
+
+/// The word with another byte in bits 24 to 31.
+fn with_low_byte(word: Word, byte: u8) -> Word
+    ensures { result ≡ with_low_byte word byte }
+{
+    word / 256 * 256 + Word::from(byte)
+}
+
+/// Plans the end of a search.
+fn plan_found(
+    view: &View,
+    found: Option<u32>,
+    field: Field,
+    table: u32,
+    plan: &mut Plan,
+) -> Result<Ended, AllocError>
+    requires first { field.address + field.count ≤ length view.now.core.storage.bytes }
+    requires inside { IfSome found (λ i. (i < field.count) × (function_address table (byte_at view.now.core.storage (field.address + i)) < length view.now.core.storage.bytes)) }
+    requires table { table < 2 ^ 24 }
+    requires empty { plan.old ≡ [] }
+    ensures { IfOk result (PlansOutcome view.now.core plan.new (search_outcome found view.now field.address table field.count)) }
+{
+    let Some(i) = found else {
+        return plan_code(view, Cc::new(0), plan);
+    };
+    let storage = view.storage();
+    let argument_address = field.address + i;
+    let function_byte = storage.byte(function_address(table, storage.byte(argument_address)));
+    let code = Cc::new(if i + 1 == field.count { 2 } else { 1 });
+    let one = RegisterNumber::new(1);
+    let words = (
+        with_address(view.register(one), argument_address),
+        with_low_byte(view.register(RegisterNumber::new(2)), function_byte),
+    );
+    Effect::double(words, Setting::Code(code)).plan(view, one, view.next_address(), plan)
+}
+
+/// Plans a search of a table.
+pub(crate) fn plan_translate_and_test(
+    view: &View,
+    first: u32,
+    table: u32,
+    count: u32,
+    plan: &mut Plan,
+) -> Result<Ended, AllocError>
+    requires table { table < 2 ^ 24 }
+    requires empty { plan.old ≡ [] }
+    ensures { IfOk result (PlansOutcome view.now.core plan.new (translate_and_test_outcome view.now first table count)) }
+{
+    let field = Field {
+        address: first,
+        count,
+    };
+    if let Some(code) = operand_exception(view, first, 1, count, Access::Fetch) {
+        return Ok(Ended::Program(code));
+    }
+    match search(view.storage(), field, table) {
+        Ok(found) => plan_found(view, found, field, table, plan),
+        Err(code) => Ok(Ended::Program(code)),
+    }
+}

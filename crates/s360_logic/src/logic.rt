@@ -1,0 +1,188 @@
+//! The plan of an instruction that was decoded: by its row, or by that of the subject of an execute.
+//! Source: GA22-6821, "Logical Operations", "Fixed-Point Arithmetic", "Decimal Arithmetic", and
+//! "Branching", EXECUTE.
+ghost use Rattle.std.specs.Prelude.{◌≡◌, ◌<◌, ◌^◌, [], None, IfOk, slice_index};
+ghost use Rattle.s360_fixed.specs.Plans.{PlansOutcome};
+ghost use Rattle.s360_fixed.specs.Table.{form_of};
+ghost use Rattle.s360_logic.specs.Logic.{address_of, by_row, execute_outcome, logic_outcome};
+ghost use Rattle.s360_logic.specs.Logic.{outcome_of, row_outcome, storage_outcome, subject_of};
+ghost use Rattle.s360_logic.specs.Logic.{with_register};
+ghost use Rattle.arrayvec.specs.ArrayVec.{array_vec_len};
+
+use crate::converting::plan_conversion;
+use crate::field::Field;
+use crate::immediate::plan_immediate;
+use crate::left_to_right::{plan_combine, plan_compare, plan_translate, plan_translate_and_test};
+use crate::right_to_left::plan_digits;
+use crate::row::{StorageRow, conversion_of, immediate_row_of, storage_row_of};
+use arrayvec::ArrayVec;
+use s360_fixed::{
+    Ended, Form, Operation, ProgramCode, View, decode, fetch_instruction, operand_address,
+    plan_fixed,
+};
+use s360_store::Plan;
+use s360_word::RegisterNumber;
+use std::alloc::AllocError;
+
+/// The address that a base and a displacement make.
+fn address_of(view: &View, base: RegisterNumber, displacement: u16) -> u32
+    ensures address { result ≡ address_of view.now base displacement }
+    ensures below { result < 2 ^ 24 }
+{
+    operand_address(view, RegisterNumber::new(0), base, displacement)
+}
+
+/// Plans a row of two operands in storage, by the length field and the addresses.
+fn plan_storage(
+    view: &View,
+    row: StorageRow,
+    l: u8,
+    first: u32,
+    second: u32,
+    plan: &mut Plan,
+) -> Result<Ended, AllocError>
+    requires second { second < 2 ^ 24 }
+    requires empty { plan.old ≡ [] }
+    ensures { IfOk result (PlansOutcome view.now.core plan.new (storage_outcome row view.now l first second)) }
+{
+    let count = u32::from(l) + 1;
+    match row {
+        StorageRow::Combine(combination) => {
+            plan_combine(view, combination, first, second, count, plan)
+        }
+        StorageRow::Compare => plan_compare(view, first, second, count, plan),
+        StorageRow::Translate => plan_translate(view, first, second, count, plan),
+        StorageRow::TranslateAndTest => plan_translate_and_test(view, first, second, count, plan),
+        StorageRow::Digits(row) => {
+            let field = Field {
+                address: first,
+                count: u32::from(l / 16) + 1,
+            };
+            let other = Field {
+                address: second,
+                count: u32::from(l % 16) + 1,
+            };
+            plan_digits(view, row, field, other, plan)
+        }
+    }
+}
+
+/// Plans an instruction by its row in these chapters, if it has one.
+fn plan_own(form: &Form, view: &View, plan: &mut Plan) -> Result<Ended, AllocError>
+    requires empty { plan.old ≡ [] }
+    ensures { IfOk result (PlansOutcome view.now.core plan.new (by_row None (logic_outcome form.now) view.now)) }
+{
+    match *form {
+        Form::Rx {
+            operation,
+            r1,
+            x2,
+            b2,
+            d2,
+        } => match conversion_of(operation) {
+            Some(row) => { plan_conversion(view, row, r1, operand_address(view, x2, b2, d2), plan) }
+            None => Ok(Ended::Unbuilt),
+        },
+        Form::Si {
+            operation,
+            i2,
+            b1,
+            d1,
+        } => match immediate_row_of(operation) {
+            Some(row) => plan_immediate(view, row, i2, address_of(view, b1, d1), plan),
+            None => Ok(Ended::Unbuilt),
+        },
+        Form::Ss {
+            operation,
+            l,
+            b1,
+            d1,
+            b2,
+            d2,
+        } => match storage_row_of(operation) {
+            Some(row) => {
+                let (first, second) = (address_of(view, b1, d1), address_of(view, b2, d2));
+                plan_storage(view, row, l, first, second, plan)
+            }
+            None => Ok(Ended::Unbuilt),
+        },
+        Form::Rr { .. } | Form::Rs { .. } => Ok(Ended::Unbuilt),
+    }
+}
+
+/// Plans an instruction by its row.
+fn plan_row(form: &Form, view: &View, plan: &mut Plan) -> Result<Ended, AllocError>
+    requires empty { plan.old ≡ [] }
+    ensures { IfOk result (PlansOutcome view.now.core plan.new (row_outcome view.now form.now)) }
+{
+    if form.is_fixed() {
+        plan_fixed(form, view, plan)
+    } else {
+        plan_own(form, view, plan)
+    }
+}
+
+/// The field R1 of an execute, and the address of its subject.
+fn subject_of(form: &Form, view: &View) -> Option<(RegisterNumber, u32)>
+    ensures { result ≡ subject_of view.now form.now }
+{
+    match *form {
+        Form::Rx {
+            operation: Operation::Execute,
+            r1,
+            x2,
+            b2,
+            d2,
+        } => Some((r1, operand_address(view, x2, b2, d2))),
+        _ => None,
+    }
+}
+
+/// The bytes of a subject with the low byte of R1 ored into the second, where the field R1 is not 0.
+fn with_register(view: &View, r1: RegisterNumber, bytes: ArrayVec<u8, 6>) -> ArrayVec<u8, 6>
+    requires two { 1 < array_vec_len bytes }
+    ensures bytes { result.items ≡ with_register view.now r1 bytes.items }
+    ensures length { array_vec_len result ≡ array_vec_len bytes }
+    ensures code { slice_index result.items 0 ≡ slice_index bytes.items 0 }
+{
+    let mut bytes = bytes;
+    if r1.number() != 0 {
+        bytes[1] |= (view.register(r1) % 256) as u8;
+    }
+    bytes
+}
+
+/// Plans an execute: what its subject does, with the next address and the length of the execute.
+fn plan_execute(
+    view: &View,
+    r1: RegisterNumber,
+    address: u32,
+    plan: &mut Plan,
+) -> Result<Ended, AllocError>
+    requires empty { plan.old ≡ [] }
+    ensures { IfOk result (PlansOutcome view.now.core plan.new (execute_outcome view.now r1 address)) }
+{
+    let bytes = match fetch_instruction(view.storage(), address, view.psw().protection_key()) {
+        Ok(bytes) => with_register(view, r1, bytes),
+        Err(code) => return Ok(Ended::Program(code)),
+    };
+    let Some(form) = decode(&bytes) else {
+        return Ok(Ended::Program(ProgramCode::Operation));
+    };
+    if subject_of(&form, view).is_some() {
+        return Ok(Ended::Program(ProgramCode::Execute));
+    }
+    plan_row(&form, view, plan)
+}
+
+/// Plans an instruction that was decoded: how it ends, and the values that it puts. Where memory is
+/// wanting, the plan is to be dropped.
+pub fn plan_logic(form: &Form, view: &View, plan: &mut Plan) -> Result<Ended, AllocError>
+    requires empty { plan.old ≡ [] }
+    ensures { IfOk result (PlansOutcome view.now.core plan.new (outcome_of view.now form.now)) }
+{
+    match subject_of(form, view) {
+        Some((r1, address)) => plan_execute(view, r1, address, plan),
+        None => plan_row(form, view, plan),
+    }
+}

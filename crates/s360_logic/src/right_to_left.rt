@@ -1,0 +1,139 @@
+//! Rows of two operands in storage, each with its length, a byte of the result after another from
+//! right to left. Source: GA22-6821, "Decimal Arithmetic", MOVE WITH OFFSET, PACK and UNPACK.
+ghost use Rattle.std.specs.Prelude.{◌≡◌, ◌≤◌, ◌<◌, ◌+◌, [], IfOk, length};
+ghost use Rattle.s360_fixed.specs.Plans.{PlansOutcome};
+ghost use Rattle.s360_logic.specs.Operands.{field_of, stored_in};
+ghost use Rattle.s360_logic.specs.RightToLeft.{address_from_right, byte_from_right, digits};
+ghost use Rattle.s360_logic.specs.RightToLeft.{digits_outcome, exchanged, held_first, made_at};
+ghost use Rattle.s360_logic.specs.RightToLeft.{right_to_left, zone_of};
+
+use crate::field::{Field, fields_exception};
+use crate::first_operand::FirstOperand;
+use crate::row::DigitRow;
+use s360_fixed::{Ended, Setting, View};
+use s360_psw::Psw;
+use s360_store::{Access, Plan};
+use std::alloc::AllocError;
+
+/// A byte of the result, and the byte of the second operand that is held for the next.
+#[derive(Clone, Copy, Debug, PartialEq, Eq)]
+struct Made {
+    byte: u8,
+    held: u8,
+}
+
+/// Two digits as a byte.
+fn digits(high: u8, low: u8) -> u8
+    ensures { result ≡ digits high low }
+{
+    high % 16 * 16 + low % 16
+}
+
+/// A byte with its digits exchanged.
+fn exchanged(byte: u8) -> u8
+    ensures { result ≡ exchanged byte }
+{
+    digits(byte, byte / 16)
+}
+
+/// The byte of an operand at `i`, counted from 0 at the right; zero past its end.
+fn byte_from_right(storage: &FirstOperand, field: Field, i: u32) -> u8
+    requires inside { field.address + field.count ≤ length storage.now.storage.bytes }
+    requires small { length storage.now.storage.bytes ≤ 1048576 }
+    ensures { result ≡ byte_from_right field (stored_in storage.now) i }
+{
+    if i < field.count {
+        storage.byte(field.address + field.count - 1 - i)
+    } else {
+        0
+    }
+}
+
+/// The zone of an unpacked digit.
+fn zone_of(psw: Psw) -> u8
+    ensures zone { result ≡ zone_of psw }
+{
+    if psw.ascii_mode() { 5 } else { 15 }
+}
+
+/// The byte of the result at `i`, counted from 0 at the right.
+fn made_at(row: DigitRow, zone: u8, storage: &FirstOperand, second: Field, i: u32, held: u8) -> Made
+    requires inside { second.address + second.count ≤ length storage.now.storage.bytes }
+    requires small { length storage.now.storage.bytes ≤ 1048576 }
+    requires few { i < 256 }
+    ensures { result ≡ made_at row zone second i held (stored_in storage.now) }
+{
+    match row {
+        DigitRow::MoveWithOffset => {
+            let fetched = byte_from_right(storage, second, i);
+            Made {
+                byte: digits(fetched, held / 16),
+                held: fetched,
+            }
+        }
+        DigitRow::Pack | DigitRow::Unpack if i == 0 => Made {
+            byte: exchanged(byte_from_right(storage, second, 0)),
+            held,
+        },
+        DigitRow::Pack => {
+            let low = byte_from_right(storage, second, 2 * i - 1);
+            let high = byte_from_right(storage, second, 2 * i);
+            Made {
+                byte: digits(high, low),
+                held,
+            }
+        }
+        DigitRow::Unpack if i % 2 == 1 => {
+            let fetched = byte_from_right(storage, second, (i + 1) / 2);
+            Made {
+                byte: digits(zone, fetched),
+                held: fetched,
+            }
+        }
+        DigitRow::Unpack => Made {
+            byte: digits(zone, held / 16),
+            held,
+        },
+    }
+}
+
+/// Makes the bytes of the operand of the digits of the second.
+fn make_digits(row: DigitRow, zone: u8, operand: &mut FirstOperand, second: Field)
+    requires inside { second.address + second.count ≤ length operand.old.storage.bytes }
+    requires some { 0 < length operand.old.bytes }
+    ensures stored { stored_in operand.new ≡ right_to_left row zone (field_of operand.old) second 0 (length operand.old.bytes) (held_first (field_of operand.old) (stored_in operand.old)) (stored_in operand.old) }
+    ensures storage { operand.new.storage ≡ operand.old.storage }
+{
+    let count = operand.len();
+    let first = Field {
+        address: operand.address(),
+        count,
+    };
+    let mut held = digits(byte_from_right(operand, first, 0), 0);
+    for i in 0..count {
+        let made = made_at(row, zone, operand, second, i, held);
+        operand.set(count - 1 - i, made.byte);
+        held = made.held;
+    }
+}
+
+/// Plans a row of digits.
+pub(crate) fn plan_digits(
+    view: &View,
+    row: DigitRow,
+    first: Field,
+    second: Field,
+    plan: &mut Plan,
+) -> Result<Ended, AllocError>
+    requires some { 0 < first.count }
+    requires few { first.count ≤ 16 }
+    requires empty { plan.old ≡ [] }
+    ensures { IfOk result (PlansOutcome view.now.core plan.new (digits_outcome row view.now first second)) }
+{
+    if let Some(code) = fields_exception(view, Access::Store, first, second) {
+        return Ok(Ended::Program(code));
+    }
+    let mut operand = FirstOperand::new(view.storage(), first);
+    make_digits(row, zone_of(view.psw()), &mut operand, second);
+    operand.plan(view, Setting::Kept, plan)
+}

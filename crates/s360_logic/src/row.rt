@@ -1,0 +1,125 @@
+//! The rows of the instruction table: what the operations of these chapters do. A row has what its
+//! kind needs and no more, so that each kind is planned by a call that knows no other. Source:
+//! GA22-6821, "Logical Operations", "Fixed-Point Arithmetic" and "Decimal Arithmetic".
+ghost use Rattle.std.specs.Prelude.{◌≡◌};
+ghost use Rattle.s360_logic.specs.Rows.{conversion_of, immediate_row_of, storage_row_of};
+
+use s360_fixed::Operation;
+
+/// What a byte of the first operand becomes with a byte of the second.
+#[derive(Clone, Copy, Debug, PartialEq, Eq)]
+pub(crate) enum ByteCombination {
+    /// The second byte.
+    Second,
+    /// The first with the low half of the second.
+    LowHalf,
+    /// The first with the high half of the second.
+    HighHalf,
+    /// The bits that are one in both.
+    BitwiseAnd,
+    /// The bits that are one in either.
+    BitwiseOr,
+    /// The bits that are one in just one of the two.
+    BitwiseExclusiveOr,
+}
+
+/// What is done with a byte in storage and the byte of the instruction.
+#[derive(Clone, Copy, Debug, PartialEq, Eq)]
+pub(crate) enum ImmediateRow {
+    /// The byte in storage becomes something of both.
+    Combine(ByteCombination),
+    /// The two are compared.
+    Compare,
+    /// The bits that the instruction's byte selects are tested.
+    TestUnderMask,
+    /// The leftmost bit is tested, and all bits become one.
+    TestAndSet,
+}
+
+/// What is made of two operands in storage from right to left, a digit of four bits at a time.
+#[derive(Clone, Copy, Debug, PartialEq, Eq)]
+pub(crate) enum DigitRow {
+    /// The digits of the second to the left of the low digit of the first.
+    MoveWithOffset,
+    /// The low digits, two to a byte.
+    Pack,
+    /// The digits, each in a byte with a zone.
+    Unpack,
+}
+
+/// What is done with two operands in storage.
+#[derive(Clone, Copy, Debug, PartialEq, Eq)]
+pub(crate) enum StorageRow {
+    /// The bytes of the first become something of both.
+    Combine(ByteCombination),
+    /// The two are compared.
+    Compare,
+    /// The bytes of the first become those of a table that they select.
+    Translate,
+    /// The bytes of the first select those of a table until one is not zero.
+    TranslateAndTest,
+    /// The first, with its own length, becomes something of the digits of the second.
+    Digits(DigitRow),
+}
+
+/// A conversion between a word in a register and a packed decimal number in storage.
+#[derive(Clone, Copy, Debug, PartialEq, Eq)]
+pub(crate) enum Conversion {
+    /// The word becomes the number.
+    ToBinary,
+    /// The number becomes the word.
+    ToDecimal,
+}
+
+/// The row of an operation with an immediate byte, where it is one of these chapters.
+#[inline(always)]
+pub(crate) fn immediate_row_of(operation: Operation) -> Option<ImmediateRow>
+    ensures { result ≡ immediate_row_of operation }
+{
+    match operation {
+        Operation::TestUnderMask => Some(ImmediateRow::TestUnderMask),
+        Operation::Move => Some(ImmediateRow::Combine(ByteCombination::Second)),
+        Operation::TestAndSet => Some(ImmediateRow::TestAndSet),
+        Operation::And => Some(ImmediateRow::Combine(ByteCombination::BitwiseAnd)),
+        Operation::CompareLogical => Some(ImmediateRow::Compare),
+        Operation::Or => Some(ImmediateRow::Combine(ByteCombination::BitwiseOr)),
+        Operation::ExclusiveOr => {
+            Some(ImmediateRow::Combine(ByteCombination::BitwiseExclusiveOr))
+        }
+        _ => None,
+    }
+}
+
+/// The row of an operation with two operands in storage, where it is one of these chapters.
+#[inline(always)]
+pub(crate) fn storage_row_of(operation: Operation) -> Option<StorageRow>
+    ensures { result ≡ storage_row_of operation }
+{
+    match operation {
+        Operation::MoveNumerics => Some(StorageRow::Combine(ByteCombination::LowHalf)),
+        Operation::Move => Some(StorageRow::Combine(ByteCombination::Second)),
+        Operation::MoveZones => Some(StorageRow::Combine(ByteCombination::HighHalf)),
+        Operation::And => Some(StorageRow::Combine(ByteCombination::BitwiseAnd)),
+        Operation::CompareLogical => Some(StorageRow::Compare),
+        Operation::Or => Some(StorageRow::Combine(ByteCombination::BitwiseOr)),
+        Operation::ExclusiveOr => Some(StorageRow::Combine(ByteCombination::BitwiseExclusiveOr)),
+        Operation::Translate => Some(StorageRow::Translate),
+        Operation::TranslateAndTest => Some(StorageRow::TranslateAndTest),
+        Operation::MoveWithOffset => Some(StorageRow::Digits(DigitRow::MoveWithOffset)),
+        Operation::Pack => Some(StorageRow::Digits(DigitRow::Pack)),
+        Operation::Unpack => Some(StorageRow::Digits(DigitRow::Unpack)),
+        _ => None,
+    }
+}
+
+/// The conversion that an operation is, if it is one.
+#[inline(always)]
+pub(crate) fn conversion_of(operation: Operation) -> Option<Conversion>
+    ensures { result ≡ conversion_of operation }
+{
+    match operation {
+        Operation::ConvertToBinary => Some(Conversion::ToBinary),
+        Operation::ConvertToDecimal => Some(Conversion::ToDecimal),
+        _ => None,
+    }
+}

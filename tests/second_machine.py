@@ -1,0 +1,311 @@
+"""The instructions of the second machine, which `second_opinion.py` compares with the program.
+
+Its author had read the definitions of the first, so it finds slips and not a rule that was misread.
+Each program interruption is refused as unbuilt today, so program codes are not told apart, and no
+event sets a storage key, so all are 0.
+
+Source: GA22-6821, "Fixed-Point Arithmetic", "Decimal Arithmetic", "Logical Operations" and
+"Branching".
+"""
+import operator
+
+from second_core import ADDRESSES, DOUBLEWORD, SIZE, WORD, Core, Interruption, signed
+
+# And, or, exclusive or, by the low half of their codes.
+LOGIC = {4: operator.and_, 6: operator.or_, 7: operator.xor}
+
+
+def digits_of(run):
+    """The digits of bytes that come from the right."""
+    for byte in run:
+        yield byte & 15
+        yield byte >> 4
+
+
+def exchanged(byte):
+    return (byte & 15) << 4 | byte >> 4
+
+
+class Machine(Core):
+    def step(self):
+        """One CPU event, in which a machine that waits does nothing."""
+        if self.psw_field(49, 1):
+            return
+        address = self.psw_field(0, 24)
+        instruction = self.instruction_at(address)
+        length = len(instruction)
+        self.execute(instruction, (address + length) % ADDRESSES, length // 2)
+
+    def instruction_at(self, address):
+        code = self.fetch(address, 2, 2) >> 8
+        length = 2 if code < 0x40 else 4 if code < 0xC0 else 6
+        return self.fetch(address, length, 2).to_bytes(length, "big")
+
+    def address(self, field, index):
+        base, displacement = field[0] >> 4, (field[0] & 15) << 8 | field[1]
+        parts = [self.register(part) for part in (base, index) if part]
+        return (displacement + sum(parts)) % ADDRESSES
+
+    def execute(self, instruction, following, length_code):
+        code, second = instruction[:2]
+        r1, other = second >> 4, second & 15
+        if code < 0x40:
+            self.register_instruction(code, r1, other, following, length_code)
+            return
+        operand = self.address(instruction[2:4], other if code < 0x80 else 0)
+        if code == 0x44:
+            self.execute_subject(r1, operand, following, length_code)
+        elif 0x45 <= code <= 0x47:
+            self.branch(code - 0x40, r1, operand, following, length_code)
+        elif code in (0x86, 0x87):
+            self.branch_on_index(code, r1, other, operand, following)
+        elif code < 0xC0:
+            if 0x91 <= code <= 0x97:
+                self.immediate_instruction(code, second, operand)
+            else:
+                self.storage_instruction(code, r1, other, operand)
+            self.go_to(following)
+        else:
+            self.two_operands(code, second, operand, self.address(instruction[4:6], 0))
+            self.go_to(following)
+
+    def execute_subject(self, r1, address, following, length_code):
+        subject = bytearray(self.instruction_at(address))
+        if subject[0] == 0x44:
+            raise Interruption
+        if r1:
+            subject[1] |= self.register(r1) & 255
+        self.execute(bytes(subject), following, length_code)
+
+    def register_instruction(self, code, r1, r2, following, length_code):
+        if code in (0x05, 0x06, 0x07):
+            target = self.register(r2) % ADDRESSES if r2 else None
+            self.branch(code, r1, target, following, length_code)
+        elif 0x10 <= code < 0x20:
+            self.arithmetic(code & 15, r1, self.register(r2))
+            self.go_to(following)
+        else:
+            raise Interruption
+
+    def arithmetic(self, kind, r1, second):
+        first = self.register(r1)
+        if kind in (0xC, 0xD) and r1 % 2:
+            raise Interruption
+        if kind == 0x0:
+            self.signed_result(r1, abs(signed(second)))
+        elif kind == 0x1:
+            self.signed_result(r1, -abs(signed(second)))
+        elif kind == 0x2:
+            self.signed_result(r1, signed(second))
+        elif kind == 0x3:
+            self.signed_result(r1, -signed(second))
+        elif kind in LOGIC:
+            self.load(r1, LOGIC[kind](first, second))
+            self.bits(self.register(r1))
+        elif kind == 0x5:
+            self.compare(first, second)
+        elif kind == 0x8:
+            self.load(r1, second)
+        elif kind == 0x9:
+            self.compare(signed(first), signed(second))
+        elif kind == 0xA:
+            self.signed_result(r1, signed(first) + signed(second))
+        elif kind == 0xB:
+            self.signed_result(r1, signed(first) - signed(second))
+        elif kind == 0xC:
+            self.load_pair(r1, signed(self.register(r1 + 1)) * signed(second))
+        elif kind == 0xD:
+            self.divide(r1, signed(second))
+        elif kind == 0xE:
+            self.logical_result(r1, first + second)
+        else:
+            self.logical_result(r1, first + (WORD - 1 - second) + 1)
+
+    def divide(self, r1, divisor):
+        dividend = signed(self.pair(r1), DOUBLEWORD)
+        if divisor == 0:
+            raise Interruption
+        quotient = abs(dividend) // abs(divisor)
+        if (dividend < 0) != (divisor < 0):
+            quotient = -quotient
+        if not -WORD // 2 <= quotient < WORD // 2:
+            raise Interruption
+        self.load(r1, dividend - quotient * divisor)
+        self.load(r1 + 1, quotient)
+
+    def storage_instruction(self, code, r1, r3, address):
+        if code == 0x41:
+            self.load(r1, address)
+        elif code in (0x40, 0x42, 0x50):
+            count = {0x40: 2, 0x42: 1, 0x50: 4}[code]
+            self.store(address, self.register(r1), count, count)
+        elif code == 0x43:
+            self.load(r1, self.register(r1) & ~255 | self.fetch(address, 1, 1))
+        elif 0x48 <= code <= 0x4B:
+            self.arithmetic(code & 15, r1, signed(self.fetch(address, 2, 2), 1 << 16) % WORD)
+        elif code == 0x4C:
+            second = signed(self.fetch(address, 2, 2), 1 << 16)
+            self.load(r1, signed(self.register(r1)) * second)
+        elif code == 0x4E:
+            self.convert_to_decimal(r1, address)
+        elif code == 0x4F:
+            self.convert_to_binary(r1, address)
+        elif 0x54 <= code <= 0x5F:
+            self.arithmetic(code & 15, r1, self.fetch(address, 4, 4))
+        elif 0x88 <= code <= 0x8F:
+            self.shift(code, r1, address % 64)
+        elif code in (0x90, 0x98):
+            self.multiple(code, r1, r3, address)
+        else:
+            raise Interruption
+
+    def multiple(self, code, r1, r3, address):
+        numbers = [(r1 + i) % 16 for i in range((r3 - r1) % 16 + 1)]
+        self.check(address, 4 * len(numbers), 4, is_store=code == 0x90)
+        for at, number in zip(range(address, SIZE, 4), numbers):
+            if code == 0x90:
+                self.store(at, self.register(number), 4, 4)
+            else:
+                self.load(number, self.fetch(at, 4, 4))
+
+    def shift(self, code, r1, count):
+        is_double, is_signed, is_left = code >= 0x8C, code & 2, code & 1
+        if is_double and r1 % 2:
+            raise Interruption
+        modulus = DOUBLEWORD if is_double else WORD
+        number = self.pair(r1) if is_double else self.register(r1)
+        if is_signed:
+            number = signed(number, modulus)
+        exact = number << count if is_left else number >> count
+        result = exact
+        if is_signed and is_left:
+            # All but the sign is shifted, and the sign stays.
+            result = exact % (modulus // 2) - (modulus // 2 if number < 0 else 0)
+        (self.load_pair if is_double else self.load)(r1, result)
+        if is_signed and result != exact:
+            self.overflow()
+        elif is_signed:
+            self.sign(result)
+
+    def branch(self, kind, r1, target, following, length_code):
+        taken = target is not None
+        if kind == 5:
+            right_half = self.psw_field(24, 6)  # condition code and program mask
+            self.load(r1, length_code << 30 | right_half << 24 | following)
+        elif kind == 6:
+            self.load(r1, self.register(r1) - 1)
+            taken = taken and self.register(r1) != 0
+        else:
+            taken = taken and r1 >> (3 - self.psw_field(28, 2)) & 1
+        self.go_to(target if taken else following)
+
+    def branch_on_index(self, code, r1, r3, target, following):
+        comparand = signed(self.register(r3 | 1))
+        total = signed(self.register(r1) + self.register(r3))
+        self.load(r1, total)
+        is_high = total > comparand
+        self.go_to(target if is_high == (code == 0x86) else following)
+
+    def convert_to_decimal(self, r1, address):
+        number = signed(self.register(r1))
+        signs = "AB" if self.psw_field(51, 1) else "CD"
+        self.store(address, int(f"{abs(number):015d}{signs[number < 0]}", 16), 8, 8)
+
+    def convert_to_binary(self, r1, address):
+        packed = f"{self.fetch(address, 8, 8):016X}"
+        digits, sign = packed[:15], packed[15]
+        if not digits.isdecimal() or sign.isdecimal():
+            raise Interruption
+        number = -int(digits) if sign in "BD" else int(digits)
+        if signed(number) != number:
+            raise Interruption
+        self.load(r1, number)
+
+    def immediate_instruction(self, code, second, address):
+        self.check(address, 1, 1, is_store=code not in (0x91, 0x95))
+        byte = self.byte(address)
+        if code == 0x91:
+            selected = byte & second
+            self.set_condition_code(0 if selected == 0 else 3 if selected == second else 1)
+        elif code == 0x92:
+            self.put_byte(address, second)
+        elif code == 0x93:
+            self.set_condition_code(byte >> 7)
+            self.put_byte(address, 255)
+        elif code == 0x95:
+            self.compare(byte, second)
+        else:
+            self.put_byte(address, LOGIC[code & 15](byte, second))
+            self.bits(self.byte(address))
+
+    # Instructions of two operands in storage. The length fields are one less than the lengths.
+
+    def two_operands(self, code, lengths, first, second):
+        if code == 0xD5:
+            self.compare(self.fetch(first, lengths + 1, 1), self.fetch(second, lengths + 1, 1))
+        elif 0xD1 <= code <= 0xD7:
+            self.combine(code, lengths + 1, first, second)
+        elif code == 0xDC:
+            self.translate(lengths + 1, first, second)
+        elif code == 0xDD:
+            self.translate_and_test(lengths + 1, first, second)
+        elif 0xF1 <= code <= 0xF3:
+            self.move_digits(code, first, (lengths >> 4) + 1, second, (lengths & 15) + 1)
+        else:
+            raise Interruption
+
+    def combine(self, code, count, first, second):
+        self.check(first, count, 1, is_store=True)
+        self.check(second, count, 1, is_store=False)
+        kind, results = code & 15, 0
+        for i in range(count):
+            old, new = self.byte(first + i), self.byte(second + i)
+            if kind == 1:
+                new = old & 0xF0 | new & 0x0F
+            elif kind == 3:
+                new = old & 0x0F | new & 0xF0
+            elif kind in LOGIC:
+                new = LOGIC[kind](old, new)
+            results |= new
+            self.put_byte(first + i, new)
+        if kind in LOGIC:
+            self.bits(results)
+
+    def function_byte(self, table, argument):
+        return self.fetch((table + self.byte(argument)) % ADDRESSES, 1, 1)
+
+    def translate(self, count, first, table):
+        self.check(first, count, 1, is_store=True)
+        for at in range(first, first + count):
+            self.put_byte(at, self.function_byte(table, at))
+
+    def translate_and_test(self, count, first, table):
+        self.check(first, count, 1, is_store=False)
+        self.set_condition_code(0)
+        for at in range(first, first + count):
+            function = self.function_byte(table, at)
+            if function:
+                self.load(1, self.register(1) & 0xFF000000 | at)
+                self.load(2, self.register(2) & 0xFFFFFF00 | function)
+                self.set_condition_code(2 if at == first + count - 1 else 1)
+                return
+
+    def move_digits(self, code, first, count, second, second_count):
+        """MVO, PACK and UNPK, which go from right to left."""
+        self.check(first, count, 1, is_store=True)
+        self.check(second, second_count, 1, is_store=False)
+        source = self.from_the_right(second, second_count)
+        digits = digits_of(source)
+        last = first + count - 1
+        low = self.byte(last) & 15
+        zone = 0x50 if self.psw_field(51, 1) else 0xF0
+        for at in range(last, first - 1, -1):
+            if code == 0xF1:
+                self.put_byte(at, next(digits) << 4 | low)
+                low = next(digits)
+            elif at == last:
+                self.put_byte(at, exchanged(next(source)))
+            elif code == 0xF2:
+                self.put_byte(at, next(source) & 15 | (next(source) & 15) << 4)
+            else:
+                self.put_byte(at, zone | next(digits))
