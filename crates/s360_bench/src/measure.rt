@@ -1,4 +1,5 @@
 //! What is measured: time and memory of events that are run forward and taken back.
+use crate::workload::{START, Workload};
 use s360_journal::Session;
 use s360_machine::{Bytes, Event, Machine, Patch, Refusal};
 use s360_store::StoreFault;
@@ -13,16 +14,11 @@ use thiserror::Error;
 /// So many changes can stand.
 const LIMIT: u32 = 10_000_000;
 
-/// The loop: AR 1,2; A 1,600; ST 1,604; BCT 3,200.
-const LOOP: [u8; 14] = [
-    0x1A, 0x12, 0x5A, 0x10, 0x06, 0x00, 0x50, 0x10, 0x06, 0x04, 0x46, 0x30, 0x02, 0x00,
-];
-
-/// Where the loop stands.
-const START: u32 = 0x200;
-
 /// Nanoseconds in a second.
 const NANOSECONDS: u128 = 1_000_000_000;
+
+/// A tenth of a million.
+const TENTH: u128 = 100_000;
 
 /// Bytes of a page, in which the host counts memory.
 const PAGE: u64 = 4_096;
@@ -74,22 +70,31 @@ impl From<io::Error> for BenchFault {
     }
 }
 
-/// Events a second each way, and bytes of memory an event where the host tells them.
+/// Events a second each way, bytes of memory an event where the host tells them, and bytes of first
+/// operands a second forward where they are counted.
 #[derive(Clone, Copy, Debug)]
 pub(crate) struct Measured {
     forward: u128,
     back: u128,
     memory: Option<u64>,
+    operand_bytes: Option<u128>,
 }
 
 impl Display for Measured {
     fn fmt<W: fmt::Write>(&self, f: &mut Formatter<W>) -> fmt::Result {
         let (forward, back) = (self.forward, self.back);
         write!(f, "{forward} events a second forward, {back} back")?;
-        match self.memory {
-            Some(bytes) => write!(f, ", {bytes} bytes an event"),
-            None => Ok(()),
+        if let Some(bytes) = self.memory {
+            write!(f, ", {bytes} bytes an event")?;
         }
+        if let Some(bytes) = self.operand_bytes {
+            let (millions, tenths) = (bytes / TENTH / 10, bytes / TENTH % 10);
+            write!(
+                f,
+                ", {millions}.{tenths} million operand bytes a second forward"
+            )?;
+        }
+        Ok(())
     }
 }
 
@@ -97,36 +102,55 @@ impl Display for Measured {
 pub(crate) fn measure<R: Clock + Files>(
     rt: &R,
     alloc: Global,
+    workload: Workload,
     events: u32,
     size: u32,
 ) -> Result<Measured, BenchFault> {
-    let machine = Machine::new(alloc, size)?;
-    let mut session = Session::new(alloc, machine, LIMIT);
-    let loop_bytes = Bytes::new(Vec::from_slice(alloc, &LOOP)?);
-    session.forward(Event::Patch(Patch::Bytes {
-        at: START,
-        bytes: loop_bytes,
-    }))?;
-    session.forward(Event::Patch(Patch::Psw(u64::from(START))))?;
-    set_register(&mut session, 2, 3)?;
-    set_register(&mut session, 3, Word::MAX)?;
+    let mut session = ready_session(alloc, workload, size)?;
     let before = resident_bytes(rt, alloc);
     let begun = Instant::now(rt)?;
     for _ in 0..events {
         session.forward(Event::Cpu)?;
     }
-    let forward = a_second(events, begun.elapsed(rt)?);
+    let forward_time = begun.elapsed(rt)?;
     let after = resident_bytes(rt, alloc);
     let begun = Instant::now(rt)?;
     for _ in 0..events {
         let _ = session.back();
     }
-    let back = a_second(events, begun.elapsed(rt)?);
+    let back_time = begun.elapsed(rt)?;
+    let operand_bytes = workload.operand_bytes(events);
     Ok(Measured {
-        forward,
-        back,
+        forward: a_second(u64::from(events), forward_time),
+        back: a_second(u64::from(events), back_time),
         memory: bytes_of_each(before, after, events),
+        operand_bytes: operand_bytes.map(|bytes| a_second(bytes, forward_time)),
     })
+}
+
+/// A session over a new machine that is about to run the loop.
+fn ready_session(alloc: Global, workload: Workload, size: u32) -> Result<Session, BenchFault> {
+    let machine = Machine::new(alloc, size)?;
+    let mut session = Session::new(alloc, machine, LIMIT);
+    set_bytes(&mut session, alloc, START, workload.program())?;
+    for &(at, filling) in workload.areas() {
+        set_bytes(&mut session, alloc, at, &filling.bytes())?;
+    }
+    session.forward(Event::Patch(Patch::Psw(u64::from(START))))?;
+    set_register(&mut session, 2, 3)?;
+    set_register(&mut session, 3, Word::MAX)?;
+    Ok(session)
+}
+
+fn set_bytes(
+    session: &mut Session,
+    alloc: Global,
+    at: u32,
+    bytes: &[u8],
+) -> Result<(), BenchFault> {
+    let bytes = Bytes::new(Vec::from_slice(alloc, bytes)?);
+    session.forward(Event::Patch(Patch::Bytes { at, bytes }))?;
+    Ok(())
 }
 
 fn set_register(session: &mut Session, number: u8, word: Word) -> Result<(), BenchFault> {
@@ -135,9 +159,9 @@ fn set_register(session: &mut Session, number: u8, word: Word) -> Result<(), Ben
     Ok(())
 }
 
-/// How many events a second so many in this time are.
-fn a_second(events: u32, time: Duration) -> u128 {
-    u128::from(events) * NANOSECONDS / time.as_nanos().max(1)
+/// How many a second so many in this time are.
+fn a_second(count: u64, time: Duration) -> u128 {
+    u128::from(count) * NANOSECONDS / time.as_nanos().max(1)
 }
 
 /// The bytes that each event took, by what was resident before and after.

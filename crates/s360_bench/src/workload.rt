@@ -1,0 +1,188 @@
+//! The loops that a session is measured by, and what is patched into storage for each. A loop ends
+//! with a branch back to its first instruction. Addresses are in hexadecimal.
+use std::fmt::{self, Display, Formatter};
+
+/// Where a loop stands.
+pub(crate) const START: u32 = 0x200;
+
+/// Bytes of an area of storage that is patched.
+const AREA: usize = 256;
+
+/// AR 1,2; A 1,600; ST 1,604; BCT 3,200.
+const ADD_AND_STORE: [u8; 14] = [
+    0x1A, 0x12, 0x5A, 0x10, 0x06, 0x00, 0x50, 0x10, 0x06, 0x04, 0x46, 0x30, 0x02, 0x00,
+];
+
+/// MVC 400(256),500; MVC 400(256),600; BCT 3,200.
+const MOVE_TWICE: [u8; 16] = [
+    0xD2, 0xFF, 0x04, 0x00, 0x05, 0x00, 0xD2, 0xFF, 0x04, 0x00, 0x06, 0x00, 0x46, 0x30, 0x02, 0x00,
+];
+
+/// XC 400(256),500; BCT 3,200.
+const EXCLUSIVE_OR: [u8; 10] = [0xD7, 0xFF, 0x04, 0x00, 0x05, 0x00, 0x46, 0x30, 0x02, 0x00];
+
+/// TR 400(256),500; BCT 3,200.
+const TRANSLATE: [u8; 10] = [0xDC, 0xFF, 0x04, 0x00, 0x05, 0x00, 0x46, 0x30, 0x02, 0x00];
+
+/// PACK 400(16),500(16); PACK 400(16),600(16); BCT 3,200.
+const PACK_TWICE: [u8; 16] = [
+    0xF2, 0xFF, 0x04, 0x00, 0x05, 0x00, 0xF2, 0xFF, 0x04, 0x00, 0x06, 0x00, 0x46, 0x30, 0x02, 0x00,
+];
+
+/// CLC 400(256),500; BCT 3,200.
+const COMPARE: [u8; 10] = [0xD5, 0xFF, 0x04, 0x00, 0x05, 0x00, 0x46, 0x30, 0x02, 0x00];
+
+/// What the bytes of an area are.
+#[derive(Clone, Copy, Debug)]
+pub(crate) enum Filling {
+    /// All are this one.
+    Same(u8),
+    /// The first is this one, and each other is one more than the one before it, modulo 256.
+    Rising(u8),
+}
+
+impl Filling {
+    /// The bytes of an area.
+    pub(crate) fn bytes(self) -> [u8; AREA] {
+        let (first, step) = match self {
+            Filling::Same(byte) => (byte, 0),
+            Filling::Rising(first) => (first, 1),
+        };
+        let mut bytes = [0; AREA];
+        let mut value: u8 = first;
+        for byte in &mut bytes {
+            *byte = value;
+            value = value.wrapping_add(step);
+        }
+        bytes
+    }
+}
+
+/// So many storage-to-storage instructions in a pass, which a branch follows, each with a first
+/// operand of so many bytes.
+#[derive(Clone, Copy, Debug)]
+struct Operands(u8, u16);
+
+impl Operands {
+    /// The bytes of the first operands of so many events from the start of a pass on.
+    fn bytes_within(self, events: u32) -> u64 {
+        let Operands(instructions, bytes) = self;
+        let branches = events / (u32::from(instructions) + 1);
+        u64::from(events - branches) * u64::from(bytes)
+    }
+}
+
+/// What a loop is: its name, its instructions, the areas that are patched with their addresses, and
+/// the operands whose bytes are counted.
+#[derive(Clone, Copy, Debug)]
+struct Row {
+    name: &'static str,
+    program: &'static [u8],
+    areas: &'static [(u32, Filling)],
+    operands: Option<Operands>,
+}
+
+/// A loop.
+#[derive(Clone, Copy, Debug, PartialEq, Eq)]
+pub(crate) enum Workload {
+    /// Fixed-point instructions, which work on words.
+    Fixed,
+    /// Moves from two areas in turn, which differ in each byte.
+    Move,
+    /// Exclusive ors that turn each bit.
+    ExclusiveOr,
+    /// Translations of each byte to the number after it, and of FF to 0.
+    Translate,
+    /// Packings from two areas in turn, which differ in each digit. Half of each result is zeros.
+    Pack,
+    /// Comparisons of areas that are equal.
+    CompareLogical,
+}
+
+/// Each loop.
+const WORKLOADS: [Workload; 6] = [
+    Workload::Fixed,
+    Workload::Move,
+    Workload::ExclusiveOr,
+    Workload::Translate,
+    Workload::Pack,
+    Workload::CompareLogical,
+];
+
+impl Workload {
+    /// The loop of this name.
+    pub(crate) fn named(name: &str) -> Option<Workload> {
+        WORKLOADS
+            .into_iter()
+            .find(|workload| workload.row().name == name)
+    }
+
+    /// Its instructions.
+    pub(crate) fn program(self) -> &'static [u8] {
+        self.row().program
+    }
+
+    /// The areas that are patched, with their addresses.
+    pub(crate) fn areas(self) -> &'static [(u32, Filling)] {
+        self.row().areas
+    }
+
+    /// The bytes of first operands that so many of its events store or compare, where they are
+    /// counted.
+    pub(crate) fn operand_bytes(self, events: u32) -> Option<u64> {
+        Some(self.row().operands?.bytes_within(events))
+    }
+
+    fn row(self) -> Row {
+        match self {
+            Workload::Fixed => Row {
+                name: "fixed",
+                program: &ADD_AND_STORE,
+                areas: &[],
+                operands: None,
+            },
+            Workload::Move => Row {
+                name: "mvc",
+                program: &MOVE_TWICE,
+                areas: &[
+                    (0x500, Filling::Rising(0x00)),
+                    (0x600, Filling::Rising(0x01)),
+                ],
+                operands: Some(Operands(2, 256)),
+            },
+            Workload::ExclusiveOr => Row {
+                name: "xc",
+                program: &EXCLUSIVE_OR,
+                areas: &[(0x500, Filling::Same(0xFF))],
+                operands: Some(Operands(1, 256)),
+            },
+            Workload::Translate => Row {
+                name: "tr",
+                program: &TRANSLATE,
+                areas: &[(0x500, Filling::Rising(0x01))],
+                operands: Some(Operands(1, 256)),
+            },
+            Workload::Pack => Row {
+                name: "pack",
+                program: &PACK_TWICE,
+                areas: &[(0x500, Filling::Same(0xF1)), (0x600, Filling::Same(0xF2))],
+                operands: Some(Operands(2, 16)),
+            },
+            Workload::CompareLogical => Row {
+                name: "clc",
+                program: &COMPARE,
+                areas: &[
+                    (0x400, Filling::Rising(0x00)),
+                    (0x500, Filling::Rising(0x00)),
+                ],
+                operands: Some(Operands(1, 256)),
+            },
+        }
+    }
+}
+
+impl Display for Workload {
+    fn fmt<W: fmt::Write>(&self, f: &mut Formatter<W>) -> fmt::Result {
+        f.write_str(self.row().name)
+    }
+}
