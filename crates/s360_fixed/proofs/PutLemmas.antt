@@ -1,5 +1,5 @@
 -- What the puts of an instruction add to a plan.
-use Rattle.std.proofs.Common.{◌≡◌, ◌<◌, ◌+◌, ◌*◌, ◌%◌, suc, None, slice_index, ℕ, List, [], arith, refl}
+use Rattle.std.proofs.Common.{◌≡◌, ◌<◌, ◌+◌, ◌*◌, ◌%◌, zero, suc, None, ap, slice_index, ℕ, List, [], arith, refl}
 use Rattle.std.specs.Int.{bytes_high_first}
 use Rattle.s360_model.specs.Core.{Core, core_with_bytes, core_with_psw, core_with_word}
 use Rattle.s360_model.specs.Storage.{word_at}
@@ -18,12 +18,12 @@ use Rattle.s360_fixed.specs.View.{View}
 pub AddsToPlan-register : (old new : List Cell) (r : ℕ) (f : Core → Core) → r < 16 → AddsToPlan old new 1 (HasRegister r) f → AddsToPlan old new 1 HasRegisters f
 AddsToPlan-register old new r f h u = record { makes = λ m n i p. u.makes m n (omega (arith, i, h)) p; few = u.few }
 
--- two puts at registers, and one of the PSW
-pub AddsToPlan-three : (p q r s : List Cell) (f g h : Core → Core) → AddsToPlan p q 1 HasRegisters f → AddsToPlan q r 1 HasRegisters g → AddsToPlan r s 1 HasPsw h
+-- a put of the PSW, and two at registers
+pub AddsToPlan-three : (p q r s : List Cell) (f g h : Core → Core) → AddsToPlan p q 1 HasPsw f → AddsToPlan q r 1 HasRegisters g → AddsToPlan r s 1 HasRegisters h
     → AddsToPlan p s 3 HasRegisters (λ n. h (g (f n)))
 AddsToPlan-three p q r s f g h u v w =
     let all = AddsToPlan-then p r s 2 1 _ _ _ _ (AddsToPlan-then p q r 1 1 _ _ _ _ u v) w
-    in record { makes = λ m n i x. all.makes m n ((i, i), tt) x; few = all.few }
+    in record { makes = λ m n i x. all.makes m n ((tt, i), i) x; few = all.few }
 
 -- one register more, and one word more
 pub AddsToPlan-load : (old now new : List Cell) (bytes : List ℕ) (r1 at i r word : ℕ) → r ≡ (r1 + i) % 16 → word ≡ word_at bytes (at + 4 * i)
@@ -48,9 +48,24 @@ AddsToPlan-word old now new registers r1 at i count bytes l e u v =
     = rw (next, e) refl
     in rw (total, f) (record { makes = λ m n h x. both.makes m n (h, omega (arith, h, l)) x; few = both.few })
 
--- puts and then the PSW, where nothing keeps the instruction from being done
-pub PlansOutcome-completed : (v : View) (k : Conditions) (q r s : List Cell) (count : ℕ) (P : Core → Type 0) (f : Core → Core) → None ≡ program_code k → q ≡ [] → P v.core
-    → AddsToPlan q r count P f → AddsToPlan r s 1 HasPsw (core_with_psw (next_psw v)) → PlansOutcome v.core s (unless_met k v.core (completed v (f v.core))) Done
-PlansOutcome-completed v k q r s count P f h e p u w =
-    let first : AddsToPlan [] r count P f = rw e at u
-    in rw (← h) (record { ends = refl; makes = w.makes v.core (f v.core) tt (first.makes v.core v.core p (IsPlanOf-none v.core)) })
+-- the PSW and then puts that leave it, where nothing keeps the instruction from being done
+pub PlansOutcome-completed : (v : View) (k : Conditions) (q r s : List Cell) (count : ℕ) (P : Core → Type 0) (f : Core → Core) → ((p : ℕ) (n : Core) → f (core_with_psw p n) ≡ core_with_psw p (f n))
+    → None ≡ program_code k → q ≡ [] → P v.core
+    → AddsToPlan q r 1 HasPsw (core_with_psw (next_psw v)) → AddsToPlan r s count P f → PlansOutcome v.core s (unless_met k v.core (completed v (f v.core))) Done
+PlansOutcome-completed v k q r s count P f leaves h e p u w =
+    let first : AddsToPlan [] r 1 HasPsw (core_with_psw (next_psw v)) = rw e at u
+    in rw (← h) (record {
+      ends = refl;
+      makes = rw (← leaves (next_psw v) v.core) (w.makes v.core (core_with_psw (next_psw v) v.core) p (first.makes v.core v.core tt (IsPlanOf-none v.core)));
+    })
+
+-- registers that are stored or loaded leave the PSW
+pub with_registers_stored-psw : (registers : List ℕ) (r1 address count p : ℕ) (n : Core) → with_registers_stored registers r1 address count (core_with_psw p n) ≡ core_with_psw p (with_registers_stored registers r1 address count n)
+with_registers_stored-psw registers r1 address zero p n = refl
+with_registers_stored-psw registers r1 address (suc count) p n =
+    ap (λ m. core_with_bytes (address + 4 * count) (bytes_high_first 4 (slice_index registers ((r1 + count) % 16))) m) (with_registers_stored-psw registers r1 address count p n)
+
+pub with_registers_loaded-psw : (bytes : List ℕ) (r1 address count p : ℕ) (n : Core) → with_registers_loaded bytes r1 address count (core_with_psw p n) ≡ core_with_psw p (with_registers_loaded bytes r1 address count n)
+with_registers_loaded-psw bytes r1 address zero p n = refl
+with_registers_loaded-psw bytes r1 address (suc count) p n =
+    ap (λ m. core_with_word ((r1 + count) % 16) (word_at bytes (address + 4 * count)) m) (with_registers_loaded-psw bytes r1 address count p n)

@@ -84,10 +84,10 @@ impl Effect {
         requires few { length plan.old + 3 ≤ 1000000 }
         ensures { OnOk result (AddsToPlan plan.old plan.new 3 HasRegisters (core_after_effect psw r1 self address)) }
     {
-        put_if_some(r1, self.first, plan)?;
-        put_next_if_some(r1, self.second, plan)?;
         let psw = self.setting.psw(psw);
         plan.put_psw(psw.with_instruction_address(address))?;
+        put_if_some(r1, self.first, plan)?;
+        put_next_if_some(r1, self.second, plan)?;
         Ok(())
     }
 

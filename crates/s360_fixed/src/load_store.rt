@@ -71,8 +71,8 @@ pub fn plan_store(
     }
     // Storage is small, so no address of the run passes 32 bits.
     let _ = view.storage();
-    plan.put_bytes(address, bytes)?;
     put_next_psw(view, plan)?;
+    plan.put_bytes(address, bytes)?;
     Ok(Ended::Done)
 }
 
@@ -101,8 +101,8 @@ pub(crate) fn plan_load_multiple(
     }
     // Looked at, since its clauses have that there are sixteen registers.
     let _ = view.register(r1);
-    put_registers(view, r1, count, address, plan)?;
     put_next_psw(view, plan)?;
+    put_registers(view, r1, count, address, plan)?;
     Ok(Ended::Done)
 }
 
@@ -121,7 +121,7 @@ pub(crate) fn plan_store_multiple(
     if let Some(code) = operand_exception(view, address, 4, 4 * u32::from(count), Access::Store) {
         return Ok(Ended::Program(code));
     }
-    put_words(view, r1, count, address, plan)?;
     put_next_psw(view, plan)?;
+    put_words(view, r1, count, address, plan)?;
     Ok(Ended::Done)
 }

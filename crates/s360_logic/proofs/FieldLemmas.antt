@@ -2,7 +2,7 @@
 use Rattle.std.proofs.Common.{◌≡◌, ◌<◌, ◌≤◌, ◌+◌, ◌-◌, ◌++◌, ℕ, suc, List, [], length, take, drop, set, arith, refl, None, ap, sym, slice_set, nat_eq, ◌∙◌, true, rules}
 use Rattle.std.proofs.lemmas.List.{places, same_lists, length-append, length-set, length-take-le, set-append_left, set-append_right}
 use Rattle.s360_model.specs.Storage.{Storage, with_run}
-use Rattle.s360_model.specs.Core.{core_with_bytes}
+use Rattle.s360_model.specs.Core.{Core, core_with_bytes}
 use Rattle.s360_store.specs.declared.place.Cell.{Cell}
 use Rattle.s360_store.specs.Plans.{AddsToPlan, HasBytes, HasRegisters}
 use Rattle.s360_store.proofs.PlannedLemmas.{IsPlanOf-none}
@@ -59,15 +59,16 @@ comparison_code-step s first second i n h e =
     in let more : n - i ≡ suc (n - (i + 1)) = omega arith
     in rw (one, other, more) (sym (rw (e, nat_eq-same (byte_at s (second + i))) refl))
 
--- the bytes of an operand, and then the PSW with a condition code
+-- the PSW with a condition code, and then the bytes of an operand
 pub PlansOutcome-stored : (v : View) (q r s : List Cell) (o : FirstOperand) (setting : Setting) → q ≡ [] → HasRegisters v.core → o.storage ≡ v.core.storage → o.address + length o.bytes ≤ length o.storage.bytes
-    → AddsToPlan q r (length o.bytes) (HasBytes o.address (length o.bytes)) (core_with_bytes o.address o.bytes)
-    → AddsToPlan r s 3 HasRegisters (core_after_effect v.core.psw 0 (record { first = None; second = None; setting = setting }) v.next_address)
+    → AddsToPlan q r 3 HasRegisters (core_after_effect v.core.psw 0 (record { first = None; second = None; setting = setting }) v.next_address)
+    → AddsToPlan r s (length o.bytes) (HasBytes o.address (length o.bytes)) (core_with_bytes o.address o.bytes)
     → PlansOutcome v.core s (completed_with v setting (stored_in o)) (ended_with v.core.psw setting)
 PlansOutcome-stored v q r s o setting e sixteen same inside u w =
-    let first : AddsToPlan [] r (length o.bytes) (HasBytes o.address (length o.bytes)) (core_with_bytes o.address o.bytes) = rw e at u
+    let psw : Core → Core = core_after_effect v.core.psw 0 (record { first = None; second = None; setting = setting }) v.next_address
+    in let first : AddsToPlan [] r 3 HasRegisters psw = rw e at u
     in let here : o.address + length o.bytes ≤ length v.core.storage.bytes = rw same at inside
     in record {
       ends = refl;
-      makes = rw same (w.makes v.core (core_with_bytes o.address o.bytes v.core) sixteen (first.makes v.core v.core here (IsPlanOf-none v.core)));
+      makes = rw same (w.makes v.core (psw v.core) here (first.makes v.core v.core sixteen (IsPlanOf-none v.core)));
     }

@@ -130,13 +130,13 @@ impl<'a> FirstOperand<'a> {
         let _ = self.len();
         let effect = condition_alone(setting);
         let ended = effect.setting.ended(view.psw());
-        plan.put_bytes(self.address(), self.bytes())?;
         effect.put(
             view.psw(),
             RegisterNumber::new(0),
             view.next_address(),
             plan,
         )?;
+        plan.put_bytes(self.address(), self.bytes())?;
         Ok(ended)
     }
 }

@@ -1,16 +1,17 @@
 //! What an instruction works on: the current PSW, the general registers and main storage. Source:
 //! GA22-6821, "System Structure".
 ghost use Rattle.std.specs.Prelude.{OnOk};
-ghost use Rattle.std.specs.Prelude.{◌≡◌, ◌≤◌, ◌+◌, [], length, slice_index, Err, IfOk, IsOkUnless};
+ghost use Rattle.std.specs.Prelude.{IsTrue, ◌≡◌, ◌≤◌, ◌+◌, [], length, slice_index, Err, IfOk, IsOkUnless};
 ghost use Rattle.std.specs.Bool.{MatchBool};
 ghost use Rattle.s360_model.specs.Core.{zero_core, core_with_bytes, core_with_psw, core_with_word};
 ghost use Rattle.s360_model.specs.Psw.{current_psw};
 ghost use Rattle.s360_model.specs.Storage.{is_storage_size};
-ghost use Rattle.s360_store.specs.Cells.{AreCellsOf, AllFit};
+ghost use Rattle.s360_store.specs.Cells.{AreCellsOf, AllFit, places_of_cells};
 ghost use Rattle.s360_store.specs.Cells.{after_exchange, cells_after_exchange};
 ghost use Rattle.s360_store.specs.Places.{IsPlaceOf, Fits, value_at, with_value};
 ghost use Rattle.s360_store.specs.declared.fault.StoreFault.TheVariants.{Size, Memory};
 ghost use Rattle.s360_store.specs.Differences.{IsCoreChangeTo};
+ghost use Rattle.s360_store.specs.Order.{IsAscending};
 ghost use Rattle.s360_store.specs.Plans.{IsPlanOf};
 ghost use Rattle.s360_logic.specs.Instruction.{PlansInstruction, instruction};
 ghost use Rattle.s360_store.proofs.KeptLemmas.{AreKept};
@@ -39,6 +40,18 @@ impl Model for Core {
     ghost view = { λ c. record { psw = c.psw; registers = c.registers; storage = c.storage } };
 
     ghost invariant = { λ c. length c.registers ≡ 16 };
+}
+
+/// Whether the places of cells ascend.
+fn are_ascending(cells: &[Cell]) -> bool
+    ensures { IsTrue result → IsAscending (places_of_cells cells.now) }
+{
+    for i in 1..cells.len() {
+        if !cells[i - 1].place.cmp(&cells[i].place).is_lt() {
+            return false;
+        }
+    }
+    true
 }
 
 impl Core {
@@ -201,6 +214,10 @@ impl Core {
         ensures few { IfOk result (λ cells. length cells.items ≤ 1000000) }
     {
         let mut cells = self.altering(alloc, plan)?;
+        // Most events put their places in order.
+        if are_ascending(cells.as_slice()) {
+            return Ok(cells);
+        }
         cells.sort_unstable_by_key(|cell| cell.place);
         Ok(cells)
     }

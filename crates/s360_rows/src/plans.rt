@@ -202,6 +202,22 @@ put r0=72 -> m181=64 mC=65 m9=66 u181=67 uD=68 uC=69 ext=6A run=6B k1FF=6C k0=6D
 value p -> None
 put p=73 -> m181=64 mC=65 m9=66 u181=67 uD=68 uC=69 ext=6A run=6B k1FF=6C k0=6D sFFFFFF=6E sFF=6F \
     s0=70 rF=71 r0=72 p=73
+* places past eight that ascend, and then a second put, and one of a place before them
+new ->
+put s1=1 s2=2 s3=3 s4=4 s5=5 s6=6 s7=7 s8=8 s9=9 sA=A sB=B -> s1=1 s2=2 s3=3 s4=4 s5=5 s6=6 \
+    s7=7 s8=8 s9=9 sA=A sB=B
+value s9 -> Some(9)
+value sB -> Some(11)
+value sC -> None
+put sA=FA -> s1=1 s2=2 s3=3 s4=4 s5=5 s6=6 s7=7 s8=8 s9=9 sA=FA sB=B
+put sC=C -> s1=1 s2=2 s3=3 s4=4 s5=5 s6=6 s7=7 s8=8 s9=9 sA=FA sB=B sC=C
+value sA -> Some(250)
+new ->
+put s1=1 s2=2 s3=3 s4=4 s5=5 s6=6 s7=7 s8=8 s9=9 sA=A p=5 k0=6 -> s1=1 s2=2 s3=3 s4=4 s5=5 s6=6 \
+    s7=7 s8=8 s9=9 sA=A p=5 k0=6
+value p -> Some(5)
+value s0 -> None
+put sA=7 p=6 s1=8 -> s1=8 s2=2 s3=3 s4=4 s5=5 s6=6 s7=7 s8=8 s9=9 sA=7 p=6 k0=6
 * second puts at each length: the addresses neither rise nor fall
 new ->
 put s0=0 -> s0=0

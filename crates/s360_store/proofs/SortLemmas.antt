@@ -220,3 +220,11 @@ IsCoreChangeTo-sorted m plan kept sorted k perm s =
       makes = makes;
       lists = places_of_cells-differences m sorted cells alter (IsAscending-sorted sorted each s) ∙ ap (λ n. core_differences m n) makes;
     }
+
+-- and where they ascend as they are, they are already
+pub IsCoreChangeTo-ascending : (m : Core) (plan kept : List Cell) → AreKept m plan kept → IsAscending (places_of_cells kept) → IsCoreChangeTo m kept (after_exchange m plan)
+IsCoreChangeTo-ascending m plan kept k a = record {
+  cells = k.cells;
+  makes = k.makes;
+  lists = places_of_cells-differences m kept k.cells k.alter a ∙ ap (λ n. core_differences m n) k.makes;
+}

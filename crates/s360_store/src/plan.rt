@@ -2,14 +2,17 @@
 //! their first puts. A contract sees the list of its cells.
 //!
 //! The first few places stand within the plan, where a look at each finds one, and take no memory.
-//! The others stand in a map that keeps their order, so that a put and a look-up take constant
-//! time.
+//! While each of the others comes after the one before, as the bytes of an operand do, they stand in
+//! a list. One that does not moves them into a map that keeps their order, so that a put takes
+//! constant time in any order.
 ghost use Rattle.std.specs.Prelude.{◌≡◌, ◌<◌, ◌≤◌, ◌⊎◌, ◌↔◌, [], length, slice_get};
-ghost use Rattle.std.specs.Prelude.{OnOk, OnErr, IsSome, Some, position, IsTrue};
+ghost use Rattle.std.specs.Prelude.{IfOk, OnOk, OnErr, IsSome, Some, position, IsTrue};
 ghost use Rattle.s360_store.specs.Places.{same_place};
-ghost use Rattle.s360_store.specs.Cells.{HasEachOnce};
+ghost use Rattle.s360_store.specs.Cells.{HasEachOnce, places_of_cells};
+ghost use Rattle.s360_store.specs.Order.{IsAscending};
+ghost use Rattle.s360_store.specs.PlanParts.{EndsBefore};
 ghost use Rattle.s360_store.specs.Plans.{after_put, planned_value};
-ghost use Rattle.s360_store.specs.PlanParts.{cells_of, cells_of_entries};
+ghost use Rattle.s360_store.specs.PlanParts.{cells_of_entries, further, Rises};
 
 use crate::place::{Cell, Place};
 use arrayvec::ArrayVec;
@@ -25,7 +28,9 @@ const WITHIN: usize = 8;
 pub struct Plan {
     /// The cells of the places that were put first.
     few: ArrayVec<Cell, WITHIN>,
-    /// The values of the places after those, once there are any.
+    /// The cells of the places after those, while they ascend.
+    rising: Vec<Cell>,
+    /// Their values, once they do not.
     many: Option<IndexMap<Place, u64>>,
     alloc: Global,
 }
@@ -33,13 +38,13 @@ pub struct Plan {
 impl Model for Plan {
     ghost use Rattle.std.specs.Prelude.{List};
     ghost use Rattle.s360_store.specs.declared.place.Cell.{Cell};
-    ghost use Rattle.s360_store.specs.PlanParts.{plan_of_parts, ArePartsOfPlan};
+    ghost use Rattle.s360_store.specs.PlanParts.{further, plan_of_parts, ArePartsOfPlan, Rises};
 
     ghost Value = { List Cell };
 
-    ghost view = { λ p. plan_of_parts p.few.items p.many };
+    ghost view = { λ p. plan_of_parts p.few.items (further p.rising.items p.many) };
 
-    ghost invariant = { λ p. ArePartsOfPlan p.few.items p.many };
+    ghost invariant = { λ p. ArePartsOfPlan p.few.items (further p.rising.items p.many) × Rises p.rising.items p.many };
 }
 
 /// Where the cell of a place stands, found by a look at each.
@@ -58,36 +63,64 @@ fn insert(map: &mut IndexMap<Place, u64>, place: Place, value: u64) -> Result<()
     Ok(())
 }
 
-/// Puts a value at a place of the map, which the first such put makes. Want of memory leaves its
-/// cells as they were.
+/// Whether a place comes after the last of cells.
+fn comes_last(cells: &[Cell], place: Place) -> bool
+    ensures { IsTrue result → EndsBefore cells.now place }
+{
+    let count = cells.len();
+    count == 0 || cells[count - 1].place.cmp(&place).is_lt()
+}
+
+/// A map of the values of ascending cells, in their order.
+fn map_of(alloc: Global, cells: &[Cell]) -> Result<IndexMap<Place, u64>, AllocError>
+    requires ascending { IsAscending (places_of_cells cells.now) }
+    ensures { IfOk result (λ map. cells_of_entries map.entries ≡ cells.now) }
+{
+    let mut map = IndexMap::new(alloc);
+    for cell in cells {
+        insert(&mut map, cell.place, cell.value)?;
+    }
+    Ok(map)
+}
+
+/// Puts a value at a place that is not one of the first few. Want of memory leaves the cells as they
+/// were.
 #[inline(never)]
 fn put_past_few(
     alloc: Global,
+    rising: &mut Vec<Cell>,
     many: &mut Option<IndexMap<Place, u64>>,
     place: Place,
     value: u64,
 ) -> Result<(), AllocError>
-    ensures ok { OnOk result (cells_of many.new ≡ after_put (cells_of many.old) place value) }
-    ensures err { OnErr result (cells_of many.new ≡ cells_of many.old) }
+    requires rises { Rises rising.old.items many.old }
+    ensures rises { Rises rising.new.items many.new }
+    ensures ok { OnOk result (further rising.new.items many.new ≡ after_put (further rising.old.items many.old) place value) }
+    ensures err { OnErr result (further rising.new.items many.new ≡ further rising.old.items many.old) }
 {
     match many {
         Some(map) => insert(map, place, value)?,
+        None if comes_last(rising.as_slice(), place) => rising.push(Cell { place, value })?,
         None => {
-            let mut map = IndexMap::new(alloc);
+            let mut map = map_of(alloc, rising.as_slice())?;
             insert(&mut map, place, value)?;
             *many = Some(map);
+            *rising = Vec::new(alloc);
         }
     }
     Ok(())
 }
 
-/// The value that a map has for a place, if there is one.
-fn look_up(many: &Option<IndexMap<Place, u64>>, place: Place) -> Option<u64>
-    ensures { result ≡ planned_value (cells_of many.now) place }
+/// The value that there is for a place that is not one of the first few, if there is one.
+fn look_up(rising: &[Cell], many: &Option<IndexMap<Place, u64>>, place: Place) -> Option<u64>
+    ensures { result ≡ planned_value (further rising.now many.now) place }
 {
     match many {
         Some(map) => map.get(&place).copied(),
-        None => None,
+        None => match scan(rising, place) {
+            Some(at) => Some(rising[at].value),
+            None => None,
+        },
     }
 }
 
@@ -98,6 +131,7 @@ impl Plan {
     {
         Plan {
             few: ArrayVec::new(),
+            rising: Vec::new(alloc),
             many: None,
             alloc,
         }
@@ -109,11 +143,11 @@ impl Plan {
         ensures few { result ≤ 1000000 }
         ensures once { HasEachOnce self.now }
     {
-        let many = match &self.many {
+        let further = match &self.many {
             Some(map) => map.len(),
-            None => 0,
+            None => self.rising.len(),
         };
-        (self.few.len() + many) as u32
+        (self.few.len() + further) as u32
     }
 
     /// Whether nothing was put.
@@ -140,7 +174,7 @@ impl Plan {
                     value: *value,
                 }
             }
-            None => unreachable!(),
+            None => self.rising[i - self.few.len()],
         }
     }
 
@@ -157,7 +191,7 @@ impl Plan {
         } else if self.few.len() < WITHIN {
             self.few.push(Cell { place, value });
         } else {
-            put_past_few(self.alloc, &mut self.many, place, value)?;
+            put_past_few(self.alloc, &mut self.rising, &mut self.many, place, value)?;
         }
         Ok(())
     }
@@ -168,7 +202,7 @@ impl Plan {
     {
         match scan(&self.few, place) {
             Some(at) => Some(self.few[at].value),
-            None => look_up(&self.many, place),
+            None => look_up(self.rising.as_slice(), &self.many, place),
         }
     }
 }
