@@ -10,3 +10,4 @@ pub mod PlannedLemmas
 pub mod KeptLemmas
 pub mod SortLemmas
 pub mod PutLemmas
+pub mod ByteCellLemmas

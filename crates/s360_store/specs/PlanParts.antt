@@ -1,7 +1,8 @@
 -- The parts of a plan: the cells that stand within it, and those after them.
-use Rattle.std.specs.Prelude.{◌≡◌, ◌<◌, ◌≤◌, ◌++◌, ℕ, Option, None, Some, List, [], ◌∷◌, MatchOption, length, map, slice_index_or, take}
+use Rattle.std.specs.Prelude.{◌≡◌, ◌<◌, ◌≤◌, ◌+◌, ◌++◌, ℕ, Option, None, Some, List, [], ◌∷◌, MatchOption, length, map, slice_index_or, take}
 use Rattle.indexmap.specs.IndexMap.{IndexMap}
 use Rattle.s360_store.specs.declared.place.Place.{Place}
+use Rattle.s360_store.specs.declared.place.Place.TheVariants.{Byte}
 use Rattle.s360_store.specs.declared.place.Cell.{Cell}
 use Rattle.s360_store.specs.Cells.{IsFresh, HasEachOnce, places_of_cells}
 use Rattle.s360_store.specs.Order.{IsAscending, IsBefore}
@@ -25,6 +26,16 @@ abbrev pub EndsBefore : List Cell → Place → Type 0
 EndsBefore [] p = Unit {0}
 EndsBefore (c ∷ []) p = IsBefore c.place p
 EndsBefore (c ∷ (d ∷ cs)) p = EndsBefore (d ∷ cs) p
+
+-- each of the cells comes before the place
+abbrev pub AllBefore : List Cell → Place → Type 0
+AllBefore [] p = Unit {0}
+AllBefore (c ∷ cs) p = IsBefore c.place p × AllBefore cs p
+
+-- the cells of bytes from an address on
+abbrev pub byte_cells : ℕ → List ℕ → List Cell
+byte_cells address [] = []
+byte_cells address (b ∷ bs) = record { place = Byte address; value = b } ∷ byte_cells (address + 1) bs
 
 -- the plan has the cells within it, and after them the others
 abbrev pub plan_of_parts : List Cell → List Cell → List Cell

@@ -5,14 +5,15 @@
 //! While each of the others comes after the one before, as the bytes of an operand do, they stand in
 //! a list. One that does not moves them into a map that keeps their order, so that a put takes
 //! constant time in any order.
-ghost use Rattle.std.specs.Prelude.{◌≡◌, ◌<◌, ◌≤◌, ◌⊎◌, ◌↔◌, [], length, slice_get};
+ghost use Rattle.std.specs.Prelude.{◌≡◌, ◌<◌, ◌≤◌, ◌+◌, ◌^◌, ◌++◌, ◌⊎◌, ◌↔◌, if◌then◌else◌, [], length, slice_get};
 ghost use Rattle.std.specs.Prelude.{IfOk, OnOk, OnErr, IsSome, Some, position, IsTrue};
 ghost use Rattle.s360_store.specs.Places.{same_place};
 ghost use Rattle.s360_store.specs.Cells.{HasEachOnce, places_of_cells};
 ghost use Rattle.s360_store.specs.Order.{IsAscending};
-ghost use Rattle.s360_store.specs.PlanParts.{EndsBefore};
-ghost use Rattle.s360_store.specs.Plans.{after_put, planned_value};
-ghost use Rattle.s360_store.specs.PlanParts.{cells_of_entries, further, Rises};
+ghost use Rattle.s360_store.specs.PlanParts.{AllBefore, EndsBefore};
+ghost use Rattle.s360_store.specs.Plans.{after_put, after_put_bytes, planned_value};
+ghost use Rattle.s360_store.specs.PlanParts.{byte_cells, cells_of_entries, further, Rises};
+ghost use Rattle.s360_store.specs.declared.place.Place.TheVariants.{Byte};
 
 use crate::place::{Cell, Place};
 use arrayvec::ArrayVec;
@@ -71,12 +72,34 @@ fn comes_last(cells: &[Cell], place: Place) -> bool
     count == 0 || cells[count - 1].place.cmp(&place).is_lt()
 }
 
-/// A map of the values of ascending cells, in their order.
+/// The cell of a byte of storage.
+fn byte_cell(address: u32, byte: u8) -> Cell
+    ensures { result ≡ record { place = Byte address; value = byte } }
+{
+    Cell {
+        place: Place::Byte(address),
+        value: u64::from(byte),
+    }
+}
+
+/// Whether the places of cells all come before a place.
+fn all_before(cells: &[Cell], place: Place) -> bool
+    ensures { IsTrue result → AllBefore cells.now place }
+{
+    for cell in cells {
+        if !cell.place.cmp(&place).is_lt() {
+            return false;
+        }
+    }
+    true
+}
+
+/// A map of the values of ascending cells, in their order, with room for one more.
 fn map_of(alloc: Global, cells: &[Cell]) -> Result<IndexMap<Place, u64>, AllocError>
     requires ascending { IsAscending (places_of_cells cells.now) }
     ensures { IfOk result (λ map. cells_of_entries map.entries ≡ cells.now) }
 {
-    let mut map = IndexMap::new(alloc);
+    let mut map = IndexMap::with_capacity(alloc, cells.len() + 1)?;
     for cell in cells {
         insert(&mut map, cell.place, cell.value)?;
     }
@@ -109,6 +132,30 @@ fn put_past_few(
         }
     }
     Ok(())
+}
+
+/// Adds cells of bytes from an address on. Want of memory leaves the cells as they were.
+fn extend(cells: &mut Vec<Cell>, address: u32, bytes: &[u8]) -> Result<(), AllocError>
+    requires inside { address + length bytes.now ≤ 2 ^ 32 }
+    ensures ok { OnOk result (cells.new.items ≡ cells.old.items ++ byte_cells address bytes.now) }
+    ensures err { OnErr result (cells.new.items ≡ cells.old.items) }
+{
+    cells.reserve(bytes.len())?;
+    for (i, byte) in bytes.iter().enumerate() {
+        cells.push_reserved(byte_cell(address + i as u32, *byte));
+    }
+    Ok(())
+}
+
+/// Adds cells of bytes from an address on, for which there is room.
+fn fill(cells: &mut ArrayVec<Cell, WITHIN>, address: u32, bytes: &[u8])
+    requires inside { address + length bytes.now ≤ 2 ^ 32 }
+    requires room { length cells.old.items + length bytes.now ≤ 8 }
+    ensures { cells.new.items ≡ cells.old.items ++ byte_cells address bytes.now }
+{
+    for (i, byte) in bytes.iter().enumerate() {
+        cells.push(byte_cell(address + i as u32, *byte));
+    }
 }
 
 /// The value that there is for a place that is not one of the first few, if there is one.
@@ -194,6 +241,28 @@ impl Plan {
             put_past_few(self.alloc, &mut self.rising, &mut self.many, place, value)?;
         }
         Ok(())
+    }
+
+    /// Puts bytes from an address on where all places come before them, without a look at each, and
+    /// says whether it did. Want of memory leaves the plan as it was.
+    pub(crate) fn append_bytes(&mut self, address: u32, bytes: &[u8]) -> Result<bool, AllocError>
+        requires few { length self.old + length bytes.now ≤ 1000000 }
+        requires inside { address + length bytes.now ≤ 2 ^ 32 }
+        ensures appended { IfOk result (λ appended. self.new ≡ (if appended then after_put_bytes self.old address bytes.now else self.old)) }
+        ensures err { OnErr result (self.new ≡ self.old) }
+    {
+        let place = Place::Byte(address);
+        let rising = self.rising.as_slice();
+        if self.many.is_some() || !all_before(&self.few, place) || !comes_last(rising, place) {
+            return Ok(false);
+        }
+        let within = bytes.len().min(WITHIN - self.few.len());
+        let (first, rest) = bytes.split_at(within);
+        // It wraps only where no byte is left.
+        let after = address.wrapping_add(within as u32);
+        extend(&mut self.rising, after, rest)?;
+        fill(&mut self.few, address, first);
+        Ok(true)
     }
 
     /// The value put for a place, if there is one.

@@ -56,6 +56,9 @@ impl Plan {
         ensures ok { OnOk result (AddsToPlan self.old self.new (length bytes.now) (HasBytes address (length bytes.now)) (core_with_bytes address bytes.now)) }
         ensures cells { OnOk result (self.new ≡ after_put_bytes self.old address bytes.now) }
     {
+        if self.append_bytes(address, bytes)? {
+            return Ok(());
+        }
         for (i, byte) in bytes.iter().enumerate() {
             self.put(Place::Byte(address + i as u32), u64::from(*byte))?;
         }
