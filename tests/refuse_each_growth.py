@@ -27,7 +27,10 @@ WANT_OF_MEMORY = ("Memory", "AllocError", "AllocFailed", "OutOfMemory", "out of 
 EACH = 3000
 STRIDE = 101
 # How many growths a test may take, where that is bounded.
-MOST_GROWTHS = {"s360_rows_tests plans::rising_puts": 60}
+MOST_GROWTHS = {
+    "s360_rows_tests plans::rising_puts": 60,
+    "s360_rows_tests plans::rising_puts_but_for_the_last": 60,
+}
 
 
 class Subject:

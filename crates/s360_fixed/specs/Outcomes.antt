@@ -59,6 +59,9 @@ double words setting = record { first = Some words.0; second = Some words.1; set
 abbrev pub no_effect : Effect
 no_effect = record { first = None; second = None; setting = Kept }
 
+abbrev pub condition_alone : Setting → Effect
+condition_alone setting = record { first = None; second = None; setting = setting }
+
 abbrev pub condition_code_alone : ℕ → Effect
 condition_code_alone code = record { first = None; second = None; setting = Code code }
 

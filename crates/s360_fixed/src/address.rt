@@ -6,7 +6,7 @@ use crate::view::View;
 use s360_word::{RegisterNumber, Word};
 
 /// How many addresses there are.
-const ADDRESSES: u64 = 1 << 24;
+pub const ADDRESSES: u32 = 1 << 24;
 
 /// What a base or an index register adds: nothing where it is register 0.
 fn address_part(view: &View, register: RegisterNumber) -> Word
@@ -32,5 +32,5 @@ pub fn operand_address(
     let sum = u64::from(address_part(view, index))
         + u64::from(address_part(view, base))
         + u64::from(displacement);
-    (sum % ADDRESSES) as u32
+    (sum % u64::from(ADDRESSES)) as u32
 }

@@ -23,7 +23,7 @@ pub struct Effect {
 impl Effect {
     ghost use Rattle.std.specs.Prelude.{◌≡◌, ◌<◌, ◌≤◌, ◌+◌, [], IfOk, OnOk, OnSome, length};
     ghost use Rattle.s360_store.specs.Plans.{AddsToPlan, HasRegisters};
-    ghost use Rattle.s360_fixed.specs.Outcomes.{after_effect, condition_code_alone, core_after_effect};
+    ghost use Rattle.s360_fixed.specs.Outcomes.{after_effect, condition_alone, condition_code_alone, core_after_effect};
     ghost use Rattle.s360_fixed.specs.Outcomes.{double, no_effect, single};
     ghost use Rattle.s360_fixed.specs.Plans.{PlansOutcome};
 
@@ -35,6 +35,17 @@ impl Effect {
             first: None,
             second: None,
             setting: Setting::Kept,
+        }
+    }
+
+    /// What is made of the condition code alone.
+    pub fn condition(setting: Setting) -> Effect
+        ensures { result ≡ condition_alone setting }
+    {
+        Effect {
+            first: None,
+            second: None,
+            setting,
         }
     }
 

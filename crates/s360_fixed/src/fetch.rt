@@ -6,13 +6,11 @@ ghost use Rattle.s360_store.specs.Protection.{access};
 ghost use Rattle.s360_fixed.specs.Operands.{code_of_access};
 ghost use Rattle.s360_fixed.specs.Fetching.{fetch_conditions, instruction_bytes, length_at};
 ghost use Rattle.s360_fixed.specs.Table.{instruction_length};
-ghost use Rattle.arrayvec.specs.ArrayVec.{array_vec_len};
 ghost use Rattle.s360_fixed.specs.ProgramCodes.{program_code};
 
 use crate::decoder::length_of;
 use crate::program_code::ProgramCode;
-use arrayvec::ArrayVec;
-use s360_store::{Access, Checked, Storage};
+use s360_store::{Access, Storage};
 use s360_word::ProtectionKey;
 
 /// What keeps so many bytes from being fetched.
@@ -20,11 +18,7 @@ fn refusal(storage: &Storage, address: u32, count: u32, key: ProtectionKey) -> O
     ensures code { result ≡ code_of_access (access storage.now address count Fetch key) }
     ensures inside { IfNone result (address + count ≤ length storage.now.bytes) }
 {
-    match storage.check(address, count, Access::Fetch, key) {
-        Checked::Addressing => Some(ProgramCode::Addressing),
-        Checked::Protection => Some(ProgramCode::Protection),
-        Checked::Clear => None,
-    }
+    ProgramCode::of_access(storage.check(address, count, Access::Fetch, key))
 }
 
 /// The bytes of the instruction at an address, fetched with a protection key: as many as its first
@@ -34,14 +28,14 @@ pub fn fetch_instruction(
     storage: &Storage,
     address: u32,
     key: ProtectionKey,
-) -> Result<ArrayVec<u8, 6>, ProgramCode>
+) -> Result<&[u8], ProgramCode>
     ensures refused { IfErr result (λ code. program_code (fetch_conditions storage.now address key) ≡ Some code) }
     ensures none { OnOk result (program_code (fetch_conditions storage.now address key) ≡ None) }
-    ensures begun { IfOk result (λ bytes. 0 < array_vec_len bytes) }
-    ensures whole { IfOk result (λ bytes. array_vec_len bytes ≡ instruction_length (slice_index bytes.items 0)) }
-    ensures length { IfOk result (λ bytes. array_vec_len bytes ≡ length_at storage.now address) }
-    ensures inside { IfOk result (λ bytes. address + array_vec_len bytes ≤ length storage.now.bytes) }
-    ensures bytes { IfOk result (λ bytes. bytes.items ≡ instruction_bytes storage.now address) }
+    ensures begun { IfOk result (λ bytes. 0 < length bytes.now) }
+    ensures whole { IfOk result (λ bytes. length bytes.now ≡ instruction_length (slice_index bytes.now 0)) }
+    ensures length { IfOk result (λ bytes. length bytes.now ≡ length_at storage.now address) }
+    ensures inside { IfOk result (λ bytes. address + length bytes.now ≤ length storage.now.bytes) }
+    ensures bytes { IfOk result (λ bytes. bytes.now ≡ instruction_bytes storage.now address) }
 {
     if address % 2 == 1 {
         return Err(ProgramCode::Specification);
@@ -53,11 +47,5 @@ pub fn fetch_instruction(
     if let Some(code) = refusal(storage, address, length, key) {
         return Err(code);
     }
-    // Storage is small, so no address of the instruction passes 32 bits.
-    let _ = storage.size();
-    let mut bytes = ArrayVec::new();
-    for at in address..address + length {
-        bytes.push(storage.byte(at));
-    }
-    Ok(bytes)
+    Ok(storage.bytes(address, length))
 }

@@ -26,7 +26,7 @@ mod setting;
 mod shifts;
 mod view;
 
-pub use address::operand_address;
+pub use address::{ADDRESSES, operand_address};
 pub use decoder::{decode, length_of};
 pub use effect::Effect;
 pub use ended::{Ended, IoOperation};

@@ -7,7 +7,7 @@ ghost use Rattle.s360_fixed.specs.ProgramCodes.{program_code};
 
 use crate::program_code::ProgramCode;
 use crate::view::View;
-use s360_store::{Access, Checked};
+use s360_store::Access;
 
 /// What keeps an operand of so many bytes from being used with the key of the PSW: it is off its
 /// boundary, a multiple of so many bytes, or it is outside storage, or it is protected, found in this
@@ -27,9 +27,5 @@ pub fn operand_exception(
         return Some(ProgramCode::Specification);
     }
     let key = view.psw().protection_key();
-    match view.storage().check(address, count, kind, key) {
-        Checked::Addressing => Some(ProgramCode::Addressing),
-        Checked::Protection => Some(ProgramCode::Protection),
-        Checked::Clear => None,
-    }
+    ProgramCode::of_access(view.storage().check(address, count, kind, key))
 }

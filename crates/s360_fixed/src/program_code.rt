@@ -1,6 +1,9 @@
 //! The program interruption codes. Source: GA22-6821, "Interruptions", program interruption.
 ghost use Rattle.std.specs.Prelude.{◌≡◌};
+ghost use Rattle.s360_fixed.specs.Operands.{code_of_access};
 ghost use Rattle.s360_fixed.specs.ProgramCodes.{number_of_code};
+
+use s360_store::Checked;
 
 /// Why an instruction interrupts the program.
 #[derive(Clone, Copy, Debug, PartialEq, Eq, Hash)]
@@ -26,6 +29,17 @@ pub enum ProgramCode {
 }
 
 impl ProgramCode {
+    /// The code of what an access to storage meets, if it meets anything.
+    pub(crate) fn of_access(checked: Checked) -> Option<ProgramCode>
+        ensures { result ≡ code_of_access checked }
+    {
+        match checked {
+            Checked::Clear => None,
+            Checked::Addressing => Some(ProgramCode::Addressing),
+            Checked::Protection => Some(ProgramCode::Protection),
+        }
+    }
+
     /// The code's number, 1 to 9.
     pub fn number(self) -> u16
         ensures { result ≡ number_of_code self }

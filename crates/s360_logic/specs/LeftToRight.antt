@@ -109,11 +109,14 @@ with_low_byte word byte = word / 256 * 256 + byte
 
 -- the address of the argument byte is in register 1 and the function byte in register 2; the condition code is
 -- 1 before the last byte, and 2 at it
+abbrev pub found_outcome : ℕ → ℕ → View → ℕ → ℕ → Outcome
+found_outcome i byte v first count =
+    let words : ℕ × ℕ = (with_address (register_of v 1) (first + i), with_low_byte (register_of v 2) byte)
+    in after_effect v.core 1 (double words (Code (if nat_eq (i + 1) count then 2 else 1))) v.next_address
+
 abbrev pub search_outcome : Option ℕ → View → ℕ → ℕ → ℕ → Outcome
 search_outcome None v first table count = code_alone v 0
-search_outcome (Some i) v first table count =
-    let words : ℕ × ℕ = (with_address (register_of v 1) (first + i), with_low_byte (register_of v 2) (function_byte table (first + i) v.core.storage))
-    in after_effect v.core 1 (double words (Code (if nat_eq (i + 1) count then 2 else 1))) v.next_address
+search_outcome (Some i) v first table count = found_outcome i (function_byte table (first + i) v.core.storage) v first count
 
 abbrev pub translate_and_test_outcome : View → ℕ → ℕ → ℕ → Outcome
 translate_and_test_outcome v first table count =

@@ -62,7 +62,7 @@ pub fn plan_instruction(
     let instruction_length = length_of_bytes(bytes.len());
     let next_address = address + bytes.len() as u32;
     let view = View::new(psw, registers, storage, next_address, instruction_length);
-    let ended = match decode(&bytes) {
+    let ended = match decode(bytes) {
         Some(form) => plan_logic(&form, &view, plan)?,
         None => Ended::Program(ProgramCode::Operation),
     };

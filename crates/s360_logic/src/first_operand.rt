@@ -1,5 +1,5 @@
 //! Storage as an instruction has it so far, which stores into its first operand alone.
-ghost use Rattle.std.specs.Prelude.{◌≡◌, ◌<◌, ◌≤◌, ◌+◌, [], None, IfOk, length, slice_set};
+ghost use Rattle.std.specs.Prelude.{◌≡◌, ◌<◌, ◌≤◌, ◌+◌, [], IfOk, length, slice_set};
 ghost use Rattle.s360_model.specs.Storage.{Storage as Contents};
 ghost use Rattle.s360_fixed.specs.Plans.{PlansOutcome};
 ghost use Rattle.s360_logic.specs.Bytes.{byte_at, completed_with, operand_bytes};
@@ -36,17 +36,6 @@ impl<'a> Model for FirstOperand<'a> {
     ghost invariant = { λ o. (o.address + length o.bytes.items ≤ length o.storage.now.bytes) × (length o.storage.now.bytes ≤ 1048576) };
 }
 
-/// What sets a condition code alone, or keeps it.
-fn condition_alone(setting: Setting) -> Effect
-    ensures { result ≡ record { first = None; second = None; setting = setting } }
-{
-    Effect {
-        first: None,
-        second: None,
-        setting,
-    }
-}
-
 impl<'a> FirstOperand<'a> {
     /// The operand, of which nothing is stored yet.
     pub(crate) fn new(storage: &'a Storage, field: Field) -> FirstOperand<'a>
@@ -58,14 +47,11 @@ impl<'a> FirstOperand<'a> {
     {
         // Storage is small, so no address of the operand passes 32 bits.
         let _ = storage.size();
-        let mut bytes = ArrayVec::new();
-        for at in field.address..field.address + field.count {
-            bytes.push(storage.byte(at));
-        }
+        let bytes = storage.bytes(field.address, field.count);
         FirstOperand {
             storage,
             address: field.address,
-            bytes,
+            bytes: ArrayVec::try_from(bytes).unwrap(),
         }
     }
 
@@ -128,7 +114,7 @@ impl<'a> FirstOperand<'a> {
         // is inside storage.
         let _ = view.register(RegisterNumber::new(0));
         let _ = self.len();
-        let effect = condition_alone(setting);
+        let effect = Effect::condition(setting);
         let ended = effect.setting.ended(view.psw());
         effect.put(
             view.psw(),

@@ -1,17 +1,17 @@
 //! Rows of a byte in storage and the byte of the instruction. Source: GA22-6821, "Logical
 //! Operations".
 ghost use Rattle.std.specs.Prelude.{◌≡◌, ◌<◌, [], IfOk, length};
-ghost use Rattle.s360_fixed.specs.Outcomes.{after_effect, condition_code_alone};
 ghost use Rattle.s360_fixed.specs.Plans.{PlansOutcome};
 ghost use Rattle.s360_logic.specs.Bytes.{completed_with, with_byte};
 ghost use Rattle.s360_logic.specs.Immediate.{immediate_outcome, mask_code};
 
+use crate::condition::plan_code;
 use crate::field::Field;
 use crate::first_operand::FirstOperand;
 use crate::row::ImmediateRow;
-use s360_fixed::{Effect, Ended, Setting, View, operand_exception};
+use s360_fixed::{Ended, Setting, View, operand_exception};
 use s360_store::{Access, Plan};
-use s360_word::{Cc, RegisterNumber, Word, compare_logical};
+use s360_word::{Cc, Word, compare_logical};
 use std::alloc::AllocError;
 
 /// The condition code of the bits of a byte that a mask selects.
@@ -43,14 +43,6 @@ fn plan_byte(
     let mut operand = FirstOperand::new(view.storage(), Field { address, count: 1 });
     operand.set(0, byte);
     operand.plan(view, setting, plan)
-}
-
-/// Plans a condition code alone.
-pub(crate) fn plan_code(view: &View, code: Cc, plan: &mut Plan) -> Result<Ended, AllocError>
-    requires empty { plan.old ≡ [] }
-    ensures { IfOk result (PlansOutcome view.now.core plan.new (after_effect view.now.core 0 (condition_code_alone code) view.now.next_address)) }
-{
-    Effect::code(code).plan(view, RegisterNumber::new(0), view.next_address(), plan)
 }
 
 /// Plans a row of a byte in storage and the byte of the instruction.

@@ -1,28 +1,28 @@
 //! Rows of two operands in storage of one length, a byte after another from left to right. Source:
 //! GA22-6821, "Logical Operations".
+ghost use Rattle.std.specs.Option.{option_map};
 ghost use Rattle.std.specs.Prelude.{◌≡◌, ◌≤◌, ◌<◌, ◌+◌, ◌^◌, [], IfErr, IfOk, IfSome, IsTrue, false, not, true, length};
 ghost use Rattle.s360_fixed.specs.Plans.{PlansOutcome};
 ghost use Rattle.s360_logic.specs.LeftToRight.{combine_outcome, combined, compare_outcome};
 ghost use Rattle.s360_logic.specs.LeftToRight.{comparison_code, found_at, function_address};
-ghost use Rattle.s360_logic.specs.LeftToRight.{left_to_right, search_outcome, searches_outside};
-ghost use Rattle.s360_logic.specs.LeftToRight.{translate_and_test_outcome, translate_outcome};
+ghost use Rattle.s360_logic.specs.LeftToRight.{found_outcome, function_byte, left_to_right};
+ghost use Rattle.s360_logic.specs.LeftToRight.{searches_outside, translate_outcome};
+ghost use Rattle.s360_logic.specs.LeftToRight.{translate_and_test_outcome};
 ghost use Rattle.s360_logic.specs.LeftToRight.{translated_byte, translates_outside};
 ghost use Rattle.s360_logic.specs.LeftToRight.{with_address, with_low_byte};
+ghost use Rattle.s360_logic.specs.declared.left_to_right.Found.{Found};
 ghost use Rattle.s360_logic.specs.Bytes.{byte_at};
 ghost use Rattle.s360_logic.specs.Operands.{stored_in};
 ghost use Rattle.s360_fixed.specs.declared.program_code.ProgramCode.TheVariants.{Addressing};
 
+use crate::condition::plan_code;
 use crate::field::{Field, check, fields_exception};
 use crate::first_operand::FirstOperand;
-use crate::immediate::plan_code;
 use crate::row::ByteCombination;
-use s360_fixed::{Effect, Ended, ProgramCode, Setting, View, operand_exception};
+use s360_fixed::{ADDRESSES, Effect, Ended, ProgramCode, Setting, View, operand_exception};
 use s360_store::{Access, Checked, Plan, Storage};
 use s360_word::{Cc, RegisterNumber, Word, compare_logical};
 use std::alloc::AllocError;
-
-/// How many addresses there are.
-const ADDRESSES: u32 = 1 << 24;
 
 /// Makes each byte of the operand of itself and of the byte with its number from `second` on.
 fn combine(combination: ByteCombination, operand: &mut FirstOperand, second: u32)
@@ -171,14 +171,23 @@ pub(crate) fn plan_translate(
     operand.plan(view, Setting::Kept, plan)
 }
 
-/// The number of the first byte that selects a byte of a table that is not zero, if there is one;
-/// or the program code where it or one before it selects a byte outside storage.
-fn search(storage: &Storage, field: Field, table: u32) -> Result<Option<u32>, ProgramCode>
+/// A byte that selects a byte of a table that is not zero.
+#[derive(Clone, Copy, Debug, PartialEq, Eq)]
+struct Found {
+    /// Its number, counted from 0 at the left.
+    number: u32,
+    /// The byte that it selects.
+    function_byte: u8,
+}
+
+/// The first byte that selects a byte of a table that is not zero, if there is one; or the program
+/// code where it or one before it selects a byte outside storage.
+fn search(storage: &Storage, field: Field, table: u32) -> Result<Option<Found>, ProgramCode>
     requires inside { field.address + field.count ≤ length storage.now.bytes }
     requires table { table < 2 ^ 24 }
     ensures outside { IfErr result (λ code. (code ≡ Addressing) × (searches_outside table field.address 0 field.count storage.now ≡ true)) }
-    ensures found { IfOk result (λ found. (found ≡ found_at table field.address 0 field.count storage.now) × (searches_outside table field.address 0 field.count storage.now ≡ false)) }
-    ensures within { IfOk result (λ found. IfSome found (λ i. (i < field.count) × (function_address table (byte_at storage.now (field.address + i)) < length storage.now.bytes))) }
+    ensures found { IfOk result (λ found. (option_map (λ (f : Found). f.number) found ≡ found_at table field.address 0 field.count storage.now) × (searches_outside table field.address 0 field.count storage.now ≡ false)) }
+    ensures byte { IfOk result (λ found. IfSome found (λ f. (f.number < field.count) × (f.function_byte ≡ function_byte table (field.address + f.number) storage.now))) }
 {
     let size = storage.size();
     for i in 0..field.count {
@@ -186,8 +195,12 @@ fn search(storage: &Storage, field: Field, table: u32) -> Result<Option<u32>, Pr
         if selected >= size {
             return Err(ProgramCode::Addressing);
         }
-        if storage.byte(selected) != 0 {
-            return Ok(Some(i));
+        let function_byte = storage.byte(selected);
+        if function_byte != 0 {
+            return Ok(Some(Found {
+                number: i,
+                function_byte,
+            }));
         }
     }
     Ok(None)
@@ -208,31 +221,21 @@ fn with_low_byte(word: Word, byte: u8) -> Word
     word / 256 * 256 + Word::from(byte)
 }
 
-/// Plans the end of a search.
-fn plan_found(
-    view: &View,
-    found: Option<u32>,
-    field: Field,
-    table: u32,
-    plan: &mut Plan,
-) -> Result<Ended, AllocError>
-    requires first { field.address + field.count ≤ length view.now.core.storage.bytes }
-    requires inside { IfSome found (λ i. (i < field.count) × (function_address table (byte_at view.now.core.storage (field.address + i)) < length view.now.core.storage.bytes)) }
-    requires table { table < 2 ^ 24 }
+/// Plans what a search does that has found a byte.
+fn plan_found(view: &View, found: Found, field: Field, plan: &mut Plan) -> Result<Ended, AllocError>
+    requires inside { field.address + field.count ≤ length view.now.core.storage.bytes }
+    requires number { found.number < field.count }
     requires empty { plan.old ≡ [] }
-    ensures { IfOk result (PlansOutcome view.now.core plan.new (search_outcome found view.now field.address table field.count)) }
+    ensures { IfOk result (PlansOutcome view.now.core plan.new (found_outcome found.number found.function_byte view.now field.address field.count)) }
 {
-    let Some(i) = found else {
-        return plan_code(view, Cc::new(0), plan);
-    };
-    let storage = view.storage();
-    let argument_address = field.address + i;
-    let function_byte = storage.byte(function_address(table, storage.byte(argument_address)));
-    let code = Cc::new(if i + 1 == field.count { 2 } else { 1 });
+    // Storage is small, so no address of the operand passes 24 bits.
+    let _ = view.storage().size();
+    let is_last = found.number + 1 == field.count;
+    let code = Cc::new(if is_last { 2 } else { 1 });
     let one = RegisterNumber::new(1);
     let words = (
-        with_address(view.register(one), argument_address),
-        with_low_byte(view.register(RegisterNumber::new(2)), function_byte),
+        with_address(view.register(one), field.address + found.number),
+        with_low_byte(view.register(RegisterNumber::new(2)), found.function_byte),
     );
     Effect::double(words, Setting::Code(code)).plan(view, one, view.next_address(), plan)
 }
@@ -257,7 +260,8 @@ pub(crate) fn plan_translate_and_test(
         return Ok(Ended::Program(code));
     }
     match search(view.storage(), field, table) {
-        Ok(found) => plan_found(view, found, field, table, plan),
+        Ok(Some(found)) => plan_found(view, found, field, plan),
+        Ok(None) => plan_code(view, Cc::new(0), plan),
         Err(code) => Ok(Ended::Program(code)),
     }
 }

@@ -6,6 +6,7 @@
 #![tactic(auto)]
 
 mod bytes;
+mod condition;
 mod converting;
 mod cpu;
 mod field;

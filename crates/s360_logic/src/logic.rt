@@ -1,7 +1,7 @@
 //! The plan of an instruction that was decoded: by its row, or by that of the subject of an execute.
 //! Source: GA22-6821, "Logical Operations", "Fixed-Point Arithmetic", "Decimal Arithmetic", and
 //! "Branching", EXECUTE.
-ghost use Rattle.std.specs.Prelude.{◌≡◌, ◌<◌, ◌^◌, [], None, IfOk, slice_index};
+ghost use Rattle.std.specs.Prelude.{◌≡◌, ◌<◌, ◌≤◌, ◌^◌, [], None, IfOk, length, slice_index};
 ghost use Rattle.s360_fixed.specs.Plans.{PlansOutcome};
 ghost use Rattle.s360_fixed.specs.Table.{form_of};
 ghost use Rattle.s360_logic.specs.Logic.{address_of, by_row, execute_outcome, logic_outcome};
@@ -139,13 +139,14 @@ fn subject_of(form: &Form, view: &View) -> Option<(RegisterNumber, u32)>
 }
 
 /// The bytes of a subject with the low byte of R1 ored into the second, where the field R1 is not 0.
-fn with_register(view: &View, r1: RegisterNumber, bytes: ArrayVec<u8, 6>) -> ArrayVec<u8, 6>
-    requires two { 1 < array_vec_len bytes }
-    ensures bytes { result.items ≡ with_register view.now r1 bytes.items }
-    ensures length { array_vec_len result ≡ array_vec_len bytes }
-    ensures code { slice_index result.items 0 ≡ slice_index bytes.items 0 }
+fn with_register(view: &View, r1: RegisterNumber, bytes: &[u8]) -> ArrayVec<u8, 6>
+    requires two { 1 < length bytes.now }
+    requires six { length bytes.now ≤ 6 }
+    ensures bytes { result.items ≡ with_register view.now r1 bytes.now }
+    ensures length { array_vec_len result ≡ length bytes.now }
+    ensures code { slice_index result.items 0 ≡ slice_index bytes.now 0 }
 {
-    let mut bytes = bytes;
+    let mut bytes = ArrayVec::try_from(bytes).unwrap();
     if r1.number() != 0 {
         bytes[1] |= (view.register(r1) % 256) as u8;
     }
@@ -166,7 +167,7 @@ fn plan_execute(
         Ok(bytes) => with_register(view, r1, bytes),
         Err(code) => return Ok(Ended::Program(code)),
     };
-    let Some(form) = decode(&bytes) else {
+    let Some(form) = decode(bytes.as_slice()) else {
         return Ok(Ended::Program(ProgramCode::Operation));
     };
     if subject_of(&form, view).is_some() {

@@ -6,14 +6,18 @@ ghost use Rattle.s360_machine.specs.Change.{places_of_change};
 
 use crate::control_cell::ControlCell;
 use s360_store::{Cell, Place};
+use smallvec::SmallVec;
 use std::alloc::AllocError;
 use std::marker::Model;
+
+/// So many cells of the core stand within a change, as many as most instructions alter.
+pub(crate) const WITHIN: usize = 2;
 
 /// The places that an event alters, in their order, each with the value that stands there while the
 /// change is not made, or no longer: those of the core, and then those of the control part.
 #[derive(Debug, Drop)]
 pub struct Changes {
-    pub(crate) cells: Vec<Cell>,
+    pub(crate) cells: SmallVec<Cell, WITHIN>,
     /// So far no event alters more than one place of the control part.
     pub(crate) control: Option<ControlCell>,
 }

@@ -1,7 +1,7 @@
 //! What an instruction works on: the current PSW, the general registers and main storage. Source:
 //! GA22-6821, "System Structure".
 ghost use Rattle.std.specs.Prelude.{OnOk};
-ghost use Rattle.std.specs.Prelude.{IsTrue, ◌≡◌, ◌≤◌, ◌+◌, [], length, slice_index, Err, IfOk, IsOkUnless};
+ghost use Rattle.std.specs.Prelude.{IsTrue, ◌≡◌, ◌≢◌, ◌≤◌, ◌+◌, [], length, slice_index, Err, IfOk, IsOkUnless};
 ghost use Rattle.std.specs.Bool.{MatchBool};
 ghost use Rattle.s360_model.specs.Core.{zero_core, core_with_bytes, core_with_psw, core_with_word};
 ghost use Rattle.s360_model.specs.Psw.{current_psw};
@@ -16,10 +16,12 @@ ghost use Rattle.s360_store.specs.Plans.{IsPlanOf};
 ghost use Rattle.s360_logic.specs.Instruction.{PlansInstruction, instruction};
 ghost use Rattle.s360_store.proofs.KeptLemmas.{AreKept};
 
+use crate::changes::WITHIN;
 use s360_logic::PlannedInstruction;
 use s360_psw::{InstructionLength, Psw};
 use s360_store::{Cell, Place, Plan, Storage, StoreFault};
 use s360_word::{RegisterNumber, Word};
+use smallvec::SmallVec;
 use std::alloc::{AllocError, Global};
 use std::marker::Model;
 
@@ -191,24 +193,50 @@ impl Core {
         }
     }
 
-    /// The cells of a plan that alter their places, in the order of the plan.
-    fn altering(&self, alloc: Global, plan: &Plan) -> Result<Vec<Cell>, AllocError>
+    /// Whether a cell alters its place.
+    fn is_altered_by(&self, cell: Cell) -> bool
+        requires { IsPlaceOf self.now cell.place }
+        ensures { MatchBool result (value_at self.now cell.place ≢ cell.value) (value_at self.now cell.place ≡ cell.value) }
+    {
+        self.value(cell.place) != cell.value
+    }
+
+    /// The number of cells of a plan that alter their places.
+    fn count_altering(&self, plan: &Plan) -> usize
+        requires { AreCellsOf self.now plan.now }
+    {
+        let mut count = 0;
+        for i in 0..plan.len() {
+            let cell = plan.cell(i);
+            if self.is_altered_by(cell) {
+                count += 1;
+            }
+        }
+        count
+    }
+
+    /// The cells of a plan that alter their places, in the order of the plan. It takes memory once.
+    fn altering(&self, alloc: Global, plan: &Plan) -> Result<SmallVec<Cell, WITHIN>, AllocError>
         requires { AreCellsOf self.now plan.now }
         ensures kept { IfOk result (λ cells. AreKept self.now plan.now cells.items) }
         ensures few { IfOk result (λ cells. length cells.items ≤ 1000000) }
     {
-        let mut cells = Vec::with_capacity(alloc, plan.len() as usize)?;
+        let mut cells = SmallVec::with_capacity(alloc, self.count_altering(plan))?;
         for i in 0..plan.len() {
             let cell = plan.cell(i);
-            if self.value(cell.place) != cell.value {
-                cells.push_reserved(cell);
+            if self.is_altered_by(cell) {
+                cells.push(cell)?;
             }
         }
         Ok(cells)
     }
 
     /// The cells of a plan that alter their places, in the order of places.
-    pub(crate) fn changes(&self, alloc: Global, plan: &Plan) -> Result<Vec<Cell>, AllocError>
+    pub(crate) fn changes(
+        &self,
+        alloc: Global,
+        plan: &Plan,
+    ) -> Result<SmallVec<Cell, WITHIN>, AllocError>
         requires { AreCellsOf self.now plan.now }
         ensures change { IfOk result (λ cells. IsCoreChangeTo self.now cells.items (after_exchange self.now plan.now)) }
         ensures few { IfOk result (λ cells. length cells.items ≤ 1000000) }
@@ -218,7 +246,7 @@ impl Core {
         if are_ascending(cells.as_slice()) {
             return Ok(cells);
         }
-        cells.sort_unstable_by_key(|cell| cell.place);
+        cells.as_mut_slice().sort_unstable_by_key(|cell| cell.place);
         Ok(cells)
     }
 }

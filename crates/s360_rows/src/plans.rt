@@ -117,10 +117,28 @@ fn put_rising(alloc: Global, count: u32) -> Option<u32> {
     Some(planned.plan.len())
 }
 
+/// Puts values at so many places, of which the last alone does not rise, and answers how many places
+/// the plan has.
+fn put_rising_but_for_the_last(alloc: Global, count: u32) -> Option<u32> {
+    let mut planned = Planned::new(alloc)?;
+    for address in 1..count {
+        planned.put(Place::Byte(address), 1)?;
+    }
+    planned.put(Place::Byte(0), 1)?;
+    Some(planned.plan.len())
+}
+
 /// Many puts take few growths, which `tests/refuse_each_growth.py` counts.
 #[test]
 fn rising_puts(rt: HostRuntime) -> Result<(), Fail> {
     let count = put_rising(rt.alloc(), 65_535).ok_or("out of memory")?;
+    assert_eq!(rt; count, 65_535);
+    Ok(())
+}
+
+#[test]
+fn rising_puts_but_for_the_last(rt: HostRuntime) -> Result<(), Fail> {
+    let count = put_rising_but_for_the_last(rt.alloc(), 65_535).ok_or("out of memory")?;
     assert_eq!(rt; count, 65_535);
     Ok(())
 }

@@ -1,5 +1,5 @@
 -- Bytes put after all places of a plan.
-use Rattle.std.proofs.Common.{◌≡◌, ◌≢◌, ◌<◌, ◌≤◌, ◌+◌, ◌++◌, ℕ, zero, suc, List, [], ◌∷◌, ◌⊎◌, refl, ap, sym, ◌∙◌, inl, inr, take, drop, get_or, length, arith, append-nil, add-zero, subst, ◌-◌, Option, Some, None, Bool, true, false, min, nat_lt, ◌%◌, ◌^◌}
+use Rattle.std.proofs.Common.{◌≡◌, ◌<◌, ◌≤◌, ◌+◌, ◌++◌, ℕ, zero, suc, List, [], ◌∷◌, ◌⊎◌, refl, ap, sym, ◌∙◌, inl, inr, take, drop, get_or, length, arith, append-nil, add-zero, subst, ◌-◌, Option, Some, None, Bool, true, false, min, nat_lt, ◌%◌, ◌^◌}
 use Rattle.std.proofs.Math.Nat.{min-le_left, min-le_right, min-eq_left, min-eq_right}
 use Rattle.std.specs.Option.{is_some}
 use Rattle.std.proofs.lemmas.Bool.{ltb-true, ltb-false}

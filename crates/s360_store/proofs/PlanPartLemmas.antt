@@ -6,7 +6,7 @@ use Rattle.std.proofs.lemmas.List.Sums.{fails_before_first, passes_at_first}
 use Rattle.std.specs.List.{position, position_or_len}
 use Rattle.std.specs.Map.{lookup}
 use Rattle.std.specs.declared.cmp.PartialEq
-use Rattle.indexmap.specs.IndexMap.{IndexMap, insert_entry}
+use Rattle.indexmap.specs.IndexMap.{insert_entry}
 use denote.Param
 use Rattle.s360_store.specs.contracts.place.PlacePartialEq.TheImpl
 use Rattle.s360_store.specs.declared.place.Place.{Place}

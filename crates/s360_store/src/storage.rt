@@ -3,7 +3,7 @@
 ghost use Rattle.std.specs.Prelude.{◌≡◌, ◌<◌, ◌≤◌, ◌+◌, length, slice_index, Err, IfOk, IsOkUnless};
 ghost use Rattle.std.specs.Prelude.{◌/◌, nat_eq};
 ghost use Rattle.std.specs.Bool.{MatchBool};
-ghost use Rattle.std.specs.List.{list_all};
+ghost use Rattle.std.specs.List.{list_all, slice_range};
 ghost use Rattle.s360_model.specs.Storage.{is_storage_size, zero_storage, halfword_at, word_at};
 ghost use Rattle.s360_model.specs.Storage.{doubleword_at, block_size};
 ghost use Rattle.s360_store.specs.Places.{IsStoragePlace, storage_value, with_storage_value, Fits};
@@ -74,6 +74,16 @@ impl Storage {
         ensures blocks { length self.now.keys ≡ result / block_size }
     {
         self.bytes.len() as u32
+    }
+
+    /// So many bytes from an address on.
+    pub fn bytes(&self, address: u32, count: u32) -> &[u8]
+        requires inside { address + count ≤ length self.now.bytes }
+        ensures bytes { result.now ≡ slice_range self.now.bytes address (address + count) }
+        ensures count { length result.now ≡ count }
+    {
+        let start = address as usize;
+        &self.bytes[start..start + count as usize]
     }
 
     /// The byte at an address.

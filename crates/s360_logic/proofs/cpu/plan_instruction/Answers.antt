@@ -13,5 +13,5 @@ returns-in-None c =
     in let none : form_of (instruction_bytes c.args.storage.now c.instruction_address-address.result) ≡ None
     = rw c.in-Ok.ensures.bytes at (sym c.decode.ensures ∙ c.in-None.is)
     in let fetched = subst (λ k. program_code (fetch_conditions c.args.storage.now c.instruction_address-address.result k) ≡ None) c.protection_key.ensures c.in-Ok.ensures.none
-    in rw (c.requires.empty, c.len-2.ensures.value, c.length_of_bytes-instruction_length.ensures, c.len.ensures.value, c.in-Ok.ensures.length)
+    in rw (c.requires.empty, c.length_of_bytes-instruction_length.ensures, c.in-Ok.ensures.length)
     (PlansInstruction-unknown m c.instruction_address-address.result c.instruction_address-address.ensures.value fetched none)

@@ -1,4 +1,4 @@
-use Rattle.std.proofs.Common.{◌≡◌, ◌<◌, ◌∙◌, IsTrue, arith, get_or, length, take, true}
+use Rattle.std.proofs.Common.{◌≡◌, arith, get_or, take, true}
 use Rattle.std.proofs.lemmas.List.{take_all}
 use Rattle.std.specs.Ordering.{is_lt}
 use Rattle.s360_store.specs.declared.place.Place.TheVariants.{Psw}

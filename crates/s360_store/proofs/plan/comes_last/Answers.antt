@@ -1,4 +1,4 @@
-use Rattle.std.proofs.Common.{◌≡◌, ◌<◌, ◌-◌, ◌∙◌, IsTrue, arith, ap, sym, get_or, length, true}
+use Rattle.std.proofs.Common.{◌≡◌, ◌<◌, ◌-◌, arith, get_or, length, true}
 use Rattle.std.specs.Ordering.{is_lt}
 use Rattle.s360_store.specs.declared.place.Place.TheVariants.{Psw}
 use Rattle.s360_store.specs.declared.place.Cell.{Cell}

@@ -1,4 +1,4 @@
-use Rattle.std.proofs.Common.{◌≡◌, ◌<◌, ◌++◌, arith}
+use Rattle.std.proofs.Common.{arith}
 use Rattle.s360_store.proofs.ByteCellLemmas.{byte_cells-push}
 use Rattle.s360_store.proofs.plan.extend.Goals as goal
 

@@ -1,7 +1,7 @@
-use Rattle.std.proofs.Common.{◌≡◌, ◌∙◌, IsTrue, rules, sym}
+use Rattle.std.proofs.Common.{rules, sym}
 use Rattle.s360_store.specs.Cells.{places_of_cells}
 use Rattle.s360_store.specs.Order.{IsAscending}
-use Rattle.s360_store.specs.PlanParts.{EndsBefore, Rises}
+use Rattle.s360_store.specs.PlanParts.{EndsBefore}
 use Rattle.s360_store.proofs.PlanPartLemmas.{after_put-fresh, IsAscending-push, IsFresh-ends}
 use Rattle.s360_store.proofs.plan.put_past_few.Goals as goal
 

@@ -1,4 +1,4 @@
-use Rattle.std.proofs.Common.{◌≤◌, length, take, vec_capacity}
+use Rattle.std.proofs.Common.{◌≤◌, length, take}
 use Rattle.s360_store.proofs.KeptLemmas.{AreKept}
 use Rattle.s360_machine.proofs.core_state.Core.altering.Given as goal
 
@@ -6,5 +6,4 @@ abbrev pub invariant-loop-i : goal.invariant-loop-i
 invariant-loop-i l = record {
   kept : AreKept l.self (take l.i l.plan) l.cells.items;
   few : length l.cells.items ≤ l.i;
-  room : length l.plan ≤ vec_capacity l.cells;
 }

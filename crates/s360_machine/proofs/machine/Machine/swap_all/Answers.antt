@@ -41,18 +41,18 @@ exchanged c =
 
 pub returns-clause-again : goal.returns-clause-again
 returns-clause-again c =
-    let count : length c.exchange.new.cells ≡ c.changes.inside.cells.len = cc
+    let count : length c.exchange.new.cells ≡ length c.changes.inside.cells.items = cc
     in let count-2 : length c.exchange-2.new.cells ≡ length (option_to_list c.changes.inside.control) = cc
     in rw (take_at, option_to_list-lent c.changes.inside.control c.exchange-2.new.cells count-2) (exchanged c.before).again
 
 pub returns-clause-restores_machine : goal.returns-clause-restores_machine
 returns-clause-restores_machine c =
-    let count : length c.exchange.new.cells ≡ c.changes.inside.cells.len = cc
+    let count : length c.exchange.new.cells ≡ length c.changes.inside.cells.items = cc
     in let count-2 : length c.exchange-2.new.cells ≡ length (option_to_list c.changes.inside.control) = cc
     in rw (take_at, option_to_list-lent c.changes.inside.control c.exchange-2.new.cells count-2) ((exchanged c.before).whole ∙ ap (λ (m : WithRoom). m.whole) c.self.view_is)
 
 pub returns-clause-restores_changes : goal.returns-clause-restores_changes
 returns-clause-restores_changes c =
-    let count : length c.exchange.new.cells ≡ c.changes.inside.cells.len = cc
+    let count : length c.exchange.new.cells ≡ length c.changes.inside.cells.items = cc
     in let count-2 : length c.exchange-2.new.cells ≡ length (option_to_list c.changes.inside.control) = cc
     in rw (take_at, option_to_list-lent c.changes.inside.control c.exchange-2.new.cells count-2) ((exchanged c.before).change ∙ c.changes.view_is)

@@ -1,9 +1,8 @@
-use Rattle.std.proofs.Common.{◌≡◌, ◌∙◌, ◌+◌, ◌<◌, ◌≤◌, ◌-◌, ◌⊎◌, ◌%◌, ◌^◌, inl, inr, None, refl, arith, rules, sym, ap, drop, take, length}
+use Rattle.std.proofs.Common.{◌≡◌, ◌+◌, ◌≤◌, ◌%◌, ◌^◌, None, refl, arith, rules, drop, length}
 use Rattle.s360_store.specs.declared.place.Place.TheVariants.{Byte}
 use Rattle.s360_store.specs.Cells.{places_of_cells}
 use Rattle.s360_store.specs.Order.{IsAscending}
-use Rattle.s360_store.specs.PlanParts.{AllBefore, ArePartsOfPlan, EndsBefore, byte_cells, plan_of_parts}
-use Rattle.s360_store.specs.Plans.{after_put_bytes}
+use Rattle.s360_store.specs.PlanParts.{AllBefore, ArePartsOfPlan, byte_cells, plan_of_parts}
 use Rattle.s360_store.proofs.ByteCellLemmas.{byte_cells-wrapped, AllBefore-append, AllBefore-ends, ArePartsOfPlan-bytes, IsAscending-further, Split, Split-min, none_of_is_some, after_put_bytes-parts}
 use Rattle.s360_store.proofs.plan.Plan.append_bytes.Goals as goal
 
@@ -47,4 +46,4 @@ returns-clause-appended c =
     in let os = c.self.inside.rising.items
     in let bs = c.args.bytes.now
     in rw (← c.self.view_is, c.fill.ensures, c.in_ok-extend.ensures.ok, c.split_at.ensures.front, c.split_at.ensures.back, rest c, no_map c) (
-      after_put_bytes-parts cs os c.args.address bs c.min-within.result (split c) (parts c).in_turn (AllBefore-append cs os (Byte c.args.address) (few_before c) (rising_before c)))
+    after_put_bytes-parts cs os c.args.address bs c.min-within.result (split c) (parts c).in_turn (AllBefore-append cs os (Byte c.args.address) (few_before c) (rising_before c)))

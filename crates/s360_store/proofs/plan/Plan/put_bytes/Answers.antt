@@ -1,7 +1,7 @@
-use Rattle.std.proofs.Common.{◌≡◌, ◌∙◌, ◌+◌, ◌<◌, ◌≤◌, arith, add-zero, inr, refl, get_or, length}
+use Rattle.std.proofs.Common.{◌≡◌, ◌+◌, ◌<◌, arith, add-zero, inr, refl, get_or, length}
 use Rattle.std.proofs.lemmas.List.{drop_all, drop_more}
 use Rattle.s360_store.specs.declared.place.Place.TheVariants.{Byte}
-use Rattle.s360_store.specs.Plans.{after_put, after_put_bytes}
+use Rattle.s360_store.specs.Plans.{after_put_bytes}
 use Rattle.s360_store.proofs.ByteCellLemmas.{AddsToPlan-bytes}
 use Rattle.s360_store.proofs.PutLemmas.{length-after_put}
 use Rattle.s360_store.proofs.plan.Plan.put_bytes.Goals as goal
