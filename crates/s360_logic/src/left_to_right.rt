@@ -11,7 +11,6 @@ ghost use Rattle.s360_logic.specs.LeftToRight.{translate_and_test_outcome};
 ghost use Rattle.s360_logic.specs.LeftToRight.{translated_byte, translates_outside};
 ghost use Rattle.s360_logic.specs.LeftToRight.{with_address, with_low_byte};
 ghost use Rattle.s360_logic.specs.declared.left_to_right.Found.{Found};
-ghost use Rattle.s360_logic.specs.Bytes.{byte_at};
 ghost use Rattle.s360_logic.specs.Operands.{stored_in};
 ghost use Rattle.s360_fixed.specs.declared.program_code.ProgramCode.TheVariants.{Addressing};
 
