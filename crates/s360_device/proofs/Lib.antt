@@ -1,0 +1,6 @@
+pub mod ChunkLemmas
+pub mod AlterationLemmas
+pub mod ReaderLemmas
+pub mod KnownDevices
+pub mod DifferenceLemmas
+pub mod DeckLemmas

@@ -1,0 +1,17 @@
+pub mod Sense
+pub mod Commands
+pub mod Transfers
+pub mod Rows
+pub mod Items
+pub mod Motions
+pub mod MotionLaws
+pub mod Punch
+pub mod PunchChanges
+pub mod PunchLaws
+pub mod ReaderCommands
+pub mod Reader
+pub mod Attempts
+pub mod ReaderChanges
+pub mod ReaderLaws
+pub mod Differences
+pub mod Laws

@@ -1,0 +1,33 @@
+//! Input/output devices: what every one of them is to a channel, the card reader and the card punch,
+//! and decks of cards.
+//!
+//! A command is planned first, room is made for its change, and then the change is exchanged with the
+//! device, which the same exchange takes back. Source: GA22-6821, "Input/Output Operations".
+#![tactic(auto)]
+
+mod card;
+mod command_code;
+mod deck;
+mod device;
+mod fault;
+mod laws;
+mod motion;
+mod punch;
+mod punch_change;
+mod reader;
+mod reader_change;
+mod reader_command;
+mod sense;
+
+pub use card::{Card, PunchStacker, PunchedCard, ReadStacker};
+pub use command_code::CommandCode;
+pub use deck::{Deck, deck_from};
+pub use device::{Begin, Device, Planned};
+pub use fault::DeckFault;
+pub use laws::short_card_is_what_is_left;
+pub use motion::Motion;
+pub use punch::Punch;
+pub use punch_change::PunchChange;
+pub use reader::Reader;
+pub use reader_change::ReaderChange;
+pub use sense::{COMMAND_REJECT, INTERVENTION_REQUIRED, NO_SENSE};
