@@ -70,6 +70,7 @@ impl Storage {
     /// The number of bytes.
     pub fn size(&self) -> u32
         ensures size { result ≡ length self.now.bytes }
+        ensures least { 8192 ≤ result }
         ensures below { result ≤ 1048576 }
         ensures blocks { length self.now.keys ≡ result / block_size }
     {
