@@ -1,7 +1,7 @@
 //! Main storage: its bytes, with numbers high byte first, and the storage keys of its blocks.
 //! A contract sees the record of both. Source: GA22-6821, "System Structure".
 ghost use Rattle.std.specs.Prelude.{◌≡◌, ◌<◌, ◌≤◌, ◌+◌, length, slice_index, Err, IfOk, IsOkUnless};
-ghost use Rattle.std.specs.Prelude.{◌/◌, nat_eq};
+ghost use Rattle.std.specs.Prelude.{◌/◌, ◌%◌, nat_eq};
 ghost use Rattle.std.specs.Bool.{MatchBool};
 ghost use Rattle.std.specs.List.{list_all};
 ghost use Rattle.s360_model.specs.Storage.{is_storage_size, zero_storage, halfword_at, word_at};
@@ -71,6 +71,7 @@ impl Storage {
     pub fn size(&self) -> u32
         ensures size { result ≡ length self.now.bytes }
         ensures least { 8192 ≤ result }
+        ensures whole { result % block_size ≡ 0 }
         ensures below { result ≤ 1048576 }
         ensures blocks { length self.now.keys ≡ result / block_size }
     {
