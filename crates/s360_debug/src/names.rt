@@ -1,11 +1,11 @@
-//! The printed names of places, events, refusals and run states.
+//! The printed names of places, events, refusals, run states and external conditions.
 ghost use Rattle.std.specs.Prelude.{◌≡◌, ◌++◌, IfOk, OnOk};
 ghost use Rattle.s360_model.specs.Text.{hex_text};
 ghost use Rattle.s360_debug.specs.Names.{place_name, event_name, refusal_name};
-ghost use Rattle.s360_debug.specs.Names.{refused_text, run_state_name};
+ghost use Rattle.s360_debug.specs.Names.{external_name, key_name, refused_text, run_state_name};
 
 use crate::text::Text;
-use s360_machine::{Event, Patch, Refusal, RunState};
+use s360_machine::{Event, ExternalConditions, Key, Patch, Refusal, RunState};
 use s360_store::Place;
 use std::alloc::{AllocError, Global};
 
@@ -36,14 +36,29 @@ fn push_numbered(text: &mut Text, name: &str, number: u64, width: u8) -> Result<
     text.push_hex(number, width)
 }
 
+/// The name of a key that the operator presses.
+fn name_of_key(key: Key) -> &'static str
+    ensures { result.now ≡ key_name key }
+{
+    match key {
+        Key::Start => "key start",
+        Key::Stop => "key stop",
+        Key::Reset => "key reset",
+        Key::Interrupt => "key interrupt",
+    }
+}
+
 /// The name of an event.
 pub(crate) fn name_of_event(event: &Event) -> &'static str
     ensures { result.now ≡ event_name event.now }
 {
     match event {
         Event::Cpu => "cpu",
+        Event::Tick => "tick",
+        Event::Key(key) => name_of_key(*key),
         Event::Patch(Patch::Bytes { .. }) => "patch s",
         Event::Patch(Patch::Register(..)) => "patch r",
+        Event::Patch(Patch::StorageKey { .. }) => "patch k",
         Event::Patch(Patch::Psw(_)) => "patch p",
     }
 }
@@ -82,5 +97,17 @@ pub(crate) fn push_run_state(text: &mut Text, run: RunState) -> Result<(), Alloc
         RunState::Operating => text.push_text("operating"),
         RunState::Stopped => text.push_text("stopped"),
         RunState::Loading(unit) => push_numbered(text, "loading ", u64::from(unit.0), 3),
+    }
+}
+
+/// The name of the external conditions that are pending.
+pub(crate) fn name_of_external(external: ExternalConditions) -> &'static str
+    ensures { result.now ≡ external_name external }
+{
+    match (external.timer, external.key) {
+        (false, false) => "none",
+        (true, false) => "timer",
+        (false, true) => "key",
+        (true, true) => "timer key",
     }
 }
