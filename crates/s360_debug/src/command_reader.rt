@@ -12,7 +12,7 @@ use crate::command::{Command, LineFault, Shown};
 use crate::digits::number_in;
 use crate::words::Words;
 use s360_machine::{Bytes, Key, Patch};
-use s360_store::Place;
+use s360_store::{BLOCK_SIZE, Place};
 use s360_word::{ProtectionKey, RegisterNumber};
 use std::alloc::Global;
 
@@ -27,9 +27,6 @@ const COUNT_DIGITS: usize = 8;
 
 /// A line shows at most so many bytes of storage.
 const MOST_SHOWN: u32 = 256;
-
-/// Bytes in a block, which has one storage key.
-const BLOCK: u32 = 2048;
 
 /// The command of a line, without its line end. A fault is answered whatever memory there is. A line of
 /// blanks alone is `Unknown`.
@@ -173,7 +170,7 @@ fn read_last(mut words: Words<'_>) -> Result<Command, LineFault>
         finish(words, 3, Command::Last(Place::Register(register as u8)))
     } else if is(kind, "k") {
         let at = next_number(&mut words, 2, 6)?;
-        finish(words, 3, Command::Last(Place::Key(at / BLOCK)))
+        finish(words, 3, Command::Last(Place::Key(at / BLOCK_SIZE)))
     } else if is(kind, "p") {
         finish(words, 2, Command::Last(Place::Psw))
     } else if is(kind, "run") {

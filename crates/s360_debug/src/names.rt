@@ -6,11 +6,8 @@ ghost use Rattle.s360_debug.specs.Names.{external_name, key_name, refused_text, 
 
 use crate::text::Text;
 use s360_machine::{Event, ExternalConditions, Key, Patch, Refusal, RunState};
-use s360_store::Place;
+use s360_store::{BLOCK_SIZE, Place};
 use std::alloc::{AllocError, Global};
-
-/// Bytes in a block, by whose first address a storage key is named.
-const BLOCK: u64 = 2048;
 
 /// Adds a place's name.
 pub(crate) fn push_place(text: &mut Text, place: Place) -> Result<(), AllocError>
@@ -20,7 +17,7 @@ pub(crate) fn push_place(text: &mut Text, place: Place) -> Result<(), AllocError
         Place::Psw => text.push_text("p"),
         Place::Register(number) => push_numbered(text, "r", u64::from(number), 1),
         Place::Byte(address) => push_numbered(text, "s", u64::from(address), 6),
-        Place::Key(block) => push_numbered(text, "k", u64::from(block) * BLOCK, 6),
+        Place::Key(block) => push_numbered(text, "k", u64::from(block) * u64::from(BLOCK_SIZE), 6),
         Place::Run => text.push_text("run"),
         Place::External => text.push_text("ext"),
         Place::UnitState(unit) => push_numbered(text, "u", u64::from(unit.0), 3),

@@ -10,15 +10,12 @@ use crate::names::{name_of_external, push_run_state, refusal_text};
 use crate::text::Text;
 use s360_machine::{ExternalConditions, Machine, Refusal};
 use s360_psw::InstructionLength;
-use s360_store::Storage;
+use s360_store::{BLOCK_SIZE, Storage};
 use s360_word::{ProtectionKey, RegisterNumber};
 use std::alloc::{AllocError, Global};
 
 /// A line shows so many bytes.
 const BYTES_A_LINE: u32 = 16;
-
-/// Bytes in a block, which has one storage key.
-const BLOCK: u32 = 2048;
 
 /// A part of the machine.
 pub(crate) fn text_of_shown(
@@ -124,7 +121,7 @@ fn key_of(alloc: Global, storage: &Storage, at: u32) -> Result<Text, AllocError>
     if at >= storage.size() {
         return refusal_text(alloc, Refusal::OutsideStorage);
     }
-    line_of_key(alloc, storage.key(at / BLOCK))
+    line_of_key(alloc, storage.key(at / BLOCK_SIZE))
 }
 
 /// The line of a storage key.

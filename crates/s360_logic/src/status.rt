@@ -13,12 +13,9 @@ ghost use Rattle.s360_logic.specs.Status.{storage_status_outcome, with_key_in, w
 use crate::row::{KeyRow, RegisterStatus, StorageStatus};
 use s360_fixed::{Ended, ProgramCode, View, operand_exception, put_next_psw};
 use s360_psw::Psw;
-use s360_store::{Access, Plan};
+use s360_store::{Access, BLOCK_SIZE, Plan};
 use s360_word::{ProtectionKey, RegisterNumber, Word};
 use std::alloc::AllocError;
-
-/// Bytes in a block, which has one storage key.
-const BLOCK: u32 = 2048;
 
 /// Blocks that an address can name.
 const BLOCKS: u32 = 1 << 13;
@@ -46,7 +43,7 @@ fn plan_psw(view: &View, psw: Psw, plan: &mut Plan) -> Result<Ended, AllocError>
 fn block_of(word: Word) -> u32
     ensures { result ≡ block_of word }
 {
-    word / BLOCK % BLOCKS
+    word / BLOCK_SIZE % BLOCKS
 }
 
 /// The key in bits 24 to 27 of a word.
@@ -73,7 +70,7 @@ fn key_exception(view: &View, word: Word) -> Option<ProgramCode>
         Some(ProgramCode::Privileged)
     } else if word % 16 != 0 {
         Some(ProgramCode::Specification)
-    } else if block_of(word) >= view.storage().size() / BLOCK {
+    } else if block_of(word) >= view.storage().size() / BLOCK_SIZE {
         Some(ProgramCode::Addressing)
     } else {
         None

@@ -19,13 +19,10 @@ ghost use Rattle.s360_store.proofs.KeptLemmas.{AreKept};
 
 use s360_logic::PlannedInstruction;
 use s360_psw::{InstructionLength, Psw};
-use s360_store::{Cell, Place, Plan, Storage, StoreFault};
+use s360_store::{BLOCK_SIZE, Cell, Place, Plan, Storage, StoreFault};
 use s360_word::{ProtectionKey, RegisterNumber, Word};
 use std::alloc::{AllocError, Global};
 use std::marker::Model;
-
-/// Bytes in a block, which has one storage key.
-const BLOCK: u32 = 2048;
 
 /// The current PSW, the sixteen general registers and main storage.
 #[derive(Drop)]
@@ -158,7 +155,7 @@ impl Core {
     {
         // Its clauses have that each byte of storage is in a block.
         let _ = self.storage.size();
-        plan.put_key(at / BLOCK, key)?;
+        plan.put_key(at / BLOCK_SIZE, key)?;
         Ok(())
     }
 

@@ -39,16 +39,16 @@ pub returns-clause-again : goal.returns-clause-again
 returns-clause-again c =
     let count : length c.exchange.new.cells ≡ c.changes.inside.cells.len = cc
     in let count-2 : length c.exchange-2.new.cells ≡ length c.changes.inside.control.items = cc
-    in rw (take_at, refill-same c.changes.inside.control.items c.exchange-2.new.cells count-2) (exchanged c.before).again
+    in rw (take_at c.exchange.new.cells (drop (length c.exchange.new.cells) c.changes.inside.cells.items) c.changes.inside.cells.len count, refill-same c.changes.inside.control.items c.exchange-2.new.cells count-2) (exchanged c.before).again
 
 pub returns-clause-restores_machine : goal.returns-clause-restores_machine
 returns-clause-restores_machine c =
     let count : length c.exchange.new.cells ≡ c.changes.inside.cells.len = cc
     in let count-2 : length c.exchange-2.new.cells ≡ length c.changes.inside.control.items = cc
-    in rw (take_at, refill-same c.changes.inside.control.items c.exchange-2.new.cells count-2) ((exchanged c.before).whole ∙ ap (λ (m : WithRoom). m.whole) c.self.view_is)
+    in rw (take_at c.exchange.new.cells (drop (length c.exchange.new.cells) c.changes.inside.cells.items) c.changes.inside.cells.len count, refill-same c.changes.inside.control.items c.exchange-2.new.cells count-2) ((exchanged c.before).whole ∙ ap (λ (m : WithRoom). m.whole) c.self.view_is)
 
 pub returns-clause-restores_changes : goal.returns-clause-restores_changes
 returns-clause-restores_changes c =
     let count : length c.exchange.new.cells ≡ c.changes.inside.cells.len = cc
     in let count-2 : length c.exchange-2.new.cells ≡ length c.changes.inside.control.items = cc
-    in rw (take_at, refill-same c.changes.inside.control.items c.exchange-2.new.cells count-2) ((exchanged c.before).change ∙ c.changes.view_is)
+    in rw (take_at c.exchange.new.cells (drop (length c.exchange.new.cells) c.changes.inside.cells.items) c.changes.inside.cells.len count, refill-same c.changes.inside.control.items c.exchange-2.new.cells count-2) ((exchanged c.before).change ∙ c.changes.view_is)
