@@ -8,7 +8,8 @@ Source: GA22-6821, "Fixed-Point Arithmetic", "Decimal Arithmetic", "Logical Oper
 """
 import operator
 
-from second_core import ADDRESSES, BLOCK, DOUBLEWORD, SIZE, WORD, Core, Interruption, Unbuilt, signed
+from second_core import ADDRESSES, BLOCK, DOUBLEWORD, SIZE, WORD
+from second_core import Core, Interruption, Unbuilt, signed
 
 # The addresses of the old and the new PSW.
 EXTERNAL, SUPERVISOR, PROGRAM = (24, 88), (32, 96), (40, 104)
