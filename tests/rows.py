@@ -31,6 +31,7 @@ ROWS = TOP / "tests/rows"
 MEDIA = TOP / "tests/media"
 PROGRAM = TOP / "crates/s360dbg/out/s360dbg"
 STORAGE = 65_536
+BLOCK = 2_048
 MOST_SHOWN = 256
 SECONDS = 120
 
@@ -65,8 +66,9 @@ def run(program, args, script, **how):
 def show_lines(args):
     """The lines that show all that can be shown."""
     size = int(args[args.index("--storage") + 1]) if "--storage" in args else STORAGE
-    yield from ("show psw", "show regs", "standing", "last p")
+    yield from ("show psw", "show regs", "show ext", "standing", "last p", "last run", "last ext")
     yield from (f"last r {number:X}" for number in range(16))
+    yield from (f"{word} k {at:X}" for word in ("show", "last") for at in range(0, size, BLOCK))
     yield from (f"show s {at:X} {MOST_SHOWN}" for at in range(0, size, MOST_SHOWN))
 
 

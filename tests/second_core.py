@@ -1,10 +1,14 @@
-"""The places of the second machine: its PSW, registers and storage, with condition codes."""
+"""The places of the second machine: its PSW, registers, storage and keys, with condition codes."""
 import itertools
+import re
 
 SIZE = 65_536
 ADDRESSES = 1 << 24
 WORD = 1 << 32
 DOUBLEWORD = 1 << 64
+BLOCK = 2_048
+# Printed names, in the order of a report.
+KINDS = re.compile("(p)|(r.)|(s.*)|(k.*)|(run)|(ext)")
 
 
 def signed(number, modulus=WORD):
@@ -12,8 +16,22 @@ def signed(number, modulus=WORD):
     return number - modulus if number >= modulus // 2 else number
 
 
+def order_of(place):
+    """Where a place stands in a report. Numbers have a fixed width, so names are in their order."""
+    return KINDS.fullmatch(place).lastindex, place
+
+
 class Interruption(Exception):
-    """A program interruption, which the program refuses as unbuilt."""
+    """A program interruption with its code, after the instruction is completed or in place of it."""
+
+    def __init__(self, code, is_completed=False):
+        super().__init__(code)
+        self.code = code
+        self.is_completed = is_completed
+
+
+class Unbuilt(Exception):
+    """An instruction of the channels, which the program refuses as unbuilt."""
 
 
 class Core:
@@ -34,7 +52,8 @@ class Core:
         self.noted = {}
 
     def changed(self):
-        return sorted(place for place, old in self.noted.items() if old != self.values[place])
+        changed = (place for place, old in self.noted.items() if old != self.values[place])
+        return sorted(changed, key=order_of)
 
     def undo(self, noted):
         self.values.update(noted)
@@ -81,10 +100,20 @@ class Core:
         yield from itertools.repeat(0)
 
     def check(self, address, count, boundary, is_store):
-        if address % boundary or address + count > SIZE:
-            raise Interruption
-        if is_store and self.psw_field(52, 4):  # every block has the storage key 0
-            raise Interruption
+        if address % boundary:
+            raise Interruption(6)
+        if address + count > SIZE:
+            raise Interruption(5)
+        key = self.psw_field(52, 4)
+        blocks = range(address // BLOCK, (address + count - 1) // BLOCK + 1)
+        if is_store and key and any(self.storage_key(block) != key for block in blocks):
+            raise Interruption(4)
+
+    def key_name(self, block):
+        return f"k{block * BLOCK:06X}"
+
+    def storage_key(self, block):
+        return self.value(self.key_name(block))
 
     def fetch(self, address, count, boundary):
         self.check(address, count, boundary, is_store=False)
@@ -100,7 +129,7 @@ class Core:
     def overflow(self):
         self.set_condition_code(3)
         if self.psw_field(27, 1):
-            raise Interruption
+            raise Interruption(8, is_completed=True)
 
     def sign(self, number):
         self.set_condition_code(0 if number == 0 else 1 if number < 0 else 2)

@@ -1,15 +1,23 @@
 """The instructions of the second machine, which `second_opinion.py` compares with the program.
 
 Its author had read the definitions of the first, so it finds slips and not a rule that was misread.
-Each program interruption is refused as unbuilt today, so program codes are not told apart, and no
-event sets a storage key, so all are 0.
+The instructions of the channels are refused as unbuilt in the supervisor state.
 
-Source: GA22-6821, "Fixed-Point Arithmetic", "Decimal Arithmetic", "Logical Operations" and
-"Branching".
+Source: GA22-6821, "Fixed-Point Arithmetic", "Decimal Arithmetic", "Logical Operations",
+"Branching", "Status Switching", "Interruptions" and "System Control Panel".
 """
 import operator
 
-from second_core import ADDRESSES, DOUBLEWORD, SIZE, WORD, Core, Interruption, signed
+from second_core import ADDRESSES, BLOCK, DOUBLEWORD, SIZE, WORD
+from second_core import Core, Interruption, Unbuilt, signed
+
+# The addresses of the old and the new PSW.
+EXTERNAL, SUPERVISOR, PROGRAM = (24, 88), (32, 96), (40, 104)
+TIMER = 80
+# What `run` and `ext` are.
+OPERATING, STOPPED = 0, 1
+TIMER_PENDING, KEY_PENDING = 0x80, 0x40
+PRIVILEGED = (0x08, 0x09, 0x80, 0x82, 0x9C, 0x9D, 0x9E, 0x9F)
 
 # And, or, exclusive or, by the low half of their codes.
 LOGIC = {4: operator.and_, 6: operator.or_, 7: operator.xor}
@@ -28,13 +36,74 @@ def exchanged(byte):
 
 class Machine(Core):
     def step(self):
-        """One CPU event, in which a machine that waits does nothing."""
-        if self.psw_field(49, 1):
+        """One CPU event."""
+        if self.value("run") == STOPPED:
             return
+        if self.value("ext") and self.psw_field(56, 1):
+            self.interrupt(EXTERNAL, self.value("ext"), 0)
+            self.put("ext", 0)
+        elif not self.psw_field(49, 1):
+            self.instruct()
+
+    def instruct(self):
+        """One instruction, with the interruption that it causes."""
         address = self.psw_field(0, 24)
-        instruction = self.instruction_at(address)
+        try:
+            instruction = self.instruction_at(address)
+        except Interruption as fault:
+            self.interrupt(PROGRAM, fault.code, 0)
+            return
         length = len(instruction)
-        self.execute(instruction, (address + length) % ADDRESSES, length // 2)
+        following = (address + length) % ADDRESSES
+        try:
+            self.execute(instruction, following, length // 2)
+        except Interruption as fault:
+            if not fault.is_completed:
+                self.undo(self.noted)
+            self.go_to(following)
+            self.interrupt(PROGRAM, fault.code, length // 2)
+
+    def interrupt(self, locations, code, length_code):
+        old, new = locations
+        stored = self.value("p") | code << 32 | length_code << 30
+        following = self.number(new, 8)
+        self.put_bytes(old, stored.to_bytes(8, "big"))
+        self.load_psw(following)
+
+    def load_psw(self, doubleword):
+        """Bits 16 to 33 are dropped."""
+        self.put("p", doubleword & ~(0x3FFFF << 30))
+
+    def number(self, address, count):
+        return int.from_bytes(bytes(self.byte(address + i) for i in range(count)), "big")
+
+    def put_bytes(self, address, run):
+        for i, byte in enumerate(run):
+            self.put_byte(address + i, byte)
+
+    # What happens from outside.
+
+    def tick(self):
+        if self.value("run") == STOPPED:
+            return
+        before = signed(self.number(TIMER, 4))
+        after = signed(before - 256)
+        self.put_bytes(TIMER, (after % WORD).to_bytes(4, "big"))
+        if before >= 0 > after:
+            self.put("ext", self.value("ext") | TIMER_PENDING)
+
+    def press(self, key):
+        if key == "start":
+            self.put("run", OPERATING)
+        elif key == "stop":
+            self.put("run", STOPPED)
+        elif key == "reset":
+            self.put("run", STOPPED)
+            self.put("ext", 0)
+        else:
+            self.put("ext", self.value("ext") | KEY_PENDING)
+
+    # Instructions.
 
     def instruction_at(self, address):
         code = self.fetch(address, 2, 2) >> 8
@@ -49,6 +118,8 @@ class Machine(Core):
     def execute(self, instruction, following, length_code):
         code, second = instruction[:2]
         r1, other = second >> 4, second & 15
+        if code in PRIVILEGED and self.psw_field(48, 1):
+            raise Interruption(2)
         if code < 0x40:
             self.register_instruction(code, r1, other, following, length_code)
             return
@@ -59,6 +130,8 @@ class Machine(Core):
             self.branch(code - 0x40, r1, operand, following, length_code)
         elif code in (0x86, 0x87):
             self.branch_on_index(code, r1, other, operand, following)
+        elif code in (0x80, 0x82):
+            self.switch_status(code, operand, following)
         elif code < 0xC0:
             if 0x91 <= code <= 0x97:
                 self.immediate_instruction(code, second, operand)
@@ -72,7 +145,7 @@ class Machine(Core):
     def execute_subject(self, r1, address, following, length_code):
         subject = bytearray(self.instruction_at(address))
         if subject[0] == 0x44:
-            raise Interruption
+            raise Interruption(3)
         if r1:
             subject[1] |= self.register(r1) & 255
         self.execute(bytes(subject), following, length_code)
@@ -84,13 +157,43 @@ class Machine(Core):
         elif 0x10 <= code < 0x20:
             self.arithmetic(code & 15, r1, self.register(r2))
             self.go_to(following)
+        elif code == 0x04:
+            self.put_psw_field(24, 6, self.register(r1) >> 24 & 0x3F)
+            self.go_to(following)
+        elif code == 0x0A:
+            self.go_to(following)
+            self.interrupt(SUPERVISOR, r1 << 4 | r2, length_code)
+        elif code in (0x08, 0x09):
+            self.move_key(code, r1, self.register(r2))
+            self.go_to(following)
         else:
-            raise Interruption
+            raise Interruption(1)
+
+    def move_key(self, code, r1, word):
+        """SSK and ISK."""
+        block = (word & 0xFFFFFF) // BLOCK
+        if word & 15:
+            raise Interruption(6)
+        if block >= SIZE // BLOCK:
+            raise Interruption(5)
+        if code == 0x08:
+            self.put(self.key_name(block), self.register(r1) >> 4 & 15)
+        else:
+            self.load(r1, self.register(r1) & ~255 | self.storage_key(block) << 4)
+
+    def switch_status(self, code, address, following):
+        """SSM and LPSW."""
+        if code == 0x80:
+            mask = self.fetch(address, 1, 1)
+            self.go_to(following)
+            self.put_psw_field(56, 8, mask)
+        else:
+            self.load_psw(self.fetch(address, 8, 8))
 
     def arithmetic(self, kind, r1, second):
         first = self.register(r1)
         if kind in (0xC, 0xD) and r1 % 2:
-            raise Interruption
+            raise Interruption(6)
         if kind == 0x0:
             self.signed_result(r1, abs(signed(second)))
         elif kind == 0x1:
@@ -124,12 +227,12 @@ class Machine(Core):
     def divide(self, r1, divisor):
         dividend = signed(self.pair(r1), DOUBLEWORD)
         if divisor == 0:
-            raise Interruption
+            raise Interruption(9)
         quotient = abs(dividend) // abs(divisor)
         if (dividend < 0) != (divisor < 0):
             quotient = -quotient
         if not -WORD // 2 <= quotient < WORD // 2:
-            raise Interruption
+            raise Interruption(9)
         self.load(r1, dividend - quotient * divisor)
         self.load(r1 + 1, quotient)
 
@@ -150,14 +253,18 @@ class Machine(Core):
             self.convert_to_decimal(r1, address)
         elif code == 0x4F:
             self.convert_to_binary(r1, address)
+        elif code in (0x5C, 0x5D) and r1 % 2:
+            raise Interruption(6)
         elif 0x54 <= code <= 0x5F:
             self.arithmetic(code & 15, r1, self.fetch(address, 4, 4))
         elif 0x88 <= code <= 0x8F:
             self.shift(code, r1, address % 64)
         elif code in (0x90, 0x98):
             self.multiple(code, r1, r3, address)
+        elif 0x9C <= code <= 0x9F:
+            raise Unbuilt
         else:
-            raise Interruption
+            raise Interruption(1)
 
     def multiple(self, code, r1, r3, address):
         numbers = [(r1 + i) % 16 for i in range((r3 - r1) % 16 + 1)]
@@ -171,7 +278,7 @@ class Machine(Core):
     def shift(self, code, r1, count):
         is_double, is_signed, is_left = code >= 0x8C, code & 2, code & 1
         if is_double and r1 % 2:
-            raise Interruption
+            raise Interruption(6)
         modulus = DOUBLEWORD if is_double else WORD
         number = self.pair(r1) if is_double else self.register(r1)
         if is_signed:
@@ -215,11 +322,11 @@ class Machine(Core):
         packed = f"{self.fetch(address, 8, 8):016X}"
         digits, sign = packed[:15], packed[15]
         if not digits.isdecimal() or sign.isdecimal():
-            raise Interruption
+            raise Interruption(7)
         number = -int(digits) if sign in "BD" else int(digits)
-        if signed(number) != number:
-            raise Interruption
         self.load(r1, number)
+        if signed(number) != number:
+            raise Interruption(9, is_completed=True)
 
     def immediate_instruction(self, code, second, address):
         self.check(address, 1, 1, is_store=code not in (0x91, 0x95))
@@ -252,11 +359,15 @@ class Machine(Core):
         elif 0xF1 <= code <= 0xF3:
             self.move_digits(code, first, (lengths >> 4) + 1, second, (lengths & 15) + 1)
         else:
-            raise Interruption
+            raise Interruption(1)
+
+    def check_both(self, first, count, second, second_count):
+        """An operand outside storage comes before a protected one."""
+        self.check(second, second_count, 1, is_store=False)
+        self.check(first, count, 1, is_store=True)
 
     def combine(self, code, count, first, second):
-        self.check(first, count, 1, is_store=True)
-        self.check(second, count, 1, is_store=False)
+        self.check_both(first, count, second, count)
         kind, results = code & 15, 0
         for i in range(count):
             old, new = self.byte(first + i), self.byte(second + i)
@@ -275,9 +386,11 @@ class Machine(Core):
         return self.fetch((table + self.byte(argument)) % ADDRESSES, 1, 1)
 
     def translate(self, count, first, table):
-        self.check(first, count, 1, is_store=True)
+        self.check(first, count, 1, is_store=False)
         for at in range(first, first + count):
             self.put_byte(at, self.function_byte(table, at))
+        # A function byte outside storage comes before a protected operand.
+        self.check(first, count, 1, is_store=True)
 
     def translate_and_test(self, count, first, table):
         self.check(first, count, 1, is_store=False)
@@ -292,8 +405,7 @@ class Machine(Core):
 
     def move_digits(self, code, first, count, second, second_count):
         """MVO, PACK and UNPK, which go from right to left."""
-        self.check(first, count, 1, is_store=True)
-        self.check(second, second_count, 1, is_store=False)
+        self.check_both(first, count, second, second_count)
         source = self.from_the_right(second, second_count)
         digits = digits_of(source)
         last = first + count - 1

@@ -1,11 +1,12 @@
 #!/usr/bin/env python3
 """Compares the program with a second machine, written in another language.
 
-Random words, PSWs, operands, tables and instructions are patched in and stepped. Each answer is
-compared: reports, refusals, the PSW, the registers and the bytes that are shown, and these again
-after a step back. `second_opinion.py FIRST LAST` takes the seeds from the first to the last, and
-each of them tries 300 instructions. It needs the program as `rt ci` or `./run` has built it. It
-prints the first answer of a seed that is another, and how many seeds had none.
+Random words, PSWs, storage keys, operands, tables and instructions are patched in and stepped, and
+the timer and the operator's keys come in between. Each answer is compared: reports, refusals, the
+PSW, the registers, the pending conditions and the bytes that are shown, and these again after a
+step back. `second_opinion.py FIRST LAST` takes the seeds from the first to the last, and each of
+them tries 300 instructions. It needs the program as `rt ci` or `./run` has built it. It prints the
+first answer of a seed that is another, and how many seeds had none.
 
 `second_machine.py` says what the comparison can find.
 """
@@ -16,8 +17,8 @@ import subprocess
 import sys
 from concurrent.futures import ThreadPoolExecutor
 
-from second_core import ADDRESSES, SIZE, WORD, Interruption, signed
-from second_machine import Machine
+from second_core import ADDRESSES, BLOCK, SIZE, WORD, Unbuilt, signed
+from second_machine import STOPPED, TIMER, Machine
 
 TOP = pathlib.Path(__file__).resolve().parent.parent
 PROGRAM = TOP / "crates/s360dbg/out/s360dbg"
@@ -28,12 +29,20 @@ EDGES += [0xC0000000, 0xFFFF, 0x8000, 0x7FFF, 0xFFFF8000]
 FIXED_POINT = [5, 6, 7, *range(0x10, 0x20), 0x40, 0x41, 0x42, 0x43, *range(0x45, 0x4D), 0x50]
 FIXED_POINT += [*range(0x54, 0x60), *range(0x86, 0x91), 0x98]
 LOGICAL = [0x4E, 0x4F, *range(0x91, 0x98), *range(0xD1, 0xD8), 0xDC, 0xDD, 0xF1, 0xF2, 0xF3]
+STATUS = [0x04, 0x08, 0x09, 0x0A, 0x80, 0x82, 0x9C, 0x9D, 0x9E, 0x9F]
 EXECUTE = 0x44
+# Operands on the boundary of a doubleword.
+DOUBLEWORDS = (0x4E, 0x4F, 0x82)
 CONVERSIONS = (0x4E, 0x4F)
+STORAGE_KEYS = (0x08, 0x09)
 PAIRS = (0x1C, 0x1D, 0x5C, 0x5D, 0x8C, 0x8D, 0x8E, 0x8F)
 SUBJECTS = 0x300
 OPERANDS = 0x600
 SHOWN = 256
+# The old PSWs, and the new ones that are patched: external, supervisor call and program.
+OLD_PSWS = range(24, 64)
+NEW_PSWS = (88, 96, 104)
+CONDITIONS = {0: "none", 0x80: "timer", 0x40: "key", 0xC0: "timer key"}
 # The register that mostly points near the end of storage or of all addresses, and how far before.
 END = 13
 BEFORE_THE_END = (1, 2, 3, 4, 8, 16, 24, 256)
@@ -71,13 +80,18 @@ class Script:
         """Shows the operands, and where they do not hold them the bytes that a step stored."""
         machine = self.machine
         self.lines += ["show psw", "show regs"]
-        self.answers.append(f"psw {machine.value('p'):016X} operating")
+        run = "stopped" if machine.value("run") == STOPPED else "operating"
+        self.answers.append(f"psw {machine.value('p'):016X} {run}")
         for first in range(0, 16, 4):
             words = [f"{machine.register(first + i):08X}" for i in range(4)]
             self.answers.append(f"r{first:X} {' '.join(words)}")
         self.show_bytes(range(OPERANDS, OPERANDS + SHOWN))
         if stored and not OPERANDS <= stored[0] <= stored[-1] < OPERANDS + SHOWN:
             self.show_bytes(stored)
+        self.show_bytes(OLD_PSWS)
+        self.show_bytes(range(TIMER, TIMER + 4))
+        self.lines.append("show ext")
+        self.answers.append(f"ext {CONDITIONS[machine.value('ext')]}")
 
     def show_bytes(self, run):
         self.lines.append(f"show s {run[0]:X} {len(run)}")
@@ -97,7 +111,8 @@ class Script:
         some = self.random
         masks, key = some.getrandbits(1) << 56, some.choice([0] * 6 + [5]) << 52
         ascii_, wait = some.getrandbits(1) << 51, (some.random() < 0.02) << 49
-        return masks | key | ascii_ | wait | some.getrandbits(6) << 24 | address
+        problem = (some.random() < 0.15) << 48
+        return masks | key | ascii_ | wait | problem | some.getrandbits(6) << 24 | address
 
     def operand(self):
         """Sixteen bytes: edges, arguments and function bytes, zoned digits, two packed numbers."""
@@ -155,12 +170,12 @@ class Script:
 
     def instruction(self):
         some = self.random
-        codes = [some.choice(FIXED_POINT), some.choice(LOGICAL), EXECUTE, some.randrange(256)]
-        code = some.choices(codes, [42, 42, 14, 2])[0]
+        codes = [some.choice(FIXED_POINT), some.choice(LOGICAL), some.choice(STATUS), EXECUTE]
+        code = some.choices([*codes, some.randrange(256)], [36, 36, 14, 12, 2])[0]
         first = self.field()
         if code == EXECUTE and some.random() < 0.7:
             first = SUBJECTS + 2 * some.randrange(64)
-        elif code in CONVERSIONS and some.random() < 0.7:
+        elif code in DOUBLEWORDS and some.random() < 0.7:
             first = OPERANDS + 8 * some.randrange(30)
         fields = [code, self.second_byte(code), *first.to_bytes(2, "big")]
         fields += self.field_beside(first).to_bytes(2, "big")
@@ -177,6 +192,8 @@ class Script:
 
     def patch_operands(self, instruction):
         """Operands where the instruction takes them, or of an EX its subject with its operands."""
+        if instruction[0] in STORAGE_KEYS and self.random.random() < 0.8:
+            self.patch_block(instruction[1] & 15)
         for at in self.addresses(instruction):
             if instruction[0] == EXECUTE:
                 subject = self.instruction()
@@ -187,8 +204,54 @@ class Script:
             elif self.random.random() < 0.6:
                 self.patch_inside(at, self.operand())
 
+    def patch_block(self, number):
+        """The address of a block in a register, now and then outside or with low bits."""
+        some = self.random
+        block = some.choice([0, BLOCK, SIZE - BLOCK, some.randrange(0, SIZE, BLOCK), SIZE])
+        word = some.getrandbits(8) << 24 | block | some.choice([0, 0, 0, 0x7F0, 1, 8])
+        self.patch(f"patch r {number:X} {word:X}", {f"r{number:X}": word})
+
+    def patch_key(self):
+        some = self.random
+        at, key = some.choice([0, OPERANDS, SIZE - 1, some.randrange(SIZE)]), some.choice([0, 5])
+        place = self.machine.key_name(at // BLOCK)
+        self.patch(f"patch k {at:X} {key:X}", {place: key})
+
+    def patch_new_psws(self):
+        for at in NEW_PSWS:
+            psw = self.psw(self.random.choice([0x200, 0x300, 0x201]))
+            self.patch_bytes(at, (psw | self.random.getrandbits(18) << 30).to_bytes(8, "big"))
+
+    def happen(self, line, event):
+        """What the operator or the timer does, which is now and then taken back."""
+        self.machine.begin()
+        event()
+        self.lines.append(line)
+        self.report()
+        if self.random.random() < 0.3:
+            self.take_back(line, self.machine.noted)
+
+    def outside(self):
+        """The timer and the operator's keys."""
+        some, machine = self.random, self.machine
+        if some.random() < 0.3:
+            if some.random() < 0.7:
+                word = some.choice([0, 255, 256, 0x80000000, 0x800000FF, 0x7FFFFFFF, 0xFFFFFFFF])
+                self.patch_bytes(TIMER, word.to_bytes(4, "big"))
+            self.happen("tick", machine.tick)
+        if some.random() < 0.2:
+            key = some.choices(["start", "stop", "reset", "interrupt"], [2, 1, 1, 4])[0]
+            self.happen(f"key {key}", lambda: machine.press(key))
+        if machine.value("run") == STOPPED and some.random() < 0.7:
+            self.happen("key start", lambda: machine.press("start"))
+
     def case(self):
         some = self.random
+        if some.random() < 0.1 or not self.standing:
+            self.patch_new_psws()
+        if some.random() < 0.2:
+            self.patch_key()
+        self.outside()
         for number in range(16):
             if some.random() < 0.6:
                 word = self.word()
@@ -212,10 +275,11 @@ class Script:
         try:
             machine.step()
             is_refused = False
-        except Interruption:
+        except Unbuilt:
             is_refused = True
         noted = machine.noted
-        stored = sorted(int(place[1:], 16) for place in noted if place[0] == "s")
+        stored = sorted(int(place[1:], 16) for place in machine.changed() if place[0] == "s")
+        stored = [at for at in stored if at not in OLD_PSWS]
         run = range(stored[0], stored[-1] + 1) if stored else range(0)
         if is_refused:
             machine.undo(noted)
@@ -225,11 +289,14 @@ class Script:
         self.report()
         self.show(run)
         if self.random.random() < 0.3:
-            self.lines.append("back")
-            self.answers.append(f"back {self.standing} cpu")
-            self.standing -= 1
-            machine.undo(noted)
+            self.take_back("cpu", noted)
             self.show(run)
+
+    def take_back(self, event, noted):
+        self.lines.append("back")
+        self.answers.append(f"back {self.standing} {event}")
+        self.standing -= 1
+        self.machine.undo(noted)
 
 
 def first_difference(seed):

@@ -18,7 +18,7 @@ const USAGE: u8 = 2;
 fn main(rt: HostRuntime) -> ExitCode {
     let Some((named, events, size)) = arguments(&rt) else {
         let _ = eprintln!(rt; "usage: s360_bench [LOOP] EVENTS STORAGE");
-        let _ = eprintln!(rt; "LOOP is fixed (where none is given), mvc, xc, tr, pack or clc");
+        let _ = eprintln!(rt; "LOOP is fixed (where none is given), mvc, xc, tr, pack, clc or svc");
         return ExitCode::from(USAGE);
     };
     let workload = named.unwrap_or(Workload::Fixed);

@@ -136,6 +136,9 @@ fn ready_session(alloc: Global, workload: Workload, size: u32) -> Result<Session
     for &(at, filling) in workload.areas() {
         set_bytes(&mut session, alloc, at, &filling.bytes())?;
     }
+    for &(at, run) in workload.runs() {
+        set_bytes(&mut session, alloc, at, run)?;
+    }
     session.forward(Event::Patch(Patch::Psw(u64::from(START))))?;
     set_register(&mut session, 2, 3)?;
     set_register(&mut session, 3, Word::MAX)?;

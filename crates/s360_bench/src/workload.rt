@@ -32,6 +32,13 @@ const PACK_TWICE: [u8; 16] = [
 /// CLC 400(256),500; BCT 3,200.
 const COMPARE: [u8; 10] = [0xD5, 0xFF, 0x04, 0x00, 0x05, 0x00, 0x46, 0x30, 0x02, 0x00];
 
+/// SVC 5; BCT 3,200. The new PSW goes on at 300, where LPSW 20 loads the old one again.
+const CALL: [u8; 6] = [0x0A, 0x05, 0x46, 0x30, 0x02, 0x00];
+
+const CALL_NEW_PSW: [u8; 8] = [0x00, 0x00, 0x00, 0x00, 0x00, 0x00, 0x03, 0x00];
+
+const CALL_RETURN: [u8; 4] = [0x82, 0x00, 0x00, 0x20];
+
 /// What the bytes of an area are.
 #[derive(Clone, Copy, Debug)]
 pub(crate) enum Filling {
@@ -72,13 +79,14 @@ impl Operands {
     }
 }
 
-/// What a loop is: its name, its instructions, the areas that are patched with their addresses, and
-/// the operands whose bytes are counted.
+/// What a loop is: its name, its instructions, the areas and the runs of bytes that are patched with
+/// their addresses, and the operands whose bytes are counted.
 #[derive(Clone, Copy, Debug)]
 struct Row {
     name: &'static str,
     program: &'static [u8],
     areas: &'static [(u32, Filling)],
+    runs: &'static [(u32, &'static [u8])],
     operands: Option<Operands>,
 }
 
@@ -97,16 +105,19 @@ pub(crate) enum Workload {
     Pack,
     /// Comparisons of areas that are equal.
     CompareLogical,
+    /// Supervisor calls, each with its interruption, and the return by a PSW that is loaded.
+    SupervisorCall,
 }
 
 /// Each loop.
-const WORKLOADS: [Workload; 6] = [
+const WORKLOADS: [Workload; 7] = [
     Workload::Fixed,
     Workload::Move,
     Workload::ExclusiveOr,
     Workload::Translate,
     Workload::Pack,
     Workload::CompareLogical,
+    Workload::SupervisorCall,
 ];
 
 impl Workload {
@@ -127,6 +138,11 @@ impl Workload {
         self.row().areas
     }
 
+    /// The runs of bytes that are patched, with their addresses.
+    pub(crate) fn runs(self) -> &'static [(u32, &'static [u8])] {
+        self.row().runs
+    }
+
     /// The bytes of first operands that so many of its events store or compare, where they are
     /// counted.
     pub(crate) fn operand_bytes(self, events: u32) -> Option<u64> {
@@ -139,6 +155,7 @@ impl Workload {
                 name: "fixed",
                 program: &ADD_AND_STORE,
                 areas: &[],
+                runs: &[],
                 operands: None,
             },
             Workload::Move => Row {
@@ -148,24 +165,28 @@ impl Workload {
                     (0x500, Filling::Rising(0x00)),
                     (0x600, Filling::Rising(0x01)),
                 ],
+                runs: &[],
                 operands: Some(Operands(2, 256)),
             },
             Workload::ExclusiveOr => Row {
                 name: "xc",
                 program: &EXCLUSIVE_OR,
                 areas: &[(0x500, Filling::Same(0xFF))],
+                runs: &[],
                 operands: Some(Operands(1, 256)),
             },
             Workload::Translate => Row {
                 name: "tr",
                 program: &TRANSLATE,
                 areas: &[(0x500, Filling::Rising(0x01))],
+                runs: &[],
                 operands: Some(Operands(1, 256)),
             },
             Workload::Pack => Row {
                 name: "pack",
                 program: &PACK_TWICE,
                 areas: &[(0x500, Filling::Same(0xF1)), (0x600, Filling::Same(0xF2))],
+                runs: &[],
                 operands: Some(Operands(2, 16)),
             },
             Workload::CompareLogical => Row {
@@ -175,7 +196,15 @@ impl Workload {
                     (0x400, Filling::Rising(0x00)),
                     (0x500, Filling::Rising(0x00)),
                 ],
+                runs: &[],
                 operands: Some(Operands(1, 256)),
+            },
+            Workload::SupervisorCall => Row {
+                name: "svc",
+                program: &CALL,
+                areas: &[],
+                runs: &[(0x60, &CALL_NEW_PSW), (0x300, &CALL_RETURN)],
+                operands: None,
             },
         }
     }

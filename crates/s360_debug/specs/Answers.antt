@@ -4,7 +4,7 @@ use Rattle.std.specs.Prelude.{◌≡◌, ℕ, ◌+◌, Bool, true, false, if◌t
 use Rattle.s360_model.specs.Text.{decimal}
 use Rattle.s360_store.specs.declared.place.Place.{Place}
 use Rattle.s360_machine.specs.declared.event.Event.{Event}
-use Rattle.s360_machine.specs.declared.event.Event.TheVariants.{Cpu, Patch as patch}
+use Rattle.s360_machine.specs.declared.event.Event.TheVariants.{Cpu, Tick as tick, Key as key_event, Patch as patch}
 use Rattle.s360_machine.specs.declared.refusal.Refusal.{Refusal}
 use Rattle.s360_machine.specs.declared.refusal.Refusal.TheVariants.{Unbuilt}
 use Rattle.s360_machine.specs.Machine.{seen}
@@ -15,7 +15,7 @@ use Rattle.s360_journal.specs.Rerun.{last_change_of}
 use Rattle.s360_journal.specs.Standing.{Standing, machine_of, refusal_in, alteration, last_of}
 use Rattle.s360_debug.specs.Debugger.{Debugger}
 use Rattle.s360_debug.specs.declared.command.Command.{Command}
-use Rattle.s360_debug.specs.declared.command.Command.TheVariants.{Step, Patch, Back, Standing as standing, Last, Show}
+use Rattle.s360_debug.specs.declared.command.Command.TheVariants.{Step, Tick, Key, Patch, Back, Standing as standing, Last, Show}
 use Rattle.s360_debug.specs.declared.command.LineFault.{LineFault}
 use Rattle.s360_debug.specs.declared.command.LineFault.TheVariants.{LineTooLong, Unknown, Argument, Memory}
 use Rattle.s360_debug.specs.Names.{place_name, event_name, refused_text}
@@ -65,6 +65,8 @@ back_text number (Some e) = codes "back " ++ decimal number ++ codes " " ++ even
 -- the one event that a command offers, if it offers one
 abbrev pub event_of : Command → Option Event
 event_of Step = Some Cpu
+event_of Tick = Some tick
+event_of (Key k) = Some (key_event k)
 event_of (Patch p) = Some (patch p)
 event_of c = None
 

@@ -1,12 +1,15 @@
--- The printed names of places, events, refusals and run states (own profile).
-use Rattle.std.specs.Prelude.{ℕ, ◌*◌, List, ◌++◌, codes}
+-- The printed names of places, events, refusals, run states and external conditions (own profile).
+use Rattle.std.specs.Prelude.{ℕ, ◌*◌, Bool, true, false, List, ◌++◌, codes}
 use Rattle.s360_model.specs.Text.{decimal, hex_text}
 use Rattle.s360_model.specs.Storage.{block_size}
 use Rattle.s360_store.specs.declared.place.Place.{Place}
 use Rattle.s360_store.specs.declared.place.Place.TheVariants.{Psw, Register, Byte, Key, Run, External, UnitState, UnitMedia}
 use Rattle.s360_machine.specs.declared.event.Event.{Event}
-use Rattle.s360_machine.specs.declared.event.Event.TheVariants.{Cpu, Patch as patch}
-use Rattle.s360_machine.specs.declared.event.Patch.TheVariants.{Bytes, Register as register, Psw as psw}
+use Rattle.s360_machine.specs.declared.event.Event.TheVariants.{Cpu, Tick, Key as key_event, Patch as patch}
+use Rattle.s360_machine.specs.declared.event.Patch.TheVariants.{Bytes, Register as register, StorageKey, Psw as psw}
+use Rattle.s360_machine.specs.declared.external.ExternalConditions.{ExternalConditions}
+use Rattle.s360_machine.specs.declared.operator.Key.{Key as OperatorKey}
+use Rattle.s360_machine.specs.declared.operator.Key.TheVariants.{Start, Stop, Reset, Interrupt}
 use Rattle.s360_machine.specs.declared.refusal.Refusal.{Refusal}
 use Rattle.s360_machine.specs.declared.refusal.Refusal.TheVariants.{Memory, OutsideStorage, PatchTooLong, JournalFull, Unbuilt}
 use Rattle.s360_machine.specs.declared.run_state.RunState.{RunState}
@@ -24,10 +27,19 @@ place_name External = codes "ext"
 place_name (UnitState u) = codes "u" ++ hex_text 3 u.0
 place_name (UnitMedia u) = codes "d" ++ hex_text 3 u.0
 
+abbrev pub key_name : OperatorKey → List ℕ
+key_name Start = codes "key start"
+key_name Stop = codes "key stop"
+key_name Reset = codes "key reset"
+key_name Interrupt = codes "key interrupt"
+
 abbrev pub event_name : Event → List ℕ
 event_name Cpu = codes "cpu"
+event_name Tick = codes "tick"
+event_name (key_event k) = key_name k
 event_name (patch (Bytes at bytes)) = codes "patch s"
 event_name (patch (register n word)) = codes "patch r"
+event_name (patch (StorageKey at storage_key)) = codes "patch k"
 event_name (patch (psw doubleword)) = codes "patch p"
 
 abbrev pub refusal_name : Refusal → List ℕ
@@ -45,3 +57,13 @@ abbrev pub run_state_name : RunState → List ℕ
 run_state_name Operating = codes "operating"
 run_state_name Stopped = codes "stopped"
 run_state_name (Loading unit) = codes "loading " ++ hex_text 3 unit.0
+
+-- the conditions of the timer and of the interrupt key
+abbrev pub conditions_name : Bool → Bool → List ℕ
+conditions_name false false = codes "none"
+conditions_name true false = codes "timer"
+conditions_name false true = codes "key"
+conditions_name true true = codes "timer key"
+
+abbrev pub external_name : ExternalConditions → List ℕ
+external_name e = conditions_name e.timer e.key

@@ -1,15 +1,18 @@
 -- The reading of a line as a command (own profile). Words are judged from left to right, and the first
 -- that is wrong, missing or too many is named by its number, the first word of the line being 0.
-use Rattle.std.specs.Prelude.{◌≡◌, ◌⊎◌, ℕ, Bool, nat_eq, nat_lt, if◌then◌else◌, Option, None, Result, Ok, Err, List, [], ◌∷◌, codes, drop, length}
+use Rattle.std.specs.Prelude.{◌≡◌, ◌⊎◌, ◌/◌, ℕ, Bool, nat_eq, nat_lt, if◌then◌else◌, Option, None, Some, Result, Ok, Err, List, [], ◌∷◌, codes, drop, length}
 use Rattle.std.specs.Cmp.Lexicographic.{pointwise}
 use Rattle.std.specs.Option.{ok_or}
 use Rattle.std.specs.Result.{result_ok}
 use Rattle.hex.specs.Hex.{decode_of}
-use Rattle.s360_store.specs.declared.place.Place.TheVariants.{Psw, Register, Byte}
-use Rattle.s360_machine.specs.declared.event.Patch.TheVariants.{Bytes as bytes_patch, Register as register_patch, Psw as psw_patch}
+use Rattle.s360_model.specs.Storage.{block_size}
+use Rattle.s360_store.specs.declared.place.Place.TheVariants.{Psw, Register, Byte, Key as key_place, Run, External}
+use Rattle.s360_machine.specs.declared.event.Patch.TheVariants.{Bytes as bytes_patch, Register as register_patch, StorageKey as storage_key_patch, Psw as psw_patch}
+use Rattle.s360_machine.specs.declared.operator.Key.{Key as OperatorKey}
+use Rattle.s360_machine.specs.declared.operator.Key.TheVariants.{Start, Stop, Reset, Interrupt}
 use Rattle.s360_debug.specs.declared.command.Command.{Command}
-use Rattle.s360_debug.specs.declared.command.Command.TheVariants.{Step, Patch, Back, Standing, Last, Show}
-use Rattle.s360_debug.specs.declared.command.Shown.TheVariants.{Registers, Psw as psw, Storage}
+use Rattle.s360_debug.specs.declared.command.Command.TheVariants.{Step, Tick, Key, Patch, Back, Standing, Last, Show}
+use Rattle.s360_debug.specs.declared.command.Shown.TheVariants.{Registers, Psw as psw, Storage, StorageKey, External as external}
 use Rattle.s360_debug.specs.declared.command.LineFault.{LineFault}
 use Rattle.s360_debug.specs.declared.command.LineFault.TheVariants.{LineTooLong, Unknown, Argument, Memory}
 use Rattle.s360_debug.specs.Words.{words_of}
@@ -65,6 +68,13 @@ word_patch words =
     and_then (number_argument 3 8 (drop 1 words)) (λ word.
     finished 4 (Patch (register_patch n word)) (drop 2 words)))
 
+-- `patch k A K`, after its first two words
+abbrev pub key_patch : List (List ℕ) → Reading
+key_patch words =
+    and_then (number_argument 2 6 words) (λ at.
+    and_then (number_argument 3 1 (drop 1 words)) (λ storage_key.
+    finished 4 (Patch (storage_key_patch at storage_key)) (drop 2 words)))
+
 -- `patch p Q`, after its first two words
 abbrev pub doubleword_patch : List (List ℕ) → Reading
 doubleword_patch words = and_then (argument 2 doubleword_of words) (λ q. finished 3 (Patch (psw_patch q)) (drop 1 words))
@@ -75,15 +85,32 @@ patch_reading [] = Err (Argument 1)
 patch_reading (kind ∷ words) =
     if is_word kind (codes "s") then storage_patch words
     else (if is_word kind (codes "r") then word_patch words
+    else (if is_word kind (codes "k") then key_patch words
     else (if is_word kind (codes "p") then doubleword_patch words
-    else Err (Argument 1)))
+    else Err (Argument 1))))
 
--- `last s A` and `last r R`, after their first two words
+-- the operator's key of a name
+abbrev pub key_of : List ℕ → Option OperatorKey
+key_of word =
+    if is_word word (codes "start") then Some Start
+    else (if is_word word (codes "stop") then Some Stop
+    else (if is_word word (codes "reset") then Some Reset
+    else (if is_word word (codes "interrupt") then Some Interrupt
+    else None)))
+
+-- `key` with a name
+abbrev pub key_reading : List (List ℕ) → Reading
+key_reading words = and_then (argument 1 key_of words) (λ k. finished 2 (Key k) (drop 1 words))
+
+-- `last s A`, `last r R` and `last k A`, after their first two words
 abbrev pub last_byte : List (List ℕ) → Reading
 last_byte words = and_then (number_argument 2 6 words) (λ at. finished 3 (Last (Byte at)) (drop 1 words))
 
 abbrev pub last_register : List (List ℕ) → Reading
 last_register words = and_then (number_argument 2 1 words) (λ n. finished 3 (Last (Register n)) (drop 1 words))
+
+abbrev pub last_key : List (List ℕ) → Reading
+last_key words = and_then (number_argument 2 6 words) (λ at. finished 3 (Last (key_place (at / block_size))) (drop 1 words))
 
 -- `last` with a kind
 abbrev pub last_reading : List (List ℕ) → Reading
@@ -91,8 +118,11 @@ last_reading [] = Err (Argument 1)
 last_reading (kind ∷ words) =
     if is_word kind (codes "s") then last_byte words
     else (if is_word kind (codes "r") then last_register words
+    else (if is_word kind (codes "k") then last_key words
     else (if is_word kind (codes "p") then finished 2 (Last Psw) words
-    else Err (Argument 1)))
+    else (if is_word kind (codes "run") then finished 2 (Last Run) words
+    else (if is_word kind (codes "ext") then finished 2 (Last External) words
+    else Err (Argument 1))))))
 
 -- `show s A N`, after its first two words
 abbrev pub show_storage : List (List ℕ) → Reading
@@ -101,6 +131,10 @@ show_storage words =
     and_then (argument 3 (count_of most_shown) (drop 1 words)) (λ count.
     finished 4 (Show (Storage at count)) (drop 2 words)))
 
+-- `show k A`, after its first two words
+abbrev pub show_key : List (List ℕ) → Reading
+show_key words = and_then (number_argument 2 6 words) (λ at. finished 3 (Show (StorageKey at)) (drop 1 words))
+
 -- `show` with a kind
 abbrev pub show_reading : List (List ℕ) → Reading
 show_reading [] = Err (Argument 1)
@@ -108,19 +142,23 @@ show_reading (kind ∷ words) =
     if is_word kind (codes "regs") then finished 2 (Show Registers) words
     else (if is_word kind (codes "psw") then finished 2 (Show psw) words
     else (if is_word kind (codes "s") then show_storage words
-    else Err (Argument 1)))
+    else (if is_word kind (codes "k") then show_key words
+    else (if is_word kind (codes "ext") then finished 2 (Show external) words
+    else Err (Argument 1)))))
 
 -- a row for each first word
 abbrev pub reading_of_words : List (List ℕ) → Reading
 reading_of_words [] = Err Unknown
 reading_of_words (name ∷ words) =
     if is_word name (codes "step") then finished 1 Step words
+    else (if is_word name (codes "tick") then finished 1 Tick words
+    else (if is_word name (codes "key") then key_reading words
     else (if is_word name (codes "back") then finished 1 Back words
     else (if is_word name (codes "standing") then finished 1 Standing words
     else (if is_word name (codes "patch") then patch_reading words
     else (if is_word name (codes "last") then last_reading words
     else (if is_word name (codes "show") then show_reading words
-    else Err Unknown)))))
+    else Err Unknown)))))))
 
 -- a line that is too long comes first
 abbrev pub reading_of : List ℕ → Reading

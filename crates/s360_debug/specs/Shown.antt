@@ -1,15 +1,16 @@
 -- What is shown of a machine (own profile). Each line is ended by one line feed.
-use Rattle.std.specs.Prelude.{ℕ, ◌+◌, ◌*◌, if◌then◌else◌, List, [], ◌++◌, codes, min, slice_index}
+use Rattle.std.specs.Prelude.{ℕ, ◌+◌, ◌*◌, ◌/◌, nat_lt, if◌then◌else◌, List, [], ◌++◌, codes, length, min, slice_index}
 use Rattle.std.specs.List.{flat_map, range_with_len, slice_range}
 use Rattle.std.specs.Int.{div_ceil}
 use Rattle.s360_model.specs.Text.{hex_text, hex_bytes}
-use Rattle.s360_model.specs.Storage.{Storage as Contents, is_inside}
+use Rattle.s360_model.specs.Storage.{Storage as Contents, block_size, is_inside}
 use Rattle.s360_model.specs.Psw.{stored_psw}
 use Rattle.s360_machine.specs.declared.refusal.Refusal.TheVariants.{OutsideStorage}
+use Rattle.s360_machine.specs.declared.external.ExternalConditions.{ExternalConditions}
 use Rattle.s360_machine.specs.Machine.{Machine}
 use Rattle.s360_debug.specs.declared.command.Shown.{Shown}
-use Rattle.s360_debug.specs.declared.command.Shown.TheVariants.{Registers, Psw, Storage}
-use Rattle.s360_debug.specs.Names.{refused_text, run_state_name}
+use Rattle.s360_debug.specs.declared.command.Shown.TheVariants.{Registers, Psw, Storage, StorageKey, External}
+use Rattle.s360_debug.specs.Names.{external_name, refused_text, run_state_name}
 
 -- a register's word after a blank
 abbrev pub register_word : List ℕ → ℕ → List ℕ
@@ -43,7 +44,20 @@ bytes_text bytes at count = flat_map (numbered_line bytes at (at + count)) (rang
 abbrev pub storage_text : Contents → ℕ → ℕ → List ℕ
 storage_text s at count = if is_inside s at count then bytes_text s.bytes at count else refused_text OutsideStorage
 
+-- the storage key of the block that an address lies in
+abbrev pub key_line : ℕ → List ℕ
+key_line storage_key = codes "key " ++ hex_text 1 storage_key ++ codes "\n"
+
+abbrev pub key_text : Contents → ℕ → List ℕ
+key_text s at = if nat_lt at (length s.bytes) then key_line (slice_index s.keys (at / block_size)) else refused_text OutsideStorage
+
+-- the external conditions that are pending
+abbrev pub external_text : ExternalConditions → List ℕ
+external_text e = codes "ext " ++ external_name e ++ codes "\n"
+
 abbrev pub shown_text : Machine → Shown → List ℕ
 shown_text m Registers = registers_text m.core.registers
 shown_text m Psw = psw_text m
 shown_text m (Storage at count) = storage_text m.core.storage at count
+shown_text m (StorageKey at) = key_text m.core.storage at
+shown_text m External = external_text m.control.external

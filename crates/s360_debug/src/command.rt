@@ -3,7 +3,7 @@ ghost use Rattle.std.specs.Prelude.{◌≡◌};
 ghost use Rattle.s360_debug.specs.Answers.{event_of};
 ghost use Rattle.s360_debug.specs.declared.command.LineFault.TheVariants.{Memory};
 
-use s360_machine::{Event, Patch};
+use s360_machine::{Event, Key, Patch};
 use s360_store::Place;
 use std::alloc::AllocError;
 use thiserror::Error;
@@ -13,6 +13,10 @@ use thiserror::Error;
 pub enum Command {
     /// `step`: one CPU event.
     Step,
+    /// `tick`: the timer counts down.
+    Tick,
+    /// `key`: the operator presses a key.
+    Key(Key),
     /// `patch`: a part of the machine is given a value from outside.
     Patch(Patch),
     /// `back`: the last change is taken back.
@@ -32,6 +36,8 @@ impl Command {
     {
         match self {
             Command::Step => Some(Event::Cpu),
+            Command::Tick => Some(Event::Tick),
+            Command::Key(key) => Some(Event::Key(key)),
             Command::Patch(patch) => Some(Event::Patch(patch)),
             Command::Back | Command::Standing | Command::Last(_) | Command::Show(_) => None,
         }
@@ -47,6 +53,10 @@ pub enum Shown {
     Psw,
     /// `show s A N`: so many bytes of storage from an address on.
     Storage { at: u32, count: u32 },
+    /// `show k A`: the storage key of the block that an address lies in.
+    StorageKey { at: u32 },
+    /// `show ext`: the pending external conditions.
+    External,
 }
 
 /// Why a line is no command, in the order in which it is found.

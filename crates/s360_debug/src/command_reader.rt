@@ -2,8 +2,8 @@
 //! kinds a function of its own.
 ghost use Rattle.std.specs.Prelude.{◌≡◌, ◌≤◌, ◌<◌, ◌^◌, IfOk, IfSome, drop, take, length, MatchOption, Some, None};
 ghost use Rattle.s360_debug.specs.Reading.{Reads, reading_of, patch_reading};
-ghost use Rattle.s360_debug.specs.Reading.{storage_patch, word_patch, doubleword_patch};
-ghost use Rattle.s360_debug.specs.Reading.{last_reading};
+ghost use Rattle.s360_debug.specs.Reading.{storage_patch, word_patch, key_patch, doubleword_patch};
+ghost use Rattle.s360_debug.specs.Reading.{key_of, key_reading, last_reading};
 ghost use Rattle.s360_debug.specs.Reading.{show_reading, show_storage, finished};
 ghost use Rattle.s360_debug.specs.Reading.{argument, number_argument, bytes_in, AtEnd, is_word};
 ghost use Rattle.s360_debug.specs.Digits.{doubleword_of, count_of};
@@ -11,9 +11,9 @@ ghost use Rattle.s360_debug.specs.Digits.{doubleword_of, count_of};
 use crate::command::{Command, LineFault, Shown};
 use crate::digits::number_in;
 use crate::words::Words;
-use s360_machine::{Bytes, Patch};
-use s360_store::Place;
-use s360_word::RegisterNumber;
+use s360_machine::{Bytes, Key, Patch};
+use s360_store::{BLOCK_SIZE, Place};
+use s360_word::{ProtectionKey, RegisterNumber};
 use std::alloc::Global;
 
 /// A line has at most so many bytes.
@@ -42,6 +42,10 @@ pub fn read_command(alloc: Global, line: &[u8]) -> Result<Command, LineFault>
     };
     if is(name, "step") {
         finish(words, 1, Command::Step)
+    } else if is(name, "tick") {
+        finish(words, 1, Command::Tick)
+    } else if is(name, "key") {
+        read_key(words)
     } else if is(name, "back") {
         finish(words, 1, Command::Back)
     } else if is(name, "standing") {
@@ -64,6 +68,34 @@ fn is(word: &[u8], name: &str) -> bool
     word == name.as_bytes()
 }
 
+/// `key` with the name of a key.
+fn read_key(mut words: Words<'_>) -> Result<Command, LineFault>
+    ensures { result ≡ key_reading words.entry }
+{
+    let name = words.next_word().ok_or(LineFault::Argument(1))?;
+    let Some(key) = key_of(name) else {
+        return Err(LineFault::Argument(1));
+    };
+    finish(words, 2, Command::Key(key))
+}
+
+/// The key of a name.
+fn key_of(name: &[u8]) -> Option<Key>
+    ensures { result ≡ key_of name.now }
+{
+    if is(name, "start") {
+        Some(Key::Start)
+    } else if is(name, "stop") {
+        Some(Key::Stop)
+    } else if is(name, "reset") {
+        Some(Key::Reset)
+    } else if is(name, "interrupt") {
+        Some(Key::Interrupt)
+    } else {
+        None
+    }
+}
+
 /// `patch`, by its kind.
 fn read_patch(alloc: Global, mut words: Words<'_>) -> Result<Command, LineFault>
     ensures { Reads (patch_reading words.entry) result }
@@ -73,6 +105,8 @@ fn read_patch(alloc: Global, mut words: Words<'_>) -> Result<Command, LineFault>
         read_storage_patch(alloc, words)
     } else if is(kind, "r") {
         read_word_patch(words)
+    } else if is(kind, "k") {
+        read_key_patch(words)
     } else if is(kind, "p") {
         read_doubleword_patch(words)
     } else {
@@ -105,6 +139,16 @@ fn read_word_patch(mut words: Words<'_>) -> Result<Command, LineFault>
     finish(words, 4, Command::Patch(patch))
 }
 
+/// `patch k A K`
+fn read_key_patch(mut words: Words<'_>) -> Result<Command, LineFault>
+    ensures { result ≡ key_patch words.entry }
+{
+    let at = next_number(&mut words, 2, 6)?;
+    let key = next_number(&mut words, 3, 1)?;
+    let key = ProtectionKey::new(key as u8);
+    finish(words, 4, Command::Patch(Patch::StorageKey { at, key }))
+}
+
 /// `patch p Q`
 fn read_doubleword_patch(mut words: Words<'_>) -> Result<Command, LineFault>
     ensures { result ≡ doubleword_patch words.entry }
@@ -124,8 +168,15 @@ fn read_last(mut words: Words<'_>) -> Result<Command, LineFault>
     } else if is(kind, "r") {
         let register = next_number(&mut words, 2, 1)?;
         finish(words, 3, Command::Last(Place::Register(register as u8)))
+    } else if is(kind, "k") {
+        let at = next_number(&mut words, 2, 6)?;
+        finish(words, 3, Command::Last(Place::Key(at / BLOCK_SIZE)))
     } else if is(kind, "p") {
         finish(words, 2, Command::Last(Place::Psw))
+    } else if is(kind, "run") {
+        finish(words, 2, Command::Last(Place::Run))
+    } else if is(kind, "ext") {
+        finish(words, 2, Command::Last(Place::External))
     } else {
         Err(LineFault::Argument(1))
     }
@@ -142,6 +193,11 @@ fn read_show(mut words: Words<'_>) -> Result<Command, LineFault>
         finish(words, 2, Command::Show(Shown::Psw))
     } else if is(kind, "s") {
         read_show_storage(words)
+    } else if is(kind, "k") {
+        let at = next_number(&mut words, 2, 6)?;
+        finish(words, 3, Command::Show(Shown::StorageKey { at }))
+    } else if is(kind, "ext") {
+        finish(words, 2, Command::Show(Shown::External))
     } else {
         Err(LineFault::Argument(1))
     }

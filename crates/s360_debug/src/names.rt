@@ -1,16 +1,13 @@
-//! The printed names of places, events, refusals and run states.
+//! The printed names of places, events, refusals, run states and external conditions.
 ghost use Rattle.std.specs.Prelude.{◌≡◌, ◌++◌, IfOk, OnOk};
 ghost use Rattle.s360_model.specs.Text.{hex_text};
 ghost use Rattle.s360_debug.specs.Names.{place_name, event_name, refusal_name};
-ghost use Rattle.s360_debug.specs.Names.{refused_text, run_state_name};
+ghost use Rattle.s360_debug.specs.Names.{external_name, key_name, refused_text, run_state_name};
 
 use crate::text::Text;
-use s360_machine::{Event, Patch, Refusal, RunState};
-use s360_store::Place;
+use s360_machine::{Event, ExternalConditions, Key, Patch, Refusal, RunState};
+use s360_store::{BLOCK_SIZE, Place};
 use std::alloc::{AllocError, Global};
-
-/// Bytes in a block, by whose first address a storage key is named.
-const BLOCK: u64 = 2048;
 
 /// Adds a place's name.
 pub(crate) fn push_place(text: &mut Text, place: Place) -> Result<(), AllocError>
@@ -20,7 +17,7 @@ pub(crate) fn push_place(text: &mut Text, place: Place) -> Result<(), AllocError
         Place::Psw => text.push_text("p"),
         Place::Register(number) => push_numbered(text, "r", u64::from(number), 1),
         Place::Byte(address) => push_numbered(text, "s", u64::from(address), 6),
-        Place::Key(block) => push_numbered(text, "k", u64::from(block) * BLOCK, 6),
+        Place::Key(block) => push_numbered(text, "k", u64::from(block) * u64::from(BLOCK_SIZE), 6),
         Place::Run => text.push_text("run"),
         Place::External => text.push_text("ext"),
         Place::UnitState(unit) => push_numbered(text, "u", u64::from(unit.0), 3),
@@ -36,14 +33,29 @@ fn push_numbered(text: &mut Text, name: &str, number: u64, width: u8) -> Result<
     text.push_hex(number, width)
 }
 
+/// The name of a key that the operator presses.
+fn name_of_key(key: Key) -> &'static str
+    ensures { result.now ≡ key_name key }
+{
+    match key {
+        Key::Start => "key start",
+        Key::Stop => "key stop",
+        Key::Reset => "key reset",
+        Key::Interrupt => "key interrupt",
+    }
+}
+
 /// The name of an event.
 pub(crate) fn name_of_event(event: &Event) -> &'static str
     ensures { result.now ≡ event_name event.now }
 {
     match event {
         Event::Cpu => "cpu",
+        Event::Tick => "tick",
+        Event::Key(key) => name_of_key(*key),
         Event::Patch(Patch::Bytes { .. }) => "patch s",
         Event::Patch(Patch::Register(..)) => "patch r",
+        Event::Patch(Patch::StorageKey { .. }) => "patch k",
         Event::Patch(Patch::Psw(_)) => "patch p",
     }
 }
@@ -82,5 +94,17 @@ pub(crate) fn push_run_state(text: &mut Text, run: RunState) -> Result<(), Alloc
         RunState::Operating => text.push_text("operating"),
         RunState::Stopped => text.push_text("stopped"),
         RunState::Loading(unit) => push_numbered(text, "loading ", u64::from(unit.0), 3),
+    }
+}
+
+/// The name of the external conditions that are pending.
+pub(crate) fn name_of_external(external: ExternalConditions) -> &'static str
+    ensures { result.now ≡ external_name external }
+{
+    match (external.timer, external.key) {
+        (false, false) => "none",
+        (true, false) => "timer",
+        (false, true) => "key",
+        (true, true) => "timer key",
     }
 }

@@ -3,14 +3,15 @@ ghost use Rattle.std.specs.Prelude.{◌≡◌, ◌++◌, ◌≤◌, ◌<◌, len
 ghost use Rattle.s360_machine.specs.Machine.{seen};
 ghost use Rattle.s360_debug.specs.Shown.{shown_text, registers_text, after_registers, register_word};
 ghost use Rattle.s360_debug.specs.Shown.{psw_text, storage_text, bytes_line};
+ghost use Rattle.s360_debug.specs.Shown.{external_text, key_line, key_text};
 
 use crate::command::Shown;
-use crate::names::{push_run_state, refusal_text};
+use crate::names::{name_of_external, push_run_state, refusal_text};
 use crate::text::Text;
-use s360_machine::{Machine, Refusal};
+use s360_machine::{ExternalConditions, Machine, Refusal};
 use s360_psw::InstructionLength;
-use s360_store::Storage;
-use s360_word::RegisterNumber;
+use s360_store::{BLOCK_SIZE, Storage};
+use s360_word::{ProtectionKey, RegisterNumber};
 use std::alloc::{AllocError, Global};
 
 /// A line shows so many bytes.
@@ -28,6 +29,8 @@ pub(crate) fn text_of_shown(
         Shown::Registers => registers_of(alloc, machine),
         Shown::Psw => psw_of(alloc, machine),
         Shown::Storage { at, count } => storage_of(alloc, machine.storage(), at, count),
+        Shown::StorageKey { at } => key_of(alloc, machine.storage(), at),
+        Shown::External => external_of(alloc, machine.external()),
     }
 }
 
@@ -109,4 +112,36 @@ fn push_line(text: &mut Text, storage: &Storage, first: u32, end: u32) -> Result
     }
     text.push_text("\n")?;
     Ok(())
+}
+
+/// The storage key of the block that an address lies in; or the refusal where it is not inside.
+fn key_of(alloc: Global, storage: &Storage, at: u32) -> Result<Text, AllocError>
+    ensures { IfOk result (λ text. text ≡ key_text storage.now at) }
+{
+    if at >= storage.size() {
+        return refusal_text(alloc, Refusal::OutsideStorage);
+    }
+    line_of_key(alloc, storage.key(at / BLOCK_SIZE))
+}
+
+/// The line of a storage key.
+fn line_of_key(alloc: Global, key: ProtectionKey) -> Result<Text, AllocError>
+    ensures { IfOk result (λ text. text ≡ key_line key) }
+{
+    let mut text = Text::new(alloc);
+    text.push_text("key ")?;
+    text.push_hex(u64::from(key.number()), 1)?;
+    text.push_text("\n")?;
+    Ok(text)
+}
+
+/// The external conditions that are pending.
+fn external_of(alloc: Global, external: ExternalConditions) -> Result<Text, AllocError>
+    ensures { IfOk result (λ text. text ≡ external_text external) }
+{
+    let mut text = Text::new(alloc);
+    text.push_text("ext ")?;
+    text.push_text(name_of_external(external))?;
+    text.push_text("\n")?;
+    Ok(text)
 }

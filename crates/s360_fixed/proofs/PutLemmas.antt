@@ -1,5 +1,5 @@
 -- What the puts of an instruction add to a plan.
-use Rattle.std.proofs.Common.{◌≡◌, ◌<◌, ◌+◌, ◌*◌, ◌%◌, zero, suc, None, ap, slice_index, ℕ, List, [], arith, refl}
+use Rattle.std.proofs.Common.{◌≡◌, ◌<◌, ◌≤◌, ◌+◌, ◌*◌, ◌%◌, zero, suc, None, ap, slice_index, ℕ, List, [], length, arith, refl}
 use Rattle.std.specs.Int.{bytes_high_first}
 use Rattle.s360_model.specs.Core.{Core, core_with_bytes, core_with_psw, core_with_word}
 use Rattle.s360_model.specs.Storage.{word_at}
@@ -8,7 +8,9 @@ use Rattle.s360_store.specs.Plans.{AddsToPlan, HasBytes, HasPsw, HasRegister, Ha
 use Rattle.s360_store.proofs.PutLemmas.{AddsToPlan-then}
 use Rattle.s360_store.proofs.PlannedLemmas.{IsPlanOf-none}
 use Rattle.s360_fixed.specs.declared.ended.Ended.TheVariants.{Done}
-use Rattle.s360_fixed.specs.Outcomes.{unless_met}
+use Rattle.s360_fixed.specs.declared.effect.Effect.{Effect}
+use Rattle.s360_fixed.specs.Outcomes.{after_effect, core_after_effect, unless_met}
+use Rattle.s360_fixed.specs.Settings.{ended_with}
 use Rattle.s360_fixed.specs.Plans.{PlansOutcome}
 use Rattle.s360_fixed.specs.ProgramCodes.{Conditions, program_code}
 use Rattle.s360_fixed.specs.Storing.{completed, next_psw, with_registers_loaded, with_registers_stored}
@@ -48,15 +50,27 @@ AddsToPlan-word old now new registers r1 at i count bytes l e u v =
     = rw (next, e) refl
     in rw (total, f) (record { makes = λ m n h x. both.makes m n (h, omega (arith, h, l)) x; few = both.few })
 
+-- the PSW and the registers of an effect
+pub PlansOutcome-effect : (m : Core) (r1 : ℕ) (e : Effect) (address : ℕ) (q r : List Cell) → q ≡ [] → HasRegisters m
+    → AddsToPlan q r 3 HasRegisters (core_after_effect m.psw r1 e address) → PlansOutcome m r (after_effect m r1 e address) (ended_with m.psw e.setting)
+PlansOutcome-effect m r1 e address q r empty sixteen u =
+    let all : AddsToPlan [] r 3 HasRegisters (core_after_effect m.psw r1 e address) = rw empty at u
+    in record {
+      ends = refl;
+      makes = all.makes m m sixteen (IsPlanOf-none m);
+      few = let x : length r ≤ 3 = all.few in omega arith;
+    }
+
 -- the PSW and then puts that leave it, where nothing keeps the instruction from being done
 pub PlansOutcome-completed : (v : View) (k : Conditions) (q r s : List Cell) (count : ℕ) (P : Core → Type 0) (f : Core → Core) → ((p : ℕ) (n : Core) → f (core_with_psw p n) ≡ core_with_psw p (f n))
-    → None ≡ program_code k → q ≡ [] → P v.core
+    → count ≤ 256 → None ≡ program_code k → q ≡ [] → P v.core
     → AddsToPlan q r 1 HasPsw (core_with_psw (next_psw v)) → AddsToPlan r s count P f → PlansOutcome v.core s (unless_met k v.core (completed v (f v.core))) Done
-PlansOutcome-completed v k q r s count P f leaves h e p u w =
+PlansOutcome-completed v k q r s count P f leaves l h e p u w =
     let first : AddsToPlan [] r 1 HasPsw (core_with_psw (next_psw v)) = rw e at u
     in rw (← h) (record {
       ends = refl;
       makes = rw (← leaves (next_psw v) v.core) (w.makes v.core (core_with_psw (next_psw v) v.core) p (first.makes v.core v.core tt (IsPlanOf-none v.core)));
+      few = let x : length r ≤ 1 = first.few in let y : length s ≤ length r + count = w.few in omega arith;
     })
 
 -- registers that are stored or loaded leave the PSW

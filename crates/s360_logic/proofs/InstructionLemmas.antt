@@ -1,5 +1,5 @@
 -- The instruction that was fetched and has a code of no instruction.
-use Rattle.std.proofs.Common.{◌≡◌, ◌+◌, ℕ, Bool, true, false, refl, [], Some, None, ap, sym, subst}
+use Rattle.std.proofs.Common.{arith, ◌≡◌, ◌+◌, ℕ, Bool, true, false, refl, [], Some, None, ap, sym, subst}
 use Rattle.s360_model.specs.Core.{Core}
 use Rattle.s360_model.specs.Psw.{instruction_address_of}
 use Rattle.s360_store.proofs.PlannedLemmas.{IsPlanOf-none}
@@ -41,7 +41,7 @@ pub PlansInstruction-unknown : (m : Core) (a : ℕ) → a ≡ instruction_addres
 unfolding instruction
 PlansInstruction-unknown m a e h n =
     subst (λ b. PlansInstruction m [] (instruction_at m b) (record { ended = Program Operation; next_address = a + length_at m.storage a; instruction_length = length_of_bytes (length_at m.storage a) })) e (record {
-      plans = rw (n, instruction_of-unknown m a h) (record { ends = refl; makes = IsPlanOf-none m });
+      plans = rw (n, instruction_of-unknown m a h) (record { ends = refl; makes = IsPlanOf-none m; few = omega arith });
       next = ap (λ (v : View). v.next_address) (sym (view_at-fetched m a h));
       length = ap (λ (v : View). v.instruction_length) (sym (view_at-fetched m a h));
     })

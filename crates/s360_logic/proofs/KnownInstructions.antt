@@ -78,9 +78,9 @@ unfolding instruction
 unknown_code = refl
 
 -- a row of another chapter
-pub set_system_mask : (instruction (known 0 0 0 0 0 0 (0x80 ∷ 0x00 ∷ 0x00 ∷ 0x00 ∷ []))).outcome.ended ≡ Unbuilt
+pub start_io : (instruction (known 0 0 0 0 0 0 (0x9C ∷ 0x00 ∷ 0x00 ∷ 0x0C ∷ []))).outcome.ended ≡ Unbuilt
 unfolding instruction
-set_system_mask = refl
+start_io = refl
 
 -- what an interruption stores of an instruction: the address of the next one, and its own length
 pub next_address_of_a_load : (instruction (known 0 0 0 0 0 0 (0x58 ∷ 0x10 ∷ 0x00 ∷ 0x00 ∷ []))).next_address ≡ 4

@@ -3,3 +3,4 @@ pub mod FieldLemmas
 pub mod StepLemmas
 mod KnownInstructions
 mod KnownLogic
+mod KnownStatus

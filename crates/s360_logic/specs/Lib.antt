@@ -5,5 +5,6 @@ pub mod Immediate
 pub mod LeftToRight
 pub mod RightToLeft
 pub mod Converting
+pub mod Status
 pub mod Logic
 pub mod Instruction

@@ -1,11 +1,12 @@
 -- What an instruction does that was decoded: by its row, or by that of the subject of an execute (GA22-6821,
--- "Logical Operations", "Fixed-Point Arithmetic", "Decimal Arithmetic", and "Branching", EXECUTE).
+-- "Logical Operations", "Fixed-Point Arithmetic", "Decimal Arithmetic", "Status Switching", and "Branching",
+-- EXECUTE).
 use Rattle.std.specs.Prelude.{ℕ, ◌+◌, ◌/◌, ◌%◌, nat_eq, if◌then◌else◌, Option, Some, None, List, slice_index, slice_set, bit_or}
 use Rattle.std.specs.Option.{option_map}
 use Rattle.s360_model.specs.Psw.{protection_key_of}
 use Rattle.s360_fixed.specs.declared.ended.Ended.TheVariants.{Program, Unbuilt}
 use Rattle.s360_fixed.specs.declared.form.Form.{Form}
-use Rattle.s360_fixed.specs.declared.form.Form.TheVariants.{Rx, Si, Ss}
+use Rattle.s360_fixed.specs.declared.form.Form.TheVariants.{Rr, Rx, Si, Ss}
 use Rattle.s360_fixed.specs.declared.operation.Operation.TheVariants.{Execute}
 use Rattle.s360_fixed.specs.declared.program_code.ProgramCode.TheVariants.{Execute as execute_code, Operation as operation_code}
 use Rattle.s360_fixed.specs.Fetching.{fetch_conditions, instruction_bytes}
@@ -20,7 +21,8 @@ use Rattle.s360_logic.specs.Converting.{conversion_outcome}
 use Rattle.s360_logic.specs.Immediate.{immediate_outcome}
 use Rattle.s360_logic.specs.LeftToRight.{combine_outcome, compare_outcome, translate_outcome, translate_and_test_outcome}
 use Rattle.s360_logic.specs.RightToLeft.{digits_outcome}
-use Rattle.s360_logic.specs.Rows.{conversion_of, immediate_row_of, storage_row_of}
+use Rattle.s360_logic.specs.Rows.{conversion_of, immediate_row_of, register_status_of, storage_row_of, storage_status_of}
+use Rattle.s360_logic.specs.Status.{register_status_outcome, storage_status_outcome}
 
 -- a row of two operands in storage, by the length field and the addresses. The field is one less than the
 -- number of bytes; of the rows of digits it is two such fields
@@ -43,14 +45,21 @@ logic_outcome (Si operation i2 b1 d1) = option_map (λ row v. immediate_outcome 
 logic_outcome (Ss operation l b1 d1 b2 d2) = option_map (λ row v. storage_outcome row v l (address_of v b1 d1) (address_of v b2 d2)) (storage_row_of operation)
 logic_outcome form = None
 
--- what an instruction does by its row: those of other chapters are not built
-abbrev pub by_row : Option (View → Outcome) → Option (View → Outcome) → View → Outcome
-by_row (Some fixed) logic v = fixed v
-by_row None (Some logic) v = logic v
-by_row None None v = record { ended = Unbuilt; core = v.core }
+-- what an instruction does that switches status
+abbrev pub status_outcome : Form → Option (View → Outcome)
+status_outcome (Rr operation r1 r2) = option_map (λ row v. register_status_outcome row v r1 r2) (register_status_of operation)
+status_outcome (Si operation i2 b1 d1) = option_map (λ row v. storage_status_outcome row v (address_of v b1 d1)) (storage_status_of operation)
+status_outcome form = None
+
+-- what an instruction does by its row, in whichever chapter it has one
+abbrev pub by_row : Option (View → Outcome) → Option (View → Outcome) → Option (View → Outcome) → View → Outcome
+by_row (Some fixed) logic status v = fixed v
+by_row None (Some logic) status v = logic v
+by_row None None (Some status) v = status v
+by_row None None None v = record { ended = Unbuilt; core = v.core }
 
 abbrev pub row_outcome : View → Form → Outcome
-row_outcome v form = by_row (fixed_outcome form) (logic_outcome form) v
+row_outcome v form = by_row (fixed_outcome form) (logic_outcome form) (status_outcome form) v
 
 -- the field R1 of an execute, and the address of its subject
 abbrev pub subject_of : View → Form → Option (ℕ × ℕ)

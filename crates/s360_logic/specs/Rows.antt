@@ -1,5 +1,5 @@
 -- The instruction table: what the operations of these chapters do (GA22-6821, "Logical Operations",
--- "Fixed-Point Arithmetic" and "Decimal Arithmetic").
+-- "Fixed-Point Arithmetic", "Decimal Arithmetic", "Status Switching" and "Input/Output Operations").
 use Rattle.std.specs.Prelude.{Option, Some, None}
 use Rattle.s360_fixed.specs.declared.operation.Operation.{Operation}
 use Rattle.s360_fixed.specs.declared.operation.Operation.TheVariants.{And, CompareLogical, Or, ExclusiveOr}
@@ -8,6 +8,8 @@ use Rattle.s360_fixed.specs.declared.operation.Operation.TheVariants.{TestUnderM
 use Rattle.s360_fixed.specs.declared.operation.Operation.TheVariants.{MoveNumerics, MoveZones}
 use Rattle.s360_fixed.specs.declared.operation.Operation.TheVariants.{Translate, TranslateAndTest}
 use Rattle.s360_fixed.specs.declared.operation.Operation.TheVariants.{MoveWithOffset, Pack, Unpack}
+use Rattle.s360_fixed.specs.declared.operation.Operation.TheVariants.{SetProgramMask, SupervisorCall, SetStorageKey, InsertStorageKey}
+use Rattle.s360_fixed.specs.declared.operation.Operation.TheVariants.{SetSystemMask, LoadPsw, StartIo, TestIo, HaltIo, TestChannel}
 use Rattle.s360_logic.specs.declared.row.ByteCombination.TheVariants.{Second, LowHalf, HighHalf}
 use Rattle.s360_logic.specs.declared.row.ByteCombination.TheVariants.{BitwiseAnd, BitwiseOr, BitwiseExclusiveOr}
 use Rattle.s360_logic.specs.declared.row.ImmediateRow.{ImmediateRow}
@@ -19,6 +21,11 @@ use Rattle.s360_logic.specs.declared.row.StorageRow.TheVariants.{Combine, Compar
 use Rattle.s360_logic.specs.declared.row.StorageRow.TheVariants.{Translate as translate, TranslateAndTest as translate_and_test}
 use Rattle.s360_logic.specs.declared.row.Conversion.{Conversion}
 use Rattle.s360_logic.specs.declared.row.Conversion.TheVariants.{ToBinary, ToDecimal}
+use Rattle.s360_logic.specs.declared.row.KeyRow.TheVariants.{Set, Insert}
+use Rattle.s360_logic.specs.declared.row.RegisterStatus.{RegisterStatus}
+use Rattle.s360_logic.specs.declared.row.RegisterStatus.TheVariants.{SetProgramMask as set_program_mask, SupervisorCall as supervisor_call, StorageKey}
+use Rattle.s360_logic.specs.declared.row.StorageStatus.{StorageStatus}
+use Rattle.s360_logic.specs.declared.row.StorageStatus.TheVariants.{SetSystemMask as set_system_mask, LoadPsw as load_psw, InputOutput}
 
 -- the rows with an immediate byte
 abbrev pub immediate_row_of : Operation → Option ImmediateRow
@@ -52,3 +59,21 @@ abbrev pub conversion_of : Operation → Option Conversion
 conversion_of ConvertToBinary = Some ToBinary
 conversion_of ConvertToDecimal = Some ToDecimal
 conversion_of other = None
+
+-- status switching by registers or by the instruction alone
+abbrev pub register_status_of : Operation → Option RegisterStatus
+register_status_of SetProgramMask = Some set_program_mask
+register_status_of SupervisorCall = Some supervisor_call
+register_status_of SetStorageKey = Some (StorageKey Set)
+register_status_of InsertStorageKey = Some (StorageKey Insert)
+register_status_of other = None
+
+-- status switching by an operand in storage, and the input/output instructions
+abbrev pub storage_status_of : Operation → Option StorageStatus
+storage_status_of SetSystemMask = Some set_system_mask
+storage_status_of LoadPsw = Some load_psw
+storage_status_of StartIo = Some InputOutput
+storage_status_of TestIo = Some InputOutput
+storage_status_of HaltIo = Some InputOutput
+storage_status_of TestChannel = Some InputOutput
+storage_status_of other = None

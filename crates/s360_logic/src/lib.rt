@@ -1,8 +1,8 @@
-//! Logical and storage-to-storage instructions, decimal conversion and execute; and one instruction:
-//! fetched, decoded and planned by its row. Rows of other chapters come here.
+//! Logical and storage-to-storage instructions, decimal conversion, status switching and execute; and
+//! one instruction: fetched, decoded and planned by its row. Rows of other chapters come here.
 //!
 //! Source: GA22-6821, "System Structure", "Logical Operations", "Fixed-Point Arithmetic", "Decimal
-//! Arithmetic", "Branching" and "Interruptions".
+//! Arithmetic", "Branching", "Status Switching" and "Interruptions".
 #![tactic(auto)]
 
 mod bytes;
@@ -16,6 +16,7 @@ mod left_to_right;
 mod logic;
 mod right_to_left;
 mod row;
+mod status;
 
 pub use cpu::{PlannedInstruction, plan_instruction};
 pub use logic::plan_logic;

@@ -1,12 +1,12 @@
 //! The plan of an instruction that was decoded: by its row, or by that of the subject of an execute.
-//! Source: GA22-6821, "Logical Operations", "Fixed-Point Arithmetic", "Decimal Arithmetic", and
-//! "Branching", EXECUTE.
+//! Source: GA22-6821, "Logical Operations", "Fixed-Point Arithmetic", "Decimal Arithmetic", "Status
+//! Switching", and "Branching", EXECUTE.
 ghost use Rattle.std.specs.Prelude.{◌≡◌, ◌<◌, ◌≤◌, ◌^◌, [], None, IfOk, length, slice_index};
 ghost use Rattle.s360_fixed.specs.Plans.{PlansOutcome};
 ghost use Rattle.s360_fixed.specs.Table.{form_of};
 ghost use Rattle.s360_logic.specs.Logic.{address_of, by_row, execute_outcome, logic_outcome};
-ghost use Rattle.s360_logic.specs.Logic.{outcome_of, row_outcome, storage_outcome, subject_of};
-ghost use Rattle.s360_logic.specs.Logic.{with_register};
+ghost use Rattle.s360_logic.specs.Logic.{outcome_of, row_outcome, status_outcome};
+ghost use Rattle.s360_logic.specs.Logic.{storage_outcome, subject_of, with_register};
 ghost use Rattle.arrayvec.specs.ArrayVec.{array_vec_len};
 
 use crate::converting::plan_conversion;
@@ -14,7 +14,11 @@ use crate::field::Field;
 use crate::immediate::plan_immediate;
 use crate::left_to_right::{plan_combine, plan_compare, plan_translate, plan_translate_and_test};
 use crate::right_to_left::plan_digits;
-use crate::row::{StorageRow, conversion_of, immediate_row_of, storage_row_of};
+use crate::row::{
+    StorageRow, conversion_of, immediate_row_of, register_status_of, storage_row_of,
+    storage_status_of,
+};
+use crate::status::{plan_register_status, plan_storage_status};
 use arrayvec::ArrayVec;
 use s360_fixed::{
     Ended, Form, Operation, ProgramCode, View, decode, fetch_instruction, operand_address,
@@ -70,7 +74,7 @@ fn plan_storage(
 /// Plans an instruction by its row in these chapters, if it has one.
 fn plan_own(form: &Form, view: &View, plan: &mut Plan) -> Result<Ended, AllocError>
     requires empty { plan.old ≡ [] }
-    ensures { IfOk result (PlansOutcome view.now.core plan.new (by_row None (logic_outcome form.now) view.now)) }
+    ensures { IfOk result (PlansOutcome view.now.core plan.new (by_row None (logic_outcome form.now) (status_outcome form.now) view.now)) }
 {
     match *form {
         Form::Rx {
@@ -90,7 +94,10 @@ fn plan_own(form: &Form, view: &View, plan: &mut Plan) -> Result<Ended, AllocErr
             d1,
         } => match immediate_row_of(operation) {
             Some(row) => plan_immediate(view, row, i2, address_of(view, b1, d1), plan),
-            None => Ok(Ended::Unbuilt),
+            None => match storage_status_of(operation) {
+                Some(row) => plan_storage_status(view, row, address_of(view, b1, d1), plan),
+                None => Ok(Ended::Unbuilt),
+            },
         },
         Form::Ss {
             operation,
@@ -106,7 +113,11 @@ fn plan_own(form: &Form, view: &View, plan: &mut Plan) -> Result<Ended, AllocErr
             }
             None => Ok(Ended::Unbuilt),
         },
-        Form::Rr { .. } | Form::Rs { .. } => Ok(Ended::Unbuilt),
+        Form::Rr { operation, r1, r2 } => match register_status_of(operation) {
+            Some(row) => plan_register_status(view, row, r1, r2, plan),
+            None => Ok(Ended::Unbuilt),
+        },
+        Form::Rs { .. } => Ok(Ended::Unbuilt),
     }
 }
 

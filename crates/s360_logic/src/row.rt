@@ -1,8 +1,10 @@
 //! The rows of the instruction table: what the operations of these chapters do. A row has what its
 //! kind needs and no more, so that each kind is planned by a call that knows no other. Source:
-//! GA22-6821, "Logical Operations", "Fixed-Point Arithmetic" and "Decimal Arithmetic".
+//! GA22-6821, "Logical Operations", "Fixed-Point Arithmetic", "Decimal Arithmetic", "Status
+//! Switching" and "Input/Output Operations".
 ghost use Rattle.std.specs.Prelude.{◌≡◌};
 ghost use Rattle.s360_logic.specs.Rows.{conversion_of, immediate_row_of, storage_row_of};
+ghost use Rattle.s360_logic.specs.Rows.{register_status_of, storage_status_of};
 
 use s360_fixed::Operation;
 
@@ -71,6 +73,37 @@ pub(crate) enum Conversion {
     ToDecimal,
 }
 
+/// What is done with the storage key of the block that R2 names. Both are privileged.
+#[derive(Clone, Copy, Debug, PartialEq, Eq)]
+pub(crate) enum KeyRow {
+    /// It becomes the key in R1.
+    Set,
+    /// It is put into R1.
+    Insert,
+}
+
+/// What is done by registers, or by the second byte of the instruction.
+#[derive(Clone, Copy, Debug, PartialEq, Eq)]
+pub(crate) enum RegisterStatus {
+    /// The condition code and the program mask become those in R1.
+    SetProgramMask,
+    /// A supervisor call interruption follows.
+    SupervisorCall,
+    /// A storage key is set or inserted.
+    StorageKey(KeyRow),
+}
+
+/// What is done with an operand in storage, or with a unit. All are privileged.
+#[derive(Clone, Copy, Debug, PartialEq, Eq)]
+pub(crate) enum StorageStatus {
+    /// The system mask becomes the byte.
+    SetSystemMask,
+    /// The PSW becomes the doubleword.
+    LoadPsw,
+    /// The channels do something to a unit, which is not built yet.
+    InputOutput,
+}
+
 /// The row of an operation with an immediate byte, where it is one of these chapters.
 #[inline(always)]
 pub(crate) fn immediate_row_of(operation: Operation) -> Option<ImmediateRow>
@@ -120,6 +153,36 @@ pub(crate) fn conversion_of(operation: Operation) -> Option<Conversion>
     match operation {
         Operation::ConvertToBinary => Some(Conversion::ToBinary),
         Operation::ConvertToDecimal => Some(Conversion::ToDecimal),
+        _ => None,
+    }
+}
+
+/// The row of an operation that switches status by registers, if it is one.
+#[inline(always)]
+pub(crate) fn register_status_of(operation: Operation) -> Option<RegisterStatus>
+    ensures { result ≡ register_status_of operation }
+{
+    match operation {
+        Operation::SetProgramMask => Some(RegisterStatus::SetProgramMask),
+        Operation::SupervisorCall => Some(RegisterStatus::SupervisorCall),
+        Operation::SetStorageKey => Some(RegisterStatus::StorageKey(KeyRow::Set)),
+        Operation::InsertStorageKey => Some(RegisterStatus::StorageKey(KeyRow::Insert)),
+        _ => None,
+    }
+}
+
+/// The row of an operation that switches status by an operand in storage, or of one of the channels,
+/// if it is one.
+#[inline(always)]
+pub(crate) fn storage_status_of(operation: Operation) -> Option<StorageStatus>
+    ensures { result ≡ storage_status_of operation }
+{
+    match operation {
+        Operation::SetSystemMask => Some(StorageStatus::SetSystemMask),
+        Operation::LoadPsw => Some(StorageStatus::LoadPsw),
+        Operation::StartIo | Operation::TestIo | Operation::HaltIo | Operation::TestChannel => {
+            Some(StorageStatus::InputOutput)
+        }
         _ => None,
     }
 }

@@ -3,7 +3,7 @@ use Rattle.std.proofs.Common.{◌≡◌, ◌≢◌, ◌<◌, ◌+◌, ◌++◌, 
 use Rattle.std.proofs.lemmas.List.{drop_more, drop-set-lt, take_more_set, append_assoc}
 use Rattle.s360_store.specs.declared.place.Place.{Place}
 use Rattle.s360_machine.specs.declared.control_cell.ControlCell.{ControlCell}
-use Rattle.s360_machine.specs.declared.control_cell.ControlCell.TheVariants.{Run as run}
+use Rattle.s360_machine.specs.declared.control_cell.ControlCell.TheVariants.{Run as run, External as external}
 use Rattle.s360_machine.specs.Machine.{Control}
 use Rattle.s360_machine.specs.ControlCells.{place_of_control, places_of_control, with_control, control_at}
 use Rattle.s360_machine.specs.ControlCells.{control_after_exchange, control_cells_after_exchange, IsFreshControl, HasEachControlOnce}
@@ -11,23 +11,35 @@ use Rattle.s360_machine.specs.ControlCells.{control_after_exchange, control_cell
 -- the laws of one exchange
 control_at-same : (c : Control) (x : ControlCell) → control_at (with_control c x) x ≡ x
 control_at-same c (run state) = refl
+control_at-same c (external conditions) = refl
 
 control_at-place : (c : Control) (x : ControlCell) → place_of_control (control_at c x) ≡ place_of_control x
 control_at-place c (run state) = refl
+control_at-place c (external conditions) = refl
 
 -- cells of one place look at the same
 control_at-one : (c : Control) (x y : ControlCell) → place_of_control x ≡ place_of_control y → control_at c x ≡ control_at c y
 control_at-one c (run state) (run other) h = refl
+control_at-one c (external conditions) (external other) h = refl
+control_at-one c (run state) (external conditions) h = cc
+control_at-one c (external conditions) (run state) h = cc
 
 with_control-back : (c : Control) (x : ControlCell) → with_control (with_control c x) (control_at c x) ≡ c
 with_control-back c (run state) = refl
+with_control-back c (external conditions) = refl
 
 control_at-other : (c : Control) (x y : ControlCell) → place_of_control x ≢ place_of_control y → control_at (with_control c x) y ≡ control_at c y
 control_at-other c (run state) (run other) h = absurd (h refl)
+control_at-other c (external conditions) (external other) h = absurd (h refl)
+control_at-other c (run state) (external conditions) h = refl
+control_at-other c (external conditions) (run state) h = refl
 
 with_control-comm : (c : Control) (x y : ControlCell) → place_of_control x ≢ place_of_control y
     → with_control (with_control c x) y ≡ with_control (with_control c y) x
 with_control-comm c (run state) (run other) h = absurd (h refl)
+with_control-comm c (external conditions) (external other) h = absurd (h refl)
+with_control-comm c (run state) (external conditions) h = refl
+with_control-comm c (external conditions) (run state) h = refl
 
 -- a cell whose place no other has may be put before or after them
 control_after_exchange-with : (c : Control) (xs : List ControlCell) (x : ControlCell) → IsFreshControl (place_of_control x) xs

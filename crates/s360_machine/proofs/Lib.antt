@@ -1,3 +1,5 @@
 pub mod ControlLemmas
 pub mod SwapLemmas
 pub mod ChangeLemmas
+pub mod InterruptionLemmas
+mod KnownEvents

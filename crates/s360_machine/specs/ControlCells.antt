@@ -2,13 +2,14 @@
 -- exchanged with the control part one after another: it gets their values, and they get what stood there.
 use Rattle.std.specs.Prelude.{◌≢◌, List, [], ◌∷◌, map}
 use Rattle.s360_store.specs.declared.place.Place.{Place}
-use Rattle.s360_store.specs.declared.place.Place.TheVariants.{Run}
+use Rattle.s360_store.specs.declared.place.Place.TheVariants.{Run, External}
 use Rattle.s360_machine.specs.declared.control_cell.ControlCell.{ControlCell}
-use Rattle.s360_machine.specs.declared.control_cell.ControlCell.TheVariants.{Run as run}
+use Rattle.s360_machine.specs.declared.control_cell.ControlCell.TheVariants.{Run as run, External as external}
 use Rattle.s360_machine.specs.Machine.{Control}
 
 abbrev pub place_of_control : ControlCell → Place
 place_of_control (run state) = Run
+place_of_control (external conditions) = External
 
 abbrev pub places_of_control : List ControlCell → List Place
 places_of_control xs = map (λ x. place_of_control x) xs
@@ -16,10 +17,12 @@ places_of_control xs = map (λ x. place_of_control x) xs
 -- the control part with a cell's value at its place
 abbrev pub with_control : Control → ControlCell → Control
 with_control c (run state) = record c { run_state = state }
+with_control c (external conditions) = record c { external = conditions }
 
 -- the cell of the same place with what stands there
 abbrev pub control_at : Control → ControlCell → ControlCell
 control_at c (run state) = run c.run_state
+control_at c (external conditions) = external c.external
 
 -- the control part after the exchange
 abbrev pub control_after_exchange : Control → List ControlCell → Control

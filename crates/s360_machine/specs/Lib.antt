@@ -1,5 +1,10 @@
 pub mod Machine
+pub mod RunStates
 pub mod ControlCells
+pub mod Interruptions
+pub mod Timer
+pub mod Operator
+pub mod Cpu
 pub mod Refusals
 pub mod Step
 pub mod Change

@@ -1,12 +1,18 @@
 -- The machine as one record (GA22-6821, "System Structure"), and what its code keeps of it.
-use Rattle.std.specs.Prelude.{ℕ, length}
+use Rattle.std.specs.Prelude.{ℕ, false, length}
 use Rattle.s360_model.specs.Core.{Core, zero_core}
+use Rattle.s360_machine.specs.declared.external.ExternalConditions.{ExternalConditions}
 use Rattle.s360_machine.specs.declared.run_state.RunState.{RunState}
 use Rattle.s360_machine.specs.declared.run_state.RunState.TheVariants.{Operating}
 
 -- what the operator's panel and the channels work on beside the core
 pub record Control : Type 0 where
   pub run_state : RunState
+  pub external : ExternalConditions
+
+-- no external condition is pending
+abbrev pub no_external : ExternalConditions
+no_external = record { timer = false; key = false }
 
 -- what the written rules speak of
 pub record Machine : Type 0 where
@@ -32,9 +38,9 @@ pub record WithRoom : Type 0 where
   pub whole : Whole
   pub spare : Spare
 
--- a new machine operates, with PSW, registers, storage and keys zero (own profile)
+-- a new machine operates, with PSW, registers, storage and keys zero, and no condition pending (own profile)
 abbrev pub new_machine : ℕ → Machine
-new_machine size = record { core = zero_core size; control = record { run_state = Operating } }
+new_machine size = record { core = zero_core size; control = record { run_state = Operating; external = no_external } }
 
 -- bytes of storage
 abbrev pub storage_size : Machine → ℕ

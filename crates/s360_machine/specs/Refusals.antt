@@ -1,9 +1,9 @@
 -- Why an event is refused, by the event and the storage size alone.
 use Rattle.std.specs.Prelude.{ℕ, ◌+◌, Option, Some, None, length, nat_lt, if◌then◌else◌}
 use Rattle.s360_machine.specs.declared.event.Event.{Event}
-use Rattle.s360_machine.specs.declared.event.Event.TheVariants.{Cpu, Patch as patch}
+use Rattle.s360_machine.specs.declared.event.Event.TheVariants.{Patch as patch}
 use Rattle.s360_machine.specs.declared.event.Patch.{Patch}
-use Rattle.s360_machine.specs.declared.event.Patch.TheVariants.{Bytes, Register, Psw}
+use Rattle.s360_machine.specs.declared.event.Patch.TheVariants.{Bytes, Register, StorageKey, Psw}
 use Rattle.s360_machine.specs.declared.refusal.Refusal.{Refusal}
 use Rattle.s360_machine.specs.declared.refusal.Refusal.TheVariants.{Memory, OutsideStorage, PatchTooLong, JournalFull, Unbuilt}
 
@@ -19,8 +19,9 @@ number_of_refusal Unbuilt = 7
 abbrev pub refusal_of_patch : ℕ → Patch → Option Refusal
 refusal_of_patch size (Bytes at bytes) = if nat_lt 256 (length bytes) then Some PatchTooLong else (if nat_lt size (at + length bytes) then Some OutsideStorage else None)
 refusal_of_patch size (Register n word) = None
+refusal_of_patch size (StorageKey at storage_key) = if nat_lt at size then None else Some OutsideStorage
 refusal_of_patch size (Psw psw) = None
 
 abbrev pub refusal_of : ℕ → Event → Option Refusal
-refusal_of size Cpu = None
 refusal_of size (patch p) = refusal_of_patch size p
+refusal_of size event = None

@@ -1,10 +1,12 @@
 //! What an event alters, ready to be exchanged with the machine.
-ghost use Rattle.std.specs.Prelude.{◌≡◌, ◌<◌, length, Some, slice_get, IfOk};
+ghost use Rattle.std.specs.Prelude.{◌≡◌, ◌<◌, ◌≤◌, length, Some, slice_get, IfOk};
 ghost use Rattle.std.specs.List.{list_any};
 ghost use Rattle.s360_store.specs.Places.{same_place};
 ghost use Rattle.s360_machine.specs.Change.{places_of_change};
 
+use crate::control::MOST_ALTERED;
 use crate::control_cell::ControlCell;
+use arrayvec::ArrayVec;
 use s360_store::{Cell, Place};
 use smallvec::SmallVec;
 use std::alloc::AllocError;
@@ -18,17 +20,16 @@ pub(crate) const WITHIN: usize = 2;
 #[derive(Debug, Drop)]
 pub struct Changes {
     pub(crate) cells: SmallVec<Cell, WITHIN>,
-    /// So far no event alters more than one place of the control part.
-    pub(crate) control: Option<ControlCell>,
+    pub(crate) control: ArrayVec<ControlCell, MOST_ALTERED>,
 }
 
 impl Model for Changes {
-    ghost use Rattle.std.specs.Prelude.{◌≤◌, length, option_to_list};
+    ghost use Rattle.std.specs.Prelude.{◌≤◌, length};
     ghost use Rattle.s360_machine.specs.Change.{Change};
 
     ghost Value = { Change };
 
-    ghost view = { λ c. record { cells = c.cells.items; control = option_to_list c.control } };
+    ghost view = { λ c. record { cells = c.cells.items; control = c.control.items } };
 
     ghost invariant = { λ c. length c.cells.items ≤ 1000000 };
 }
@@ -36,7 +37,8 @@ impl Model for Changes {
 impl Changes {
     /// The cells of the control part.
     fn control(&self) -> &[ControlCell]
-        ensures { result.now ≡ self.now.control }
+        ensures cells { result.now ≡ self.now.control }
+        ensures few { length result.now ≤ 2 }
     {
         self.control.as_slice()
     }

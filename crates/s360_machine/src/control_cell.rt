@@ -2,6 +2,7 @@
 ghost use Rattle.std.specs.Prelude.{◌≡◌};
 ghost use Rattle.s360_machine.specs.ControlCells.{place_of_control};
 
+use crate::external::ExternalConditions;
 use crate::run_state::RunState;
 use s360_store::Place;
 
@@ -10,6 +11,8 @@ use s360_store::Place;
 pub enum ControlCell {
     /// The run state.
     Run(RunState),
+    /// The pending external conditions.
+    External(ExternalConditions),
 }
 
 impl ControlCell {
@@ -19,6 +22,13 @@ impl ControlCell {
     {
         match self {
             ControlCell::Run(_) => Place::Run,
+            ControlCell::External(_) => Place::External,
         }
+    }
+}
+
+impl Default for ControlCell {
+    fn default() -> ControlCell {
+        ControlCell::Run(RunState::default())
     }
 }

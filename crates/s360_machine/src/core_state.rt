@@ -1,11 +1,12 @@
 //! What an instruction works on: the current PSW, the general registers and main storage. Source:
 //! GA22-6821, "System Structure".
 ghost use Rattle.std.specs.Prelude.{OnOk};
-ghost use Rattle.std.specs.Prelude.{IsTrue, ◌≡◌, ◌≢◌, ◌≤◌, ◌+◌, [], length, slice_index, Err, IfOk, IsOkUnless};
+ghost use Rattle.std.specs.Prelude.{IsTrue, ◌≡◌, ◌≢◌, ◌≤◌, ◌<◌, ◌+◌, ◌/◌, [], length, slice_index, Err, IfOk, IsOkUnless};
 ghost use Rattle.std.specs.Bool.{MatchBool};
 ghost use Rattle.s360_model.specs.Core.{zero_core, core_with_bytes, core_with_psw, core_with_word};
 ghost use Rattle.s360_model.specs.Psw.{current_psw};
-ghost use Rattle.s360_model.specs.Storage.{is_storage_size};
+ghost use Rattle.s360_model.specs.Core.{core_with_key};
+ghost use Rattle.s360_model.specs.Storage.{block_size, is_storage_size};
 ghost use Rattle.s360_store.specs.Cells.{AreCellsOf, AllFit, places_of_cells};
 ghost use Rattle.s360_store.specs.Cells.{after_exchange, cells_after_exchange};
 ghost use Rattle.s360_store.specs.Places.{IsPlaceOf, Fits, value_at, with_value};
@@ -19,8 +20,8 @@ ghost use Rattle.s360_store.proofs.KeptLemmas.{AreKept};
 use crate::changes::WITHIN;
 use s360_logic::PlannedInstruction;
 use s360_psw::{InstructionLength, Psw};
-use s360_store::{Cell, Place, Plan, Storage, StoreFault};
-use s360_word::{RegisterNumber, Word};
+use s360_store::{BLOCK_SIZE, Cell, Place, Plan, Storage, StoreFault};
+use s360_word::{ProtectionKey, RegisterNumber, Word};
 use smallvec::SmallVec;
 use std::alloc::{AllocError, Global};
 use std::marker::Model;
@@ -140,6 +141,23 @@ impl Core {
         // Storage is small, so no address of the run passes 32 bits.
         let _ = self.storage.size();
         plan.put_bytes(at, bytes)?;
+        Ok(())
+    }
+
+    /// Plans a storage key of the block that an address lies in.
+    pub(crate) fn plan_key(
+        &self,
+        at: u32,
+        key: ProtectionKey,
+        plan: &mut Plan,
+    ) -> Result<(), AllocError>
+        requires empty { plan.old ≡ [] }
+        requires inside { at < length self.now.storage.bytes }
+        ensures { OnOk result (IsPlanOf self.now plan.new (core_with_key (at / block_size) key self.now)) }
+    {
+        // Its clauses have that each byte of storage is in a block.
+        let _ = self.storage.size();
+        plan.put_key(at / BLOCK_SIZE, key)?;
         Ok(())
     }
 

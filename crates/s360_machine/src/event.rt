@@ -1,7 +1,8 @@
 //! The events of the machine, each of which is taken back as one change.
 ghost use Rattle.std.specs.Prelude.{◌≡◌};
 
-use s360_word::{RegisterNumber, Word};
+use crate::operator::Key;
+use s360_word::{ProtectionKey, RegisterNumber, Word};
 use std::marker::Model;
 
 /// Bytes in their order, which a contract sees as a list.
@@ -48,6 +49,8 @@ pub enum Patch {
     Bytes { at: u32, bytes: Bytes },
     /// A general register's word.
     Register(RegisterNumber, Word),
+    /// The storage key of the block that an address lies in.
+    StorageKey { at: u32, key: ProtectionKey },
     /// The current PSW, from a doubleword of which bits 16 to 33 (an interruption code and an
     /// instruction length code) are dropped.
     Psw(u64),
@@ -56,8 +59,13 @@ pub enum Patch {
 /// What happens to the machine at once.
 #[derive(Debug, Drop)]
 pub enum Event {
-    /// The central processing unit executes an instruction, with the interruption that it causes.
+    /// The central processing unit takes an interruption, or executes an instruction with the
+    /// interruption that it causes.
     Cpu,
+    /// The timer counts down.
+    Tick,
+    /// The operator presses a key.
+    Key(Key),
     /// A patch.
     Patch(Patch),
 }

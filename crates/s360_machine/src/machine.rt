@@ -4,23 +4,22 @@ ghost use Rattle.std.specs.Prelude.{MatchOption};
 ghost use Rattle.std.specs.Bool.{MatchBool};
 ghost use Rattle.s360_model.specs.Storage.{is_storage_size};
 ghost use Rattle.s360_store.specs.declared.fault.StoreFault.TheVariants.{Size, Memory as no_memory};
-ghost use Rattle.s360_machine.specs.declared.event.Event.TheVariants.{Cpu};
 ghost use Rattle.s360_machine.specs.Machine.{Machine as Seen, new_machine, storage_size, seen};
 ghost use Rattle.s360_machine.specs.Change.{CanSwap, after_swap, change_after_swap};
 ghost use Rattle.s360_machine.specs.Change.{HasRoom, NeedsNoRoom};
-ghost use Rattle.s360_machine.specs.Step.{after, after_cpu, after_patch};
-ghost use Rattle.s360_machine.specs.Step.{is_unbuilt, is_running};
+ghost use Rattle.s360_machine.specs.Step.{after, after_patch, is_unbuilt};
+ghost use Rattle.s360_machine.specs.Timer.{after_tick};
 ghost use Rattle.s360_machine.specs.Refusals.{refusal_of, refusal_of_patch};
 ghost use Rattle.s360_store.specs.Plans.{IsPlanOf};
-ghost use Rattle.s360_machine.specs.Planned.{IsChangeTo, IsAnswerToEvent};
+ghost use Rattle.s360_machine.specs.Planned.{IsChangeTo, IsAnswerToEvent, IsPlanOfMachine};
 
 use crate::changes::Changes;
 use crate::control::Control;
 use crate::core_state::Core;
 use crate::event::{Event, Patch};
+use crate::external::ExternalConditions;
 use crate::refusal::Refusal;
 use crate::run_state::RunState;
-use s360_fixed::Ended;
 use s360_psw::Psw;
 use s360_store::{Plan, Storage, StoreFault};
 use s360_word::{RegisterNumber, Word};
@@ -30,12 +29,12 @@ use std::marker::Model;
 /// A patch has at most so many bytes.
 const LONGEST_PATCH: usize = 256;
 
-/// The machine. A contract sees the whole of it (PSW, registers, storage with its keys, run state)
-/// with room beside it.
+/// The machine. A contract sees the whole of it (PSW, registers, storage with its keys, run state,
+/// pending external conditions) with room beside it.
 #[derive(Drop)]
 pub struct Machine {
-    core: Core,
-    control: Control,
+    pub(crate) core: Core,
+    pub(crate) control: Control,
     alloc: Global,
 }
 
@@ -89,15 +88,22 @@ impl Machine {
         self.control.run_state()
     }
 
+    /// The pending external conditions.
+    pub fn external(&self) -> ExternalConditions
+        ensures { result ≡ self.now.whole.control.external }
+    {
+        self.control.external()
+    }
+
     /// Why an event is refused whatever the machine's state, by the event and the storage size
     /// alone.
     pub fn refusal(&self, event: &Event) -> Option<Refusal>
         ensures { result ≡ refusal_of (storage_size (seen self.now.whole)) event.now }
     {
+        let size = self.core.storage().size();
         match event {
             Event::Patch(Patch::Bytes { at, bytes }) => {
                 let count = bytes.as_slice().len();
-                let size = self.core.storage().size();
                 if count > LONGEST_PATCH {
                     Some(Refusal::PatchTooLong)
                 } else if u64::from(*at) + count as u64 > u64::from(size) {
@@ -106,15 +112,11 @@ impl Machine {
                     None
                 }
             }
+            Event::Patch(Patch::StorageKey { at, .. }) if *at >= size => {
+                Some(Refusal::OutsideStorage)
+            }
             _ => None,
         }
-    }
-
-    /// Whether the machine executes instructions: it operates and does not wait.
-    fn is_running(&self) -> bool
-        ensures { result ≡ is_running (seen self.now.whole) }
-    {
-        !self.core.psw().wait() && self.control.run_state() == RunState::Operating
     }
 
     /// What an event alters, or why it is refused.
@@ -126,41 +128,41 @@ impl Machine {
             return Err(refusal);
         }
         let mut plan = Plan::new(self.alloc);
-        self.plan_event(event, &mut plan)?;
+        let control = self.plan_event(event, &mut plan)?;
         let cells = self.core.changes(self.alloc, &plan)?;
-        // No event alters the control part yet.
-        let control = None;
+        let control = self.control.changes_to(&control);
         Ok(Changes { cells, control })
     }
 
-    /// Plans what an event puts into the core, if its own sake does not refuse it.
-    fn plan_event(&self, event: &Event, plan: &mut Plan) -> Result<(), Refusal>
+    /// Plans what an event puts into the core, if its own sake does not refuse it, and answers the
+    /// control part after it.
+    fn plan_event(&self, event: &Event, plan: &mut Plan) -> Result<Control, Refusal>
         requires empty { plan.old ≡ [] }
         requires accepted { refusal_of (storage_size (seen self.now.whole)) event.now ≡ None }
-        ensures ok { OnOk result (IsPlanOf self.now.whole.core plan.new (after (seen self.now.whole) event.now).core) }
+        ensures ok { IfOk result (λ control. IsPlanOfMachine (seen self.now.whole) plan.new control (after (seen self.now.whole) event.now)) }
         ensures answer { IsAnswerToEvent (is_unbuilt (seen self.now.whole) event.now) result }
     {
         match event {
             Event::Cpu => self.plan_cpu(plan),
-            Event::Patch(patch) => Ok(self.plan_patch(patch, plan)?),
+            Event::Tick => Ok(self.plan_tick(plan)?),
+            Event::Key(key) => Ok(self.control.after_key(*key)),
+            Event::Patch(patch) => {
+                self.plan_patch(patch, plan)?;
+                Ok(self.control)
+            }
         }
     }
 
-    /// Plans a CPU event.
-    fn plan_cpu(&self, plan: &mut Plan) -> Result<(), Refusal>
+    /// Plans a tick of the timer, and answers the control part after it.
+    fn plan_tick(&self, plan: &mut Plan) -> Result<Control, AllocError>
         requires empty { plan.old ≡ [] }
-        ensures ok { OnOk result (IsPlanOf self.now.whole.core plan.new (after_cpu (seen self.now.whole)).core) }
-        ensures answer { IsAnswerToEvent (is_unbuilt (seen self.now.whole) Cpu) result }
+        ensures { IfOk result (λ control. IsPlanOfMachine (seen self.now.whole) plan.new control (after_tick (seen self.now.whole))) }
     {
-        if !self.is_running() {
-            return Ok(());
+        if !self.control.run_state().is_operating() {
+            return Ok(self.control);
         }
-        match self.core.plan_instruction(plan)?.ended {
-            Ended::Done => Ok(()),
-            Ended::Program(_) | Ended::Svc(_) | Ended::Io(..) | Ended::Unbuilt => {
-                Err(Refusal::Unbuilt)
-            }
-        }
+        self.core.plan_tick(plan)?;
+        Ok(self.control.after_tick(self.core.timer()))
     }
 
     /// Plans a patch.
@@ -172,6 +174,7 @@ impl Machine {
         match patch {
             Patch::Bytes { at, bytes } => self.core.plan_bytes(*at, bytes.as_slice(), plan),
             Patch::Register(register, word) => self.core.plan_register(*register, *word, plan),
+            Patch::StorageKey { at, key } => self.core.plan_key(*at, *key, plan),
             Patch::Psw(doubleword) => self.core.plan_psw(*doubleword, plan),
         }
     }

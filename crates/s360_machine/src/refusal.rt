@@ -12,7 +12,7 @@ pub enum Refusal {
     /// A growth was refused.
     #[error("memory")]
     Memory,
-    /// A patch names bytes that are not in storage.
+    /// A patch names bytes, or a block, that are not in storage.
     #[error("outside storage")]
     OutsideStorage,
     /// A patch has more than 256 bytes.
@@ -21,7 +21,7 @@ pub enum Refusal {
     /// As many changes stand as the session's limit allows.
     #[error("journal full")]
     JournalFull,
-    /// The event needs an instruction or an interruption that is not built yet.
+    /// The event needs an instruction of the channels, which are not built yet.
     #[error("unbuilt")]
     Unbuilt,
 }

@@ -2,7 +2,7 @@
 use Rattle.std.specs.Prelude.{◌≡◌, ◌+◌, ◌+ℤ◌, true, false, refl, [], ◌∷◌, codes}
 use Rattle.s360_model.specs.Numbers.{low32, signed}
 use Rattle.s360_model.specs.ConditionCodes.{signed_code, carry_code, order_code}
-use Rattle.s360_model.specs.Psw.{current_psw, stored_psw, with_condition_code, with_instruction_address, protection_key_of, wait_of, fixed_point_overflow_mask_of}
+use Rattle.s360_model.specs.Psw.{current_psw, stored_psw, with_condition_code, with_instruction_address, with_program_mask, with_system_mask, protection_key_of, wait_of, fixed_point_overflow_mask_of}
 use Rattle.s360_model.specs.Storage.{is_storage_size, word_at}
 use Rattle.s360_model.specs.Text.{hex_text}
 
@@ -59,3 +59,10 @@ word_of_bytes = refl
 
 pub hexadecimal_text : hex_text 6 0x1A2B ≡ codes "001A2B"
 hexadecimal_text = refl
+
+-- SPM of 38000000: condition code 3 and fixed-point overflow mask one; SSM of FF
+pub program_mask_of_a_word : with_program_mask 0x0012_0000_1700_0202 0x3800_0000 ≡ 0x0012_0000_3800_0202
+program_mask_of_a_word = refl
+
+pub system_mask_of_a_byte : with_system_mask 0x0012_0000_3800_0204 0xFF ≡ 0xFF12_0000_3800_0204
+system_mask_of_a_byte = refl

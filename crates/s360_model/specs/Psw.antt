@@ -76,3 +76,11 @@ with_condition_code psw code = psw / 2 ^ 30 * 2 ^ 30 + code * 2 ^ 28 + psw % 2 ^
 -- the PSW with another instruction address, of which the low 24 bits count
 abbrev pub with_instruction_address : ℕ → ℕ → ℕ
 with_instruction_address psw address = psw / 2 ^ 24 * 2 ^ 24 + address % 2 ^ 24
+
+-- the PSW with the condition code and the program mask that bits 2 to 7 of a word are
+abbrev pub with_program_mask : ℕ → ℕ → ℕ
+with_program_mask psw word = psw / 2 ^ 30 * 2 ^ 30 + word / 2 ^ 24 % 2 ^ 6 * 2 ^ 24 + psw % 2 ^ 24
+
+-- the PSW with another system mask, bits 0 to 7
+abbrev pub with_system_mask : ℕ → ℕ → ℕ
+with_system_mask psw mask = mask * 2 ^ 56 + psw % 2 ^ 56

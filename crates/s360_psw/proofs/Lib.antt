@@ -1,1 +1,2 @@
 pub mod PswLemmas
+mod KnownInterruptions

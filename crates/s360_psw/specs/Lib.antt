@@ -1,1 +1,3 @@
 pub mod InstructionLength
+pub mod Class
+pub mod Pending

@@ -9,10 +9,11 @@ ghost use Rattle.s360_model.specs.Psw.{fixed_point_overflow_mask_of, decimal_ove
 ghost use Rattle.s360_model.specs.Psw.{exponent_underflow_mask_of, significance_mask_of};
 ghost use Rattle.s360_model.specs.Psw.{instruction_address_of};
 ghost use Rattle.s360_model.specs.Psw.{with_condition_code, with_instruction_address};
+ghost use Rattle.s360_model.specs.Psw.{with_program_mask, with_system_mask};
 ghost use Rattle.s360_psw.specs.InstructionLength.{length_code_of};
 
 use crate::instruction_length::InstructionLength;
-use s360_word::{Cc, ProtectionKey};
+use s360_word::{Cc, ProtectionKey, Word};
 use std::marker::Model;
 
 // The weight of each field: what a one in its last bit counts for.
@@ -30,6 +31,9 @@ const CONDITION_CODE: u64 = 1 << 28;
 
 /// How many instruction addresses there are.
 const ADDRESSES: u64 = 1 << 24;
+
+/// The system mask: bits 0 to 7.
+const SYSTEM_MASK: u64 = 1 << 56;
 
 /// A current PSW: 64 bits, of which bits 16 to 33 are zero.
 #[derive(Clone, Copy, Debug, PartialEq, Eq, Hash)]
@@ -187,5 +191,25 @@ impl Psw {
         ensures { result ≡ with_instruction_address self address }
     {
         Psw(self.0 / ADDRESSES * ADDRESSES + u64::from(address) % ADDRESSES)
+    }
+
+    /// The same PSW with the condition code of bits 2 and 3 of a word, and the program mask of its
+    /// bits 4 to 7.
+    pub fn with_program_mask(self, word: Word) -> Psw
+        ensures { result ≡ with_program_mask self word }
+    {
+        Psw(
+            self.0 / LENGTH_CODE * LENGTH_CODE
+                + u64::from(word) / ADDRESSES % 64 * ADDRESSES
+                + self.0 % ADDRESSES,
+        )
+    }
+
+    /// The same PSW with another system mask: the masks of channels 0 to 6 and the external mask,
+    /// bits 0 to 7.
+    pub fn with_system_mask(self, mask: u8) -> Psw
+        ensures { result ≡ with_system_mask self mask }
+    {
+        Psw(u64::from(mask) * SYSTEM_MASK + self.0 % SYSTEM_MASK)
     }
 }

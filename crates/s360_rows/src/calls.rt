@@ -10,6 +10,8 @@ use std::alloc::Global;
 fn call_of(command: Command) -> Call {
     match command {
         Command::Step => Call::Forward(Event::Cpu),
+        Command::Tick => Call::Forward(Event::Tick),
+        Command::Key(key) => Call::Forward(Event::Key(key)),
         Command::Patch(patch) => Call::Forward(Event::Patch(patch)),
         Command::Back => Call::Back,
         Command::Last(place) => Call::LastChange(place),

@@ -449,8 +449,11 @@ ending 47F00300 p=200 -> Done 204 2 p=300 false
 ending 1A12 p=201 -> Program(Specification) 201 0 p=0 true
 ending 1A12 p=2000 -> Program(Addressing) 2000 0 p=0 true
 ending 0000 p=200 -> Program(Operation) 202 1 p=0 true
-ending 80000300 p=200 -> Unbuilt 204 2 p=0 true
-ending 44000300 p=200 s300=0A05 -> Unbuilt 204 2 p=0 true
+ending 80000300 p=200 s300=80 -> Done 204 2 p=8000000000000204 false
+ending 0AFF p=200 -> Svc(255) 202 1 p=0 true
+ending 44000300 p=200 s300=0A05 -> Svc(5) 204 2 p=0 true
+ending 0812 p=1000000000200 -> Program(Privileged) 202 1 p=0 true
+ending 9C00000C p=200 -> Unbuilt 204 2 p=0 true
 ending 44000300 p=200 s300=D20007000600 s600=C1 -> Done 204 2 p=204 false
 ending 44000300 p=200 s300=45100400 -> Done 204 2 p=400 false
 ";

@@ -17,6 +17,9 @@ fn are_same(first: &Machine, second: &Machine) -> bool {
     if first.psw() != second.psw() || first.run() != second.run() || one.size() != other.size() {
         return false;
     }
+    if first.external() != second.external() {
+        return false;
+    }
     for number in 0..16 {
         if word(first, number) != word(second, number) {
             return false;
@@ -249,7 +252,13 @@ patch 0 101 -> 5 patch too long, 5 patch too long
 patch 1FFF 101 -> 5 patch too long, 5 patch too long
 patch FFFFFFFF 101 -> 5 patch too long, 5 patch too long
 * what is not built is no refusal for the event's own sake
+do patch s 0 9C00000C -> done
 refusal step -> accepted, 7 unbuilt
+* a block, a tick and a key
+refusal patch k 1FFF 1 -> accepted, accepted
+refusal patch k 2000 1 -> 2 outside storage, 2 outside storage
+refusal tick -> accepted, accepted
+refusal key stop -> accepted, accepted
 * events exchanged twice: their places, and whether all is as before
 do patch r 1 7FFFFFFF -> done
 do patch r 2 1 -> done
@@ -263,6 +272,12 @@ twice patch r F 1 -> [Register(15)] true
 twice patch r F 0 -> [] true
 twice patch p FFFFFFFFFFFFFFFF -> [Psw] true
 twice patch p 0000FFFFC0000000 -> [] true
+twice patch k FFF 5 -> [Key(1)] true
+twice tick -> [Byte(80), Byte(81), Byte(82), External] true
+do key interrupt -> done
+twice tick -> [Byte(80), Byte(81), Byte(82), External] true
+twice key reset -> [Run, External] true
+twice key start -> [] true
 ";
 
 /// Bytes and refusals.

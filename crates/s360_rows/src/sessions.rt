@@ -10,8 +10,9 @@ use s360_store::Place;
 use s360_word::{RegisterNumber, Unit, Word};
 use std::alloc::Global;
 
-/// AR of registers 1 and 2 at 0, then a supervisor call, which is not built; and the registers.
-const START: &str = "patch s 0 1A120A05\npatch r 1 7FFFFFFF\npatch r 2 1";
+/// AR of registers 1 and 2 at 0, then an instruction of the channels, which is not built; and the
+/// registers.
+const START: &str = "patch s 0 1A129C00000C\npatch r 1 7FFFFFFF\npatch r 2 1";
 
 /// A machine in which these lines were carried out.
 fn machine(alloc: Global) -> Option<Machine> {
@@ -98,9 +99,9 @@ impl Running {
         let byte = self.session.last_change(Place::Byte(0x2000));
         let register = self.session.last_change(Place::Register(16));
         let key = self.session.last_change(Place::Key(4));
-        let run = self.session.last_change(Place::Run);
+        let media = self.session.last_change(Place::UnitMedia(Unit(0x00C)));
         let unit = self.session.last_change(Place::UnitState(Unit(0x00C)));
-        format!(in alloc; "{byte:?} {register:?} {key:?} {run:?} {unit:?}").ok()
+        format!(in alloc; "{byte:?} {register:?} {key:?} {media:?} {unit:?}").ok()
     }
 }
 

@@ -15,4 +15,4 @@ pub use fault::StoreFault;
 pub use place::{Cell, Place};
 pub use plan::Plan;
 pub use protection::{Access, Checked};
-pub use storage::Storage;
+pub use storage::{BLOCK_SIZE, Storage};

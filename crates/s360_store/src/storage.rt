@@ -1,7 +1,7 @@
 //! Main storage: its bytes, with numbers high byte first, and the storage keys of its blocks.
 //! A contract sees the record of both. Source: GA22-6821, "System Structure".
 ghost use Rattle.std.specs.Prelude.{◌≡◌, ◌<◌, ◌≤◌, ◌+◌, length, slice_index, Err, IfOk, IsOkUnless};
-ghost use Rattle.std.specs.Prelude.{◌/◌, nat_eq};
+ghost use Rattle.std.specs.Prelude.{◌/◌, ◌%◌, nat_eq};
 ghost use Rattle.std.specs.Bool.{MatchBool};
 ghost use Rattle.std.specs.List.{list_all, slice_range};
 ghost use Rattle.s360_model.specs.Storage.{is_storage_size, zero_storage, halfword_at, word_at};
@@ -19,7 +19,7 @@ use std::alloc::Global;
 use std::marker::Model;
 
 /// Bytes in a block, which has one storage key.
-const BLOCK: u32 = 2048;
+pub const BLOCK_SIZE: u32 = 2048;
 
 /// Main storage of 8,192 to 1,048,576 bytes, in whole blocks.
 #[derive(Drop)]
@@ -43,7 +43,7 @@ impl Model for Storage {
 fn is_size(size: u32) -> bool
     ensures { result ≡ is_storage_size size }
 {
-    (8_192..=1_048_576).contains(&size) && size % BLOCK == 0
+    (8_192..=1_048_576).contains(&size) && size % BLOCK_SIZE == 0
 }
 
 /// Whether each of the keys is this one.
@@ -63,13 +63,15 @@ impl Storage {
             return Err(StoreFault::Size);
         }
         let bytes = vec![in alloc; 0u8; size as usize]?;
-        let keys = vec![in alloc; ProtectionKey::new(0); (size / BLOCK) as usize]?;
+        let keys = vec![in alloc; ProtectionKey::new(0); (size / BLOCK_SIZE) as usize]?;
         Ok(Storage { bytes, keys })
     }
 
     /// The number of bytes.
     pub fn size(&self) -> u32
         ensures size { result ≡ length self.now.bytes }
+        ensures least { 8192 ≤ result }
+        ensures whole { result % block_size ≡ 0 }
         ensures below { result ≤ 1048576 }
         ensures blocks { length self.now.keys ≡ result / block_size }
     {
@@ -149,8 +151,8 @@ impl Storage {
         if count == 0 || key.number() == 0 {
             return true;
         }
-        let first = (address / BLOCK) as usize;
-        let last = ((address + count - 1) / BLOCK) as usize;
+        let first = (address / BLOCK_SIZE) as usize;
+        let last = ((address + count - 1) / BLOCK_SIZE) as usize;
         all_are(&self.keys[first..last + 1], key)
     }
 

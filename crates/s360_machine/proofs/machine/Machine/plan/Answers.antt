@@ -1,11 +1,19 @@
 use Rattle.std.proofs.Common.{◌≡◌, ap}
-use Rattle.s360_store.specs.Cells.{after_exchange}
-use Rattle.s360_machine.specs.Machine.{WithRoom}
-use Rattle.s360_machine.proofs.ChangeLemmas.{IsChangeTo-core}
+use Rattle.s360_store.specs.Differences.{IsCoreChangeTo}
+use Rattle.s360_machine.specs.Machine.{Machine, Whole, WithRoom, seen}
+use Rattle.s360_machine.specs.Planned.{IsControlChangeTo}
+use Rattle.s360_machine.specs.Step.{after}
+use Rattle.s360_machine.proofs.ChangeLemmas.{IsChangeTo-parts}
 use Rattle.s360_machine.proofs.machine.Machine.plan.Goals as goal
 
 pub returns-clause-ok : goal.returns-clause-ok
 returns-clause-ok c =
-    let core_is : c.self.inside.core ≡ c.args.self.now.whole.core = ap (λ (m : WithRoom). m.whole.core) c.self.view_is
-    in IsChangeTo-core c.args.self.now.whole c.args.event.now c.in_ok-cells.cells.items (after_exchange c.args.self.now.whole.core c.plan_event.new.plan)
-    (rw core_is at c.in_ok-cells.ensures.change) c.in_ok-plan_event.ensures.ok.makes
+    let w : Whole = c.args.self.now.whole
+    in let n : Machine = after (seen w) c.args.event.now
+    in let core_is : c.self.inside.core ≡ w.core = ap (λ (m : WithRoom). m.whole.core) c.self.view_is
+    in let control_is = ap (λ (m : WithRoom). m.whole.control) c.self.view_is
+    in let core : IsCoreChangeTo w.core c.in_ok-cells.cells.items n.core
+    = rw (core_is, c.in_ok-control.ensures.ok.core.makes) at c.in_ok-cells.ensures.change
+    in let control : IsControlChangeTo w.control c.changes_to-control.result.items n.control
+    = rw (control_is, c.in_ok-control.ensures.ok.control) at c.changes_to-control.ensures
+    in IsChangeTo-parts w _ _ n core control

@@ -1,4 +1,5 @@
-use Rattle.std.proofs.Common.{◌≡◌, List, [], ◌∷◌, Option, None, Some, length, slice_index_or, option_map, option_to_list, refl, ap, ◌∙◌, sym, subst}
+use Rattle.std.specs.List.{refill}
+use Rattle.std.proofs.Common.{◌≡◌, List, drop, length, ap, ◌∙◌, sym, subst}
 use Rattle.std.proofs.lemmas.List.{take_at}
 use Rattle.s360_machine.specs.Machine.{Whole, WithRoom}
 use Rattle.s360_machine.specs.Change.{Change, CanSwap, after_swap, change_after_swap}
@@ -13,19 +14,14 @@ abbrev whole_after : After-exchange-2 → Whole
 whole_after c = record { core = c.exchange.new.self; control = c.exchange-2.new.self }
 
 abbrev change_before : After-exchange-2 → Change
-change_before c = record { cells = c.changes.inside.cells.items; control = option_to_list c.changes.inside.control }
+change_before c = record { cells = c.changes.inside.cells.items; control = c.changes.inside.control.items }
 
 abbrev change_after : After-exchange-2 → Change
 change_after c = record { cells = c.exchange.new.cells; control = c.exchange-2.new.cells }
 
--- an option whose value was lent as a slice has what the slice has afterwards
-option_to_list-lent : {X : Type 0} (o : Option X) (xs : List X) → length xs ≡ length (option_to_list o)
-    → option_to_list (option_map (λ d. slice_index_or xs 0 d) o) ≡ xs
-option_to_list-lent None [] h = refl
-option_to_list-lent None (x ∷ xs) h = cc
-option_to_list-lent (Some y) [] h = cc
-option_to_list-lent (Some y) (x ∷ []) h = refl
-option_to_list-lent (Some y) (x ∷ z ∷ xs) h = cc
+-- as many elements in place of those of a list
+refill-same : {X : Type 0} (xs ys : List X) → length ys ≡ length xs → refill (length xs) xs ys ≡ ys
+refill-same xs ys h = take_at ys (drop (length ys) xs) (length xs) h
 
 exchanged : (c : After-exchange-2) → IsSwap (whole_before c) (change_before c) (whole_after c) (change_after c)
 exchanged c =
@@ -42,17 +38,17 @@ exchanged c =
 pub returns-clause-again : goal.returns-clause-again
 returns-clause-again c =
     let count : length c.exchange.new.cells ≡ length c.changes.inside.cells.items = cc
-    in let count-2 : length c.exchange-2.new.cells ≡ length (option_to_list c.changes.inside.control) = cc
-    in rw (take_at, option_to_list-lent c.changes.inside.control c.exchange-2.new.cells count-2) (exchanged c.before).again
+    in let count-2 : length c.exchange-2.new.cells ≡ length c.changes.inside.control.items = cc
+    in rw (take_at c.exchange.new.cells (drop (length c.exchange.new.cells) c.changes.inside.cells.items) (length c.changes.inside.cells.items) count, refill-same c.changes.inside.control.items c.exchange-2.new.cells count-2) (exchanged c.before).again
 
 pub returns-clause-restores_machine : goal.returns-clause-restores_machine
 returns-clause-restores_machine c =
     let count : length c.exchange.new.cells ≡ length c.changes.inside.cells.items = cc
-    in let count-2 : length c.exchange-2.new.cells ≡ length (option_to_list c.changes.inside.control) = cc
-    in rw (take_at, option_to_list-lent c.changes.inside.control c.exchange-2.new.cells count-2) ((exchanged c.before).whole ∙ ap (λ (m : WithRoom). m.whole) c.self.view_is)
+    in let count-2 : length c.exchange-2.new.cells ≡ length c.changes.inside.control.items = cc
+    in rw (take_at c.exchange.new.cells (drop (length c.exchange.new.cells) c.changes.inside.cells.items) (length c.changes.inside.cells.items) count, refill-same c.changes.inside.control.items c.exchange-2.new.cells count-2) ((exchanged c.before).whole ∙ ap (λ (m : WithRoom). m.whole) c.self.view_is)
 
 pub returns-clause-restores_changes : goal.returns-clause-restores_changes
 returns-clause-restores_changes c =
     let count : length c.exchange.new.cells ≡ length c.changes.inside.cells.items = cc
-    in let count-2 : length c.exchange-2.new.cells ≡ length (option_to_list c.changes.inside.control) = cc
-    in rw (take_at, option_to_list-lent c.changes.inside.control c.exchange-2.new.cells count-2) ((exchanged c.before).change ∙ c.changes.view_is)
+    in let count-2 : length c.exchange-2.new.cells ≡ length c.changes.inside.control.items = cc
+    in rw (take_at c.exchange.new.cells (drop (length c.exchange.new.cells) c.changes.inside.cells.items) (length c.changes.inside.cells.items) count, refill-same c.changes.inside.control.items c.exchange-2.new.cells count-2) ((exchanged c.before).change ∙ c.changes.view_is)

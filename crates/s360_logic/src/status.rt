@@ -1,0 +1,187 @@
+//! Status switching: the PSW and its masks, the storage keys and the supervisor call. Source:
+//! GA22-6821, "Status Switching", and "System Structure", protection feature.
+ghost use Rattle.std.specs.Prelude.{◌≡◌, ◌<◌, [], IfNone, IfOk};
+ghost use Rattle.s360_store.specs.Plans.{HasBlock, HasBytes};
+ghost use Rattle.s360_fixed.specs.Plans.{PlansOutcome};
+ghost use Rattle.s360_fixed.specs.ProgramCodes.{program_code};
+ghost use Rattle.s360_fixed.specs.Storing.{next_psw};
+ghost use Rattle.s360_logic.specs.declared.row.StorageStatus.TheVariants.{LoadPsw, SetSystemMask};
+ghost use Rattle.s360_logic.specs.Status.{block_of, fetch_conditions, key_conditions, key_in};
+ghost use Rattle.s360_logic.specs.Status.{key_outcome, register_status_outcome};
+ghost use Rattle.s360_logic.specs.Status.{storage_status_outcome, with_key_in, with_psw};
+
+use crate::row::{KeyRow, RegisterStatus, StorageStatus};
+use s360_fixed::{Ended, ProgramCode, View, operand_exception, put_next_psw};
+use s360_psw::Psw;
+use s360_store::{Access, BLOCK_SIZE, Plan};
+use s360_word::{ProtectionKey, RegisterNumber, Word};
+use std::alloc::AllocError;
+
+/// Blocks that an address can name.
+const BLOCKS: u32 = 1 << 13;
+
+/// Bytes of a doubleword, and its boundary.
+const DOUBLEWORD: u32 = 8;
+
+/// The PSW that goes on with the next instruction.
+fn next_psw(view: &View) -> Psw
+    ensures { result ≡ next_psw view.now }
+{
+    view.psw().with_instruction_address(view.next_address())
+}
+
+/// Plans a PSW alone.
+fn plan_psw(view: &View, psw: Psw, plan: &mut Plan) -> Result<Ended, AllocError>
+    requires empty { plan.old ≡ [] }
+    ensures { IfOk result (PlansOutcome view.now.core plan.new (with_psw view.now psw)) }
+{
+    plan.put_psw(psw)?;
+    Ok(Ended::Done)
+}
+
+/// The block that a word names, by its number.
+fn block_of(word: Word) -> u32
+    ensures { result ≡ block_of word }
+{
+    word / BLOCK_SIZE % BLOCKS
+}
+
+/// The key in bits 24 to 27 of a word.
+fn key_in(word: Word) -> ProtectionKey
+    ensures { result ≡ key_in word }
+{
+    ProtectionKey::new((word / 16 % 16) as u8)
+}
+
+/// A word with a key in bits 24 to 27, and zeros in bits 28 to 31.
+fn with_key_in(word: Word, key: ProtectionKey) -> Word
+    ensures { result ≡ with_key_in word key }
+{
+    word / 256 * 256 + u32::from(key.number()) * 16
+}
+
+/// What keeps the storage key of the block that a word names from being used: the problem state, a
+/// one in bits 28 to 31, or a block outside storage, found in this order.
+fn key_exception(view: &View, word: Word) -> Option<ProgramCode>
+    ensures code { result ≡ program_code (key_conditions view.now word) }
+    ensures inside { IfNone result (HasBlock (block_of word) view.now.core) }
+{
+    if view.psw().problem_state() {
+        Some(ProgramCode::Privileged)
+    } else if word % 16 != 0 {
+        Some(ProgramCode::Specification)
+    } else if block_of(word) >= view.storage().size() / BLOCK_SIZE {
+        Some(ProgramCode::Addressing)
+    } else {
+        None
+    }
+}
+
+/// Plans what is done with the storage key of a block inside storage.
+fn plan_key(
+    view: &View,
+    row: KeyRow,
+    r1: RegisterNumber,
+    block: u32,
+    plan: &mut Plan,
+) -> Result<Ended, AllocError>
+    requires inside { HasBlock block view.now.core }
+    requires empty { plan.old ≡ [] }
+    ensures { IfOk result (PlansOutcome view.now.core plan.new (key_outcome row view.now r1 block)) }
+{
+    let word = view.register(r1);
+    put_next_psw(view, plan)?;
+    match row {
+        KeyRow::Set => plan.put_key(block, key_in(word))?,
+        KeyRow::Insert => {
+            plan.put_register(r1, with_key_in(word, view.storage().key(block)))?;
+        }
+    }
+    Ok(Ended::Done)
+}
+
+/// Plans a row of registers, or of the second byte of the instruction.
+pub(crate) fn plan_register_status(
+    view: &View,
+    row: RegisterStatus,
+    r1: RegisterNumber,
+    r2: RegisterNumber,
+    plan: &mut Plan,
+) -> Result<Ended, AllocError>
+    requires empty { plan.old ≡ [] }
+    ensures { IfOk result (PlansOutcome view.now.core plan.new (register_status_outcome row view.now r1 r2)) }
+{
+    match row {
+        RegisterStatus::SetProgramMask => {
+            let psw = next_psw(view).with_program_mask(view.register(r1));
+            plan_psw(view, psw, plan)
+        }
+        RegisterStatus::SupervisorCall => Ok(Ended::Svc(r1.number() * 16 + r2.number())),
+        RegisterStatus::StorageKey(row) => {
+            let word = view.register(r2);
+            match key_exception(view, word) {
+                Some(code) => Ok(Ended::Program(code)),
+                None => plan_key(view, row, r1, block_of(word), plan),
+            }
+        }
+    }
+}
+
+/// What keeps a privileged instruction from fetching an operand, on the boundary of the number of
+/// its bytes: the problem state comes before what the operand meets.
+fn fetch_exception(view: &View, address: u32, count: u32) -> Option<ProgramCode>
+    requires some { 0 < count }
+    ensures code { result ≡ program_code (fetch_conditions view.now address count) }
+    ensures inside { IfNone result (HasBytes address count view.now.core) }
+{
+    if view.psw().problem_state() {
+        Some(ProgramCode::Privileged)
+    } else {
+        operand_exception(view, address, count, count, Access::Fetch)
+    }
+}
+
+/// Plans the system mask that is the byte at an address.
+fn plan_system_mask(view: &View, address: u32, plan: &mut Plan) -> Result<Ended, AllocError>
+    requires empty { plan.old ≡ [] }
+    ensures { IfOk result (PlansOutcome view.now.core plan.new (storage_status_outcome SetSystemMask view.now address)) }
+{
+    match fetch_exception(view, address, 1) {
+        Some(code) => Ok(Ended::Program(code)),
+        None => {
+            let mask = view.storage().byte(address);
+            plan_psw(view, next_psw(view).with_system_mask(mask), plan)
+        }
+    }
+}
+
+/// Plans the PSW that is the doubleword at an address.
+fn plan_load_psw(view: &View, address: u32, plan: &mut Plan) -> Result<Ended, AllocError>
+    requires empty { plan.old ≡ [] }
+    ensures { IfOk result (PlansOutcome view.now.core plan.new (storage_status_outcome LoadPsw view.now address)) }
+{
+    match fetch_exception(view, address, DOUBLEWORD) {
+        Some(code) => Ok(Ended::Program(code)),
+        None => plan_psw(view, Psw::from_u64(view.storage().double(address)), plan),
+    }
+}
+
+/// Plans a row of an operand in storage, or of a unit.
+pub(crate) fn plan_storage_status(
+    view: &View,
+    row: StorageStatus,
+    address: u32,
+    plan: &mut Plan,
+) -> Result<Ended, AllocError>
+    requires empty { plan.old ≡ [] }
+    ensures { IfOk result (PlansOutcome view.now.core plan.new (storage_status_outcome row view.now address)) }
+{
+    match row {
+        StorageStatus::SetSystemMask => plan_system_mask(view, address, plan),
+        StorageStatus::LoadPsw => plan_load_psw(view, address, plan),
+        StorageStatus::InputOutput if view.psw().problem_state() => {
+            Ok(Ended::Program(ProgramCode::Privileged))
+        }
+        StorageStatus::InputOutput => Ok(Ended::Unbuilt),
+    }
+}

@@ -1,0 +1,57 @@
+-- What stands in a core as a plan leaves it, and the puts of an interruption.
+use Rattle.std.proofs.Common.{◌≡◌, ◌<◌, ◌≤◌, ◌+◌, ℕ, List, refl, ap, sym, ◌∙◌, length, Some, None, unwrap_or, slice_index}
+use Rattle.std.specs.Int.{bytes_high_first}
+use Rattle.s360_model.specs.Core.{Core, core_with_bytes, core_with_psw}
+use Rattle.s360_model.specs.Psw.{current_psw, stored_psw}
+use Rattle.s360_model.specs.Storage.{doubleword_at}
+use Rattle.s360_psw.specs.declared.class.Class.{Class}
+use Rattle.s360_psw.specs.declared.instruction_length.InstructionLength.{InstructionLength}
+use Rattle.s360_psw.specs.Class.{new_location_of, old_location_of}
+use Rattle.s360_psw.specs.InstructionLength.{length_code_of}
+use Rattle.s360_store.specs.declared.place.Place.{Place}
+use Rattle.s360_store.specs.declared.place.Place.TheVariants.{Psw, Byte}
+use Rattle.s360_store.specs.declared.place.Cell.{Cell}
+use Rattle.s360_store.specs.Cells.{AreCellsOf, after_exchange}
+use Rattle.s360_store.specs.Places.{IsPlaceOf, value_at}
+use Rattle.s360_store.specs.Plans.{AddsToPlan, HasBytes, HasPsw, IsPlanOf, planned_value}
+use Rattle.s360_store.proofs.PlannedLemmas.{planned_value-fits, value_at-plan}
+use Rattle.s360_machine.specs.Interruptions.{after_interruption}
+
+-- a value of the plan, or else what the core has
+planned-some : (m : Core) (plan : List Cell) (p : Place) (v : ℕ) → AreCellsOf m plan → IsPlaceOf m p → planned_value plan p ≡ Some v → v ≡ value_at (after_exchange m plan) p
+planned-some m plan p v h i e = sym (value_at-plan m plan p h i ∙ ap (λ o. unwrap_or o (value_at m p)) e)
+
+planned-none : (m : Core) (plan : List Cell) (p : Place) → AreCellsOf m plan → IsPlaceOf m p → planned_value plan p ≡ None → value_at m p ≡ value_at (after_exchange m plan) p
+planned-none m plan p h i e = sym (value_at-plan m plan p h i ∙ ap (λ o. unwrap_or o (value_at m p)) e)
+
+pub planned_psw-some : (m : Core) (plan : List Cell) (v : ℕ) → AreCellsOf m plan → planned_value plan Psw ≡ Some v → current_psw v ≡ (after_exchange m plan).psw
+planned_psw-some m plan v h e = (planned_value-fits m plan Psw v h e).1 ∙ planned-some m plan Psw v h tt e
+
+pub planned_psw-none : (m : Core) (plan : List Cell) → AreCellsOf m plan → planned_value plan Psw ≡ None → m.psw ≡ (after_exchange m plan).psw
+planned_psw-none m plan h e = planned-none m plan Psw h tt e
+
+pub planned_byte-fits : (m : Core) (plan : List Cell) (a v : ℕ) → AreCellsOf m plan → planned_value plan (Byte a) ≡ Some v → v < 256
+planned_byte-fits m plan a v h e = planned_value-fits m plan (Byte a) v h e
+
+pub planned_byte-some : (m : Core) (plan : List Cell) (a v : ℕ) → AreCellsOf m plan → a < length m.storage.bytes → planned_value plan (Byte a) ≡ Some v
+    → v ≡ slice_index (after_exchange m plan).storage.bytes a
+planned_byte-some m plan a v h i e = planned-some m plan (Byte a) v h i e
+
+pub planned_byte-none : (m : Core) (plan : List Cell) (a : ℕ) → AreCellsOf m plan → a < length m.storage.bytes → planned_value plan (Byte a) ≡ None
+    → slice_index m.storage.bytes a ≡ slice_index (after_exchange m plan).storage.bytes a
+planned_byte-none m plan a h i e = planned-none m plan (Byte a) h i e
+
+-- the puts of an interruption: the new PSW, and the bytes of the old one
+pub IsPlanOf-interruption : (m : Core) (p q r : List Cell) (class : Class) (psw code : ℕ) (il : InstructionLength) (new at-old : ℕ) (bytes : List ℕ)
+    → AreCellsOf m p → at-old + 8 ≤ length m.storage.bytes → at-old ≡ old_location_of class
+    → new ≡ current_psw (doubleword_at (after_exchange m p).storage.bytes (new_location_of class))
+    → bytes ≡ bytes_high_first 8 (stored_psw psw code (length_code_of il))
+    → AddsToPlan p q 1 HasPsw (core_with_psw new) → AddsToPlan q r (length bytes) (HasBytes at-old (length bytes)) (core_with_bytes at-old bytes)
+    → IsPlanOf m r (after_interruption class code il (core_with_psw psw (after_exchange m p)))
+unfolding after_interruption
+IsPlanOf-interruption m p q r class psw code il new at-old bytes h i eo en eb u w =
+    let n : Core = after_exchange m p
+    in let inside : HasBytes at-old (length bytes) m = rw eb i
+    in let all : IsPlanOf m r (core_with_bytes at-old bytes (core_with_psw new n))
+    = w.makes m (core_with_psw new n) inside (u.makes m n tt (record { cells = h; makes = refl }))
+    in rw (eo, en, eb) at all
