@@ -3,9 +3,11 @@
 ghost use Rattle.std.specs.Prelude.{◌≡◌, ◌<◌, ◌≤◌, ◌+◌, IfSome, Some, length, slice_index};
 ghost use Rattle.s360_fixed.specs.Table.{bytes_of_format, displacement_at, entry_of, form_of, form_with};
 ghost use Rattle.s360_fixed.specs.Table.{high_digit, instruction_length, low_digit};
+ghost use Rattle.arrayvec.specs.ArrayVec.{array_vec_len};
 
 use crate::form::{Entry, Form, Format};
 use crate::operation::Operation;
+use arrayvec::ArrayVec;
 use s360_word::RegisterNumber;
 
 /// The length in bytes of the instruction that begins with this byte: 2, 4 or 6.
@@ -192,7 +194,16 @@ fn form(format: Format, operation: Operation, bytes: &[u8]) -> Form
 }
 
 /// The instruction that bytes are: `None` exactly where the first is no operation code.
-pub fn decode(bytes: &[u8]) -> Option<Form>
+pub fn decode(bytes: &ArrayVec<u8, 6>) -> Option<Form>
+    requires begun { 0 < array_vec_len bytes.now }
+    requires whole { array_vec_len bytes.now ≡ instruction_length (slice_index bytes.now.items 0) }
+    ensures { result ≡ form_of bytes.now.items }
+{
+    decode_bytes(bytes.as_slice())
+}
+
+/// The instruction that bytes are, where they stand in storage.
+pub fn decode_bytes(bytes: &[u8]) -> Option<Form>
     requires begun { 0 < length bytes.now }
     requires whole { length bytes.now ≡ instruction_length (slice_index bytes.now 0) }
     ensures { result ≡ form_of bytes.now }

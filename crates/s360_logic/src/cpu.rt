@@ -5,7 +5,7 @@ ghost use Rattle.s360_fixed.specs.View.{core_with};
 ghost use Rattle.s360_logic.specs.Instruction.{PlansInstruction, instruction, length_of_bytes};
 
 use crate::logic::plan_logic;
-use s360_fixed::{Ended, ProgramCode, View, decode, fetch_instruction};
+use s360_fixed::{Ended, ProgramCode, View, decode_bytes, fetch_instruction};
 use s360_psw::{InstructionLength, Psw};
 use s360_store::{Plan, Storage};
 use s360_word::Word;
@@ -62,7 +62,7 @@ pub fn plan_instruction(
     let instruction_length = length_of_bytes(bytes.len());
     let next_address = address + bytes.len() as u32;
     let view = View::new(psw, registers, storage, next_address, instruction_length);
-    let ended = match decode(bytes) {
+    let ended = match decode_bytes(bytes) {
         Some(form) => plan_logic(&form, &view, plan)?,
         None => Ended::Program(ProgramCode::Operation),
     };

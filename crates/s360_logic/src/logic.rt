@@ -178,7 +178,7 @@ fn plan_execute(
         Ok(bytes) => with_register(view, r1, bytes),
         Err(code) => return Ok(Ended::Program(code)),
     };
-    let Some(form) = decode(bytes.as_slice()) else {
+    let Some(form) = decode(&bytes) else {
         return Ok(Ended::Program(ProgramCode::Operation));
     };
     if subject_of(&form, view).is_some() {

@@ -113,7 +113,7 @@ pub(crate) fn bytes_of(digits: &str) -> Option<ArrayVec<u8, 6>> {
 pub(crate) fn decoded(bytes: &ArrayVec<u8, 6>) -> Option<Form> {
     let first = *bytes.as_slice().first()?;
     if bytes.len() == usize::from(length_of(first)) {
-        decode(bytes.as_slice())
+        decode(bytes)
     } else {
         None
     }
