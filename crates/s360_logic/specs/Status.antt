@@ -59,15 +59,15 @@ register_status_outcome (StorageKey row) v r1 r2 =
     unless_met (key_conditions v (register_of v r2)) v.core (key_outcome row v r1 (block_of (register_of v r2)))
 
 -- an operand of so many bytes, on the boundary of their number, that a privileged instruction fetches
-abbrev pub fetch_conditions : View → ℕ → ℕ → Conditions
-fetch_conditions v address count = privileged v (access_conditions v.core address count count Fetch)
+abbrev pub privileged_fetch : View → ℕ → ℕ → Conditions
+privileged_fetch v address count = privileged v (access_conditions v.core address count count Fetch)
 
 -- the rows of the format SI: the system mask becomes a byte, the PSW becomes a doubleword; the channels are
 -- not built yet
 abbrev pub storage_status_outcome : StorageStatus → View → ℕ → Outcome
 storage_status_outcome SetSystemMask v address =
-    unless_met (fetch_conditions v address 1) v.core (with_psw v (with_system_mask (next_psw v) (byte_at v.core.storage address)))
+    unless_met (privileged_fetch v address 1) v.core (with_psw v (with_system_mask (next_psw v) (byte_at v.core.storage address)))
 storage_status_outcome LoadPsw v address =
-    unless_met (fetch_conditions v address 8) v.core (with_psw v (current_psw (doubleword_at v.core.storage.bytes address)))
+    unless_met (privileged_fetch v address 8) v.core (with_psw v (current_psw (doubleword_at v.core.storage.bytes address)))
 storage_status_outcome InputOutput v address =
     unless_met (privileged v no_conditions) v.core (record { ended = Unbuilt; core = v.core })

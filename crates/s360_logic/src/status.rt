@@ -6,8 +6,8 @@ ghost use Rattle.s360_fixed.specs.Plans.{PlansOutcome};
 ghost use Rattle.s360_fixed.specs.ProgramCodes.{program_code};
 ghost use Rattle.s360_fixed.specs.Storing.{next_psw};
 ghost use Rattle.s360_logic.specs.declared.row.StorageStatus.TheVariants.{LoadPsw, SetSystemMask};
-ghost use Rattle.s360_logic.specs.Status.{block_of, fetch_conditions, key_conditions, key_in};
-ghost use Rattle.s360_logic.specs.Status.{key_outcome, register_status_outcome};
+ghost use Rattle.s360_logic.specs.Status.{block_of, key_conditions, key_in};
+ghost use Rattle.s360_logic.specs.Status.{key_outcome, privileged_fetch, register_status_outcome};
 ghost use Rattle.s360_logic.specs.Status.{storage_status_outcome, with_key_in, with_psw};
 
 use crate::row::{KeyRow, RegisterStatus, StorageStatus};
@@ -131,7 +131,7 @@ pub(crate) fn plan_register_status(
 /// its bytes: the problem state comes before what the operand meets.
 fn fetch_exception(view: &View, address: u32, count: u32) -> Option<ProgramCode>
     requires some { 0 < count }
-    ensures code { result ≡ program_code (fetch_conditions view.now address count) }
+    ensures code { result ≡ program_code (privileged_fetch view.now address count) }
     ensures inside { IfNone result (HasBytes address count view.now.core) }
 {
     if view.psw().problem_state() {

@@ -27,6 +27,7 @@ impl ControlCell {
     }
 }
 
+/// What an unused slot of a list of cells holds.
 impl Default for ControlCell {
     fn default() -> ControlCell {
         ControlCell::Run(RunState::default())

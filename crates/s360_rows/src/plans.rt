@@ -7,7 +7,7 @@ use std::cmp::Ordering;
 use std::test::Fail;
 
 /// The cells of a plan, if it has the value of each.
-pub(crate) fn cells(alloc: Global, plan: &Plan) -> Option<Vec<Cell>> {
+fn cells(alloc: Global, plan: &Plan) -> Option<Vec<Cell>> {
     let mut cells = Vec::new(alloc);
     for i in 0..plan.len() {
         let cell = plan.cell(i);
