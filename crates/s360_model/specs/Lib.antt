@@ -3,6 +3,7 @@ pub mod ConditionCodes
 pub mod Psw
 pub mod Storage
 pub mod Core
+pub mod Cards
 pub mod Text
 pub mod Arithmetic
 pub mod Pairs

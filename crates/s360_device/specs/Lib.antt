@@ -1,0 +1,10 @@
+pub mod Sense
+pub mod Commands
+pub mod Transfers
+pub mod Rows
+pub mod Items
+pub mod Motions
+pub mod MotionLaws
+pub mod Punch
+pub mod PunchChanges
+pub mod PunchLaws

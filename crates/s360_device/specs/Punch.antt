@@ -1,0 +1,37 @@
+-- The card punch of the 2540 (A21-9033, "2540 Card Read Punch"): its cards never run out, and its third stacker is
+-- its own (own profile).
+use Rattle.std.specs.Prelude.{ℕ, false, Option, Some, None, List, [], ◌∷◌, ◌++◌, nat_eq, if◌then◌else◌}
+use Rattle.std.specs.Option.{option_map_or}
+use Rattle.s360_model.specs.Cards.{columns, card_of}
+use Rattle.s360_device.specs.declared.card.PunchStacker.{PunchStacker}
+use Rattle.s360_device.specs.declared.card.PunchStacker.TheVariants.{P1, P2, Rp3}
+use Rattle.s360_device.specs.declared.card.PunchedCard.{PunchedCard}
+use Rattle.s360_device.specs.Sense.{no_sense, command_reject}
+use Rattle.s360_device.specs.Rows.{DeviceWith, Row, refused, output, Table, entry_in}
+
+-- the cards punched, in their order, each with its stacker
+abbrev pub Punch : Type 0
+Punch = DeviceWith (List PunchedCard)
+
+-- a new punch
+abbrev pub new_punch : Punch
+new_punch = record { sense = no_sense; media = [] }
+
+-- the commands that punch, and stack the card here
+abbrev pub punch_commands : List (ℕ × PunchStacker)
+punch_commands = (0x01, P1) ∷ (0x41, P2) ∷ (0x81, Rp3) ∷ []
+
+-- a card is punched with the bytes and goes to a stacker
+abbrev pub punched : List PunchedCard → PunchStacker → List ℕ → List PunchedCard
+punched cards stacker bytes = cards ++ record { card = card_of bytes; stacker = stacker } ∷ []
+
+abbrev pub punch_row : List PunchedCard → ℕ → Row (List PunchedCard)
+punch_row cards code = option_map_or (λ stacker. output columns (punched cards stacker) false) (entry_in punch_commands code) (refused command_reject)
+
+abbrev pub punch_table : Table (List PunchedCard)
+punch_table = record { rows = punch_row; sense_bytes = 1 }
+
+-- a punch with the number of cards beside it for which there is room
+pub record PunchWithRoom : Type 0 where
+  pub punch : Punch
+  pub room : ℕ

@@ -1,0 +1,15 @@
+-- What passes between a device and a channel, by how a command begins.
+use Rattle.std.specs.Prelude.{◌≡◌, ◌≤◌, ℕ, List, [], length}
+use Rattle.s360_device.specs.declared.device.Begin.{Begin}
+use Rattle.s360_device.specs.declared.device.Begin.TheVariants.{Input, Output, Control, NotYet, Refused}
+
+-- the bytes of a command's input are as many as its beginning says, and none where it is no input
+abbrev pub IsInputOf : Begin → List ℕ → Type 0
+IsInputOf (Input count) bytes = length bytes ≡ count
+IsInputOf begin bytes = bytes ≡ []
+
+-- a command that begins so may end with these bytes of output
+abbrev pub CanEndWith : Begin → List ℕ → Type 0
+CanEndWith (Output limit) bytes = length bytes ≤ limit
+CanEndWith NotYet bytes = ⊥
+CanEndWith begin bytes = bytes ≡ []

@@ -1,0 +1,57 @@
+//! Decks of cards, and the files that they are read from. Source: A21-9033, "2540 Card Read Punch".
+ghost use Rattle.std.specs.Prelude.{◌≡◌, length, slice_get, Err, MatchOption, IfOk, IfSome, IsOkUnless};
+ghost use Rattle.std.specs.Option.{option_copied};
+ghost use Rattle.s360_model.specs.Cards.{columns, IsDeckFile, short_card_of};
+ghost use Rattle.s360_device.specs.declared.fault.DeckFault.TheVariants.{ShortCard, Memory};
+
+use crate::card::Card;
+use crate::fault::DeckFault;
+use std::alloc::Global;
+use std::marker::Model;
+
+/// Cards in the order in which they are fed. A contract sees the list of them.
+#[derive(Debug, Drop)]
+pub struct Deck {
+    cards: Vec<Card>,
+}
+
+impl Model for Deck {
+    ghost use Rattle.std.specs.Prelude.{List, ℕ};
+    ghost use Rattle.s360_model.specs.Cards.{AreCards};
+
+    ghost Value = { List (List ℕ) };
+
+    ghost view = { λ d. d.cards.items };
+
+    ghost invariant = { λ d. AreCards d.cards.items };
+}
+
+impl Deck {
+    /// The number of cards.
+    pub fn len(&self) -> usize
+        ensures { result ≡ length self.now }
+    {
+        self.cards.len()
+    }
+
+    /// The card at an index, counted from 0, if there is one.
+    pub fn get(&self, i: usize) -> Option<&Card>
+        ensures card { option_copied result ≡ slice_get self.now i }
+        ensures columns { IfSome result (λ card. length card.now ≡ columns) }
+    {
+        self.cards.get(i)
+    }
+}
+
+/// The deck that is in a file: cards of 80 bytes, joined.
+pub fn deck_from(alloc: Global, file: &[u8]) -> Result<Deck, DeckFault>
+    ensures deck { IfOk result (λ deck. IsDeckFile file.now deck) }
+    ensures refused { MatchOption (short_card_of file.now) (IsOkUnless result Memory) (λ start. result ≡ Err (ShortCard start)) }
+{
+    let (cards, short) = file.as_chunks::<80>();
+    if !short.is_empty() {
+        return Err(DeckFault::ShortCard(file.len() - short.len()));
+    }
+    let cards = cards.to_vec(alloc)?;
+    Ok(Deck { cards })
+}

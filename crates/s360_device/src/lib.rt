@@ -1,0 +1,26 @@
+//! Input/output devices: what every one of them is to a channel, the card reader and the card punch,
+//! and decks of cards.
+//!
+//! A command is planned first, room is made for its change, and then the change is exchanged with the
+//! device, which the same exchange takes back. Source: GA22-6821, "Input/Output Operations".
+#![tactic(auto)]
+
+mod card;
+mod command;
+mod deck;
+mod device;
+mod fault;
+mod motion;
+mod punch;
+mod punch_change;
+mod sense;
+
+pub use card::{Card, PunchStacker, PunchedCard, ReadStacker};
+pub use command::Command;
+pub use deck::{Deck, deck_from};
+pub use device::{Begin, Device, Planned};
+pub use fault::DeckFault;
+pub use motion::Motion;
+pub use punch::Punch;
+pub use punch_change::PunchChange;
+pub use sense::{COMMAND_REJECT, INTERVENTION_REQUIRED, NO_SENSE};

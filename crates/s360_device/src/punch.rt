@@ -1,0 +1,161 @@
+//! The card punch of the 2540. Its cards never run out. Source: A21-9033, "2540 Card Read Punch".
+ghost use Rattle.std.specs.Prelude.{◌≡◌, length};
+ghost use Rattle.std.specs.Option.{option_copied};
+ghost use Rattle.s360_device.specs.Items.{item_in};
+ghost use Rattle.s360_device.specs.Rows.{entry_in};
+ghost use Rattle.s360_device.specs.Punch.{new_punch, punch_commands};
+
+use crate::card::{Card, PunchStacker, PunchedCard, card_of};
+use crate::command::Command;
+use crate::device::{Begin, Device, Planned};
+use crate::motion::Motion;
+use crate::punch_change::PunchChange;
+use crate::sense::{COMMAND_REJECT, NO_SENSE};
+use std::alloc::{AllocError, Global};
+use std::marker::Model;
+
+/// The card punch.
+#[derive(Drop)]
+pub struct Punch {
+    sense: [u8; 6],
+    cards: Vec<PunchedCard>,
+}
+
+impl Model for Punch {
+    ghost use Rattle.std.specs.Prelude.{◌≡◌, ◌-◌, length, vec_len, vec_capacity};
+    ghost use Rattle.s360_device.specs.Punch.{PunchWithRoom};
+
+    ghost Value = { PunchWithRoom };
+
+    ghost view = { λ p. record { punch = record { sense = p.sense; media = p.cards.items }; room = vec_capacity p.cards - vec_len p.cards } };
+
+    ghost invariant = { λ p. length p.sense ≡ 6 };
+}
+
+/// Where a command that punches stacks the card.
+fn stacker_of(code: u8) -> Option<PunchStacker>
+    ensures { result ≡ entry_in punch_commands code }
+{
+    match code {
+        0x01 => Some(PunchStacker::P1),
+        0x41 => Some(PunchStacker::P2),
+        0x81 => Some(PunchStacker::Rp3),
+        _ => None,
+    }
+}
+
+impl Punch {
+    /// A punch with no card punched. It takes no memory.
+    pub fn new(alloc: Global) -> Punch
+        ensures { result.punch ≡ new_punch }
+    {
+        Punch {
+            sense: NO_SENSE,
+            cards: Vec::new(alloc),
+        }
+    }
+
+    /// The number of cards punched.
+    pub fn cards(&self) -> usize
+        ensures { result ≡ length self.now.punch.media }
+    {
+        self.cards.len()
+    }
+
+    /// A card that was punched, by its number from 1, if there is one.
+    pub fn card(&self, number: usize) -> Option<&PunchedCard>
+        ensures { option_copied result ≡ item_in self.now.punch.media number }
+    {
+        self.cards.get(number.checked_sub(1)?)
+    }
+}
+
+impl Device for Punch {
+    ghost use Rattle.s360_device.specs.Commands.{command_of};
+    ghost use Rattle.s360_device.specs.Motions.{items_put};
+    ghost use Rattle.s360_device.specs.Rows.{begin_of as begin_in, input_of as input_in, exception_of as exception_in};
+    ghost use Rattle.s360_device.specs.Punch.{punch_table};
+    ghost use Rattle.s360_device.specs.PunchChanges.{bare_punch, CanSwapPunch, IsPunchAfter};
+    ghost use Rattle.s360_device.specs.PunchChanges.{punch_after_swap, punch_change_after_swap};
+    ghost use Rattle.s360_device.specs.PunchLaws.{CanSwapPunch-again};
+    ghost use Rattle.s360_device.specs.PunchLaws.{punch_after_swap-twice};
+    ghost use Rattle.s360_device.specs.PunchLaws.{punch_change_after_swap-twice};
+
+    type Change = PunchChange;
+
+    ghost begin_of = { λ p code. begin_in punch_table p.punch (command_of code) };
+
+    ghost input_of = { λ p code. input_in punch_table p.punch (command_of code) };
+
+    ghost exception_of = { λ p code. exception_in punch_table p.punch (command_of code) };
+
+    ghost is_after = { IsPunchAfter };
+
+    ghost sense_of = { λ p. p.punch.sense };
+
+    ghost bare = { bare_punch };
+
+    ghost room_of = { λ p. p.room };
+
+    ghost needs = { λ x. items_put x.motion };
+
+    ghost can_swap = { CanSwapPunch };
+
+    ghost after_swap = { punch_after_swap };
+
+    ghost change_after_swap = { punch_change_after_swap };
+
+    ghost again = { CanSwapPunch-again };
+
+    ghost restores_device = { punch_after_swap-twice };
+
+    ghost restores_change = { punch_change_after_swap-twice };
+
+    fn begin(&self, command: u8) -> Begin {
+        // Looked at, since the punch keeps that there are six.
+        let _ = &self.sense;
+        match Command::new(command) {
+            Command::NoOperation => Begin::Control,
+            Command::Sense => Begin::Input(1),
+            Command::Own(code) => match stacker_of(code) {
+                Some(_) => Begin::Output(80),
+                None => Begin::Refused(COMMAND_REJECT),
+            },
+        }
+    }
+
+    fn input_byte(&self, _command: u8, i: u32) -> u8 {
+        self.sense[i as usize]
+    }
+
+    fn plan(&self, command: u8, bytes: &[u8]) -> Result<Planned<PunchChange>, AllocError> {
+        let (sense, motion) = match Command::new(command) {
+            Command::NoOperation | Command::Sense => (self.sense, Motion::Stay),
+            Command::Own(code) => match stacker_of(code) {
+                Some(stacker) => {
+                    let card = card_of(bytes);
+                    (NO_SENSE, Motion::Put(PunchedCard { card, stacker }))
+                }
+                None => (COMMAND_REJECT, Motion::Stay),
+            },
+        };
+        Ok(Planned {
+            alters: sense != self.sense || motion != Motion::Stay,
+            change: PunchChange { sense, motion },
+            exception: false,
+        })
+    }
+
+    fn room(&mut self, change: &PunchChange) -> Result<(), AllocError> {
+        change.motion.make_room(&mut self.cards)
+    }
+
+    fn swap(&mut self, change: &mut PunchChange) {
+        std::mem::swap(&mut self.sense, &mut change.sense);
+        change.motion.exchange(&mut self.cards);
+    }
+
+    fn sense(&self) -> [u8; 6] {
+        self.sense
+    }
+}
