@@ -1,1 +1,3 @@
 pub mod ChunkLemmas
+pub mod AlterationLemmas
+pub mod ReaderLemmas

@@ -8,3 +8,8 @@ pub mod MotionLaws
 pub mod Punch
 pub mod PunchChanges
 pub mod PunchLaws
+pub mod ReaderCommands
+pub mod Reader
+pub mod Attempts
+pub mod ReaderChanges
+pub mod ReaderLaws

@@ -1,5 +1,5 @@
 -- What is done at the end of a list, and taken back: an item is put there, or the last one is taken.
-use Rattle.std.specs.Prelude.{◌≡◌, ℕ, ◌-◌, ◌<◌, List, [], ◌∷◌, ◌++◌, length, take, slice_get}
+use Rattle.std.specs.Prelude.{ℕ, Bool, true, false, ◌-◌, ◌<◌, List, [], ◌∷◌, ◌++◌, length, take, slice_get}
 use Rattle.std.specs.Option.{option_map_or}
 use Rattle.s360_device.specs.declared.motion.Motion.{Motion}
 use Rattle.s360_device.specs.declared.motion.Motion.TheVariants.{Stay, Put, Take}
@@ -8,6 +8,11 @@ use Rattle.s360_device.specs.declared.motion.Motion.TheVariants.{Stay, Put, Take
 abbrev pub CanMove : {T : Type 0} → List T → Motion T → Type 0
 CanMove items Take = 0 < length items
 CanMove items motion = Unit {0}
+
+-- it does something
+abbrev pub moves : {T : Type 0} → Motion T → Bool
+moves Stay = false
+moves motion = true
 
 -- the number of items for which it needs room
 abbrev pub items_put : {T : Type 0} → Motion T → ℕ

@@ -13,6 +13,9 @@ mod fault;
 mod motion;
 mod punch;
 mod punch_change;
+mod reader;
+mod reader_change;
+mod reader_command;
 mod sense;
 
 pub use card::{Card, PunchStacker, PunchedCard, ReadStacker};
@@ -23,4 +26,6 @@ pub use fault::DeckFault;
 pub use motion::Motion;
 pub use punch::Punch;
 pub use punch_change::PunchChange;
+pub use reader::Reader;
+pub use reader_change::ReaderChange;
 pub use sense::{COMMAND_REJECT, INTERVENTION_REQUIRED, NO_SENSE};

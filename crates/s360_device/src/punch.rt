@@ -13,6 +13,7 @@ use crate::punch_change::PunchChange;
 use crate::sense::{COMMAND_REJECT, NO_SENSE};
 use std::alloc::{AllocError, Global};
 use std::marker::Model;
+use std::mem;
 
 /// The card punch.
 #[derive(Drop)]
@@ -140,7 +141,7 @@ impl Device for Punch {
             },
         };
         Ok(Planned {
-            alters: sense != self.sense || motion != Motion::Stay,
+            alters: sense != self.sense || motion.moves(),
             change: PunchChange { sense, motion },
             exception: false,
         })
@@ -151,7 +152,7 @@ impl Device for Punch {
     }
 
     fn swap(&mut self, change: &mut PunchChange) {
-        std::mem::swap(&mut self.sense, &mut change.sense);
+        mem::swap(&mut self.sense, &mut change.sense);
         change.motion.exchange(&mut self.cards);
     }
 
