@@ -1,3 +1,4 @@
 pub mod ChunkLemmas
 pub mod AlterationLemmas
 pub mod ReaderLemmas
+pub mod KnownDevices

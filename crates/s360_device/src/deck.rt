@@ -27,15 +27,15 @@ impl Model for Deck {
 }
 
 impl Deck {
-    /// The number of cards.
-    pub fn len(&self) -> usize
-        ensures { result ≡ length self.now }
+    /// The cards.
+    pub fn as_slice(&self) -> &[Card]
+        ensures { result.now ≡ self.now }
     {
-        self.cards.len()
+        self.cards.as_slice()
     }
 
     /// The card at an index, counted from 0, if there is one.
-    pub fn get(&self, i: usize) -> Option<&Card>
+    pub(crate) fn get(&self, i: usize) -> Option<&Card>
         ensures card { option_copied result ≡ slice_get self.now i }
         ensures columns { IfSome result (λ card. length card.now ≡ columns) }
     {

@@ -4,6 +4,7 @@ ghost use Rattle.std.specs.Option.{option_copied};
 ghost use Rattle.s360_device.specs.Items.{item_in};
 ghost use Rattle.s360_device.specs.Reader.{new_reader, with_end_key};
 ghost use Rattle.s360_device.specs.ReaderChanges.{bare_reader, CanSwapReader, reader_after_swap};
+ghost use Rattle.s360_device.specs.ReaderChanges.{reader_change_after_swap};
 ghost use Rattle.s360_device.specs.Motions.{CanMove, items_put};
 ghost use Rattle.std.specs.Bool.{MatchBool};
 ghost use Rattle.s360_device.specs.Attempts.{IsAttempt};
@@ -68,7 +69,7 @@ impl Reader {
     pub fn cards(&self) -> usize
         ensures { result ≡ length self.now.reader.media.cards }
     {
-        self.deck.len()
+        self.deck.as_slice().len()
     }
 
     /// The number of cards fed.
@@ -104,6 +105,7 @@ impl Reader {
         ensures can { CanSwapReader (bare_reader self.now) result }
         ensures pressed { (reader_after_swap (bare_reader self.now) result).reader ≡ with_end_key self.now.reader }
         ensures room { items_put result.motion ≡ 0 }
+        ensures back { items_put (reader_change_after_swap (bare_reader self.now) result).motion ≡ 0 }
     {
         ReaderChange {
             sense: self.sense,
