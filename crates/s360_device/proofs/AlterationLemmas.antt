@@ -1,5 +1,5 @@
 -- When a motion, and a change of sense bytes, leave things as they are.
-use Rattle.std.proofs.Common.{◌≡◌, ◌≤◌, ◌<◌, ◌+◌, ◌-◌, ◌++◌, ◌∷◌, ℕ, List, [], Bool, true, false, not, length, take, refl, ap, arith, length-append, length-take, sym}
+use Rattle.std.proofs.Common.{◌≡◌, ◌-◌, ◌∷◌, ℕ, List, [], Bool, true, false, not, length, refl, ap, arith, length-append, length-take, sym}
 use Rattle.std.specs.Bool.{MatchBool}
 use Rattle.std.specs.Str.{bytes_eq}
 use Rattle.std.proofs.lemmas.Slice.Eq.{bytes_eq-Decides}

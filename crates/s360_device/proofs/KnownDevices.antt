@@ -1,15 +1,15 @@
 -- Commands of the reader and the punch worked by hand, which the definitions have to give.
-use Rattle.std.specs.Prelude.{◌≡◌, ◌++◌, Bool, true, false, ℕ, List, [], ◌∷◌, Some, None, replicate, refl}
-use Rattle.s360_model.specs.Cards.{card_of, short_card_of}
+use Rattle.std.specs.Prelude.{◌≡◌, Bool, true, false, ℕ, List, [], ◌∷◌, Some, None, replicate, refl}
+use Rattle.s360_model.specs.Cards.{short_card_of}
 use Rattle.s360_device.specs.declared.card.ReadStacker.{ReadStacker}
 use Rattle.s360_device.specs.declared.card.ReadStacker.TheVariants.{R1, R2, Rp3}
-use Rattle.s360_device.specs.declared.card.PunchStacker.TheVariants.{P2, Rp3 as punch_rp3}
+use Rattle.s360_device.specs.declared.card.PunchStacker.TheVariants.{P2}
 use Rattle.s360_device.specs.declared.device.Begin.TheVariants.{Input, Output, Control, Refused}
 use Rattle.s360_device.specs.Commands.{command_of}
 use Rattle.s360_device.specs.Sense.{no_sense, command_reject, intervention_required}
 use Rattle.s360_device.specs.Rows.{begin_of, input_of, exception_of, after_command}
 use Rattle.s360_device.specs.Reader.{Reader, reader_table, new_reader, with_end_key}
-use Rattle.s360_device.specs.Punch.{Punch, punch_table, new_punch}
+use Rattle.s360_device.specs.Punch.{punch_table, new_punch}
 
 -- a card of one sign
 abbrev card : ℕ → List ℕ

@@ -1,5 +1,5 @@
 -- Items by their numbers, as a person counts them.
-use Rattle.std.specs.Prelude.{ℕ, zero, suc, Option, Some, None, List, slice_get}
+use Rattle.std.specs.Prelude.{ℕ, zero, suc, Option, None, List, slice_get}
 
 -- the item of a number, from 1
 abbrev pub item_in : {T : Type 0} → List T → ℕ → Option T

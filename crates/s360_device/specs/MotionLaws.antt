@@ -1,12 +1,11 @@
 -- A motion and what takes it back.
-use Rattle.std.proofs.Common.{◌≡◌, ◌<◌, ◌≤◌, ◌+◌, ◌-◌, ◌++◌, ◌∷◌, ℕ, List, [], length, take, refl, ap, arith, length-append}
-use Rattle.std.specs.Prelude.{slice_get, Some, None, Option, get_or}
-use Rattle.std.specs.Option.{option_map_or}
+use Rattle.std.proofs.Common.{◌≡◌, ◌<◌, ◌+◌, ◌-◌, ◌++◌, ◌∷◌, ℕ, List, [], length, take, refl, arith, length-append}
+use Rattle.std.specs.Prelude.{slice_get, Some, get_or}
 use Rattle.std.proofs.lemmas.List.{take_at, get_or_at, take_more, take_all}
-use Rattle.std.proofs.lemmas.Option.{slice_get-get_or, get_or_from_slice_get}
+use Rattle.std.proofs.lemmas.Option.{slice_get-get_or}
 use Rattle.s360_device.specs.declared.motion.Motion.{Motion}
 use Rattle.s360_device.specs.declared.motion.Motion.TheVariants.{Stay, Put, Take}
-use Rattle.s360_device.specs.Motions.{CanMove, items_put, after_motion, motion_back}
+use Rattle.s360_device.specs.Motions.{CanMove, after_motion, motion_back}
 
 -- the last item of a list at whose end one was put
 pub slice_get-push : {T : Type 0} (items : List T) (x : T) → slice_get (items ++ x ∷ []) (length (items ++ x ∷ []) - 1) ≡ Some x

@@ -1,6 +1,6 @@
 -- The card punch of the 2540 (A21-9033, "2540 Card Read Punch"): its cards never run out, and its third stacker is
 -- its own (own profile).
-use Rattle.std.specs.Prelude.{ℕ, false, Option, Some, None, List, [], ◌∷◌, ◌++◌, nat_eq, if◌then◌else◌}
+use Rattle.std.specs.Prelude.{ℕ, false, List, [], ◌∷◌, ◌++◌}
 use Rattle.std.specs.Option.{option_map_or}
 use Rattle.s360_model.specs.Cards.{columns, card_of}
 use Rattle.s360_device.specs.declared.card.PunchStacker.{PunchStacker}

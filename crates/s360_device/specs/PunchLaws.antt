@@ -1,5 +1,5 @@
 -- The exchange of the punch with a change, done twice.
-use Rattle.std.proofs.Common.{◌≡◌, List, refl, ap}
+use Rattle.std.proofs.Common.{◌≡◌, List, ap}
 use Rattle.s360_device.specs.declared.card.PunchedCard.{PunchedCard}
 use Rattle.s360_device.specs.declared.punch_change.PunchChange.{PunchChange}
 use Rattle.s360_device.specs.Punch.{PunchWithRoom}

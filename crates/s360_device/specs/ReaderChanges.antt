@@ -2,9 +2,9 @@
 use Rattle.std.specs.Prelude.{◌≡◌, ℕ, List}
 use Rattle.s360_device.specs.declared.reader_change.ReaderChange.{ReaderChange}
 use Rattle.s360_device.specs.Commands.{command_of}
-use Rattle.s360_device.specs.Motions.{CanMove, items_put, after_motion, motion_back}
+use Rattle.s360_device.specs.Motions.{CanMove, after_motion, motion_back}
 use Rattle.s360_device.specs.Rows.{after_command}
-use Rattle.s360_device.specs.Reader.{ReaderWithRoom, Reader, reader_table}
+use Rattle.s360_device.specs.Reader.{ReaderWithRoom, reader_table}
 
 -- the reader with no room
 abbrev pub bare_reader : ReaderWithRoom → ReaderWithRoom

@@ -1,5 +1,5 @@
 -- The codes of the card reader's own commands (A21-9033, "2540 Card Read Punch").
-use Rattle.std.specs.Prelude.{ℕ, Option, Some, None, List, [], ◌∷◌}
+use Rattle.std.specs.Prelude.{ℕ, Some, None, List, [], ◌∷◌}
 use Rattle.s360_device.specs.declared.card.ReadStacker.{ReadStacker}
 use Rattle.s360_device.specs.declared.card.ReadStacker.TheVariants.{R1, R2, Rp3}
 use Rattle.s360_device.specs.declared.motion.Motion.{Motion}

@@ -1,5 +1,5 @@
 -- The exchange of the reader with a change, done twice.
-use Rattle.std.proofs.Common.{◌≡◌, List, refl, ap}
+use Rattle.std.proofs.Common.{◌≡◌, List, ap}
 use Rattle.s360_device.specs.declared.card.ReadStacker.{ReadStacker}
 use Rattle.s360_device.specs.declared.reader_change.ReaderChange.{ReaderChange}
 use Rattle.s360_device.specs.Reader.{ReaderWithRoom}

@@ -5,7 +5,6 @@ use Rattle.s360_device.specs.declared.device.Begin.{Begin}
 use Rattle.s360_device.specs.declared.device.Begin.TheVariants.{Input, Output, Control, NotYet, Refused}
 use Rattle.s360_device.specs.declared.command.Command.{Command}
 use Rattle.s360_device.specs.declared.command.Command.TheVariants.{NoOperation, Sense, Own}
-use Rattle.s360_device.specs.Commands.{command_of}
 use Rattle.s360_device.specs.Sense.{no_sense}
 
 -- a device as the written rules have it

@@ -1,7 +1,7 @@
 -- What passes between a device and a channel, by how a command begins.
 use Rattle.std.specs.Prelude.{◌≡◌, ◌≤◌, ℕ, List, [], length}
 use Rattle.s360_device.specs.declared.device.Begin.{Begin}
-use Rattle.s360_device.specs.declared.device.Begin.TheVariants.{Input, Output, Control, NotYet, Refused}
+use Rattle.s360_device.specs.declared.device.Begin.TheVariants.{Input, Output, NotYet}
 
 -- the bytes of a command's input are as many as its beginning says, and none where it is no input
 abbrev pub IsInputOf : Begin → List ℕ → Type 0
