@@ -2,3 +2,4 @@ pub mod ChunkLemmas
 pub mod AlterationLemmas
 pub mod ReaderLemmas
 pub mod KnownDevices
+pub mod DifferenceLemmas

@@ -13,3 +13,4 @@ pub mod Reader
 pub mod Attempts
 pub mod ReaderChanges
 pub mod ReaderLaws
+pub mod Differences

@@ -7,6 +7,8 @@ mod calls;
 #[cfg(test)]
 mod codes;
 #[cfg(test)]
+mod devices;
+#[cfg(test)]
 mod instructions;
 #[cfg(test)]
 mod machine;
@@ -18,6 +20,8 @@ mod rows;
 mod scripts;
 #[cfg(test)]
 mod sessions;
+#[cfg(test)]
+mod slate;
 #[cfg(test)]
 mod storage;
 #[cfg(test)]

@@ -1,0 +1,66 @@
+-- A device of the tests, a slate: it gives its line where it has one, has no answer yet where it has none, and keeps
+-- each line that is written on it.
+use Rattle.std.specs.Prelude.{◌≡◌, ℕ, ◌-◌, Bool, true, false, List, [], ◌∷◌, ◌++◌, length, nat_eq, if◌then◌else◌, replicate}
+use Rattle.std.proofs.Common.{ap, refl}
+use Rattle.s360_device.specs.declared.motion.Motion.{Motion}
+use Rattle.s360_device.specs.Commands.{command_of}
+use Rattle.s360_device.specs.Motions.{CanMove, after_motion, motion_back}
+use Rattle.s360_device.specs.MotionLaws.{CanMove-again, after_motion-twice, motion_back-twice}
+use Rattle.s360_device.specs.Rows.{DeviceWith, Row, Table, refused, not_yet, input, output, after_command}
+use Rattle.s360_device.specs.Sense.{no_sense, command_reject}
+
+-- whether a line was put on it that was not read, and the lines written
+pub record SlateMedia : Type 0 where
+  pub has_line : Bool
+  pub written : List (List ℕ)
+
+abbrev pub Slate : Type 0
+Slate = DeviceWith SlateMedia
+
+-- its line, always the same
+abbrev pub line : List ℕ
+line = 1 ∷ 2 ∷ 3 ∷ 4 ∷ 5 ∷ 6 ∷ 7 ∷ 8 ∷ 9 ∷ 10 ∷ 11 ∷ 12 ∷ []
+
+-- a line with these bytes, and zeros after them
+abbrev pub line_of : List ℕ → List ℕ
+line_of bytes = bytes ++ replicate (12 - length bytes) 0
+
+abbrev pub slate_row : SlateMedia → ℕ → Row SlateMedia
+slate_row s code =
+    if nat_eq code 0x01 then output 12 (λ bytes. record s { written = s.written ++ line_of bytes ∷ [] }) false
+    else (if nat_eq code 0x02 then (if s.has_line then input line (record s { has_line = false }) false else not_yet) else refused command_reject)
+
+abbrev pub slate_table : Table SlateMedia
+slate_table = record { rows = slate_row; sense_bytes = 1 }
+
+pub record SlateWithRoom : Type 0 where
+  pub slate : Slate
+  pub room : ℕ
+
+-- sense bytes, whether it has a line, and what happens to the lines written
+abbrev pub SlateChange : Type 0
+SlateChange = List ℕ × Bool × Motion (List ℕ)
+
+abbrev pub bare_slate : SlateWithRoom → SlateWithRoom
+bare_slate s = record s { room = 0 }
+
+abbrev pub CanSwapSlate : SlateWithRoom → SlateChange → Type 0
+CanSwapSlate s x = CanMove s.slate.media.written x.2
+
+abbrev pub slate_after_swap : SlateWithRoom → SlateChange → SlateWithRoom
+slate_after_swap s x = record s { slate = record { sense = x.0; media = record { has_line = x.1; written = after_motion s.slate.media.written x.2 } } }
+
+abbrev pub slate_change_after_swap : SlateWithRoom → SlateChange → SlateChange
+slate_change_after_swap s x = (s.slate.sense, s.slate.media.has_line, motion_back s.slate.media.written x.2)
+
+abbrev pub IsSlateAfter : SlateWithRoom → ℕ → List ℕ → SlateWithRoom → Type 0
+IsSlateAfter s code bytes t = t.slate ≡ after_command slate_table s.slate (command_of code) bytes
+
+pub CanSwapSlate-again : (s : SlateWithRoom) (x : SlateChange) → CanSwapSlate s x → CanSwapSlate (slate_after_swap s x) (slate_change_after_swap s x)
+CanSwapSlate-again s x h = CanMove-again s.slate.media.written x.2 h
+
+pub slate_after_swap-twice : (s : SlateWithRoom) (x : SlateChange) → CanSwapSlate s x → slate_after_swap (slate_after_swap s x) (slate_change_after_swap s x) ≡ s
+slate_after_swap-twice s x h = ap (λ (written : List (List ℕ)). record s { slate = record s.slate { media = record s.slate.media { written = written } } }) (after_motion-twice s.slate.media.written x.2 h)
+
+pub slate_change_after_swap-twice : (s : SlateWithRoom) (x : SlateChange) → CanSwapSlate s x → slate_change_after_swap (slate_after_swap s x) (slate_change_after_swap s x) ≡ x
+slate_change_after_swap-twice s x h = ap (λ (m : Motion (List ℕ)). (x.0, x.1, m)) (motion_back-twice s.slate.media.written x.2 h)

@@ -1,0 +1,161 @@
+//! A device of the tests, a slate. 01 writes a line of at most twelve bytes on it; 02 reads its own
+//! line, for which it waits until one is put there.
+ghost use Rattle.std.specs.Prelude.{◌≡◌, ◌≤◌, length};
+ghost use Rattle.s360_rows.specs.Slate.{line_of};
+
+use s360_device::{Begin, COMMAND_REJECT, Command, Device, Motion, NO_SENSE, Planned};
+use std::alloc::{AllocError, Global};
+use std::marker::Model;
+use std::mem;
+
+/// A line.
+type Line = [u8; 12];
+
+/// The line that is put on it.
+const LINE: Line = [1, 2, 3, 4, 5, 6, 7, 8, 9, 10, 11, 12];
+
+/// A slate.
+#[derive(Drop)]
+pub(crate) struct Slate {
+    sense: [u8; 6],
+    has_line: bool,
+    written: Vec<Line>,
+}
+
+impl Model for Slate {
+    ghost use Rattle.std.specs.Prelude.{◌≡◌, ◌-◌, length, vec_len, vec_capacity};
+    ghost use Rattle.s360_rows.specs.Slate.{SlateWithRoom};
+
+    ghost Value = { SlateWithRoom };
+
+    ghost view = { λ s. record { slate = record { sense = s.sense; media = record { has_line = s.has_line; written = s.written.items } }; room = vec_capacity s.written - vec_len s.written } };
+
+    ghost invariant = { λ s. length s.sense ≡ 6 };
+}
+
+/// A line with these bytes, and zeros after them.
+fn line_of(bytes: &[u8]) -> Line
+    requires { length bytes.now ≤ 12 }
+    ensures { result ≡ line_of bytes.now }
+{
+    let mut line = [0; 12];
+    line[..bytes.len()].copy_from_slice(bytes);
+    line
+}
+
+impl Slate {
+    /// A clean slate.
+    pub(crate) fn new(alloc: Global) -> Slate {
+        Slate {
+            sense: NO_SENSE,
+            has_line: false,
+            written: Vec::new(alloc),
+        }
+    }
+
+    /// Puts its line on it.
+    pub(crate) fn put_line(&mut self) {
+        self.has_line = true;
+    }
+
+    /// The lines written.
+    pub(crate) fn written(&self) -> &[Line] {
+        self.written.as_slice()
+    }
+}
+
+impl Device for Slate {
+    ghost use Rattle.s360_device.specs.Commands.{command_of};
+    ghost use Rattle.s360_device.specs.Motions.{items_put};
+    ghost use Rattle.s360_device.specs.Rows.{begin_of as begin_in, input_of as input_in, exception_of as exception_in};
+    ghost use Rattle.s360_rows.specs.Slate.{slate_table, bare_slate, CanSwapSlate, IsSlateAfter};
+    ghost use Rattle.s360_rows.specs.Slate.{slate_after_swap, slate_change_after_swap};
+    ghost use Rattle.s360_rows.specs.Slate.{CanSwapSlate-again, slate_after_swap-twice};
+    ghost use Rattle.s360_rows.specs.Slate.{slate_change_after_swap-twice};
+
+    type Change = ([u8; 6], bool, Motion<Line>);
+
+    ghost begin_of = { λ s code. begin_in slate_table s.slate (command_of code) };
+
+    ghost input_of = { λ s code. input_in slate_table s.slate (command_of code) };
+
+    ghost exception_of = { λ s code. exception_in slate_table s.slate (command_of code) };
+
+    ghost is_after = { IsSlateAfter };
+
+    ghost sense_of = { λ s. s.slate.sense };
+
+    ghost bare = { bare_slate };
+
+    ghost room_of = { λ s. s.room };
+
+    ghost needs = { λ x. items_put x.2 };
+
+    ghost can_swap = { CanSwapSlate };
+
+    ghost after_swap = { slate_after_swap };
+
+    ghost change_after_swap = { slate_change_after_swap };
+
+    ghost again = { CanSwapSlate-again };
+
+    ghost restores_device = { slate_after_swap-twice };
+
+    ghost restores_change = { slate_change_after_swap-twice };
+
+    fn begin(&self, command: u8) -> Begin {
+        // Looked at, since the slate keeps that there are six.
+        let _ = &self.sense;
+        match Command::new(command) {
+            Command::NoOperation => Begin::Control,
+            Command::Sense => Begin::Input(1),
+            Command::Own(0x01) => Begin::Output(12),
+            Command::Own(0x02) if self.has_line => Begin::Input(12),
+            Command::Own(0x02) => Begin::NotYet,
+            Command::Own(_) => Begin::Refused(COMMAND_REJECT),
+        }
+    }
+
+    fn input_byte(&self, command: u8, i: u32) -> u8 {
+        match Command::new(command) {
+            Command::Sense => self.sense[i as usize],
+            _ => LINE[i as usize],
+        }
+    }
+
+    fn plan(&self, command: u8, bytes: &[u8]) -> Result<Planned<Self::Change>, AllocError> {
+        let (change, alters) = match Command::new(command) {
+            Command::NoOperation | Command::Sense => {
+                ((self.sense, self.has_line, Motion::Stay), false)
+            }
+            Command::Own(0x01) => {
+                let line = line_of(bytes);
+                ((NO_SENSE, self.has_line, Motion::Put(line)), true)
+            }
+            Command::Own(0x02) => ((NO_SENSE, false, Motion::Stay), true),
+            Command::Own(_) => (
+                (COMMAND_REJECT, self.has_line, Motion::Stay),
+                self.sense != COMMAND_REJECT,
+            ),
+        };
+        Ok(Planned {
+            change,
+            alters,
+            exception: false,
+        })
+    }
+
+    fn room(&mut self, change: &Self::Change) -> Result<(), AllocError> {
+        change.2.make_room(&mut self.written)
+    }
+
+    fn swap(&mut self, change: &mut Self::Change) {
+        mem::swap(&mut self.sense, &mut change.0);
+        mem::swap(&mut self.has_line, &mut change.1);
+        change.2.exchange(&mut self.written);
+    }
+
+    fn sense(&self) -> [u8; 6] {
+        self.sense
+    }
+}
