@@ -108,7 +108,7 @@ fn text_of_begin(alloc: Global, begin: Begin) -> Option<String> {
         Begin::Output(limit) => format!(in alloc; "output {limit:X}").ok(),
         Begin::Control => format!(in alloc; "control").ok(),
         Begin::NotYet => format!(in alloc; "not yet").ok(),
-        Begin::Refused([sense, ..]) => format!(in alloc; "refused {sense:X}").ok(),
+        Begin::Refused(sense) => format!(in alloc; "refused {:X}", sense[0]).ok(),
     }
 }
 
@@ -128,8 +128,8 @@ fn text_of_command<D: Device>(
         write!(text, "{}", if alters { ", alters" } else { "" }).ok()?;
         write!(text, "{}", if exception { ", exception" } else { "" }).ok()?;
     }
-    let [sense, ..] = device.sense();
-    write!(text, ", sense {sense:X}").ok()?;
+    let sense = device.sense();
+    write!(text, ", sense {:X}", sense[0]).ok()?;
     Some(text)
 }
 
@@ -192,13 +192,19 @@ fn card_reader(rt: HostRuntime) {
     assert_rows::<Reading>(&rt, rt.alloc(), READER);
 }
 
-/// The cards punched: the first three bytes and the last of each, and its stacker.
+/// The cards punched: the first two bytes and the last of each, and its stacker.
 fn text_of_punch(alloc: Global, punch: &Punch) -> Option<String> {
     let mut text = format!(in alloc; "{}", punch.cards()).ok()?;
     for number in 1..=punch.cards() {
         let punched = punch.card(number)?;
-        let [a, b, c, .., last] = punched.card;
-        write!(text, ", {a:X} {b:X} {c:X} to {last:X} in {:?}", punched.stacker).ok()?;
+        let card = punched.card;
+        let (first, second, last) = (card[0], card[1], card[79]);
+        write!(
+            text,
+            ", {first:X} {second:X} to {last:X} in {:?}",
+            punched.stacker
+        )
+        .ok()?;
     }
     Some(text)
 }
@@ -266,8 +272,8 @@ impl Subject for Writing {
             }
         }
         let mut text = String::new(alloc);
-        for [first, .., last] in self.slate.written() {
-            write!(text, "{first:X} to {last:X}, ").ok()?;
+        for line in self.slate.written() {
+            write!(text, "{:X} to {:X}, ", line[0], line[11]).ok()?;
         }
         Some(text)
     }
@@ -347,7 +353,7 @@ show -> 0
 01 3 -> output 50, alters, sense 0
 41 0 -> output 50, alters, sense 0
 81 50 -> output 50, alters, sense 0
-show -> 3, 0 1 2 to 40 in P1, 40 40 40 to 40 in P2, 0 1 2 to 4F in Rp3
+show -> 3, 0 1 to 40 in P1, 40 40 to 40 in P2, 0 1 to 4F in Rp3
 * 81 bytes are no card
 01 51 -> output 50, sense 0
 * the sense byte is kept by 03 and 04, and cleared by a card
@@ -357,8 +363,8 @@ C2 0 -> refused 80, sense 80
 04 0 -> input 1 80 to 80, sense 80
 41 1 -> output 50, alters, sense 0
 * taken back
-times 81 50 2710 -> 4, 0 1 2 to 40 in P1, 40 40 40 to 40 in P2, 0 1 2 to 4F in Rp3, 0 40 40 to 40 in P2
-times 02 0 2710 -> 4, 0 1 2 to 40 in P1, 40 40 40 to 40 in P2, 0 1 2 to 4F in Rp3, 0 40 40 to 40 in P2
+times 81 50 2710 -> 4, 0 1 to 40 in P1, 40 40 to 40 in P2, 0 1 to 4F in Rp3, 0 40 to 40 in P2
+times 02 0 2710 -> 4, 0 1 to 40 in P1, 40 40 to 40 in P2, 0 1 to 4F in Rp3, 0 40 to 40 in P2
 04 0 -> input 1 0 to 0, sense 0
 ";
 

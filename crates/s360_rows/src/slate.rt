@@ -1,6 +1,6 @@
 //! A device of the tests, a slate. 01 writes a line of at most twelve bytes on it; 02 reads its own
 //! line, for which it waits until one is put there.
-ghost use Rattle.std.specs.Prelude.{◌≡◌, ◌≤◌, length};
+ghost use Rattle.std.specs.Prelude.{◌≡◌, ◌≤◌, false, length};
 ghost use Rattle.s360_rows.specs.Slate.{line_of};
 
 use s360_device::{Begin, COMMAND_REJECT, Command, Device, Motion, NO_SENSE, Planned};
@@ -41,6 +41,24 @@ fn line_of(bytes: &[u8]) -> Line
     let mut line = [0; 12];
     line[..bytes.len()].copy_from_slice(bytes);
     line
+}
+
+/// A command's change, without unit exception.
+fn planned(
+    sense: [u8; 6],
+    has_line: bool,
+    motion: Motion<Line>,
+    alters: bool,
+) -> Planned<([u8; 6], bool, Motion<Line>)>
+    ensures change { result.change ≡ (sense, has_line, motion) }
+    ensures alters { result.alters ≡ alters }
+    ensures exception { result.exception ≡ false }
+{
+    Planned {
+        change: (sense, has_line, motion),
+        alters,
+        exception: false,
+    }
 }
 
 impl Slate {
@@ -124,24 +142,19 @@ impl Device for Slate {
     }
 
     fn plan(&self, command: u8, bytes: &[u8]) -> Result<Planned<Self::Change>, AllocError> {
-        let (change, alters) = match Command::new(command) {
+        Ok(match Command::new(command) {
             Command::NoOperation | Command::Sense => {
-                ((self.sense, self.has_line, Motion::Stay), false)
+                planned(self.sense, self.has_line, Motion::Stay, false)
             }
             Command::Own(0x01) => {
                 let line = line_of(bytes);
-                ((NO_SENSE, self.has_line, Motion::Put(line)), true)
+                planned(NO_SENSE, self.has_line, Motion::Put(line), true)
             }
-            Command::Own(0x02) => ((NO_SENSE, false, Motion::Stay), true),
-            Command::Own(_) => (
-                (COMMAND_REJECT, self.has_line, Motion::Stay),
-                self.sense != COMMAND_REJECT,
-            ),
-        };
-        Ok(Planned {
-            change,
-            alters,
-            exception: false,
+            Command::Own(0x02) => planned(NO_SENSE, false, Motion::Stay, true),
+            Command::Own(_) => {
+                let alters = self.sense != COMMAND_REJECT;
+                planned(COMMAND_REJECT, self.has_line, Motion::Stay, alters)
+            }
         })
     }
 
