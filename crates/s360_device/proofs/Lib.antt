@@ -3,3 +3,4 @@ pub mod AlterationLemmas
 pub mod ReaderLemmas
 pub mod KnownDevices
 pub mod DifferenceLemmas
+pub mod DeckLemmas

@@ -1,5 +1,5 @@
 -- Whether two readers, or two punches, are alike in sense bytes and media, as a test (ours).
-use Rattle.std.specs.Prelude.{Bool, true, false, ◌&&◌, List}
+use Rattle.std.specs.Prelude.{Bool, true, false, ◌&&◌}
 use Rattle.std.specs.Bool.{beq}
 use Rattle.std.specs.Cmp.Lexicographic.{pointwise}
 use Rattle.std.specs.Str.{bytes_eq}

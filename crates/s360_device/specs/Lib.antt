@@ -14,3 +14,4 @@ pub mod Attempts
 pub mod ReaderChanges
 pub mod ReaderLaws
 pub mod Differences
+pub mod Laws

@@ -1,5 +1,5 @@
--- The card punch of the 2540 (A21-9033, "2540 Card Read Punch"): its cards never run out, and its third stacker is
--- its own (own profile).
+-- The card punch of the 2540. Its commands are modelled on A21-9033, "2540 Card Read Punch"; that cards never run
+-- out, that its third stacker is its own, and its sense bytes are the own profile.
 use Rattle.std.specs.Prelude.{ℕ, false, List, [], ◌∷◌, ◌++◌}
 use Rattle.std.specs.Option.{option_map_or}
 use Rattle.s360_model.specs.Cards.{columns, card_of}

@@ -1,5 +1,5 @@
--- The card reader of the 2540 (A21-9033, "2540 Card Read Punch"). Reads and feeds may come in any order, and what it
--- does with no card left is the own profile.
+-- The card reader of the 2540. Its commands are modelled on A21-9033, "2540 Card Read Punch"; that reads and feeds
+-- may come in any order, what it does with no card left, and its sense bytes are the own profile.
 use Rattle.std.specs.Prelude.{ℕ, Bool, true, false, Option, Some, None, List, [], ◌∷◌, ◌++◌, length, slice_get, if◌then◌else◌}
 use Rattle.std.specs.Option.{option_map_or}
 use Rattle.s360_device.specs.declared.card.ReadStacker.{ReadStacker}

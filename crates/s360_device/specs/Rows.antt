@@ -1,10 +1,11 @@
--- What a command is to a device: the row of a table. M is what the device has beside its sense bytes: its
--- media, and the marks and keys that belong to them.
+-- What a command is to a device: the row of a table (GA22-6821, "Input/Output Operations", for how commands begin
+-- and end; what they do to the sense bytes is the own profile). M is what the device has beside its sense bytes:
+-- its media, and the marks and keys that belong to them.
 use Rattle.std.specs.Prelude.{ℕ, Bool, false, Option, Some, None, List, [], ◌∷◌, take, length, nat_eq, if◌then◌else◌}
 use Rattle.s360_device.specs.declared.device.Begin.{Begin}
 use Rattle.s360_device.specs.declared.device.Begin.TheVariants.{Input, Output, Control, NotYet, Refused}
-use Rattle.s360_device.specs.declared.command.Command.{Command}
-use Rattle.s360_device.specs.declared.command.Command.TheVariants.{NoOperation, Sense, Own}
+use Rattle.s360_device.specs.declared.command_code.CommandCode.{CommandCode}
+use Rattle.s360_device.specs.declared.command_code.CommandCode.TheVariants.{NoOperation, Sense, Own}
 use Rattle.s360_device.specs.Sense.{no_sense}
 
 -- a device as the written rules have it
@@ -65,23 +66,23 @@ pub record Table (M : Type 0) : Type 0 where
   pub sense_bytes : ℕ
 
 -- how a command begins
-abbrev pub begin_of : {M : Type 0} → Table M → DeviceWith M → Command → Begin
+abbrev pub begin_of : {M : Type 0} → Table M → DeviceWith M → CommandCode → Begin
 begin_of t d NoOperation = Control
 begin_of t d Sense = Input t.sense_bytes
 begin_of t d (Own code) = row_begin (t.rows d.media code)
 
 -- the bytes that it gives
-abbrev pub input_of : {M : Type 0} → Table M → DeviceWith M → Command → List ℕ
+abbrev pub input_of : {M : Type 0} → Table M → DeviceWith M → CommandCode → List ℕ
 input_of t d NoOperation = []
 input_of t d Sense = take t.sense_bytes d.sense
 input_of t d (Own code) = row_input (t.rows d.media code)
 
 -- whether it gives unit exception
-abbrev pub exception_of : {M : Type 0} → Table M → DeviceWith M → Command → Bool
+abbrev pub exception_of : {M : Type 0} → Table M → DeviceWith M → CommandCode → Bool
 exception_of t d (Own code) = row_exception (t.rows d.media code)
 exception_of t d command = false
 
 -- the device after it, with these bytes of output
-abbrev pub after_command : {M : Type 0} → Table M → DeviceWith M → Command → List ℕ → DeviceWith M
+abbrev pub after_command : {M : Type 0} → Table M → DeviceWith M → CommandCode → List ℕ → DeviceWith M
 after_command t d (Own code) bytes = after_row d (t.rows d.media code) bytes
 after_command t d command bytes = d

@@ -6,10 +6,11 @@
 #![tactic(auto)]
 
 mod card;
-mod command;
+mod command_code;
 mod deck;
 mod device;
 mod fault;
+mod laws;
 mod motion;
 mod punch;
 mod punch_change;
@@ -19,10 +20,11 @@ mod reader_command;
 mod sense;
 
 pub use card::{Card, PunchStacker, PunchedCard, ReadStacker};
-pub use command::Command;
+pub use command_code::CommandCode;
 pub use deck::{Deck, deck_from};
 pub use device::{Begin, Device, Planned};
 pub use fault::DeckFault;
+pub use laws::short_card_is_what_is_left;
 pub use motion::Motion;
 pub use punch::Punch;
 pub use punch_change::PunchChange;

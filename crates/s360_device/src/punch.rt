@@ -6,7 +6,7 @@ ghost use Rattle.s360_device.specs.Rows.{entry_in};
 ghost use Rattle.s360_device.specs.Punch.{new_punch, punch_commands};
 
 use crate::card::{Card, PunchStacker, PunchedCard, card_of};
-use crate::command::Command;
+use crate::command_code::CommandCode;
 use crate::device::{Begin, Device, Planned};
 use crate::motion::Motion;
 use crate::punch_change::PunchChange;
@@ -115,10 +115,10 @@ impl Device for Punch {
     fn begin(&self, command: u8) -> Begin {
         // Looked at, since the punch keeps that there are six.
         let _ = &self.sense;
-        match Command::new(command) {
-            Command::NoOperation => Begin::Control,
-            Command::Sense => Begin::Input(1),
-            Command::Own(code) => match stacker_of(code) {
+        match CommandCode::new(command) {
+            CommandCode::NoOperation => Begin::Control,
+            CommandCode::Sense => Begin::Input(1),
+            CommandCode::Own(code) => match stacker_of(code) {
                 Some(_) => Begin::Output(80),
                 None => Begin::Refused(COMMAND_REJECT),
             },
@@ -130,9 +130,9 @@ impl Device for Punch {
     }
 
     fn plan(&self, command: u8, bytes: &[u8]) -> Result<Planned<PunchChange>, AllocError> {
-        let (sense, motion) = match Command::new(command) {
-            Command::NoOperation | Command::Sense => (self.sense, Motion::Stay),
-            Command::Own(code) => match stacker_of(code) {
+        let (sense, motion) = match CommandCode::new(command) {
+            CommandCode::NoOperation | CommandCode::Sense => (self.sense, Motion::Stay),
+            CommandCode::Own(code) => match stacker_of(code) {
                 Some(stacker) => {
                     let card = card_of(bytes);
                     (NO_SENSE, Motion::Put(PunchedCard { card, stacker }))

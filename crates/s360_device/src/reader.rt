@@ -1,16 +1,16 @@
 //! The card reader of the 2540. Source: A21-9033, "2540 Card Read Punch".
 ghost use Rattle.std.specs.Prelude.{◌≡◌, ◌<◌, length, slice_get, IfSome};
+ghost use Rattle.std.specs.Bool.{MatchBool};
 ghost use Rattle.std.specs.Option.{option_copied};
+ghost use Rattle.s360_device.specs.Attempts.{IsAttempt};
 ghost use Rattle.s360_device.specs.Items.{item_in};
+ghost use Rattle.s360_device.specs.Motions.{CanMove, items_put};
 ghost use Rattle.s360_device.specs.Reader.{new_reader, with_end_key};
 ghost use Rattle.s360_device.specs.ReaderChanges.{bare_reader, CanSwapReader, reader_after_swap};
 ghost use Rattle.s360_device.specs.ReaderChanges.{reader_change_after_swap};
-ghost use Rattle.s360_device.specs.Motions.{CanMove, items_put};
-ghost use Rattle.std.specs.Bool.{MatchBool};
-ghost use Rattle.s360_device.specs.Attempts.{IsAttempt};
 
 use crate::card::{Card, ReadStacker};
-use crate::command::Command;
+use crate::command_code::CommandCode;
 use crate::deck::Deck;
 use crate::device::{Begin, Device, Planned};
 use crate::motion::Motion;
@@ -196,10 +196,10 @@ impl Device for Reader {
     fn begin(&self, command: u8) -> Begin {
         // Looked at, since the reader keeps that there are six.
         let _ = &self.sense;
-        match Command::new(command) {
-            Command::NoOperation => Begin::Control,
-            Command::Sense => Begin::Input(1),
-            Command::Own(code) => match self.attempt(code) {
+        match CommandCode::new(command) {
+            CommandCode::NoOperation => Begin::Control,
+            CommandCode::Sense => Begin::Input(1),
+            CommandCode::Own(code) => match self.attempt(code) {
                 Attempt::Refused(sense) => Begin::Refused(sense),
                 Attempt::Card(card, ReaderCommand::Read(_)) => Begin::Input(card.len() as u32),
                 Attempt::End(ReaderCommand::Read(_)) => Begin::Input(0),
@@ -210,10 +210,10 @@ impl Device for Reader {
     }
 
     fn input_byte(&self, command: u8, i: u32) -> u8 {
-        match Command::new(command) {
-            Command::NoOperation => unreachable!(),
-            Command::Sense => self.sense[i as usize],
-            Command::Own(code) => match self.attempt(code) {
+        match CommandCode::new(command) {
+            CommandCode::NoOperation => unreachable!(),
+            CommandCode::Sense => self.sense[i as usize],
+            CommandCode::Own(code) => match self.attempt(code) {
                 Attempt::Card(card, _) => card[i as usize],
                 _ => unreachable!(),
             },
@@ -221,9 +221,11 @@ impl Device for Reader {
     }
 
     fn plan(&self, command: u8, _bytes: &[u8]) -> Result<Planned<ReaderChange>, AllocError> {
-        Ok(match Command::new(command) {
-            Command::NoOperation | Command::Sense => self.planned(self.sense, Motion::Stay, false),
-            Command::Own(code) => match self.attempt(code) {
+        Ok(match CommandCode::new(command) {
+            CommandCode::NoOperation | CommandCode::Sense => {
+                self.planned(self.sense, Motion::Stay, false)
+            }
+            CommandCode::Own(code) => match self.attempt(code) {
                 Attempt::Refused(sense) => self.planned(sense, Motion::Stay, false),
                 Attempt::Card(_, command) => self.planned(NO_SENSE, command.motion(), false),
                 Attempt::End(_) => self.planned(NO_SENSE, Motion::Stay, true),

@@ -3,7 +3,7 @@
 ghost use Rattle.std.specs.Prelude.{◌≡◌, ◌≤◌, false, length};
 ghost use Rattle.s360_rows.specs.Slate.{line_of};
 
-use s360_device::{Begin, COMMAND_REJECT, Command, Device, Motion, NO_SENSE, Planned};
+use s360_device::{Begin, COMMAND_REJECT, CommandCode, Device, Motion, NO_SENSE, Planned};
 use std::alloc::{AllocError, Global};
 use std::marker::Model;
 use std::mem;
@@ -124,34 +124,34 @@ impl Device for Slate {
     fn begin(&self, command: u8) -> Begin {
         // Looked at, since the slate keeps that there are six.
         let _ = &self.sense;
-        match Command::new(command) {
-            Command::NoOperation => Begin::Control,
-            Command::Sense => Begin::Input(1),
-            Command::Own(0x01) => Begin::Output(12),
-            Command::Own(0x02) if self.has_line => Begin::Input(12),
-            Command::Own(0x02) => Begin::NotYet,
-            Command::Own(_) => Begin::Refused(COMMAND_REJECT),
+        match CommandCode::new(command) {
+            CommandCode::NoOperation => Begin::Control,
+            CommandCode::Sense => Begin::Input(1),
+            CommandCode::Own(0x01) => Begin::Output(12),
+            CommandCode::Own(0x02) if self.has_line => Begin::Input(12),
+            CommandCode::Own(0x02) => Begin::NotYet,
+            CommandCode::Own(_) => Begin::Refused(COMMAND_REJECT),
         }
     }
 
     fn input_byte(&self, command: u8, i: u32) -> u8 {
-        match Command::new(command) {
-            Command::Sense => self.sense[i as usize],
+        match CommandCode::new(command) {
+            CommandCode::Sense => self.sense[i as usize],
             _ => LINE[i as usize],
         }
     }
 
     fn plan(&self, command: u8, bytes: &[u8]) -> Result<Planned<Self::Change>, AllocError> {
-        Ok(match Command::new(command) {
-            Command::NoOperation | Command::Sense => {
+        Ok(match CommandCode::new(command) {
+            CommandCode::NoOperation | CommandCode::Sense => {
                 planned(self.sense, self.has_line, Motion::Stay, false)
             }
-            Command::Own(0x01) => {
+            CommandCode::Own(0x01) => {
                 let line = line_of(bytes);
                 planned(NO_SENSE, self.has_line, Motion::Put(line), true)
             }
-            Command::Own(0x02) => planned(NO_SENSE, false, Motion::Stay, true),
-            Command::Own(_) => {
+            CommandCode::Own(0x02) => planned(NO_SENSE, false, Motion::Stay, true),
+            CommandCode::Own(_) => {
                 let alters = self.sense != COMMAND_REJECT;
                 planned(COMMAND_REJECT, self.has_line, Motion::Stay, alters)
             }

@@ -4,7 +4,7 @@ ghost use Rattle.s360_device.specs.Commands.{command_of};
 
 /// A command code as every device reads it.
 #[derive(Clone, Copy, Debug, PartialEq, Eq)]
-pub enum Command {
+pub enum CommandCode {
     /// 03: control no-operation.
     NoOperation,
     /// 04: sense.
@@ -13,15 +13,15 @@ pub enum Command {
     Own(u8),
 }
 
-impl Command {
+impl CommandCode {
     /// The command of a code.
-    pub fn new(code: u8) -> Command
+    pub fn new(code: u8) -> CommandCode
         ensures { result ≡ command_of code }
     {
         match code {
-            0x03 => Command::NoOperation,
-            0x04 => Command::Sense,
-            _ => Command::Own(code),
+            0x03 => CommandCode::NoOperation,
+            0x04 => CommandCode::Sense,
+            _ => CommandCode::Own(code),
         }
     }
 }

@@ -1,0 +1,9 @@
+//! A law of the definitions, the contract of a call that does nothing.
+ghost use Rattle.s360_device.specs.Laws.{NoDeckFileIsShort, ShortFileHasShortCard};
+
+/// The file of a deck has no short card; a file with one is that of a deck up to where the card
+/// starts, and what is left is less than a card.
+pub fn short_card_is_what_is_left()
+    ensures whole { NoDeckFileIsShort }
+    ensures short { ShortFileHasShortCard }
+{}
