@@ -1,5 +1,5 @@
 //! Devices: decks, each command of the card reader and the punch, and commands that are taken back.
-ghost use Rattle.std.specs.Prelude.{◌≡◌, IsTrue};
+ghost use Rattle.std.specs.Prelude.{◌≡◌, IsTrue, IfOk};
 ghost use Rattle.s360_device.specs.Transfers.{CanEndWith};
 
 use crate::rows::{Subject, Words, assert_rows};
@@ -18,15 +18,18 @@ fn may_end(begin: Begin, bytes: &[u8]) -> bool
     }
 }
 
-/// The first and the last byte that a command gives, where it gives any.
-fn ends<D: Device>(device: &D, command: u8) -> Option<(u8, u8)> {
-    match device.begin(command) {
-        Begin::Input(count) if count > 0 => {
-            let first = device.input_byte(command, 0);
-            Some((first, device.input_byte(command, count - 1)))
-        }
-        _ => None,
+/// The bytes that a command gives, if it is an input.
+fn given<D: Device>(alloc: Global, device: &D, command: u8) -> Result<Vec<u8>, AllocError>
+    ensures { IfOk result (λ bytes. bytes.items ≡ D.input_of device.now command) }
+{
+    let Begin::Input(count) = device.begin(command) else {
+        return Ok(Vec::new(alloc));
+    };
+    let mut bytes = Vec::with_capacity(alloc, count as usize)?;
+    for i in 0..count {
+        bytes.push(device.input_byte(command, i))?;
     }
+    Ok(bytes)
 }
 
 /// Does a command that may end with these bytes, and answers whether it altered the device and
@@ -112,7 +115,7 @@ fn text_of_begin(alloc: Global, begin: Begin) -> Option<String> {
     }
 }
 
-/// How a command begins, the ends of what it gives, what it does, and the sense bytes afterwards.
+/// How a command begins, the first and the last byte that it gives, what it does, and the sense bytes afterwards.
 fn text_of_command<D: Device>(
     alloc: Global,
     device: &mut D,
@@ -120,8 +123,8 @@ fn text_of_command<D: Device>(
     bytes: &[u8],
 ) -> Option<String> {
     let mut text = text_of_begin(alloc, device.begin(command))?;
-    let ends = ends(device, command);
-    if let Some((first, last)) = ends {
+    let given = given(alloc, device, command).ok()?;
+    if let [first, .., last] = given.as_slice() {
         write!(text, " {first:X} to {last:X}").ok()?;
     }
     if let Some((alters, exception)) = perform(device, command, bytes) {
@@ -305,7 +308,7 @@ A3 -> control, alters, sense 0
 show -> 5 of 5, 0 in R1, 50 in R2, A0 in Rp3, F0 in R2, 40 in Rp3
 * with no card left: the sense byte is kept by 03 and 04
 02 -> refused 40, alters, sense 40
-04 -> input 1 40 to 40, sense 40
+04 -> input 1 40, sense 40
 03 -> control, sense 40
 42 -> refused 40, sense 40
 82 -> refused 40, sense 40
@@ -314,7 +317,7 @@ C2 -> refused 40, sense 40
 63 -> refused 40, sense 40
 A3 -> refused 40, sense 40
 01 -> refused 80, alters, sense 80
-04 -> input 1 80 to 80, sense 80
+04 -> input 1 80, sense 80
 * a command that is done clears it
 deck 50 -> 0 of 1, 0
 0B -> refused 80, alters, sense 80
@@ -334,7 +337,7 @@ C2 -> input 0, exception, sense 0
 63 -> control, exception, sense 0
 A3 -> control, exception, sense 0
 03 -> control, sense 0
-04 -> input 1 0 to 0, sense 0
+04 -> input 1 0, sense 0
 0A -> refused 80, alters, sense 80
 63 -> control, alters, exception, sense 0
 show -> 1 of 1 end, 0 in R1
@@ -344,7 +347,7 @@ end A0 -> 0 of 2 end, 0, 50
 times 02 2710 -> 1 of 2 end, 0 in R1, 50
 times A3 2710 -> 1 of 2 end, 0 in R1, 50
 times FF 2710 -> 1 of 2 end, 0 in R1, 50
-04 -> input 1 0 to 0, sense 0
+04 -> input 1 0, sense 0
 ";
 
 const PUNCH: &str = "
@@ -360,12 +363,12 @@ show -> 3, 0 1 to 40 in P1, 40 40 to 40 in P2, 0 1 to 4F in Rp3
 02 0 -> refused 80, alters, sense 80
 C2 0 -> refused 80, sense 80
 03 0 -> control, sense 80
-04 0 -> input 1 80 to 80, sense 80
+04 0 -> input 1 80, sense 80
 41 1 -> output 50, alters, sense 0
 * taken back
 times 81 50 2710 -> 4, 0 1 to 40 in P1, 40 40 to 40 in P2, 0 1 to 4F in Rp3, 0 40 to 40 in P2
 times 02 0 2710 -> 4, 0 1 to 40 in P1, 40 40 to 40 in P2, 0 1 to 4F in Rp3, 0 40 to 40 in P2
-04 0 -> input 1 0 to 0, sense 0
+04 0 -> input 1 0, sense 0
 ";
 
 const SLATE: &str = "
