@@ -72,12 +72,15 @@ impl Punch {
 }
 
 impl Device for Punch {
+    ghost use Rattle.std.specs.Prelude.{◌≡◌};
+    ghost use Rattle.std.proofs.Common.{ap};
     ghost use Rattle.s360_device.specs.Commands.{command_of};
     ghost use Rattle.s360_device.specs.Motions.{items_put};
     ghost use Rattle.s360_device.specs.Rows.{begin_of as begin_in, input_of as input_in, exception_of as exception_in};
-    ghost use Rattle.s360_device.specs.Punch.{punch_table};
-    ghost use Rattle.s360_device.specs.PunchChanges.{bare_punch, CanSwapPunch, IsPunchAfter};
-    ghost use Rattle.s360_device.specs.PunchChanges.{punch_after_swap, punch_change_after_swap};
+    ghost use Rattle.s360_device.specs.Rows.{after_command};
+    ghost use Rattle.s360_device.specs.Punch.{Punch as Seen, punch_table};
+    ghost use Rattle.s360_device.specs.PunchChanges.{CanSwapPunch, punch_after_swap};
+    ghost use Rattle.s360_device.specs.PunchChanges.{punch_change_after_swap};
     ghost use Rattle.s360_device.specs.PunchLaws.{CanSwapPunch-again};
     ghost use Rattle.s360_device.specs.PunchLaws.{punch_after_swap-twice};
     ghost use Rattle.s360_device.specs.PunchLaws.{punch_change_after_swap-twice};
@@ -90,27 +93,27 @@ impl Device for Punch {
 
     ghost exception_of = { λ p code. exception_in punch_table p.punch (command_of code) };
 
-    ghost is_after = { IsPunchAfter };
+    ghost is_after = { λ p code bytes q. q.punch ≡ after_command punch_table p.punch (command_of code) bytes };
 
     ghost sense_of = { λ p. p.punch.sense };
 
-    ghost bare = { bare_punch };
+    ghost bare = { λ p. record p { room = 0 } };
 
     ghost room_of = { λ p. p.room };
 
     ghost needs = { λ x. items_put x.motion };
 
-    ghost can_swap = { CanSwapPunch };
+    ghost can_swap = { λ p x. CanSwapPunch p.punch x };
 
-    ghost after_swap = { punch_after_swap };
+    ghost after_swap = { λ p x. record p { punch = punch_after_swap p.punch x } };
 
-    ghost change_after_swap = { punch_change_after_swap };
+    ghost change_after_swap = { λ p x. punch_change_after_swap p.punch x };
 
-    ghost again = { CanSwapPunch-again };
+    ghost again = { λ p x can. CanSwapPunch-again p.punch x can };
 
-    ghost restores_device = { punch_after_swap-twice };
+    ghost restores_device = { λ p x can. ap (λ (q : Seen). record p { punch = q }) (punch_after_swap-twice p.punch x can) };
 
-    ghost restores_change = { punch_change_after_swap-twice };
+    ghost restores_change = { λ p x can. punch_change_after_swap-twice p.punch x can };
 
     fn begin(&self, command: u8) -> Begin {
         // Looked at, since the punch keeps that there are six.

@@ -6,7 +6,7 @@ ghost use Rattle.s360_device.specs.Attempts.{IsAttempt};
 ghost use Rattle.s360_device.specs.Items.{item_in};
 ghost use Rattle.s360_device.specs.Motions.{CanMove, items_put};
 ghost use Rattle.s360_device.specs.Reader.{new_reader, with_end_key};
-ghost use Rattle.s360_device.specs.ReaderChanges.{bare_reader, CanSwapReader, reader_after_swap};
+ghost use Rattle.s360_device.specs.ReaderChanges.{CanSwapReader, reader_after_swap};
 ghost use Rattle.s360_device.specs.ReaderChanges.{reader_change_after_swap};
 
 use crate::card::{Card, ReadStacker};
@@ -102,10 +102,10 @@ impl Reader {
 
     /// What the end-of-file key does: it stays pressed. It takes no memory, and nor does its exchange.
     pub fn plan_end_key(&self) -> ReaderChange
-        ensures can { CanSwapReader (bare_reader self.now) result }
-        ensures pressed { (reader_after_swap (bare_reader self.now) result).reader ≡ with_end_key self.now.reader }
+        ensures can { CanSwapReader self.now.reader result }
+        ensures pressed { reader_after_swap self.now.reader result ≡ with_end_key self.now.reader }
         ensures room { items_put result.motion ≡ 0 }
-        ensures back { items_put (reader_change_after_swap (bare_reader self.now) result).motion ≡ 0 }
+        ensures back { items_put (reader_change_after_swap self.now.reader result).motion ≡ 0 }
     {
         ReaderChange {
             sense: self.sense,
@@ -137,7 +137,7 @@ impl Reader {
     ) -> Planned<ReaderChange>
         requires can { CanMove self.now.reader.media.stackers motion }
         ensures change { result.change ≡ record { sense = sense; end_of_file = self.now.reader.media.end_of_file; motion = motion } }
-        ensures alters { MatchBool result.alters (self.now.reader ≡ (reader_after_swap self.now result.change).reader → ⊥) (self.now.reader ≡ (reader_after_swap self.now result.change).reader) }
+        ensures alters { MatchBool result.alters (self.now.reader ≡ reader_after_swap self.now.reader result.change → ⊥) (self.now.reader ≡ reader_after_swap self.now.reader result.change) }
         ensures exception { result.exception ≡ exception }
     {
         Planned {
@@ -153,12 +153,15 @@ impl Reader {
 }
 
 impl Device for Reader {
+    ghost use Rattle.std.specs.Prelude.{◌≡◌};
+    ghost use Rattle.std.proofs.Common.{ap};
     ghost use Rattle.s360_device.specs.Commands.{command_of};
     ghost use Rattle.s360_device.specs.Motions.{items_put};
     ghost use Rattle.s360_device.specs.Rows.{begin_of as begin_in, input_of as input_in, exception_of as exception_in};
-    ghost use Rattle.s360_device.specs.Reader.{reader_table};
-    ghost use Rattle.s360_device.specs.ReaderChanges.{bare_reader, CanSwapReader, IsReaderAfter};
-    ghost use Rattle.s360_device.specs.ReaderChanges.{reader_after_swap, reader_change_after_swap};
+    ghost use Rattle.s360_device.specs.Rows.{after_command};
+    ghost use Rattle.s360_device.specs.Reader.{Reader as Seen, reader_table};
+    ghost use Rattle.s360_device.specs.ReaderChanges.{CanSwapReader, reader_after_swap};
+    ghost use Rattle.s360_device.specs.ReaderChanges.{reader_change_after_swap};
     ghost use Rattle.s360_device.specs.ReaderLaws.{CanSwapReader-again};
     ghost use Rattle.s360_device.specs.ReaderLaws.{reader_after_swap-twice};
     ghost use Rattle.s360_device.specs.ReaderLaws.{reader_change_after_swap-twice};
@@ -171,27 +174,27 @@ impl Device for Reader {
 
     ghost exception_of = { λ r code. exception_in reader_table r.reader (command_of code) };
 
-    ghost is_after = { IsReaderAfter };
+    ghost is_after = { λ r code bytes s. s.reader ≡ after_command reader_table r.reader (command_of code) bytes };
 
     ghost sense_of = { λ r. r.reader.sense };
 
-    ghost bare = { bare_reader };
+    ghost bare = { λ r. record r { room = 0 } };
 
     ghost room_of = { λ r. r.room };
 
     ghost needs = { λ x. items_put x.motion };
 
-    ghost can_swap = { CanSwapReader };
+    ghost can_swap = { λ r x. CanSwapReader r.reader x };
 
-    ghost after_swap = { reader_after_swap };
+    ghost after_swap = { λ r x. record r { reader = reader_after_swap r.reader x } };
 
-    ghost change_after_swap = { reader_change_after_swap };
+    ghost change_after_swap = { λ r x. reader_change_after_swap r.reader x };
 
-    ghost again = { CanSwapReader-again };
+    ghost again = { λ r x can. CanSwapReader-again r.reader x can };
 
-    ghost restores_device = { reader_after_swap-twice };
+    ghost restores_device = { λ r x can. ap (λ (s : Seen). record r { reader = s }) (reader_after_swap-twice r.reader x can) };
 
-    ghost restores_change = { reader_change_after_swap-twice };
+    ghost restores_change = { λ r x can. reader_change_after_swap-twice r.reader x can };
 
     fn begin(&self, command: u8) -> Begin {
         // Looked at, since the reader keeps that there are six.

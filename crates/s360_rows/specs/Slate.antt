@@ -1,13 +1,12 @@
 -- A device of the tests, a slate: it gives its line where it has one, has no answer yet where it has none, and keeps
 -- each line that is written on it.
-use Rattle.std.specs.Prelude.{◌≡◌, ℕ, ◌-◌, Bool, true, false, List, [], ◌∷◌, ◌++◌, length, nat_eq, if◌then◌else◌, replicate}
-use Rattle.std.proofs.Common.{ap, refl}
+use Rattle.std.specs.Prelude.{◌≡◌, ℕ, ◌-◌, Bool, false, List, [], ◌∷◌, ◌++◌, length, nat_eq, if◌then◌else◌, replicate}
+use Rattle.std.proofs.Common.{ap}
 use Rattle.s360_device.specs.declared.motion.Motion.{Motion}
-use Rattle.s360_device.specs.Commands.{command_of}
 use Rattle.s360_device.specs.Motions.{CanMove, after_motion, motion_back}
 use Rattle.s360_device.specs.MotionLaws.{CanMove-again, after_motion-twice, motion_back-twice}
-use Rattle.s360_device.specs.Rows.{DeviceWith, Row, Table, refused, not_yet, input, output, after_command}
-use Rattle.s360_device.specs.Sense.{no_sense, command_reject}
+use Rattle.s360_device.specs.Rows.{DeviceWith, Row, Table, refused, not_yet, input, output}
+use Rattle.s360_device.specs.Sense.{command_reject}
 
 -- whether a line was put on it that was not read, and the lines written
 pub record SlateMedia : Type 0 where
@@ -41,26 +40,20 @@ pub record SlateWithRoom : Type 0 where
 abbrev pub SlateChange : Type 0
 SlateChange = List ℕ × Bool × Motion (List ℕ)
 
-abbrev pub bare_slate : SlateWithRoom → SlateWithRoom
-bare_slate s = record s { room = 0 }
+abbrev pub CanSwapSlate : Slate → SlateChange → Type 0
+CanSwapSlate s x = CanMove s.media.written x.2
 
-abbrev pub CanSwapSlate : SlateWithRoom → SlateChange → Type 0
-CanSwapSlate s x = CanMove s.slate.media.written x.2
+abbrev pub slate_after_swap : Slate → SlateChange → Slate
+slate_after_swap s x = record { sense = x.0; media = record { has_line = x.1; written = after_motion s.media.written x.2 } }
 
-abbrev pub slate_after_swap : SlateWithRoom → SlateChange → SlateWithRoom
-slate_after_swap s x = record s { slate = record { sense = x.0; media = record { has_line = x.1; written = after_motion s.slate.media.written x.2 } } }
+abbrev pub slate_change_after_swap : Slate → SlateChange → SlateChange
+slate_change_after_swap s x = (s.sense, s.media.has_line, motion_back s.media.written x.2)
 
-abbrev pub slate_change_after_swap : SlateWithRoom → SlateChange → SlateChange
-slate_change_after_swap s x = (s.slate.sense, s.slate.media.has_line, motion_back s.slate.media.written x.2)
+pub CanSwapSlate-again : (s : Slate) (x : SlateChange) → CanSwapSlate s x → CanSwapSlate (slate_after_swap s x) (slate_change_after_swap s x)
+CanSwapSlate-again s x h = CanMove-again s.media.written x.2 h
 
-abbrev pub IsSlateAfter : SlateWithRoom → ℕ → List ℕ → SlateWithRoom → Type 0
-IsSlateAfter s code bytes t = t.slate ≡ after_command slate_table s.slate (command_of code) bytes
+pub slate_after_swap-twice : (s : Slate) (x : SlateChange) → CanSwapSlate s x → slate_after_swap (slate_after_swap s x) (slate_change_after_swap s x) ≡ s
+slate_after_swap-twice s x h = ap (λ (written : List (List ℕ)). record s { media = record s.media { written = written } }) (after_motion-twice s.media.written x.2 h)
 
-pub CanSwapSlate-again : (s : SlateWithRoom) (x : SlateChange) → CanSwapSlate s x → CanSwapSlate (slate_after_swap s x) (slate_change_after_swap s x)
-CanSwapSlate-again s x h = CanMove-again s.slate.media.written x.2 h
-
-pub slate_after_swap-twice : (s : SlateWithRoom) (x : SlateChange) → CanSwapSlate s x → slate_after_swap (slate_after_swap s x) (slate_change_after_swap s x) ≡ s
-slate_after_swap-twice s x h = ap (λ (written : List (List ℕ)). record s { slate = record s.slate { media = record s.slate.media { written = written } } }) (after_motion-twice s.slate.media.written x.2 h)
-
-pub slate_change_after_swap-twice : (s : SlateWithRoom) (x : SlateChange) → CanSwapSlate s x → slate_change_after_swap (slate_after_swap s x) (slate_change_after_swap s x) ≡ x
-slate_change_after_swap-twice s x h = ap (λ (m : Motion (List ℕ)). (x.0, x.1, m)) (motion_back-twice s.slate.media.written x.2 h)
+pub slate_change_after_swap-twice : (s : Slate) (x : SlateChange) → CanSwapSlate s x → slate_change_after_swap (slate_after_swap s x) (slate_change_after_swap s x) ≡ x
+slate_change_after_swap-twice s x h = ap (λ (m : Motion (List ℕ)). (x.0, x.1, m)) (motion_back-twice s.media.written x.2 h)

@@ -32,17 +32,21 @@ fn given<D: Device>(alloc: Global, device: &D, command: u8) -> Result<Vec<u8>, A
     Ok(bytes)
 }
 
-/// Does a command that may end with these bytes, and answers whether it altered the device and
+/// Does a command if it may end with these bytes, and answers then whether it altered the device and
 /// whether it gave unit exception.
-fn perform<D: Device>(device: &mut D, command: u8, bytes: &[u8]) -> Option<(bool, bool)> {
+fn perform<D: Device>(
+    device: &mut D,
+    command: u8,
+    bytes: &[u8],
+) -> Result<Option<(bool, bool)>, AllocError> {
     let begin = device.begin(command);
     if !may_end(begin, bytes) {
-        return None;
+        return Ok(None);
     }
-    let mut planned = device.plan(command, bytes).ok()?;
-    device.room(&planned.change).ok()?;
+    let mut planned = device.plan(command, bytes)?;
+    device.room(&planned.change)?;
     device.swap(&mut planned.change);
-    Some((planned.alters, planned.exception))
+    Ok(Some((planned.alters, planned.exception)))
 }
 
 /// Does a command that may end with these bytes, and takes it back.
@@ -124,10 +128,10 @@ fn text_of_command<D: Device>(
 ) -> Option<String> {
     let mut text = text_of_begin(alloc, device.begin(command))?;
     let given = given(alloc, device, command).ok()?;
-    if let [first, .., last] = given.as_slice() {
+    if let (Some(first), Some(last)) = (given.first(), given.last()) {
         write!(text, " {first:X} to {last:X}").ok()?;
     }
-    if let Some((alters, exception)) = perform(device, command, bytes) {
+    if let Some((alters, exception)) = perform(device, command, bytes).ok()? {
         write!(text, "{}", if alters { ", alters" } else { "" }).ok()?;
         write!(text, "{}", if exception { ", exception" } else { "" }).ok()?;
     }
@@ -308,7 +312,7 @@ A3 -> control, alters, sense 0
 show -> 5 of 5, 0 in R1, 50 in R2, A0 in Rp3, F0 in R2, 40 in Rp3
 * with no card left: the sense byte is kept by 03 and 04
 02 -> refused 40, alters, sense 40
-04 -> input 1 40, sense 40
+04 -> input 1 40 to 40, sense 40
 03 -> control, sense 40
 42 -> refused 40, sense 40
 82 -> refused 40, sense 40
@@ -317,7 +321,7 @@ C2 -> refused 40, sense 40
 63 -> refused 40, sense 40
 A3 -> refused 40, sense 40
 01 -> refused 80, alters, sense 80
-04 -> input 1 80, sense 80
+04 -> input 1 80 to 80, sense 80
 * a command that is done clears it
 deck 50 -> 0 of 1, 0
 0B -> refused 80, alters, sense 80
@@ -337,7 +341,7 @@ C2 -> input 0, exception, sense 0
 63 -> control, exception, sense 0
 A3 -> control, exception, sense 0
 03 -> control, sense 0
-04 -> input 1 0, sense 0
+04 -> input 1 0 to 0, sense 0
 0A -> refused 80, alters, sense 80
 63 -> control, alters, exception, sense 0
 show -> 1 of 1 end, 0 in R1
@@ -347,7 +351,7 @@ end A0 -> 0 of 2 end, 0, 50
 times 02 2710 -> 1 of 2 end, 0 in R1, 50
 times A3 2710 -> 1 of 2 end, 0 in R1, 50
 times FF 2710 -> 1 of 2 end, 0 in R1, 50
-04 -> input 1 0, sense 0
+04 -> input 1 0 to 0, sense 0
 ";
 
 const PUNCH: &str = "
@@ -363,12 +367,12 @@ show -> 3, 0 1 to 40 in P1, 40 40 to 40 in P2, 0 1 to 4F in Rp3
 02 0 -> refused 80, alters, sense 80
 C2 0 -> refused 80, sense 80
 03 0 -> control, sense 80
-04 0 -> input 1 80, sense 80
+04 0 -> input 1 80 to 80, sense 80
 41 1 -> output 50, alters, sense 0
 * taken back
 times 81 50 2710 -> 4, 0 1 to 40 in P1, 40 40 to 40 in P2, 0 1 to 4F in Rp3, 0 40 to 40 in P2
 times 02 0 2710 -> 4, 0 1 to 40 in P1, 40 40 to 40 in P2, 0 1 to 4F in Rp3, 0 40 to 40 in P2
-04 0 -> input 1 0, sense 0
+04 0 -> input 1 0 to 0, sense 0
 ";
 
 const SLATE: &str = "

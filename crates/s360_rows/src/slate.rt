@@ -83,10 +83,13 @@ impl Slate {
 }
 
 impl Device for Slate {
+    ghost use Rattle.std.specs.Prelude.{◌≡◌};
+    ghost use Rattle.std.proofs.Common.{ap};
     ghost use Rattle.s360_device.specs.Commands.{command_of};
     ghost use Rattle.s360_device.specs.Motions.{items_put};
     ghost use Rattle.s360_device.specs.Rows.{begin_of as begin_in, input_of as input_in, exception_of as exception_in};
-    ghost use Rattle.s360_rows.specs.Slate.{slate_table, bare_slate, CanSwapSlate, IsSlateAfter};
+    ghost use Rattle.s360_device.specs.Rows.{after_command};
+    ghost use Rattle.s360_rows.specs.Slate.{Slate as Seen, slate_table, CanSwapSlate};
     ghost use Rattle.s360_rows.specs.Slate.{slate_after_swap, slate_change_after_swap};
     ghost use Rattle.s360_rows.specs.Slate.{CanSwapSlate-again, slate_after_swap-twice};
     ghost use Rattle.s360_rows.specs.Slate.{slate_change_after_swap-twice};
@@ -99,27 +102,27 @@ impl Device for Slate {
 
     ghost exception_of = { λ s code. exception_in slate_table s.slate (command_of code) };
 
-    ghost is_after = { IsSlateAfter };
+    ghost is_after = { λ s code bytes t. t.slate ≡ after_command slate_table s.slate (command_of code) bytes };
 
     ghost sense_of = { λ s. s.slate.sense };
 
-    ghost bare = { bare_slate };
+    ghost bare = { λ s. record s { room = 0 } };
 
     ghost room_of = { λ s. s.room };
 
     ghost needs = { λ x. items_put x.2 };
 
-    ghost can_swap = { CanSwapSlate };
+    ghost can_swap = { λ s x. CanSwapSlate s.slate x };
 
-    ghost after_swap = { slate_after_swap };
+    ghost after_swap = { λ s x. record s { slate = slate_after_swap s.slate x } };
 
-    ghost change_after_swap = { slate_change_after_swap };
+    ghost change_after_swap = { λ s x. slate_change_after_swap s.slate x };
 
-    ghost again = { CanSwapSlate-again };
+    ghost again = { λ s x can. CanSwapSlate-again s.slate x can };
 
-    ghost restores_device = { slate_after_swap-twice };
+    ghost restores_device = { λ s x can. ap (λ (t : Seen). record s { slate = t }) (slate_after_swap-twice s.slate x can) };
 
-    ghost restores_change = { slate_change_after_swap-twice };
+    ghost restores_change = { λ s x can. slate_change_after_swap-twice s.slate x can };
 
     fn begin(&self, command: u8) -> Begin {
         // Looked at, since the slate keeps that there are six.

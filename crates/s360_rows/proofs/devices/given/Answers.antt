@@ -1,4 +1,4 @@
-use Rattle.std.proofs.Common.{◌<◌, length, refl, arith}
+use Rattle.std.proofs.Common.{◌<◌, length, arith}
 use Rattle.std.proofs.lemmas.List.{take_more}
 use Rattle.s360_rows.proofs.devices.given.Goals as goal
 
@@ -6,4 +6,5 @@ pub loop-i-preserved : goal.loop-i-preserved
 loop-i-preserved g c =
     let xs = g.D.Device.input_of c.args.device.now c.args.command
     in let left : c.loop-i.i < length xs = omega (arith, c.in-Input.ensures.input)
-    in rw (c.in_ok-push.ensures.items, take_more xs c.loop-i.i 0 left, c.loop-i.invariant, c.input_byte.ensures) refl
+    in let more = take_more xs c.loop-i.i 0 left
+    in cc (c.in_ok-push.ensures.items)
