@@ -4,7 +4,7 @@ ghost use Rattle.s360_device.specs.Transfers.{CanEndWith};
 
 use crate::rows::{Subject, Words, assert_rows};
 use crate::slate::Slate;
-use s360_device::{Begin, Card, Deck, DeckFault, Device, Punch, Reader, deck_from};
+use s360_device::{Begin, Deck, DeckFault, Device, Punch, Reader, deck_from};
 use std::alloc::{AllocError, Global};
 
 /// Whether a command that begins so may end with such bytes of output.
