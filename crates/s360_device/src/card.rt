@@ -2,8 +2,11 @@
 ghost use Rattle.std.specs.Prelude.{◌≡◌, ◌≤◌, length};
 ghost use Rattle.s360_model.specs.Cards.{columns, card_of};
 
+/// Columns of a card.
+pub const COLUMNS: usize = 80;
+
 /// A card: the bytes of its 80 columns, in EBCDIC.
-pub type Card = [u8; 80];
+pub type Card = [u8; COLUMNS];
 
 /// A column with no hole.
 const BLANK: u8 = 0x40;
@@ -44,7 +47,7 @@ pub(crate) fn card_of(bytes: &[u8]) -> Card
     requires { length bytes.now ≤ columns }
     ensures { result ≡ card_of bytes.now }
 {
-    let mut card = [BLANK; 80];
+    let mut card = [BLANK; COLUMNS];
     card[..bytes.len()].copy_from_slice(bytes);
     card
 }

@@ -4,7 +4,7 @@ ghost use Rattle.std.specs.Option.{option_copied};
 ghost use Rattle.s360_model.specs.Cards.{columns, IsDeckFile, short_card_of};
 ghost use Rattle.s360_device.specs.declared.fault.DeckFault.TheVariants.{ShortCard, Memory};
 
-use crate::card::Card;
+use crate::card::{COLUMNS, Card};
 use crate::fault::DeckFault;
 use std::alloc::Global;
 use std::marker::Model;
@@ -48,7 +48,7 @@ pub fn deck_from(alloc: Global, file: &[u8]) -> Result<Deck, DeckFault>
     ensures deck { IfOk result (λ deck. IsDeckFile file.now deck) }
     ensures refused { MatchOption (short_card_of file.now) (IsOkUnless result Memory) (λ start. result ≡ Err (ShortCard start)) }
 {
-    let (cards, short) = file.as_chunks::<80>();
+    let (cards, short) = file.as_chunks::<COLUMNS>();
     if !short.is_empty() {
         return Err(DeckFault::ShortCard(file.len() - short.len()));
     }

@@ -5,7 +5,7 @@ ghost use Rattle.s360_device.specs.Items.{item_in};
 ghost use Rattle.s360_device.specs.Rows.{entry_in};
 ghost use Rattle.s360_device.specs.Punch.{new_punch, punch_commands};
 
-use crate::card::{Card, PunchStacker, PunchedCard, card_of};
+use crate::card::{COLUMNS, PunchStacker, PunchedCard, card_of};
 use crate::command_code::CommandCode;
 use crate::device::{Begin, Device, Planned};
 use crate::motion::Motion;
@@ -122,7 +122,7 @@ impl Device for Punch {
             CommandCode::NoOperation => Begin::Control,
             CommandCode::Sense => Begin::Input(1),
             CommandCode::Own(code) => match stacker_of(code) {
-                Some(_) => Begin::Output(80),
+                Some(_) => Begin::Output(COLUMNS as u32),
                 None => Begin::Refused(COMMAND_REJECT),
             },
         }
