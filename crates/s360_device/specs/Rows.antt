@@ -52,13 +52,13 @@ after_row d (input given media exception) bytes = record { sense = no_sense; med
 after_row d (output limit media exception) bytes = record { sense = no_sense; media = media bytes }
 after_row d (control media exception) bytes = record { sense = no_sense; media = media }
 
--- Every device has two commands more, which change nothing, not the sense bytes either: no-operation is a control,
--- and sense gives the first of the sense bytes, so many as the device has.
-
--- the entry of a code
+-- the entry of a code in a list by codes
 abbrev pub entry_in : {X : Type 0} → List (ℕ × X) → ℕ → Option X
 entry_in [] code = None
 entry_in (e ∷ es) code = if nat_eq code e.0 then Some e.1 else entry_in es code
+
+-- Every device has two commands more, which change nothing, not the sense bytes either: no-operation is a control,
+-- and sense gives the first of the sense bytes, so many as the device has.
 
 -- the rows of a device's own commands by their codes, and how many sense bytes it has
 pub record Table (M : Type 0) : Type 0 where
