@@ -1,6 +1,5 @@
 -- An exchange of control cells done twice restores the control part and the cells.
-use Rattle.std.proofs.Common.{◌≡◌, ◌≢◌, ◌<◌, ◌+◌, ◌++◌, ℕ, List, [], ◌∷◌, refl, ap, sym, ◌∙◌, take, drop, set, get_or, length, arith}
-use Rattle.std.proofs.lemmas.List.{drop_more, drop-set-lt, take_more_set, append_assoc}
+use Rattle.std.proofs.Common.{◌≡◌, ◌≢◌, List, [], ◌∷◌, refl, ap, sym, ◌∙◌}
 use Rattle.s360_store.specs.declared.place.Place.{Place}
 use Rattle.s360_machine.specs.declared.control_cell.ControlCell.{ControlCell}
 use Rattle.s360_machine.specs.declared.control_cell.ControlCell.TheVariants.{Run as run, External as external}
@@ -110,21 +109,3 @@ places_of_control-after c [] = refl
 places_of_control-after c (x ∷ xs) =
     ap (λ p. p ∷ places_of_control (control_cells_after_exchange (with_control c x) xs)) (control_at-place c x)
     ∙ ap (λ ps. place_of_control x ∷ ps) (places_of_control-after (with_control c x) xs)
-
--- an exchange of all control cells that has come to the index i
-pub record ExchangingControl (c : Control) (xs : List ControlCell) (d : Control) (items : List ControlCell) (i : ℕ) : Type 0 where
-  pub control : control_after_exchange d (drop i items) ≡ control_after_exchange c xs
-  pub cells : take i items ++ control_cells_after_exchange d (drop i items) ≡ control_cells_after_exchange c xs
-
-pub ExchangingControl-more : (c : Control) (xs : List ControlCell) (d : Control) (items : List ControlCell) (i : ℕ) (z : ControlCell) (e : Control) (x : ControlCell)
-    → i < length items → ExchangingControl c xs d items i
-    → e ≡ with_control d (get_or items i z) → x ≡ control_at d (get_or items i z)
-    → ExchangingControl c xs e (set items i x) (i + 1)
-ExchangingControl-more c xs d items i z e x h k en ex =
-    let split : drop i items ≡ get_or items i z ∷ drop (i + 1) items = drop_more items i z h
-    in let after : drop (i + 1) (set items i x) ≡ drop (i + 1) items = drop-set-lt (i + 1) items i x (omega arith)
-    in let before : take (i + 1) (set items i x) ≡ take i items ++ x ∷ [] = take_more_set items i x h
-    in record {
-      control = rw (after, en) (rw split at k.control);
-      cells = rw (after, before, en, ex, append_assoc) (rw split at k.cells);
-    }

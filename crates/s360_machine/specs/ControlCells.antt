@@ -5,7 +5,16 @@ use Rattle.s360_store.specs.declared.place.Place.{Place}
 use Rattle.s360_store.specs.declared.place.Place.TheVariants.{Run, External}
 use Rattle.s360_machine.specs.declared.control_cell.ControlCell.{ControlCell}
 use Rattle.s360_machine.specs.declared.control_cell.ControlCell.TheVariants.{Run as run, External as external}
+use Rattle.s360_machine.specs.declared.control_change.ControlChange.{ControlChange}
+use Rattle.s360_machine.specs.declared.control_change.ControlChange.TheVariants.{Neither, Run as OneRun, External as OneExternal, Both}
 use Rattle.s360_machine.specs.Machine.{Control}
+
+-- the cells of what an event alters, in the order of places
+abbrev pub control_cells : ControlChange → List ControlCell
+control_cells Neither = []
+control_cells (OneRun state) = run state ∷ []
+control_cells (OneExternal conditions) = external conditions ∷ []
+control_cells (Both state conditions) = run state ∷ external conditions ∷ []
 
 abbrev pub place_of_control : ControlCell → Place
 place_of_control (run state) = Run

@@ -4,9 +4,7 @@ ghost use Rattle.std.specs.List.{list_any};
 ghost use Rattle.s360_store.specs.Places.{same_place};
 ghost use Rattle.s360_machine.specs.Change.{places_of_change};
 
-use crate::control::MOST_ALTERED;
-use crate::control_cell::ControlCell;
-use arrayvec::ArrayVec;
+use crate::control_change::ControlChange;
 use s360_store::{Cell, Place};
 use smallvec::SmallVec;
 use std::alloc::AllocError;
@@ -20,34 +18,27 @@ pub(crate) const WITHIN: usize = 2;
 #[derive(Debug, Drop)]
 pub struct Changes {
     pub(crate) cells: SmallVec<Cell, WITHIN>,
-    pub(crate) control: ArrayVec<ControlCell, MOST_ALTERED>,
+    pub(crate) control: ControlChange,
 }
 
 impl Model for Changes {
     ghost use Rattle.std.specs.Prelude.{◌≤◌, length};
     ghost use Rattle.s360_machine.specs.Change.{Change};
+    ghost use Rattle.s360_machine.specs.ControlCells.{control_cells};
 
     ghost Value = { Change };
 
-    ghost view = { λ c. record { cells = c.cells.items; control = c.control.items } };
+    ghost view = { λ c. record { cells = c.cells.items; control = control_cells c.control } };
 
     ghost invariant = { λ c. length c.cells.items ≤ 1000000 };
 }
 
 impl Changes {
-    /// The cells of the control part.
-    fn control(&self) -> &[ControlCell]
-        ensures cells { result.now ≡ self.now.control }
-        ensures few { length result.now ≤ 2 }
-    {
-        self.control.as_slice()
-    }
-
     /// The number of places.
     pub fn len(&self) -> u32
         ensures { result ≡ length (places_of_change self.now) }
     {
-        self.cells.len() as u32 + self.control().len() as u32
+        self.cells.len() as u32 + self.control.len() as u32
     }
 
     /// The place at `i`, counted from 0.
@@ -58,7 +49,7 @@ impl Changes {
         let i = i as usize;
         match self.cells.get(i) {
             Some(cell) => cell.place,
-            None => self.control()[i - self.cells.len()].place(),
+            None => self.control.cells()[i - self.cells.len()].place(),
         }
     }
 
@@ -68,7 +59,8 @@ impl Changes {
     {
         let alloc = *self.cells.allocator();
         let core = self.cells.iter().map(|cell| cell.place);
-        let control = self.control().iter().map(|cell| cell.place());
+        let control = self.control.cells();
+        let control = control.iter().map(|cell| cell.place());
         core.chain(control).collect(alloc)
     }
 
@@ -77,7 +69,8 @@ impl Changes {
         ensures { result ≡ list_any (λ q. same_place q place) (places_of_change self.now) }
     {
         let core = self.cells.iter().map(|cell| cell.place);
-        let control = self.control().iter().map(|cell| cell.place());
+        let control = self.control.cells();
+        let control = control.iter().map(|cell| cell.place());
         core.chain(control).any(|other| other.is(place))
     }
 }

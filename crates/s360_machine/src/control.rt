@@ -1,8 +1,8 @@
 //! What the operator's panel and the channels work on beside the core. Source: GA22-6821, "System
 //! Control Panel" and "Input/Output Operations".
 ghost use Rattle.std.specs.Prelude.{◌≡◌, true};
-ghost use Rattle.s360_machine.specs.ControlCells.{with_control, control_at};
-ghost use Rattle.s360_machine.specs.ControlCells.{control_after_exchange, control_cells_after_exchange};
+ghost use Rattle.s360_machine.specs.ControlCells.{control_after_exchange, control_cells};
+ghost use Rattle.s360_machine.specs.ControlCells.{control_cells_after_exchange};
 ghost use Rattle.s360_machine.specs.Cpu.{pending_of};
 ghost use Rattle.s360_machine.specs.Machine.{no_external};
 ghost use Rattle.s360_machine.specs.Operator.{after_start, after_stop, control_after_key};
@@ -10,18 +10,14 @@ ghost use Rattle.s360_machine.specs.Planned.{IsControlChangeTo};
 ghost use Rattle.s360_machine.specs.Timer.{control_after_tick};
 ghost use Rattle.s360_machine.specs.declared.run_state.RunState.TheVariants.{Operating};
 
-use crate::control_cell::ControlCell;
+use crate::control_change::ControlChange;
 use crate::external::ExternalConditions;
 use crate::operator::Key;
 use crate::run_state::RunState;
 use crate::timer::runs_out;
-use arrayvec::ArrayVec;
 use s360_psw::Pending;
 use s360_word::Word;
 use std::marker::Model;
-
-/// No event alters more places of the control part.
-pub(crate) const MOST_ALTERED: usize = 2;
 
 /// The run state and the pending external conditions.
 #[derive(Clone, Copy, Debug)]
@@ -150,44 +146,56 @@ impl Control {
         }
     }
 
-    /// The cells that make another control part of it, in the order of places.
-    pub(crate) fn changes_to(&self, next: &Control) -> ArrayVec<ControlCell, MOST_ALTERED>
-        ensures { IsControlChangeTo self.now result.items next.now }
+    /// What makes another control part of it.
+    pub(crate) fn changes_to(&self, next: &Control) -> ControlChange
+        ensures { IsControlChangeTo self.now (control_cells result) next.now }
     {
-        let mut cells = ArrayVec::new();
-        if self.run_state != next.run_state {
-            cells.push(ControlCell::Run(next.run_state));
-        }
-        if self.external != next.external {
-            cells.push(ControlCell::External(next.external));
-        }
-        cells
-    }
-
-    /// Exchanges what stands at the cell's place with its value.
-    fn swap(&mut self, cell: &mut ControlCell)
-        ensures control { self.new ≡ with_control self.old cell.old }
-        ensures cell { cell.new ≡ control_at self.old cell.old }
-    {
-        match *cell {
-            ControlCell::Run(state) => {
-                *cell = ControlCell::Run(self.run_state);
-                self.run_state = state;
-            }
-            ControlCell::External(conditions) => {
-                *cell = ControlCell::External(self.external);
-                self.external = conditions;
-            }
+        match (
+            self.run_state == next.run_state,
+            self.external == next.external,
+        ) {
+            (true, true) => ControlChange::Neither,
+            (false, true) => ControlChange::Run(next.run_state),
+            (true, false) => ControlChange::External(next.external),
+            (false, false) => ControlChange::Both(next.run_state, next.external),
         }
     }
 
-    /// Exchanges what stands at the cells' places with their values, one after another.
-    pub(crate) fn exchange(&mut self, cells: &mut [ControlCell])
-        ensures control { self.new ≡ control_after_exchange self.old cells.old }
-        ensures cells { cells.new ≡ control_cells_after_exchange self.old cells.old }
+    /// Puts a run state, and answers the one that stood there.
+    fn exchange_run_state(&mut self, run_state: RunState) -> RunState
+        ensures control { self.new ≡ record self.old { run_state = run_state } }
+        ensures state { result ≡ self.old.run_state }
     {
-        for cell in cells.iter_mut() {
-            self.swap(cell);
-        }
+        let taken = self.run_state;
+        self.run_state = run_state;
+        taken
+    }
+
+    /// Puts external conditions, and answers those that stood there.
+    fn exchange_external(&mut self, external: ExternalConditions) -> ExternalConditions
+        ensures control { self.new ≡ record self.old { external = external } }
+        ensures conditions { result ≡ self.old.external }
+    {
+        let taken = self.external;
+        self.external = external;
+        taken
+    }
+
+    /// Exchanges what stands at the places of a change with its values.
+    pub(crate) fn exchange(&mut self, change: &mut ControlChange)
+        ensures control { self.new ≡ control_after_exchange self.old (control_cells change.old) }
+        ensures cells { control_cells change.new ≡ control_cells_after_exchange self.old (control_cells change.old) }
+    {
+        *change = match *change {
+            ControlChange::Neither => ControlChange::Neither,
+            ControlChange::Run(state) => ControlChange::Run(self.exchange_run_state(state)),
+            ControlChange::External(conditions) => {
+                ControlChange::External(self.exchange_external(conditions))
+            }
+            ControlChange::Both(state, conditions) => {
+                let state = self.exchange_run_state(state);
+                ControlChange::Both(state, self.exchange_external(conditions))
+            }
+        };
     }
 }

@@ -8,6 +8,7 @@
 mod changes;
 mod control;
 mod control_cell;
+mod control_change;
 mod core_state;
 mod cpu;
 mod event;

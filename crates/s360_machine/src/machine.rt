@@ -202,6 +202,6 @@ impl Machine {
         ensures restores_changes { change_after_swap self.new.whole changes.new ≡ changes.old }
     {
         self.core.exchange(changes.cells.as_mut_slice());
-        self.control.exchange(changes.control.as_mut_slice());
+        self.control.exchange(&mut changes.control);
     }
 }

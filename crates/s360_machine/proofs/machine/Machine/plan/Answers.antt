@@ -2,6 +2,7 @@ use Rattle.std.proofs.Common.{◌≡◌, ap}
 use Rattle.s360_store.specs.Differences.{IsCoreChangeTo}
 use Rattle.s360_machine.specs.Machine.{Machine, Whole, WithRoom, seen}
 use Rattle.s360_machine.specs.Planned.{IsControlChangeTo}
+use Rattle.s360_machine.specs.ControlCells.{control_cells}
 use Rattle.s360_machine.specs.Step.{after}
 use Rattle.s360_machine.proofs.ChangeLemmas.{IsChangeTo-parts}
 use Rattle.s360_machine.proofs.machine.Machine.plan.Goals as goal
@@ -14,6 +15,6 @@ returns-clause-ok c =
     in let control_is = ap (λ (m : WithRoom). m.whole.control) c.self.view_is
     in let core : IsCoreChangeTo w.core c.in_ok-cells.cells.items n.core
     = rw (core_is, c.in_ok-control.ensures.ok.core.makes) at c.in_ok-cells.ensures.change
-    in let control : IsControlChangeTo w.control c.changes_to-control.result.items n.control
+    in let control : IsControlChangeTo w.control (control_cells c.changes_to-control.result) n.control
     = rw (control_is, c.in_ok-control.ensures.ok.control) at c.changes_to-control.ensures
     in IsChangeTo-parts w _ _ n core control

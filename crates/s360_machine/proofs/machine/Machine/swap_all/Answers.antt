@@ -1,8 +1,8 @@
-use Rattle.std.specs.List.{refill}
-use Rattle.std.proofs.Common.{◌≡◌, List, drop, length, ap, ◌∙◌, sym, subst}
+use Rattle.std.proofs.Common.{◌≡◌, drop, length, ap, ◌∙◌, sym, subst}
 use Rattle.std.proofs.lemmas.List.{take_at}
 use Rattle.s360_machine.specs.Machine.{Whole, WithRoom}
 use Rattle.s360_machine.specs.Change.{Change, CanSwap, after_swap, change_after_swap}
+use Rattle.s360_machine.specs.ControlCells.{control_cells}
 use Rattle.s360_machine.proofs.SwapLemmas.{IsSwap, IsSwap-from}
 use Rattle.s360_machine.proofs.machine.Machine.swap_all.Goals as goal
 use Rattle.s360_machine.proofs.machine.Machine.swap_all.Goals.{After-exchange-2}
@@ -14,23 +14,17 @@ abbrev whole_after : After-exchange-2 → Whole
 whole_after c = record { core = c.exchange.new.self; control = c.exchange-2.new.self }
 
 abbrev change_before : After-exchange-2 → Change
-change_before c = record { cells = c.changes.inside.cells.items; control = c.changes.inside.control.items }
+change_before c = record { cells = c.changes.inside.cells.items; control = control_cells c.changes.inside.control }
 
 abbrev change_after : After-exchange-2 → Change
-change_after c = record { cells = c.exchange.new.cells; control = c.exchange-2.new.cells }
-
--- as many elements in place of those of a list
-refill-same : {X : Type 0} (xs ys : List X) → length ys ≡ length xs → refill (length xs) xs ys ≡ ys
-refill-same xs ys h = take_at ys (drop (length ys) xs) (length xs) h
+change_after c = record { cells = c.exchange.new.cells; control = control_cells c.exchange-2.new.change }
 
 exchanged : (c : After-exchange-2) → IsSwap (whole_before c) (change_before c) (whole_after c) (change_after c)
 exchanged c =
     let can : CanSwap (whole_before c) (change_before c)
     = subst (λ (y : Change). CanSwap (whole_before c) y) (sym c.changes.view_is) (subst (λ (n : WithRoom). CanSwap n.whole c.args.changes.now) (sym c.self.view_is) c.requires.can)
     in let core = rw c.as_mut_slice.ensures.value at c.exchange.ensures.core
-    in let control = rw c.as_mut_slice-2.ensures.value at c.exchange-2.ensures.control
     in let cells = rw c.as_mut_slice.ensures.value at c.exchange.ensures.cells
-    in let control_cells = rw c.as_mut_slice-2.ensures.value at c.exchange-2.ensures.cells
     in let whole : whole_after c ≡ after_swap (whole_before c) (change_before c) = cc
     in let change : change_after c ≡ change_after_swap (whole_before c) (change_before c) = cc
     in IsSwap-from (whole_before c) (change_before c) (whole_after c) (change_after c) can whole change c.exchange.ensures.fit
@@ -38,17 +32,14 @@ exchanged c =
 pub returns-clause-again : goal.returns-clause-again
 returns-clause-again c =
     let count : length c.exchange.new.cells ≡ length c.changes.inside.cells.items = cc
-    in let count-2 : length c.exchange-2.new.cells ≡ length c.changes.inside.control.items = cc
-    in rw (take_at c.exchange.new.cells (drop (length c.exchange.new.cells) c.changes.inside.cells.items) (length c.changes.inside.cells.items) count, refill-same c.changes.inside.control.items c.exchange-2.new.cells count-2) (exchanged c.before).again
+    in rw (take_at c.exchange.new.cells (drop (length c.exchange.new.cells) c.changes.inside.cells.items) (length c.changes.inside.cells.items) count) (exchanged c).again
 
 pub returns-clause-restores_machine : goal.returns-clause-restores_machine
 returns-clause-restores_machine c =
     let count : length c.exchange.new.cells ≡ length c.changes.inside.cells.items = cc
-    in let count-2 : length c.exchange-2.new.cells ≡ length c.changes.inside.control.items = cc
-    in rw (take_at c.exchange.new.cells (drop (length c.exchange.new.cells) c.changes.inside.cells.items) (length c.changes.inside.cells.items) count, refill-same c.changes.inside.control.items c.exchange-2.new.cells count-2) ((exchanged c.before).whole ∙ ap (λ (m : WithRoom). m.whole) c.self.view_is)
+    in rw (take_at c.exchange.new.cells (drop (length c.exchange.new.cells) c.changes.inside.cells.items) (length c.changes.inside.cells.items) count) ((exchanged c).whole ∙ ap (λ (m : WithRoom). m.whole) c.self.view_is)
 
 pub returns-clause-restores_changes : goal.returns-clause-restores_changes
 returns-clause-restores_changes c =
     let count : length c.exchange.new.cells ≡ length c.changes.inside.cells.items = cc
-    in let count-2 : length c.exchange-2.new.cells ≡ length c.changes.inside.control.items = cc
-    in rw (take_at c.exchange.new.cells (drop (length c.exchange.new.cells) c.changes.inside.cells.items) (length c.changes.inside.cells.items) count, refill-same c.changes.inside.control.items c.exchange-2.new.cells count-2) ((exchanged c.before).change ∙ c.changes.view_is)
+    in rw (take_at c.exchange.new.cells (drop (length c.exchange.new.cells) c.changes.inside.cells.items) (length c.changes.inside.cells.items) count) ((exchanged c).change ∙ c.changes.view_is)
