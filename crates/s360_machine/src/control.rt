@@ -186,16 +186,18 @@ impl Control {
         ensures control { self.new ≡ control_after_exchange self.old (control_cells change.old) }
         ensures cells { control_cells change.new ≡ control_cells_after_exchange self.old (control_cells change.old) }
     {
-        *change = match *change {
-            ControlChange::Neither => ControlChange::Neither,
-            ControlChange::Run(state) => ControlChange::Run(self.exchange_run_state(state)),
+        match *change {
+            ControlChange::Neither => {}
+            ControlChange::Run(state) => {
+                *change = ControlChange::Run(self.exchange_run_state(state));
+            }
             ControlChange::External(conditions) => {
-                ControlChange::External(self.exchange_external(conditions))
+                *change = ControlChange::External(self.exchange_external(conditions));
             }
             ControlChange::Both(state, conditions) => {
                 let state = self.exchange_run_state(state);
-                ControlChange::Both(state, self.exchange_external(conditions))
+                *change = ControlChange::Both(state, self.exchange_external(conditions));
             }
-        };
+        }
     }
 }
