@@ -22,7 +22,7 @@ def order_of(place):
 
 
 class Interruption(Exception):
-    """A program interruption with its code, after the instruction is completed or in place of it."""
+    """A program interruption with its code, in place of the instruction or after it."""
 
     def __init__(self, code, is_completed=False):
         super().__init__(code)

@@ -79,8 +79,8 @@ impl Operands {
     }
 }
 
-/// What a loop is: its name, its instructions, the areas and the runs of bytes that are patched with
-/// their addresses, and the operands whose bytes are counted.
+/// What a loop is: its name, its instructions, the areas and the runs of bytes that are patched,
+/// each with its address, and the operands whose bytes are counted.
 #[derive(Clone, Copy, Debug)]
 struct Row {
     name: &'static str,
