@@ -33,6 +33,7 @@ PROGRAM = TOP / "crates/s360dbg/out/s360dbg"
 STORAGE = 65_536
 BLOCK = 2_048
 MOST_SHOWN = 256
+UNITS = ("00C", "00D")
 SECONDS = 120
 
 
@@ -70,6 +71,8 @@ def show_lines(args):
     yield from (f"last r {number:X}" for number in range(16))
     yield from (f"{word} k {at:X}" for word in ("show", "last") for at in range(0, size, BLOCK))
     yield from (f"show s {at:X} {MOST_SHOWN}" for at in range(0, size, MOST_SHOWN))
+    unit_lines = ("show u", "show d", "last u", "last d")
+    yield from (f"{line} {unit}" for line in unit_lines for unit in UNITS)
 
 
 def script_of(lines):

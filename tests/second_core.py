@@ -8,7 +8,7 @@ WORD = 1 << 32
 DOUBLEWORD = 1 << 64
 BLOCK = 2_048
 # Printed names, in the order of a report.
-KINDS = re.compile("(p)|(r.)|(s.*)|(k.*)|(run)|(ext)")
+KINDS = re.compile("(p)|(r.)|(s.*)|(k.*)|(run)|(ext)|(u.*)|(d.*)")
 
 
 def signed(number, modulus=WORD):
@@ -28,10 +28,6 @@ class Interruption(Exception):
         super().__init__(code)
         self.code = code
         self.is_completed = is_completed
-
-
-class Unbuilt(Exception):
-    """An instruction of the channels, which the program refuses as unbuilt."""
 
 
 class Core:
@@ -93,6 +89,13 @@ class Core:
 
     def put_byte(self, address, byte):
         self.put(f"s{address:06X}", byte)
+
+    def number(self, address, count):
+        return int.from_bytes(bytes(self.byte(address + i) for i in range(count)), "big")
+
+    def put_bytes(self, address, run):
+        for i, byte in enumerate(run):
+            self.put_byte(address + i, byte)
 
     def from_the_right(self, address, count):
         """An operand's bytes, each fetched when it is asked for, and zeros past them."""

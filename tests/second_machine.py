@@ -1,18 +1,19 @@
 """The instructions of the second machine, which `second_opinion.py` compares with the program.
 
 Its author had read the definitions of the first, so it finds slips and not a rule that was misread.
-The instructions of the channels are refused as unbuilt in the supervisor state.
+`second_channels.py` has the instructions of the channels.
 
 Source: GA22-6821, "Fixed-Point Arithmetic", "Decimal Arithmetic", "Logical Operations",
 "Branching", "Status Switching", "Interruptions" and "System Control Panel".
 """
 import operator
 
-from second_core import ADDRESSES, BLOCK, DOUBLEWORD, SIZE, WORD
-from second_core import Core, Interruption, Unbuilt, signed
+from second_channels import Channels
+from second_core import ADDRESSES, BLOCK, DOUBLEWORD, SIZE, WORD, Interruption, signed
 
 # The addresses of the old and the new PSW.
 EXTERNAL, SUPERVISOR, PROGRAM = (24, 88), (32, 96), (40, 104)
+INPUT_OUTPUT = (56, 120)
 TIMER = 80
 # What `run` and `ext` are.
 OPERATING, STOPPED = 0, 1
@@ -34,7 +35,7 @@ def exchanged(byte):
     return (byte & 15) << 4 | byte >> 4
 
 
-class Machine(Core):
+class Machine(Channels):
     def step(self):
         """One CPU event."""
         if self.value("run") == STOPPED:
@@ -42,6 +43,9 @@ class Machine(Core):
         if self.value("ext") and self.psw_field(56, 1):
             self.interrupt(EXTERNAL, self.value("ext"), 0)
             self.put("ext", 0)
+        elif (unit := self.waiting()) is not None:
+            self.store_csw(unit)
+            self.interrupt(INPUT_OUTPUT, unit, 0)
         elif not self.psw_field(49, 1):
             self.instruct()
 
@@ -74,13 +78,6 @@ class Machine(Core):
         """Bits 16 to 33 are dropped."""
         self.put("p", doubleword & ~(0x3FFFF << 30))
 
-    def number(self, address, count):
-        return int.from_bytes(bytes(self.byte(address + i) for i in range(count)), "big")
-
-    def put_bytes(self, address, run):
-        for i, byte in enumerate(run):
-            self.put_byte(address + i, byte)
-
     # What happens from outside.
 
     def tick(self):
@@ -100,6 +97,9 @@ class Machine(Core):
         elif key == "reset":
             self.put("run", STOPPED)
             self.put("ext", 0)
+            self.reset_units()
+        elif key == "eof":
+            self.press_end_of_file()
         else:
             self.put("ext", self.value("ext") | KEY_PENDING)
 
@@ -262,7 +262,7 @@ class Machine(Core):
         elif code in (0x90, 0x98):
             self.multiple(code, r1, r3, address)
         elif 0x9C <= code <= 0x9F:
-            raise Unbuilt
+            self.input_output(code, address)
         else:
             raise Interruption(1)
 

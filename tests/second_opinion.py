@@ -1,10 +1,10 @@
 #!/usr/bin/env python3
 """Compares the program with a second machine, written in another language.
 
-Random words, PSWs, storage keys, operands, tables and instructions are patched in and stepped, and
-the timer and the operator's keys come in between. Each answer is compared: reports, refusals, the
-PSW, the registers, the pending conditions and the bytes that are shown, and these again after a
-step back. `second_opinion.py FIRST LAST` takes the seeds from the first to the last, and each of
+Random words, PSWs, storage keys, operands, tables, instructions and channel programs are patched
+in and stepped, and the channels, the timer and the operator's keys come in between. Each answer is
+compared: reports, refusals, the PSW, the registers, the pending conditions, the units with their
+last changes and the bytes that are shown, and these again after a step back. `second_opinion.py FIRST LAST` takes the seeds from the first to the last, and each of
 them tries 300 instructions. It needs the program as `rt ci` or `./run` has built it. It prints the
 first answer of a seed that is another, and how many seeds had none.
 
@@ -17,8 +17,10 @@ import subprocess
 import sys
 from concurrent.futures import ThreadPoolExecutor
 
-from second_core import ADDRESSES, BLOCK, SIZE, WORD, Unbuilt, signed
+from second_channels import CAW, CSW, START, UNITS, device_name, state_name
+from second_core import ADDRESSES, BLOCK, SIZE, WORD, signed
 from second_machine import STOPPED, TIMER, Machine
+from second_programs import CHAIN, address_word, chain
 
 TOP = pathlib.Path(__file__).resolve().parent.parent
 PROGRAM = TOP / "crates/s360dbg/out/s360dbg"
@@ -29,7 +31,10 @@ EDGES += [0xC0000000, 0xFFFF, 0x8000, 0x7FFF, 0xFFFF8000]
 FIXED_POINT = [5, 6, 7, *range(0x10, 0x20), 0x40, 0x41, 0x42, 0x43, *range(0x45, 0x4D), 0x50]
 FIXED_POINT += [*range(0x54, 0x60), *range(0x86, 0x91), 0x98]
 LOGICAL = [0x4E, 0x4F, *range(0x91, 0x98), *range(0xD1, 0xD8), 0xDC, 0xDD, 0xF1, 0xF2, 0xF3]
-STATUS = [0x04, 0x08, 0x09, 0x0A, 0x80, 0x82, 0x9C, 0x9D, 0x9E, 0x9F]
+STATUS = [0x04, 0x08, 0x09, 0x0A, 0x80, 0x82]
+INPUT_OUTPUT = [0x9C, 0x9D, 0x9D, 0x9E, 0x9E, 0x9F]
+# Units that are not configured, the last two of them of other channels.
+OTHER_UNITS = [0x00B, 0x00E, 0x10C, 0x70D]
 EXECUTE = 0x44
 # Operands on the boundary of a doubleword.
 DOUBLEWORDS = (0x4E, 0x4F, 0x82)
@@ -39,9 +44,9 @@ PAIRS = (0x1C, 0x1D, 0x5C, 0x5D, 0x8C, 0x8D, 0x8E, 0x8F)
 SUBJECTS = 0x300
 OPERANDS = 0x600
 SHOWN = 256
-# The old PSWs, and the new ones that are patched: external, supervisor call and program.
-OLD_PSWS = range(24, 64)
-NEW_PSWS = (88, 96, 104)
+# The old PSWs with the CSW, and the new PSWs that are patched: all but that of machine checks.
+OLD_PSWS = range(24, CSW + 8)
+NEW_PSWS = (88, 96, 104, 120)
 CONDITIONS = {0: "none", 0x80: "timer", 0x40: "key", 0xC0: "timer key"}
 # The register that mostly points near the end of storage or of all addresses, and how far before.
 END = 13
@@ -56,11 +61,16 @@ class Script:
         self.machine = Machine()
         self.lines = []
         self.answers = []
-        self.standing = 0
+        # The places that each standing change alters.
+        self.changes = []
+
+    @property
+    def standing(self):
+        return len(self.changes)
 
     def report(self):
-        self.standing += 1
         changed = self.machine.changed()
+        self.changes.append(changed)
         names = " ".join(changed[:8]) + (" .." if len(changed) > 8 else "")
         what = f"changed {len(changed)} {names}" if changed else "idle"
         self.answers.append(f"{self.standing} {what}")
@@ -92,6 +102,15 @@ class Script:
         self.show_bytes(range(TIMER, TIMER + 4))
         self.lines.append("show ext")
         self.answers.append(f"ext {CONDITIONS[machine.value('ext')]}")
+        for unit in UNITS:
+            self.lines += [f"{line} {unit:X}" for line in ("show u", "show d", "last u", "last d")]
+            self.answers += [machine.shown_unit(unit), machine.shown_device(unit)]
+            self.answers += [self.last(state_name(unit)), self.last(device_name(unit))]
+
+    def last(self, place):
+        numbers = range(self.standing, 0, -1)
+        found = (number for number in numbers if place in self.changes[number - 1])
+        return f"last {next(found, 'none')}"
 
     def show_bytes(self, run):
         self.lines.append(f"show s {run[0]:X} {len(run)}")
@@ -109,7 +128,8 @@ class Script:
 
     def psw(self, address):
         some = self.random
-        masks, key = some.getrandbits(1) << 56, some.choice([0] * 6 + [5]) << 52
+        masks = some.choice([0] * 6 + [1 << 63, 0x7F << 57]) | some.getrandbits(1) << 56
+        key = some.choice([0] * 6 + [5]) << 52
         ascii_, wait = some.getrandbits(1) << 51, (some.random() < 0.02) << 49
         problem = (some.random() < 0.15) << 48
         return masks | key | ascii_ | wait | problem | some.getrandbits(6) << 24 | address
@@ -170,9 +190,11 @@ class Script:
 
     def instruction(self):
         some = self.random
-        codes = [some.choice(FIXED_POINT), some.choice(LOGICAL), some.choice(STATUS), EXECUTE]
-        code = some.choices([*codes, some.randrange(256)], [36, 36, 14, 12, 2])[0]
+        lists = [FIXED_POINT, LOGICAL, STATUS, INPUT_OUTPUT, [EXECUTE], range(256)]
+        code = some.choice(some.choices(lists, [30, 30, 10, 16, 12, 2])[0])
         first = self.field()
+        if code in INPUT_OUTPUT and some.random() < 0.9:
+            first = some.choice([*UNITS * 4, *OTHER_UNITS])
         if code == EXECUTE and some.random() < 0.7:
             first = SUBJECTS + 2 * some.randrange(64)
         elif code in DOUBLEWORDS and some.random() < 0.7:
@@ -240,10 +262,29 @@ class Script:
                 self.patch_bytes(TIMER, word.to_bytes(4, "big"))
             self.happen("tick", machine.tick)
         if some.random() < 0.2:
-            key = some.choices(["start", "stop", "reset", "interrupt"], [2, 1, 1, 4])[0]
+            keys = ["start", "stop", "reset", "interrupt", "eof"]
+            key = some.choices(keys, [2, 1, 1, 4, 1])[0]
             self.happen(f"key {key}", lambda: machine.press(key))
         if machine.value("run") == STOPPED and some.random() < 0.7:
             self.happen("key start", lambda: machine.press("start"))
+
+    def channels(self):
+        """Channel events."""
+        some, machine = self.random, self.machine
+        while some.random() < 0.75:
+            unit = some.choice(UNITS)
+            self.happen(f"channel {unit:03X}", lambda: machine.channel(unit))
+        if some.random() < 0.02:
+            self.lines.append(f"channel {some.choice(OTHER_UNITS):X}")
+            self.answers.append("refused 3 no such unit")
+
+    def start_of_program(self):
+        """SIO, with its CAW and CCWs."""
+        some = self.random
+        unit = some.choice(UNITS)
+        self.patch_bytes(CAW, address_word(some))
+        self.patch_bytes(CHAIN, chain(some, OPERANDS, unit))
+        return bytes([START, some.getrandbits(8), 0, unit])
 
     def case(self):
         some = self.random
@@ -263,29 +304,22 @@ class Script:
         # Bits 16 to 33 are dropped.
         self.patch(f"patch p {psw | some.getrandbits(18) << 30:016X}", {"p": psw})
         self.patch_bytes(OPERANDS + 4 * some.randrange(60), self.operand())
-        instruction = self.instruction()
+        starts = some.random() < 0.3
+        instruction = self.start_of_program() if starts else self.instruction()
         self.patch_operands(instruction)
         self.patch_inside(address, instruction)
+        self.channels()
         self.step()
 
     def step(self):
         machine = self.machine
         self.lines.append("step")
         machine.begin()
-        try:
-            machine.step()
-            is_refused = False
-        except Unbuilt:
-            is_refused = True
+        machine.step()
         noted = machine.noted
         stored = sorted(int(place[1:], 16) for place in machine.changed() if place[0] == "s")
         stored = [at for at in stored if at not in OLD_PSWS]
         run = range(stored[0], stored[-1] + 1) if stored else range(0)
-        if is_refused:
-            machine.undo(noted)
-            self.answers.append("refused 7 unbuilt")
-            self.show(run)
-            return
         self.report()
         self.show(run)
         if self.random.random() < 0.3:
@@ -295,7 +329,7 @@ class Script:
     def take_back(self, event, noted):
         self.lines.append("back")
         self.answers.append(f"back {self.standing} {event}")
-        self.standing -= 1
+        self.changes.pop()
         self.machine.undo(noted)
 
 

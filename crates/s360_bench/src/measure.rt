@@ -1,5 +1,6 @@
 //! What is measured: time and memory of events that are run forward and taken back.
 use crate::workload::{START, Workload};
+use s360_device::{DeckFault, deck_from};
 use s360_journal::Session;
 use s360_machine::{Bytes, Event, Machine, Patch, Refusal};
 use s360_store::StoreFault;
@@ -46,6 +47,13 @@ impl From<StoreFault> for BenchFault {
             StoreFault::Size => BenchFault::Size,
             StoreFault::Memory => BenchFault::Memory,
         }
+    }
+}
+
+impl From<DeckFault> for BenchFault {
+    fn from(_e: DeckFault) -> BenchFault {
+        // A deck of no bytes has no short card.
+        BenchFault::Memory
     }
 }
 
@@ -130,7 +138,7 @@ pub(crate) fn measure<R: Clock + Files>(
 
 /// A session over a new machine that is about to run the loop.
 fn ready_session(alloc: Global, workload: Workload, size: u32) -> Result<Session, BenchFault> {
-    let machine = Machine::new(alloc, size)?;
+    let machine = Machine::new(alloc, size, deck_from(alloc, &[])?)?;
     let mut session = Session::new(alloc, machine, LIMIT);
     set_bytes(&mut session, alloc, START, workload.program())?;
     for &(at, filling) in workload.areas() {

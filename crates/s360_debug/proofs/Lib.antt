@@ -5,6 +5,7 @@ pub mod PlaceNameLemmas
 pub mod ShownLemmas
 pub mod LineLemmas
 pub mod StandingLemmas
+pub mod ReportLemmas
 pub mod Writes
 pub mod Readings
 pub mod Runs

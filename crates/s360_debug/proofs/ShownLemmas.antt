@@ -1,11 +1,12 @@
 -- Lines of bytes, one byte and one line more at the end.
-use Rattle.std.proofs.Common.{◌≡◌, ◌<◌, ◌≤◌, ◌+◌, ◌-◌, ◌++◌, ℕ, List, [], ◌∷◌, ap, sym, ◌∙◌, refl, drop, get_or, length, map, append_assoc, arith}
+use Rattle.std.proofs.Common.{◌≡◌, ◌<◌, ◌≤◌, ◌+◌, ◌-◌, ◌/◌, ◌%◌, ◌^◌, ◌++◌, ℕ, List, [], ◌∷◌, ap, sym, ◌∙◌, refl, drop, get_or, length, map, append_assoc, arith, codes}
 use Rattle.std.proofs.lemmas.List.{append-nil, take_more, get_or-drop, length-drop}
 use Rattle.std.proofs.lemmas.List.Folds.{flat_map-map}
 use Rattle.std.proofs.lemmas.List.FromFn.{map-range_with_len_more}
 use Rattle.std.proofs.lemmas.Grind.{flat_map-append}
 use Rattle.std.specs.List.{flat_map, range_with_len, slice_range}
 use Rattle.s360_model.specs.Text.{hex_text, hex_bytes}
+use Rattle.s360_debug.specs.ShownUnits.{csw_words}
 
 hex_bytes-push : (bytes : List ℕ) (byte : ℕ) → hex_bytes (bytes ++ byte ∷ []) ≡ hex_bytes bytes ++ hex_text 2 byte
 hex_bytes-push [] byte = append-nil (hex_text 2 byte)
@@ -37,3 +38,11 @@ lines-more line n =
     ∙ (ap (λ ts. flat_map (λ t. t) ts) (map-range_with_len_more line 0 n n at)
     ∙ (flat_map-append (λ t. t) (map line (range_with_len 0 n)) (line n ∷ [])
     ∙ (ap (λ t. t ++ flat_map (λ t. t) (line n ∷ [])) (joined (range_with_len 0 n)) ∙ ap (λ t. flat_map line (range_with_len 0 n) ++ t) (append-nil (line n)))))
+
+-- the two words of a channel status word, one after the other
+pub csw_words-pushed : (text first both : List ℕ) (doubleword : ℕ) → first ≡ text ++ hex_text 8 (doubleword / 2 ^ 32)
+    → both ≡ first ++ (codes " " ++ hex_text 8 (doubleword % 2 ^ 32)) → both ≡ text ++ csw_words doubleword
+unfolding csw_words
+csw_words-pushed text first both doubleword e f =
+    f ∙ ap (λ t. t ++ (codes " " ++ hex_text 8 (doubleword % 2 ^ 32))) e
+    ∙ append_assoc text (hex_text 8 (doubleword / 2 ^ 32)) (codes " " ++ hex_text 8 (doubleword % 2 ^ 32))

@@ -1,21 +1,19 @@
 -- What a command answers, and what stands afterwards (own profile). Each line of an answer is ended by one
 -- line feed.
-use Rattle.std.specs.Prelude.{◌≡◌, ℕ, ◌+◌, Bool, true, false, if◌then◌else◌, nat_lt, Option, Some, None, List, [], ◌∷◌, ◌++◌, codes, length, take, ◌-◌}
+use Rattle.std.specs.Prelude.{◌≡◌, ℕ, ◌+◌, if◌then◌else◌, nat_lt, Option, Some, None, List, [], ◌∷◌, ◌++◌, codes, length, take, ◌-◌}
 use Rattle.s360_model.specs.Text.{decimal}
 use Rattle.s360_store.specs.declared.place.Place.{Place}
 use Rattle.s360_machine.specs.declared.event.Event.{Event}
-use Rattle.s360_machine.specs.declared.event.Event.TheVariants.{Cpu, Tick as tick, Key as key_event, Patch as patch}
+use Rattle.s360_machine.specs.declared.event.Event.TheVariants.{Cpu, Channel as channel, Tick as tick, Key as key_event, Patch as patch}
 use Rattle.s360_machine.specs.declared.refusal.Refusal.{Refusal}
-use Rattle.s360_machine.specs.declared.refusal.Refusal.TheVariants.{Unbuilt}
 use Rattle.s360_machine.specs.Machine.{seen}
-use Rattle.s360_machine.specs.Step.{is_unbuilt}
 use Rattle.s360_journal.specs.declared.report.Report.{Report}
 use Rattle.s360_journal.specs.declared.report.Report.TheVariants.{Changed, Idle}
 use Rattle.s360_journal.specs.Rerun.{last_change_of}
 use Rattle.s360_journal.specs.Standing.{Standing, machine_of, refusal_in, alteration, last_of}
 use Rattle.s360_debug.specs.Debugger.{Debugger}
 use Rattle.s360_debug.specs.declared.command.Command.{Command}
-use Rattle.s360_debug.specs.declared.command.Command.TheVariants.{Step, Tick, Key, Patch, Back, Standing as standing, Last, Show}
+use Rattle.s360_debug.specs.declared.command.Command.TheVariants.{Step, Channel, Tick, Key, Patch, Back, Standing as standing, Last, Show}
 use Rattle.s360_debug.specs.declared.command.LineFault.{LineFault}
 use Rattle.s360_debug.specs.declared.command.LineFault.TheVariants.{LineTooLong, Unknown, Argument, Memory}
 use Rattle.s360_debug.specs.Names.{place_name, event_name, refused_text}
@@ -42,21 +40,12 @@ abbrev pub text_of_report : ℕ → Report → List ℕ
 text_of_report number Idle = decimal number ++ codes " idle" ++ codes "\n"
 text_of_report number (Changed ps) = changed_text number ps
 
--- why an event is refused, or that it is not
-abbrev pub refusal_met : Option Refusal → Bool → Option Refusal
-refusal_met (Some r) unbuilt = Some r
-refusal_met None true = Some Unbuilt
-refusal_met None false = None
-
-abbrev pub outcome_of : Standing → Event → Option Refusal
-outcome_of s e = refusal_met (refusal_in s e) (is_unbuilt (machine_of s) e)
-
 abbrev pub text_of_outcome : Option Refusal → Standing → Event → List ℕ
 text_of_outcome (Some r) s e = refused_text r
 text_of_outcome None s e = report_text (length s.events + 1) (alteration s e)
 
 abbrev pub text_of_event : Standing → Event → List ℕ
-text_of_event s e = text_of_outcome (outcome_of s e) s e
+text_of_event s e = text_of_outcome (refusal_in s e) s e
 
 abbrev pub back_text : ℕ → Option Event → List ℕ
 back_text number None = codes "nothing stands" ++ codes "\n"
@@ -65,6 +54,7 @@ back_text number (Some e) = codes "back " ++ decimal number ++ codes " " ++ even
 -- the one event that a command offers, if it offers one
 abbrev pub event_of : Command → Option Event
 event_of Step = Some Cpu
+event_of (Channel unit) = Some (channel unit)
 event_of Tick = Some tick
 event_of (Key k) = Some (key_event k)
 event_of (Patch p) = Some (patch p)
@@ -93,7 +83,7 @@ unless_refused (Some r) e = []
 unless_refused None e = e ∷ []
 
 abbrev pub accepted_of_offer : Standing → Option Event → List Event
-accepted_of_offer s (Some e) = unless_refused (outcome_of s e) e
+accepted_of_offer s (Some e) = unless_refused (refusal_in s e) e
 accepted_of_offer s None = []
 
 -- of the events that a command offers, those that are accepted, up to where it stops

@@ -1,6 +1,7 @@
 pub mod Words
 pub mod Digits
 pub mod Names
+pub mod ShownUnits
 pub mod Shown
 pub mod Debugger
 pub mod Answers

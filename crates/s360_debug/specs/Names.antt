@@ -5,13 +5,14 @@ use Rattle.s360_model.specs.Storage.{block_size}
 use Rattle.s360_store.specs.declared.place.Place.{Place}
 use Rattle.s360_store.specs.declared.place.Place.TheVariants.{Psw, Register, Byte, Key, Run, External, UnitState, UnitMedia}
 use Rattle.s360_machine.specs.declared.event.Event.{Event}
-use Rattle.s360_machine.specs.declared.event.Event.TheVariants.{Cpu, Tick, Key as key_event, Patch as patch}
+use Rattle.s360_machine.specs.declared.event.Event.TheVariants.{Cpu, Channel, Tick, Key as key_event, Patch as patch}
+use Rattle.s360_machine.specs.declared.event.Patch.{Patch}
 use Rattle.s360_machine.specs.declared.event.Patch.TheVariants.{Bytes, Register as register, StorageKey, Psw as psw}
 use Rattle.s360_machine.specs.declared.external.ExternalConditions.{ExternalConditions}
 use Rattle.s360_machine.specs.declared.operator.Key.{Key as OperatorKey}
-use Rattle.s360_machine.specs.declared.operator.Key.TheVariants.{Start, Stop, Reset, Interrupt}
+use Rattle.s360_machine.specs.declared.operator.Key.TheVariants.{Start, Stop, Reset, Interrupt, EndOfFile}
 use Rattle.s360_machine.specs.declared.refusal.Refusal.{Refusal}
-use Rattle.s360_machine.specs.declared.refusal.Refusal.TheVariants.{Memory, OutsideStorage, PatchTooLong, JournalFull, Unbuilt}
+use Rattle.s360_machine.specs.declared.refusal.Refusal.TheVariants.{Memory, OutsideStorage, NoSuchUnit, PatchTooLong, JournalFull}
 use Rattle.s360_machine.specs.declared.run_state.RunState.{RunState}
 use Rattle.s360_machine.specs.declared.run_state.RunState.TheVariants.{Operating, Stopped, Loading}
 use Rattle.s360_machine.specs.Refusals.{number_of_refusal}
@@ -32,22 +33,27 @@ key_name Start = codes "key start"
 key_name Stop = codes "key stop"
 key_name Reset = codes "key reset"
 key_name Interrupt = codes "key interrupt"
+key_name EndOfFile = codes "key eof"
+
+abbrev pub patch_name : Patch → List ℕ
+patch_name (Bytes at bytes) = codes "patch s"
+patch_name (register n word) = codes "patch r"
+patch_name (StorageKey at storage_key) = codes "patch k"
+patch_name (psw doubleword) = codes "patch p"
 
 abbrev pub event_name : Event → List ℕ
 event_name Cpu = codes "cpu"
+event_name (Channel unit) = codes "channel " ++ hex_text 3 unit.0
 event_name Tick = codes "tick"
 event_name (key_event k) = key_name k
-event_name (patch (Bytes at bytes)) = codes "patch s"
-event_name (patch (register n word)) = codes "patch r"
-event_name (patch (StorageKey at storage_key)) = codes "patch k"
-event_name (patch (psw doubleword)) = codes "patch p"
+event_name (patch p) = patch_name p
 
 abbrev pub refusal_name : Refusal → List ℕ
 refusal_name Memory = codes "memory"
 refusal_name OutsideStorage = codes "outside storage"
+refusal_name NoSuchUnit = codes "no such unit"
 refusal_name PatchTooLong = codes "patch too long"
 refusal_name JournalFull = codes "journal full"
-refusal_name Unbuilt = codes "unbuilt"
 
 -- what a refusal answers: its number and its name
 abbrev pub refused_text : Refusal → List ℕ

@@ -6,13 +6,13 @@ use Rattle.std.specs.Option.{ok_or}
 use Rattle.std.specs.Result.{result_ok}
 use Rattle.hex.specs.Hex.{decode_of}
 use Rattle.s360_model.specs.Storage.{block_size}
-use Rattle.s360_store.specs.declared.place.Place.TheVariants.{Psw, Register, Byte, Key as key_place, Run, External}
+use Rattle.s360_store.specs.declared.place.Place.TheVariants.{Psw, Register, Byte, Key as key_place, Run, External, UnitState, UnitMedia}
 use Rattle.s360_machine.specs.declared.event.Patch.TheVariants.{Bytes as bytes_patch, Register as register_patch, StorageKey as storage_key_patch, Psw as psw_patch}
 use Rattle.s360_machine.specs.declared.operator.Key.{Key as OperatorKey}
-use Rattle.s360_machine.specs.declared.operator.Key.TheVariants.{Start, Stop, Reset, Interrupt}
+use Rattle.s360_machine.specs.declared.operator.Key.TheVariants.{Start, Stop, Reset, Interrupt, EndOfFile}
 use Rattle.s360_debug.specs.declared.command.Command.{Command}
-use Rattle.s360_debug.specs.declared.command.Command.TheVariants.{Step, Tick, Key, Patch, Back, Standing, Last, Show}
-use Rattle.s360_debug.specs.declared.command.Shown.TheVariants.{Registers, Psw as psw, Storage, StorageKey, External as external}
+use Rattle.s360_debug.specs.declared.command.Command.TheVariants.{Step, Channel, Tick, Key, Patch, Back, Standing, Last, Show}
+use Rattle.s360_debug.specs.declared.command.Shown.TheVariants.{Registers, Psw as psw, Storage, StorageKey, External as external, UnitState as unit_state, Device as device}
 use Rattle.s360_debug.specs.declared.command.LineFault.{LineFault}
 use Rattle.s360_debug.specs.declared.command.LineFault.TheVariants.{LineTooLong, Unknown, Argument, Memory}
 use Rattle.s360_debug.specs.Words.{words_of}
@@ -96,7 +96,12 @@ key_of word =
     else (if is_word word (codes "stop") then Some Stop
     else (if is_word word (codes "reset") then Some Reset
     else (if is_word word (codes "interrupt") then Some Interrupt
-    else None)))
+    else (if is_word word (codes "eof") then Some EndOfFile
+    else None))))
+
+-- `channel U`, after its first word
+abbrev pub channel_reading : List (List ℕ) → Reading
+channel_reading words = and_then (number_argument 1 3 words) (λ n. finished 2 (Channel (record { 0 = n })) (drop 1 words))
 
 -- `key` with a name
 abbrev pub key_reading : List (List ℕ) → Reading
@@ -112,6 +117,13 @@ last_register words = and_then (number_argument 2 1 words) (λ n. finished 3 (La
 abbrev pub last_key : List (List ℕ) → Reading
 last_key words = and_then (number_argument 2 6 words) (λ at. finished 3 (Last (key_place (at / block_size))) (drop 1 words))
 
+-- `last u U` and `last d U`, after their first two words
+abbrev pub last_state : List (List ℕ) → Reading
+last_state words = and_then (number_argument 2 3 words) (λ n. finished 3 (Last (UnitState (record { 0 = n }))) (drop 1 words))
+
+abbrev pub last_media : List (List ℕ) → Reading
+last_media words = and_then (number_argument 2 3 words) (λ n. finished 3 (Last (UnitMedia (record { 0 = n }))) (drop 1 words))
+
 -- `last` with a kind
 abbrev pub last_reading : List (List ℕ) → Reading
 last_reading [] = Err (Argument 1)
@@ -122,7 +134,9 @@ last_reading (kind ∷ words) =
     else (if is_word kind (codes "p") then finished 2 (Last Psw) words
     else (if is_word kind (codes "run") then finished 2 (Last Run) words
     else (if is_word kind (codes "ext") then finished 2 (Last External) words
-    else Err (Argument 1))))))
+    else (if is_word kind (codes "u") then last_state words
+    else (if is_word kind (codes "d") then last_media words
+    else Err (Argument 1))))))))
 
 -- `show s A N`, after its first two words
 abbrev pub show_storage : List (List ℕ) → Reading
@@ -135,6 +149,13 @@ show_storage words =
 abbrev pub show_key : List (List ℕ) → Reading
 show_key words = and_then (number_argument 2 6 words) (λ at. finished 3 (Show (StorageKey at)) (drop 1 words))
 
+-- `show u U` and `show d U`, after their first two words
+abbrev pub show_unit : List (List ℕ) → Reading
+show_unit words = and_then (number_argument 2 3 words) (λ n. finished 3 (Show (unit_state (record { 0 = n }))) (drop 1 words))
+
+abbrev pub show_device : List (List ℕ) → Reading
+show_device words = and_then (number_argument 2 3 words) (λ n. finished 3 (Show (device (record { 0 = n }))) (drop 1 words))
+
 -- `show` with a kind
 abbrev pub show_reading : List (List ℕ) → Reading
 show_reading [] = Err (Argument 1)
@@ -144,13 +165,16 @@ show_reading (kind ∷ words) =
     else (if is_word kind (codes "s") then show_storage words
     else (if is_word kind (codes "k") then show_key words
     else (if is_word kind (codes "ext") then finished 2 (Show external) words
-    else Err (Argument 1)))))
+    else (if is_word kind (codes "u") then show_unit words
+    else (if is_word kind (codes "d") then show_device words
+    else Err (Argument 1)))))))
 
 -- a row for each first word
 abbrev pub reading_of_words : List (List ℕ) → Reading
 reading_of_words [] = Err Unknown
 reading_of_words (name ∷ words) =
     if is_word name (codes "step") then finished 1 Step words
+    else (if is_word name (codes "channel") then channel_reading words
     else (if is_word name (codes "tick") then finished 1 Tick words
     else (if is_word name (codes "key") then key_reading words
     else (if is_word name (codes "back") then finished 1 Back words
@@ -158,7 +182,7 @@ reading_of_words (name ∷ words) =
     else (if is_word name (codes "patch") then patch_reading words
     else (if is_word name (codes "last") then last_reading words
     else (if is_word name (codes "show") then show_reading words
-    else Err Unknown)))))))
+    else Err Unknown))))))))
 
 -- a line that is too long comes first
 abbrev pub reading_of : List ℕ → Reading

@@ -11,7 +11,7 @@ ghost use Rattle.s360_debug.specs.declared.command.LineFault.TheVariants.{Memory
 ghost use Rattle.s360_debug.specs.Answers.{place_names, fault_text, changed_after};
 
 use crate::command::{Command, LineFault};
-use crate::names::{name_of_event, push_place, refusal_text};
+use crate::names::{push_event, push_place, refusal_text};
 use crate::show::text_of_shown;
 use crate::text::Text;
 use s360_journal::{Breaks, Report, Session};
@@ -56,7 +56,10 @@ fn answer_event(alloc: Global, session: &mut Session, event: Event) -> Result<Te
     ensures memory { OnErr result ((session.new ≡ session.old) ⊎ (session.new ≡ with_events session.old (accepted_of_offer session.old (Some event)))) }
 {
     match session.forward(event) {
-        Ok(report) => report_text(alloc, session.standing(), &report),
+        Ok(report) => {
+            let text = report_text(alloc, session.standing(), &report)?;
+            Ok(text)
+        }
         Err(Refusal::Memory) => Err(AllocError),
         Err(refusal) => refusal_text(alloc, refusal),
     }
@@ -122,7 +125,7 @@ fn text_of_back(alloc: Global, number: u32, event: Option<&Event>) -> Result<Tex
             text.push_text("back ")?;
             text.push_decimal(u64::from(number))?;
             text.push_text(" ")?;
-            text.push_text(name_of_event(event))?;
+            push_event(&mut text, event)?;
         }
     }
     text.push_text("\n")?;

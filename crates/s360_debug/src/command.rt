@@ -5,6 +5,7 @@ ghost use Rattle.s360_debug.specs.declared.command.LineFault.TheVariants.{Memory
 
 use s360_machine::{Event, Key, Patch};
 use s360_store::Place;
+use s360_word::Unit;
 use std::alloc::AllocError;
 use thiserror::Error;
 
@@ -13,6 +14,8 @@ use thiserror::Error;
 pub enum Command {
     /// `step`: one CPU event.
     Step,
+    /// `channel U`: one channel event of a unit.
+    Channel(Unit),
     /// `tick`: the timer counts down.
     Tick,
     /// `key`: the operator presses a key.
@@ -36,6 +39,7 @@ impl Command {
     {
         match self {
             Command::Step => Some(Event::Cpu),
+            Command::Channel(unit) => Some(Event::Channel(unit)),
             Command::Tick => Some(Event::Tick),
             Command::Key(key) => Some(Event::Key(key)),
             Command::Patch(patch) => Some(Event::Patch(patch)),
@@ -57,6 +61,10 @@ pub enum Shown {
     StorageKey { at: u32 },
     /// `show ext`: the pending external conditions.
     External,
+    /// `show u U`: what the channel does for a unit.
+    UnitState(Unit),
+    /// `show d U`: the sense byte of a unit's device, and its media in numbers.
+    Device(Unit),
 }
 
 /// Why a line is no command, in the order in which it is found.

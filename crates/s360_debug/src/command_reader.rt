@@ -3,7 +3,7 @@
 ghost use Rattle.std.specs.Prelude.{◌≡◌, ◌≤◌, ◌<◌, ◌^◌, IfOk, IfSome, drop, take, length, MatchOption, Some, None};
 ghost use Rattle.s360_debug.specs.Reading.{Reads, reading_of, patch_reading};
 ghost use Rattle.s360_debug.specs.Reading.{storage_patch, word_patch, key_patch, doubleword_patch};
-ghost use Rattle.s360_debug.specs.Reading.{key_of, key_reading, last_reading};
+ghost use Rattle.s360_debug.specs.Reading.{channel_reading, key_of, key_reading, last_reading};
 ghost use Rattle.s360_debug.specs.Reading.{show_reading, show_storage, finished};
 ghost use Rattle.s360_debug.specs.Reading.{argument, number_argument, bytes_in, AtEnd, is_word};
 ghost use Rattle.s360_debug.specs.Digits.{doubleword_of, count_of};
@@ -13,7 +13,7 @@ use crate::digits::number_in;
 use crate::words::Words;
 use s360_machine::{Bytes, Key, Patch};
 use s360_store::{BLOCK_SIZE, Place};
-use s360_word::{ProtectionKey, RegisterNumber};
+use s360_word::{ProtectionKey, RegisterNumber, Unit};
 use std::alloc::Global;
 
 /// A line has at most so many bytes.
@@ -42,6 +42,8 @@ pub fn read_command(alloc: Global, line: &[u8]) -> Result<Command, LineFault>
     };
     if is(name, "step") {
         finish(words, 1, Command::Step)
+    } else if is(name, "channel") {
+        read_channel(words)
     } else if is(name, "tick") {
         finish(words, 1, Command::Tick)
     } else if is(name, "key") {
@@ -68,6 +70,14 @@ fn is(word: &[u8], name: &str) -> bool
     word == name.as_bytes()
 }
 
+/// `channel U`
+fn read_channel(mut words: Words<'_>) -> Result<Command, LineFault>
+    ensures { result ≡ channel_reading words.entry }
+{
+    let unit = next_number(&mut words, 1, 3)?;
+    finish(words, 2, Command::Channel(Unit::new(unit as u16)))
+}
+
 /// `key` with the name of a key.
 fn read_key(mut words: Words<'_>) -> Result<Command, LineFault>
     ensures { result ≡ key_reading words.entry }
@@ -91,6 +101,8 @@ fn key_of(name: &[u8]) -> Option<Key>
         Some(Key::Reset)
     } else if is(name, "interrupt") {
         Some(Key::Interrupt)
+    } else if is(name, "eof") {
+        Some(Key::EndOfFile)
     } else {
         None
     }
@@ -177,6 +189,20 @@ fn read_last(mut words: Words<'_>) -> Result<Command, LineFault>
         finish(words, 2, Command::Last(Place::Run))
     } else if is(kind, "ext") {
         finish(words, 2, Command::Last(Place::External))
+    } else if is(kind, "u") {
+        let unit = next_number(&mut words, 2, 3)?;
+        finish(
+            words,
+            3,
+            Command::Last(Place::UnitState(Unit::new(unit as u16))),
+        )
+    } else if is(kind, "d") {
+        let unit = next_number(&mut words, 2, 3)?;
+        finish(
+            words,
+            3,
+            Command::Last(Place::UnitMedia(Unit::new(unit as u16))),
+        )
     } else {
         Err(LineFault::Argument(1))
     }
@@ -198,6 +224,20 @@ fn read_show(mut words: Words<'_>) -> Result<Command, LineFault>
         finish(words, 3, Command::Show(Shown::StorageKey { at }))
     } else if is(kind, "ext") {
         finish(words, 2, Command::Show(Shown::External))
+    } else if is(kind, "u") {
+        let unit = next_number(&mut words, 2, 3)?;
+        finish(
+            words,
+            3,
+            Command::Show(Shown::UnitState(Unit::new(unit as u16))),
+        )
+    } else if is(kind, "d") {
+        let unit = next_number(&mut words, 2, 3)?;
+        finish(
+            words,
+            3,
+            Command::Show(Shown::Device(Unit::new(unit as u16))),
+        )
     } else {
         Err(LineFault::Argument(1))
     }

@@ -11,6 +11,7 @@ mod lines;
 mod names;
 mod run;
 mod show;
+mod show_units;
 mod text;
 mod words;
 

@@ -2,7 +2,8 @@
 ghost use Rattle.std.specs.Prelude.{◌≡◌, ◌++◌, IfOk, OnOk};
 ghost use Rattle.s360_model.specs.Text.{hex_text};
 ghost use Rattle.s360_debug.specs.Names.{place_name, event_name, refusal_name};
-ghost use Rattle.s360_debug.specs.Names.{external_name, key_name, refused_text, run_state_name};
+ghost use Rattle.s360_debug.specs.Names.{external_name, key_name, patch_name, refused_text};
+ghost use Rattle.s360_debug.specs.Names.{run_state_name};
 
 use crate::text::Text;
 use s360_machine::{Event, ExternalConditions, Key, Patch, Refusal, RunState};
@@ -26,7 +27,12 @@ pub(crate) fn push_place(text: &mut Text, place: Place) -> Result<(), AllocError
 }
 
 /// Adds a name that ends in a number of so many hexadecimal digits.
-fn push_numbered(text: &mut Text, name: &str, number: u64, width: u8) -> Result<(), AllocError>
+pub(crate) fn push_numbered(
+    text: &mut Text,
+    name: &str,
+    number: u64,
+    width: u8,
+) -> Result<(), AllocError>
     ensures { OnOk result (text.new ≡ text.old ++ (name.now ++ hex_text width number)) }
 {
     text.push_text(name)?;
@@ -42,21 +48,32 @@ fn name_of_key(key: Key) -> &'static str
         Key::Stop => "key stop",
         Key::Reset => "key reset",
         Key::Interrupt => "key interrupt",
+        Key::EndOfFile => "key eof",
     }
 }
 
-/// The name of an event.
-pub(crate) fn name_of_event(event: &Event) -> &'static str
-    ensures { result.now ≡ event_name event.now }
+/// The name of a patch.
+fn name_of_patch(patch: &Patch) -> &'static str
+    ensures { result.now ≡ patch_name patch.now }
+{
+    match patch {
+        Patch::Bytes { .. } => "patch s",
+        Patch::Register(..) => "patch r",
+        Patch::StorageKey { .. } => "patch k",
+        Patch::Psw(_) => "patch p",
+    }
+}
+
+/// Adds the name of an event.
+pub(crate) fn push_event(text: &mut Text, event: &Event) -> Result<(), AllocError>
+    ensures { OnOk result (text.new ≡ text.old ++ event_name event.now) }
 {
     match event {
-        Event::Cpu => "cpu",
-        Event::Tick => "tick",
-        Event::Key(key) => name_of_key(*key),
-        Event::Patch(Patch::Bytes { .. }) => "patch s",
-        Event::Patch(Patch::Register(..)) => "patch r",
-        Event::Patch(Patch::StorageKey { .. }) => "patch k",
-        Event::Patch(Patch::Psw(_)) => "patch p",
+        Event::Cpu => text.push_text("cpu"),
+        Event::Channel(unit) => push_numbered(text, "channel ", u64::from(unit.0), 3),
+        Event::Tick => text.push_text("tick"),
+        Event::Key(key) => text.push_text(name_of_key(*key)),
+        Event::Patch(patch) => text.push_text(name_of_patch(patch)),
     }
 }
 
@@ -67,9 +84,9 @@ fn name_of_refusal(refusal: Refusal) -> &'static str
     match refusal {
         Refusal::Memory => "memory",
         Refusal::OutsideStorage => "outside storage",
+        Refusal::NoSuchUnit => "no such unit",
         Refusal::PatchTooLong => "patch too long",
         Refusal::JournalFull => "journal full",
-        Refusal::Unbuilt => "unbuilt",
     }
 }
 

@@ -27,6 +27,4 @@ pub enum Ended {
     Svc(u8),
     /// The channels do this to a unit. Nothing is stored or loaded yet.
     Io(IoOperation, Unit),
-    /// The instruction is not built yet.
-    Unbuilt,
 }

@@ -1,5 +1,5 @@
 -- What an accepted event adds to the journal.
-use Rattle.std.proofs.Common.{◌≡◌, ◌<◌, ◌++◌, ℕ, List, [], ◌∷◌, refl, ap, sym, ◌∙◌, reverse, subst, Bool, true, false, Option, Some, None, Ok, Err, nat_lt, cond}
+use Rattle.std.proofs.Common.{◌≡◌, ◌<◌, ◌++◌, ℕ, List, [], ◌∷◌, refl, ap, sym, ◌∙◌, reverse, subst, Bool, true, false, Option, Some, None, Ok, nat_lt, cond}
 use Rattle.std.proofs.lemmas.Bool.{ltb-true}
 use Rattle.std.proofs.lemmas.List.{reverse-append}
 use Rattle.s360_machine.specs.declared.event.Event.{Event}
@@ -7,9 +7,9 @@ use Rattle.s360_machine.specs.declared.refusal.Refusal.{Refusal}
 use Rattle.s360_machine.specs.declared.refusal.Refusal.TheVariants.{JournalFull}
 use Rattle.s360_machine.specs.Machine.{Machine, Whole, storage_size, seen}
 use Rattle.s360_machine.specs.Refusals.{refusal_of}
-use Rattle.s360_machine.specs.Step.{step, after, is_unbuilt}
+use Rattle.s360_machine.specs.Step.{step, after}
 use Rattle.s360_machine.specs.Change.{Change, CanSwap, NeedsNoRoom, after_swap, change_after_swap, places_of_change}
-use Rattle.s360_machine.specs.Planned.{differences, IsChangeTo, IsAnswerToEvent}
+use Rattle.s360_machine.specs.Planned.{differences, IsChangeTo}
 use Rattle.s360_journal.specs.declared.entry.Entry.{Entry}
 use Rattle.s360_journal.specs.Standing.{or_full}
 use Rattle.s360_journal.specs.History.{IsHistory}
@@ -28,28 +28,15 @@ or_full-room None count limit h =
     [ true ↦ λ e k. ltb-true count limit e | false ↦ λ e k. cc ]
     in by (nat_lt count limit) refl h
 
--- what may answer an event says nothing of the answer's value
-pub IsAnswerToEvent-Err : (X Y : Type 0) (b : Bool) (r : Refusal) → IsAnswerToEvent {X = X} b (Err r) → IsAnswerToEvent {X = Y} b (Err r)
-IsAnswerToEvent-Err X Y true r h = h
-IsAnswerToEvent-Err X Y false r h = h
-
-pub IsAnswerToEvent-Ok : (X Y : Type 0) (b : Bool) (x : X) (y : Y) → IsAnswerToEvent {X = X} b (Ok x) → IsAnswerToEvent {X = Y} b (Ok y)
-IsAnswerToEvent-Ok X Y true x y h = h
-IsAnswerToEvent-Ok X Y false x y h = h
-
-pub built : (X : Type 0) (b : Bool) (x : X) → IsAnswerToEvent {X = X} b (Ok x) → b ≡ false
-built X true x h = absurd h
-built X false x h = refl
-
 -- the journal with the exchanged change of an accepted event at its end
 pub IsHistory-forward : (w v : Whole) (xs : List Entry) (e : Event) (x y : Change) → IsHistory w (reverse xs)
-    → refusal_of (storage_size (seen w)) e ≡ None → is_unbuilt (seen w) e ≡ false → IsChangeTo w x (after (seen w) e)
+    → refusal_of (storage_size (seen w)) e ≡ None → IsChangeTo w x (after (seen w) e)
     → v ≡ after_swap w x → y ≡ change_after_swap w x → CanSwap v y → NeedsNoRoom y → after_swap v y ≡ w
     → IsHistory v (reverse (xs ++ record { event = e; changes = y } ∷ []))
-IsHistory-forward w v xs e x y h accepted ready change v_is y_is can no_room back =
+IsHistory-forward w v xs e x y h accepted change v_is y_is can no_room back =
     let m : Machine = seen w
     in let leads : after m e ≡ seen v = sym change.makes ∙ ap (λ k. seen k) (sym v_is)
-    in let one : step m e ≡ Ok (seen v) = step-Ok m e accepted ready ∙ ap (λ k. Ok k) leads
+    in let one : step m e ≡ Ok (seen v) = step-Ok m e accepted ∙ ap (λ k. Ok k) leads
     in let lists : places_of_change y ≡ differences m (seen v)
     = ap (λ z. places_of_change z) y_is ∙ places_of_change-after w x ∙ change.lists ∙ ap (λ k. differences m k) leads
     in subst (λ l. IsHistory v l) (sym (reverse-append xs (record { event = e; changes = y } ∷ [])))

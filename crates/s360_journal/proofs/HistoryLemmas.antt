@@ -1,5 +1,5 @@
 -- A session's machine is its start with the standing events run again.
-use Rattle.std.proofs.Common.{◌≡◌, ◌-◌, ◌++◌, ℕ, zero, suc, length, List, [], ◌∷◌, refl, ap, sym, ◌∙◌, map, reverse, subst, Bool, true, false, Option, Some, None, Ok}
+use Rattle.std.proofs.Common.{◌≡◌, ◌-◌, ◌++◌, ℕ, zero, suc, length, List, [], ◌∷◌, refl, ap, sym, ◌∙◌, map, reverse, subst, Option, Some, None, Ok}
 use Rattle.std.proofs.lemmas.List.{reverse-append, reverse-reverse, map_push, length-map}
 use Rattle.std.specs.Option.{option_map}
 use Rattle.std.specs.List.{slice_get}
@@ -7,7 +7,7 @@ use Rattle.s360_machine.specs.declared.event.Event.{Event}
 use Rattle.s360_machine.specs.declared.refusal.Refusal.{Refusal}
 use Rattle.s360_machine.specs.Machine.{Machine, Whole, storage_size, seen}
 use Rattle.s360_machine.specs.Refusals.{refusal_of}
-use Rattle.s360_machine.specs.Step.{step_to, step, after, is_unbuilt}
+use Rattle.s360_machine.specs.Step.{step_to, step, after}
 use Rattle.s360_machine.specs.Change.{Change, CanSwap, NeedsNoRoom, after_swap, change_after_swap, places_of_change}
 use Rattle.s360_machine.proofs.SwapLemmas.{places_of_change-after_swap}
 use Rattle.s360_machine.specs.Planned.{differences}
@@ -19,23 +19,19 @@ use Rattle.s360_journal.specs.History.{unwound, IsHistory}
 -- what an event that steps says
 pub record IsStep (m : Machine) (e : Event) (n : Machine) : Type 0 where
   pub accepted : refusal_of (storage_size m) e ≡ None
-  pub built : is_unbuilt m e ≡ false
   pub leads : after m e ≡ n
 
-step_to-Ok : (o : Option Refusal) (b : Bool) (k n : Machine) → step_to o b k ≡ Ok n → (o ≡ None) × (b ≡ false) × (k ≡ n)
-step_to-Ok (Some r) b k n h = cc
-step_to-Ok None true k n h = cc
-step_to-Ok None false k n h = (refl, refl, cc)
+step_to-Ok : (o : Option Refusal) (k n : Machine) → step_to o k ≡ Ok n → (o ≡ None) × (k ≡ n)
+step_to-Ok (Some r) k n h = cc
+step_to-Ok None k n h = (refl, cc)
 
 pub IsStep-from : (m : Machine) (e : Event) (n : Machine) → step m e ≡ Ok n → IsStep m e n
 IsStep-from m e n h =
-    let parts : (refusal_of (storage_size m) e ≡ None) × (is_unbuilt m e ≡ false) × (after m e ≡ n)
-    = step_to-Ok (refusal_of (storage_size m) e) (is_unbuilt m e) (after m e) n h
-    in record { accepted = parts.0; built = parts.1; leads = parts.2 }
+    let parts : (refusal_of (storage_size m) e ≡ None) × (after m e ≡ n) = step_to-Ok (refusal_of (storage_size m) e) (after m e) n h
+    in record { accepted = parts.0; leads = parts.1 }
 
-pub step-Ok : (m : Machine) (e : Event) → refusal_of (storage_size m) e ≡ None → is_unbuilt m e ≡ false → step m e ≡ Ok (after m e)
-step-Ok m e a b =
-    ap (λ o. step_to o (is_unbuilt m e) (after m e)) a ∙ ap (λ u. step_to None u (after m e)) b
+pub step-Ok : (m : Machine) (e : Event) → refusal_of (storage_size m) e ≡ None → step m e ≡ Ok (after m e)
+step-Ok m e a = ap (λ o. step_to o (after m e)) a
 
 -- one event more
 pub rerun-push : (m : Machine) (es : List Event) (e : Event) → rerun m (es ++ e ∷ []) ≡ after (rerun m es) e
@@ -106,3 +102,10 @@ slice_get-events (x ∷ xs) (suc i) = slice_get-events xs i
 pub last_of-events : (xs : List Entry) → last_of (map (λ (x : Entry). x.event) xs) ≡ option_map (λ (x : Entry). x.event) (slice_get xs (length xs - 1))
 last_of-events xs =
     ap (λ n. slice_get (map (λ (x : Entry). x.event) xs) (n - 1)) (length-map xs (λ (x : Entry). x.event)) ∙ slice_get-events xs (length xs - 1)
+
+-- the last entry's change needs no room to be taken back
+pub NeedsNoRoom-last : (w : Whole) (xs ys : List Entry) (x : Entry) → IsHistory w (reverse xs) → xs ≡ ys ++ x ∷ [] → NeedsNoRoom x.changes
+NeedsNoRoom-last w xs ys x h e =
+    let newest : reverse xs ≡ x ∷ reverse ys = ap (λ (zs : List Entry). reverse zs) e ∙ reverse-append ys (x ∷ [])
+    in let history : IsHistory w (x ∷ reverse ys) = subst (λ (zs : List Entry). IsHistory w zs) newest h
+    in history.1

@@ -29,7 +29,7 @@ unchanged s t e = record { start = ap (λ (x : Standing). x.start) e; limit = ap
 
 Leads-IsAnswer : (s t : Standing) (c : Call) (a : Answer) → IsAnswer s c a t → Leads s t (events_after s.events c a)
 Leads-IsAnswer s t (Forward e) (Forwarded (Ok r)) h =
-    record { start = ap (λ (x : Standing). x.start) h.3; limit = ap (λ (x : Standing). x.limit) h.3; stands = ap (λ (x : Standing). x.events) h.3 }
+    record { start = ap (λ (x : Standing). x.start) h.2; limit = ap (λ (x : Standing). x.limit) h.2; stands = ap (λ (x : Standing). x.events) h.2 }
 Leads-IsAnswer s t (Forward e) (Forwarded (Err r)) h = unchanged s t h.1
 Leads-IsAnswer s t Back (TookBack (Ok e)) h = record {
   start = ap (λ (x : Standing). x.start) (sym h);

@@ -1,16 +1,15 @@
 -- Lists of session calls with their answers.
-use Rattle.std.specs.Prelude.{◌≡◌, ◌++◌, ◌-◌, List, [], ◌∷◌, length, take, None, Ok, Err, MatchOption, false}
+use Rattle.std.specs.Prelude.{◌≡◌, ◌++◌, ◌-◌, List, [], ◌∷◌, length, take, None, Ok, Err, MatchOption}
 use Rattle.s360_machine.specs.declared.event.Event.{Event}
 use Rattle.s360_machine.specs.Machine.{seen}
-use Rattle.s360_machine.specs.Step.{is_unbuilt}
-use Rattle.s360_machine.specs.Planned.{IsAnswerToEvent}
+use Rattle.s360_machine.specs.declared.refusal.Refusal.TheVariants.{Memory}
 use Rattle.s360_journal.specs.declared.calls.Call.{Call}
 use Rattle.s360_journal.specs.declared.calls.Call.TheVariants.{Forward, Back, Standing as standing, LastChange}
 use Rattle.s360_journal.specs.declared.calls.Answer.{Answer}
 use Rattle.s360_journal.specs.declared.calls.Answer.TheVariants.{Forwarded, TookBack, Stands, LastChanged}
 use Rattle.s360_journal.specs.Reports.{IsReport}
 use Rattle.s360_journal.specs.Rerun.{last_change_of}
-use Rattle.s360_journal.specs.Standing.{Standing, machine_of, refusal_in, alteration}
+use Rattle.s360_journal.specs.Standing.{Standing, refusal_in, alteration}
 
 -- the events that stand after a call with its answer: an accepted event is added, a step back drops the
 -- last, and all else leaves them
@@ -27,9 +26,9 @@ standing_events es cs answers = es
 -- the call may answer this in the session s, and leaves t
 abbrev pub IsAnswer : Standing → Call → Answer → Standing → Type 0
 IsAnswer s (Forward e) (Forwarded (Ok r)) t =
-    (refusal_in s e ≡ None) × (is_unbuilt (machine_of s) e ≡ false) × IsReport r (alteration s e) × (t ≡ record s { events = s.events ++ e ∷ [] })
+    (refusal_in s e ≡ None) × IsReport r (alteration s e) × (t ≡ record s { events = s.events ++ e ∷ [] })
 IsAnswer s (Forward e) (Forwarded (Err r)) t =
-    MatchOption (refusal_in s e) (IsAnswerToEvent {X = Event} (is_unbuilt (machine_of s) e) (Err r)) (λ q. r ≡ q) × (t ≡ s)
+    MatchOption (refusal_in s e) (r ≡ Memory) (λ q. r ≡ q) × (t ≡ s)
 IsAnswer s Back (TookBack (Ok e)) t = s ≡ record t { events = t.events ++ e ∷ [] }
 IsAnswer s Back (TookBack (Err n)) t = (s.events ≡ []) × (t ≡ s)
 IsAnswer s standing (Stands n) t = (n ≡ length s.events) × (t ≡ s)

@@ -25,7 +25,7 @@ abbrev pub or_full : Option Refusal → ℕ → ℕ → Option Refusal
 or_full (Some r) count limit = Some r
 or_full None count limit = if nat_lt count limit then None else Some JournalFull
 
--- why an event is refused, but for want of memory or as not built yet
+-- why an event is refused, but for want of memory
 abbrev pub refusal_in : Standing → Event → Option Refusal
 refusal_in s e = or_full (refusal_of (storage_size (machine_of s)) e) (length s.events) s.limit
 

@@ -1,9 +1,8 @@
 //! The session: the machine, and the journal of the changes that stand.
 ghost use Rattle.std.specs.Prelude.{◌≡◌, ◌++◌, ◌∷◌, ◌≤◌, [], length, OnOk, OnErr, IfOk, Err};
-ghost use Rattle.std.specs.Prelude.{MatchOption};
+ghost use Rattle.std.specs.Prelude.{IsOkUnless, MatchOption};
 ghost use Rattle.s360_machine.specs.Machine.{seen};
-ghost use Rattle.s360_machine.specs.Step.{is_unbuilt};
-ghost use Rattle.s360_machine.specs.Planned.{IsAnswerToEvent};
+ghost use Rattle.s360_machine.specs.declared.refusal.Refusal.TheVariants.{Memory};
 ghost use Rattle.s360_journal.specs.Reports.{IsReport};
 ghost use Rattle.s360_journal.specs.Rerun.{rerun, AreAccepted, last_change_of};
 ghost use Rattle.std.specs.Option.{option_copied};
@@ -112,7 +111,7 @@ impl Session {
         None
     }
 
-    /// Why an event is refused, but for want of memory or as not built yet. It takes no memory.
+    /// Why an event is refused, but for want of memory. It takes no memory.
     pub fn refusal(&self, event: &Event) -> Option<Refusal>
         ensures { result ≡ refusal_in self.now event.now }
     {
@@ -131,7 +130,7 @@ impl Session {
         ensures ok { OnOk result (self.new ≡ record self.old { events = self.old.events ++ event ∷ [] }) }
         ensures report { IfOk result (λ r. IsReport r (alteration self.old event)) }
         ensures err { OnErr result (self.new ≡ self.old) }
-        ensures refused { MatchOption (refusal_in self.old event) (IsAnswerToEvent (is_unbuilt (machine_of self.old) event) result) (λ r. result ≡ Err r) }
+        ensures refused { MatchOption (refusal_in self.old event) (IsOkUnless result Memory) (λ r. result ≡ Err r) }
     {
         if let Some(refusal) = self.refusal(&event) {
             return Err(refusal);
@@ -168,7 +167,7 @@ impl Session {
     pub fn preview(&mut self, event: Event) -> Result<Report, Refusal>
         ensures same { self.new ≡ self.old }
         ensures report { IfOk result (λ r. IsReport r (alteration self.old event)) }
-        ensures refused { MatchOption (refusal_in self.old event) (IsAnswerToEvent (is_unbuilt (machine_of self.old) event) result) (λ r. result ≡ Err r) }
+        ensures refused { MatchOption (refusal_in self.old event) (IsOkUnless result Memory) (λ r. result ≡ Err r) }
     {
         let report = self.forward(event)?;
         let _ = self.back();

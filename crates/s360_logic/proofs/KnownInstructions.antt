@@ -2,7 +2,8 @@
 -- its own bytes alone.
 use Rattle.std.specs.Prelude.{◌≡◌, ℕ, List, [], ◌∷◌, refl, slice_index}
 use Rattle.s360_model.specs.Core.{Core}
-use Rattle.s360_fixed.specs.declared.ended.Ended.TheVariants.{Done, Program, Unbuilt}
+use Rattle.s360_fixed.specs.declared.ended.Ended.TheVariants.{Done, Program, Io}
+use Rattle.s360_fixed.specs.declared.ended.IoOperation.TheVariants.{Start}
 use Rattle.s360_fixed.specs.declared.program_code.ProgramCode.TheVariants.{Operation, Addressing, Specification}
 use Rattle.s360_fixed.specs.declared.program_code.ProgramCode.TheVariants.{FixedPointOverflow, FixedPointDivide}
 use Rattle.s360_psw.specs.declared.instruction_length.InstructionLength.TheVariants.{NotAvailable, TwoHalfwords}
@@ -77,10 +78,10 @@ pub unknown_code : (instruction (known 0 0 0 0 0 0 (0x00 ∷ 0x00 ∷ []))).outc
 unfolding instruction
 unknown_code = refl
 
--- a row of another chapter
-pub start_io : (instruction (known 0 0 0 0 0 0 (0x9C ∷ 0x00 ∷ 0x00 ∷ 0x0C ∷ []))).outcome.ended ≡ Unbuilt
+-- it is handed to the channels
+pub started_unit : (instruction (known 0 0 0 0 0 0 (0x9C ∷ 0x00 ∷ 0x00 ∷ 0x0C ∷ []))).outcome.ended ≡ Io Start (record { 0 = 0x00C })
 unfolding instruction
-start_io = refl
+started_unit = refl
 
 -- what an interruption stores of an instruction: the address of the next one, and its own length
 pub next_address_of_a_load : (instruction (known 0 0 0 0 0 0 (0x58 ∷ 0x10 ∷ 0x00 ∷ 0x00 ∷ []))).next_address ≡ 4

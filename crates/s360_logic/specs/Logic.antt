@@ -4,7 +4,7 @@
 use Rattle.std.specs.Prelude.{ℕ, ◌+◌, ◌/◌, ◌%◌, nat_eq, if◌then◌else◌, Option, Some, None, List, slice_index, slice_set, bit_or}
 use Rattle.std.specs.Option.{option_map}
 use Rattle.s360_model.specs.Psw.{protection_key_of}
-use Rattle.s360_fixed.specs.declared.ended.Ended.TheVariants.{Program, Unbuilt}
+use Rattle.s360_fixed.specs.declared.ended.Ended.TheVariants.{Program}
 use Rattle.s360_fixed.specs.declared.form.Form.{Form}
 use Rattle.s360_fixed.specs.declared.form.Form.TheVariants.{Rr, Rx, Si, Ss}
 use Rattle.s360_fixed.specs.declared.operation.Operation.TheVariants.{Execute}
@@ -56,7 +56,7 @@ abbrev pub by_row : Option (View → Outcome) → Option (View → Outcome) → 
 by_row (Some fixed) logic status v = fixed v
 by_row None (Some logic) status v = logic v
 by_row None None (Some status) v = status v
-by_row None None None v = record { ended = Unbuilt; core = v.core }
+by_row None None None v = record { ended = Program operation_code; core = v.core }
 
 abbrev pub row_outcome : View → Form → Outcome
 row_outcome v form = by_row (fixed_outcome form) (logic_outcome form) (status_outcome form) v

@@ -10,6 +10,7 @@ use Rattle.s360_fixed.specs.declared.operation.Operation.TheVariants.{Translate,
 use Rattle.s360_fixed.specs.declared.operation.Operation.TheVariants.{MoveWithOffset, Pack, Unpack}
 use Rattle.s360_fixed.specs.declared.operation.Operation.TheVariants.{SetProgramMask, SupervisorCall, SetStorageKey, InsertStorageKey}
 use Rattle.s360_fixed.specs.declared.operation.Operation.TheVariants.{SetSystemMask, LoadPsw, StartIo, TestIo, HaltIo, TestChannel}
+use Rattle.s360_fixed.specs.declared.ended.IoOperation.TheVariants.{Start, Test, Halt, TestChannel as test_channel}
 use Rattle.s360_logic.specs.declared.row.ByteCombination.TheVariants.{Second, LowHalf, HighHalf}
 use Rattle.s360_logic.specs.declared.row.ByteCombination.TheVariants.{BitwiseAnd, BitwiseOr, BitwiseExclusiveOr}
 use Rattle.s360_logic.specs.declared.row.ImmediateRow.{ImmediateRow}
@@ -72,8 +73,8 @@ register_status_of other = None
 abbrev pub storage_status_of : Operation → Option StorageStatus
 storage_status_of SetSystemMask = Some set_system_mask
 storage_status_of LoadPsw = Some load_psw
-storage_status_of StartIo = Some InputOutput
-storage_status_of TestIo = Some InputOutput
-storage_status_of HaltIo = Some InputOutput
-storage_status_of TestChannel = Some InputOutput
+storage_status_of StartIo = Some (InputOutput Start)
+storage_status_of TestIo = Some (InputOutput Test)
+storage_status_of HaltIo = Some (InputOutput Halt)
+storage_status_of TestChannel = Some (InputOutput test_channel)
 storage_status_of other = None

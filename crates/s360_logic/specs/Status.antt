@@ -6,7 +6,8 @@ use Rattle.s360_model.specs.Core.{core_with_key, core_with_psw, core_with_word}
 use Rattle.s360_model.specs.Psw.{current_psw, problem_state_of, with_program_mask, with_system_mask}
 use Rattle.s360_model.specs.Storage.{block_size, doubleword_at}
 use Rattle.s360_store.specs.declared.protection.Access.TheVariants.{Fetch}
-use Rattle.s360_fixed.specs.declared.ended.Ended.TheVariants.{Done, Svc, Unbuilt}
+use Rattle.s360_word.specs.declared.unit.Unit.{Unit}
+use Rattle.s360_fixed.specs.declared.ended.Ended.TheVariants.{Done, Svc, Io}
 use Rattle.s360_fixed.specs.Operands.{access_conditions}
 use Rattle.s360_fixed.specs.Outcomes.{unless_met}
 use Rattle.s360_fixed.specs.ProgramCodes.{Conditions, no_conditions}
@@ -62,12 +63,16 @@ register_status_outcome (StorageKey row) v r1 r2 =
 abbrev pub privileged_fetch : View → ℕ → ℕ → Conditions
 privileged_fetch v address count = privileged v (access_conditions v.core address count count Fetch)
 
--- the rows of the format SI: the system mask becomes a byte, the PSW becomes a doubleword; the channels are
--- not built yet
+-- channel in bits 21 to 23 and device in 24 to 31 of an address; other bits are ignored (own profile)
+abbrev pub unit_of : ℕ → Unit
+unit_of address = record { 0 = address % 2 ^ 11 }
+
+-- the rows of the format SI: the system mask becomes a byte, the PSW becomes a doubleword; the unit that
+-- bits 21 to 31 of the address name is handed to the channels
 abbrev pub storage_status_outcome : StorageStatus → View → ℕ → Outcome
 storage_status_outcome SetSystemMask v address =
     unless_met (privileged_fetch v address 1) v.core (with_psw v (with_system_mask (next_psw v) (byte_at v.core.storage address)))
 storage_status_outcome LoadPsw v address =
     unless_met (privileged_fetch v address 8) v.core (with_psw v (current_psw (doubleword_at v.core.storage.bytes address)))
-storage_status_outcome InputOutput v address =
-    unless_met (privileged v no_conditions) v.core (record { ended = Unbuilt; core = v.core })
+storage_status_outcome (InputOutput operation) v address =
+    unless_met (privileged v no_conditions) v.core (record { ended = Io operation (unit_of address); core = v.core })

@@ -28,6 +28,9 @@ use s360_store::Plan;
 use s360_word::RegisterNumber;
 use std::alloc::AllocError;
 
+/// How an instruction would end that has no row; each that is decoded has one.
+const NO_SUCH_OPERATION: Ended = Ended::Program(ProgramCode::Operation);
+
 /// The address that a base and a displacement make.
 fn address_of(view: &View, base: RegisterNumber, displacement: u16) -> u32
     ensures address { result ≡ address_of view.now base displacement }
@@ -85,7 +88,7 @@ fn plan_own(form: &Form, view: &View, plan: &mut Plan) -> Result<Ended, AllocErr
             d2,
         } => match conversion_of(operation) {
             Some(row) => { plan_conversion(view, row, r1, operand_address(view, x2, b2, d2), plan) }
-            None => Ok(Ended::Unbuilt),
+            None => Ok(NO_SUCH_OPERATION),
         },
         Form::Si {
             operation,
@@ -96,7 +99,7 @@ fn plan_own(form: &Form, view: &View, plan: &mut Plan) -> Result<Ended, AllocErr
             Some(row) => plan_immediate(view, row, i2, address_of(view, b1, d1), plan),
             None => match storage_status_of(operation) {
                 Some(row) => plan_storage_status(view, row, address_of(view, b1, d1), plan),
-                None => Ok(Ended::Unbuilt),
+                None => Ok(NO_SUCH_OPERATION),
             },
         },
         Form::Ss {
@@ -111,13 +114,13 @@ fn plan_own(form: &Form, view: &View, plan: &mut Plan) -> Result<Ended, AllocErr
                 let (first, second) = (address_of(view, b1, d1), address_of(view, b2, d2));
                 plan_storage(view, row, l, first, second, plan)
             }
-            None => Ok(Ended::Unbuilt),
+            None => Ok(NO_SUCH_OPERATION),
         },
         Form::Rr { operation, r1, r2 } => match register_status_of(operation) {
             Some(row) => plan_register_status(view, row, r1, r2, plan),
-            None => Ok(Ended::Unbuilt),
+            None => Ok(NO_SUCH_OPERATION),
         },
-        Form::Rs { .. } => Ok(Ended::Unbuilt),
+        Form::Rs { .. } => Ok(NO_SUCH_OPERATION),
     }
 }
 

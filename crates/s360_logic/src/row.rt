@@ -6,7 +6,7 @@ ghost use Rattle.std.specs.Prelude.{◌≡◌};
 ghost use Rattle.s360_logic.specs.Rows.{conversion_of, immediate_row_of, storage_row_of};
 ghost use Rattle.s360_logic.specs.Rows.{register_status_of, storage_status_of};
 
-use s360_fixed::Operation;
+use s360_fixed::{IoOperation, Operation};
 
 /// What a byte of the first operand becomes with a byte of the second.
 #[derive(Clone, Copy, Debug, PartialEq, Eq)]
@@ -100,8 +100,8 @@ pub(crate) enum StorageStatus {
     SetSystemMask,
     /// The PSW becomes the doubleword.
     LoadPsw,
-    /// The channels do something to a unit, which is not built yet.
-    InputOutput,
+    /// What the channels do to a unit.
+    InputOutput(IoOperation),
 }
 
 /// The row of an operation with an immediate byte, where it is one of these chapters.
@@ -180,9 +180,10 @@ pub(crate) fn storage_status_of(operation: Operation) -> Option<StorageStatus>
     match operation {
         Operation::SetSystemMask => Some(StorageStatus::SetSystemMask),
         Operation::LoadPsw => Some(StorageStatus::LoadPsw),
-        Operation::StartIo | Operation::TestIo | Operation::HaltIo | Operation::TestChannel => {
-            Some(StorageStatus::InputOutput)
-        }
+        Operation::StartIo => Some(StorageStatus::InputOutput(IoOperation::Start)),
+        Operation::TestIo => Some(StorageStatus::InputOutput(IoOperation::Test)),
+        Operation::HaltIo => Some(StorageStatus::InputOutput(IoOperation::Halt)),
+        Operation::TestChannel => Some(StorageStatus::InputOutput(IoOperation::TestChannel)),
         _ => None,
     }
 }

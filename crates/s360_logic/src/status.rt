@@ -8,13 +8,13 @@ ghost use Rattle.s360_fixed.specs.Storing.{next_psw};
 ghost use Rattle.s360_logic.specs.declared.row.StorageStatus.TheVariants.{LoadPsw, SetSystemMask};
 ghost use Rattle.s360_logic.specs.Status.{block_of, key_conditions, key_in};
 ghost use Rattle.s360_logic.specs.Status.{key_outcome, privileged_fetch, register_status_outcome};
-ghost use Rattle.s360_logic.specs.Status.{storage_status_outcome, with_key_in, with_psw};
+ghost use Rattle.s360_logic.specs.Status.{storage_status_outcome, unit_of, with_key_in, with_psw};
 
 use crate::row::{KeyRow, RegisterStatus, StorageStatus};
 use s360_fixed::{Ended, ProgramCode, View, operand_exception, put_next_psw};
 use s360_psw::Psw;
 use s360_store::{Access, BLOCK_SIZE, Plan};
-use s360_word::{ProtectionKey, RegisterNumber, Word};
+use s360_word::{ProtectionKey, RegisterNumber, Unit, Word};
 use std::alloc::AllocError;
 
 /// Blocks that an address can name.
@@ -22,6 +22,16 @@ const BLOCKS: u32 = 1 << 13;
 
 /// Bytes of a doubleword, and its boundary.
 const DOUBLEWORD: u32 = 8;
+
+/// Units that an address can name: eight channels of 256 devices.
+const UNITS: u32 = 1 << 11;
+
+/// The unit that bits 21 to 31 of an address name.
+fn unit_of(address: u32) -> Unit
+    ensures { result ≡ unit_of address }
+{
+    Unit::new((address % UNITS) as u16)
+}
 
 /// The PSW that goes on with the next instruction.
 fn next_psw(view: &View) -> Psw
@@ -179,9 +189,9 @@ pub(crate) fn plan_storage_status(
     match row {
         StorageStatus::SetSystemMask => plan_system_mask(view, address, plan),
         StorageStatus::LoadPsw => plan_load_psw(view, address, plan),
-        StorageStatus::InputOutput if view.psw().problem_state() => {
+        StorageStatus::InputOutput(_) if view.psw().problem_state() => {
             Ok(Ended::Program(ProgramCode::Privileged))
         }
-        StorageStatus::InputOutput => Ok(Ended::Unbuilt),
+        StorageStatus::InputOutput(operation) => Ok(Ended::Io(operation, unit_of(address))),
     }
 }

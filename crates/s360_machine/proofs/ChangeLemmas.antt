@@ -1,17 +1,20 @@
 -- Changes of the whole machine.
-use Rattle.std.proofs.Common.{◌++◌, List, ap, ◌∙◌}
+use Rattle.std.proofs.Common.{List, arith, refl}
 use Rattle.s360_store.specs.declared.place.Cell.{Cell}
-use Rattle.s360_store.specs.Differences.{core_differences, IsCoreChangeTo}
-use Rattle.s360_machine.specs.declared.control_cell.ControlCell.{ControlCell}
-use Rattle.s360_machine.specs.ControlCells.{control_after_exchange, places_of_control}
+use Rattle.s360_store.specs.Differences.{IsCoreChangeTo}
+use Rattle.s360_machine.specs.declared.media.MediaChanges.{MediaChanges}
+use Rattle.s360_machine.specs.declared.units.UnitChanges.{UnitChanges}
+use Rattle.s360_machine.specs.ControlCells.{ControlCell}
 use Rattle.s360_machine.specs.Machine.{Machine, Whole}
-use Rattle.s360_machine.specs.Planned.{IsChangeTo, IsControlChangeTo}
+use Rattle.s360_machine.specs.Planned.{IsChangeTo, IsControlChangeTo, IsMediaChangeTo, IsUnitsChangeTo}
 
--- what makes the core of a machine, and what makes its control part, make that machine
-pub IsChangeTo-parts : (w : Whole) (cs : List Cell) (xs : List ControlCell) (n : Machine) → IsCoreChangeTo w.core cs n.core → IsControlChangeTo w.control xs n.control
-    → IsChangeTo w (record { cells = cs; control = xs }) n
-IsChangeTo-parts w cs xs n h k = record {
-  can = (h.cells, k.once);
-  makes = ap (λ x. record { core = x; control = control_after_exchange w.control xs }) h.makes ∙ ap (λ x. record { core = n.core; control = x }) k.makes;
-  lists = ap (λ ps. ps ++ places_of_control xs) h.lists ∙ ap (λ ps. core_differences w.core n.core ++ ps) k.lists;
+-- what makes the parts of a machine makes that machine
+pub IsChangeTo-parts : (w : Whole) (cs : List Cell) (xs : List ControlCell) (us : UnitChanges) (ms : MediaChanges) (n : Machine)
+    → IsCoreChangeTo w.core cs n.core → IsControlChangeTo w.control xs n.control → IsUnitsChangeTo w.units us n.units → IsMediaChangeTo w.media ms n.media
+    → IsChangeTo w (record { cells = cs; control = xs; units = us; media = ms }) n
+IsChangeTo-parts w cs xs us ms n h k u m = record {
+  can = (h.cells, k.once, m.can);
+  makes = rw (h.makes, k.makes, u.makes, m.makes) refl;
+  lists = rw (h.lists, k.lists, u.lists, m.lists) refl;
+  back = λ s. (omega (arith, m.reader_back), omega (arith, m.punch_back));
 }

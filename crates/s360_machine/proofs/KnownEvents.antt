@@ -3,6 +3,8 @@
 use Rattle.std.specs.Prelude.{◌≡◌, ℕ, true, false, List, [], ◌∷◌, replicate, refl}
 use Rattle.s360_model.specs.Storage.{doubleword_at, with_run, word_at}
 use Rattle.s360_logic.specs.Instruction.{instruction}
+use Rattle.s360_device.specs.Punch.{new_punch}
+use Rattle.s360_device.specs.Reader.{new_reader}
 use Rattle.s360_machine.specs.declared.external.ExternalConditions.{ExternalConditions}
 use Rattle.s360_machine.specs.declared.operator.Key.TheVariants.{Start, Stop, Reset, Interrupt}
 use Rattle.s360_machine.specs.declared.run_state.RunState.{RunState}
@@ -12,6 +14,7 @@ use Rattle.s360_machine.specs.Interruptions.{after_interruption}
 use Rattle.s360_machine.specs.Machine.{Machine, no_external}
 use Rattle.s360_machine.specs.Operator.{after_key}
 use Rattle.s360_machine.specs.Timer.{after_tick, runs_out, timer_after_tick}
+use Rattle.s360_machine.specs.Units.{idle_units}
 
 -- both external conditions
 abbrev both : ExternalConditions
@@ -30,6 +33,8 @@ known psw r1 r2 bytes run_state external = record {
     };
   };
   control = record { run_state = run_state; external = external };
+  units = idle_units;
+  media = record { reader = new_reader []; punch = new_punch };
 }
 
 -- AR that overflows with its mask one is completed, and then interrupts with code 8

@@ -1,5 +1,8 @@
 pub mod ControlLemmas
 pub mod SwapLemmas
 pub mod ChangeLemmas
+pub mod IoLemmas
+pub mod StepLemmas
+pub mod CswLemmas
 pub mod InterruptionLemmas
 mod KnownEvents

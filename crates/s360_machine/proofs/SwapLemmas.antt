@@ -1,27 +1,102 @@
 -- An exchange of a change done twice restores the whole machine and the change.
-use Rattle.std.proofs.Common.{◌≡◌, ◌++◌, ap, ◌∙◌}
-use Rattle.s360_store.specs.Cells.{cells_after_exchange, AllFit, places_of_cells}
+use Rattle.std.proofs.Common.{◌≡◌, ap, ◌∙◌, refl}
+use Rattle.std.specs.Prelude.{Option, Some, None}
+use Rattle.s360_device.specs.declared.reader_change.ReaderChange.{ReaderChange}
+use Rattle.s360_device.specs.declared.punch_change.PunchChange.{PunchChange}
+use Rattle.s360_device.specs.Punch.{Punch}
+use Rattle.s360_device.specs.Reader.{Reader}
+use Rattle.s360_device.specs.PunchChanges.{CanSwapPunch, punch_after_swap, punch_change_after_swap}
+use Rattle.s360_device.specs.PunchLaws.{CanSwapPunch-again, punch_after_swap-twice, punch_change_after_swap-twice}
+use Rattle.s360_device.specs.ReaderChanges.{CanSwapReader, reader_after_swap, reader_change_after_swap}
+use Rattle.s360_device.specs.ReaderLaws.{CanSwapReader-again, reader_after_swap-twice, reader_change_after_swap-twice}
+use Rattle.s360_channel.specs.declared.unit_control.UnitControl.{UnitControl}
+use Rattle.s360_store.specs.declared.place.Place.{Place}
+use Rattle.s360_store.specs.Cells.{cells_after_exchange, AllFit}
 use Rattle.s360_store.proofs.ExchangeLemmas.{after_exchange-twice, cells_after_exchange-twice, AreCellsOf-again, places_of_cells-cells_after_exchange}
-use Rattle.s360_machine.specs.ControlCells.{control_after_exchange, control_cells_after_exchange, places_of_control}
-use Rattle.s360_machine.specs.Machine.{Whole}
+use Rattle.s360_machine.specs.declared.media.MediaChanges.{MediaChanges}
+use Rattle.s360_machine.specs.declared.units.UnitChanges.{UnitChanges}
+use Rattle.s360_machine.specs.declared.units.Units.{Units}
+use Rattle.s360_machine.specs.IoChanges.{CanIfAny, after_if_any, back_if_any, place_if_any, the_one, the_other}
+use Rattle.s360_machine.specs.IoChanges.{CanSwapMedia, media_after_swap, media_changes_after_swap}
+use Rattle.s360_machine.specs.IoChanges.{unit_changes_after_swap, units_after_swap}
+use Rattle.s360_machine.specs.Machine.{Media, Whole}
 use Rattle.s360_machine.specs.Change.{Change, CanSwap, after_swap, change_after_swap, places_of_change}
 use Rattle.s360_machine.proofs.ControlLemmas.{control_after_exchange-twice, control_cells_after_exchange-twice, HasEachControlOnce-after, places_of_control-after}
 
+-- the laws of an exchange, of a change that may be there
+CanIfAny-again : {D C : Type 0} (Can : D → C → Type 0) (after : D → C → D) (back : D → C → C)
+    → ((d : D) (x : C) → Can d x → Can (after d x) (back d x))
+    → (d : D) (x : Option C) → CanIfAny Can d x → CanIfAny Can (after_if_any after d x) (back_if_any back d x)
+CanIfAny-again Can after back law d None h = tt
+CanIfAny-again Can after back law d (Some x) h = law d x h
+
+after_if_any-twice : {D C : Type 0} (Can : D → C → Type 0) (after : D → C → D) (back : D → C → C)
+    → ((d : D) (x : C) → Can d x → after (after d x) (back d x) ≡ d)
+    → (d : D) (x : Option C) → CanIfAny Can d x → after_if_any after (after_if_any after d x) (back_if_any back d x) ≡ d
+after_if_any-twice Can after back law d None h = refl
+after_if_any-twice Can after back law d (Some x) h = law d x h
+
+back_if_any-twice : {D C : Type 0} (Can : D → C → Type 0) (after : D → C → D) (back : D → C → C)
+    → ((d : D) (x : C) → Can d x → back (after d x) (back d x) ≡ x)
+    → (d : D) (x : Option C) → CanIfAny Can d x → back_if_any back (after_if_any after d x) (back_if_any back d x) ≡ x
+back_if_any-twice Can after back law d None h = refl
+back_if_any-twice Can after back law d (Some x) h = ap (λ y. Some y) (law d x h)
+
+place_if_any-back : {D C : Type 0} (back : D → C → C) (d : D) (x : Option C) (p : Place) → place_if_any (back_if_any back d x) p ≡ place_if_any x p
+place_if_any-back back d None p = refl
+place_if_any-back back d (Some x) p = refl
+
+-- the units
+unit-twice : (u : UnitControl) (x : Option UnitControl) → after_if_any the_other (after_if_any the_other u x) (back_if_any the_one u x) ≡ u
+unit-twice u None = refl
+unit-twice u (Some x) = refl
+
+unit_change-twice : (u : UnitControl) (x : Option UnitControl) → back_if_any the_one (after_if_any the_other u x) (back_if_any the_one u x) ≡ x
+unit_change-twice u None = refl
+unit_change-twice u (Some x) = refl
+
+units_after_swap-twice : (us : Units) (x : UnitChanges) → units_after_swap (units_after_swap us x) (unit_changes_after_swap us x) ≡ us
+units_after_swap-twice us x = rw (unit-twice us.reader x.reader, unit-twice us.punch x.punch) refl
+
+unit_changes_after_swap-twice : (us : Units) (x : UnitChanges) → unit_changes_after_swap (units_after_swap us x) (unit_changes_after_swap us x) ≡ x
+unit_changes_after_swap-twice us x = rw (unit_change-twice us.reader x.reader, unit_change-twice us.punch x.punch) refl
+
+-- the media
+CanSwapMedia-again : (m : Media) (x : MediaChanges) → CanSwapMedia m x → CanSwapMedia (media_after_swap m x) (media_changes_after_swap m x)
+CanSwapMedia-again m x h = (
+  CanIfAny-again CanSwapReader reader_after_swap reader_change_after_swap CanSwapReader-again m.reader x.reader h.0,
+  CanIfAny-again CanSwapPunch punch_after_swap punch_change_after_swap CanSwapPunch-again m.punch x.punch h.1,
+)
+
+media_after_swap-twice : (m : Media) (x : MediaChanges) → CanSwapMedia m x → media_after_swap (media_after_swap m x) (media_changes_after_swap m x) ≡ m
+media_after_swap-twice m x h =
+    ap (λ (r : Reader). record { reader = r; punch = after_if_any punch_after_swap (after_if_any punch_after_swap m.punch x.punch) (back_if_any punch_change_after_swap m.punch x.punch) })
+    (after_if_any-twice CanSwapReader reader_after_swap reader_change_after_swap reader_after_swap-twice m.reader x.reader h.0)
+    ∙ ap (λ (p : Punch). record { reader = m.reader; punch = p }) (after_if_any-twice CanSwapPunch punch_after_swap punch_change_after_swap punch_after_swap-twice m.punch x.punch h.1)
+
+media_changes_after_swap-twice : (m : Media) (x : MediaChanges) → CanSwapMedia m x → media_changes_after_swap (media_after_swap m x) (media_changes_after_swap m x) ≡ x
+media_changes_after_swap-twice m x h =
+    ap (λ (r : Option ReaderChange). record { reader = r; punch = back_if_any punch_change_after_swap (after_if_any punch_after_swap m.punch x.punch) (back_if_any punch_change_after_swap m.punch x.punch) })
+    (back_if_any-twice CanSwapReader reader_after_swap reader_change_after_swap reader_change_after_swap-twice m.reader x.reader h.0)
+    ∙ ap (λ (p : Option PunchChange). record { reader = x.reader; punch = p }) (back_if_any-twice CanSwapPunch punch_after_swap punch_change_after_swap punch_change_after_swap-twice m.punch x.punch h.1)
+
+-- the whole
 pub CanSwap-again : (w : Whole) (x : Change) → CanSwap w x → AllFit (cells_after_exchange w.core x.cells) → CanSwap (after_swap w x) (change_after_swap w x)
-CanSwap-again w x h f = (AreCellsOf-again w.core x.cells h.0 f, HasEachControlOnce-after w.control x.control h.1)
+CanSwap-again w x h f = (AreCellsOf-again w.core x.cells h.0 f, HasEachControlOnce-after w.control x.control h.1, CanSwapMedia-again w.media x.media h.2)
 
 pub after_swap-twice : (w : Whole) (x : Change) → CanSwap w x → after_swap (after_swap w x) (change_after_swap w x) ≡ w
 after_swap-twice w x h =
-    ap (λ k. record w { core = k; control = control_after_exchange (control_after_exchange w.control x.control) (control_cells_after_exchange w.control x.control) }) (after_exchange-twice w.core x.cells h.0)
-    ∙ ap (λ k. record w { control = k }) (control_after_exchange-twice w.control x.control h.1)
+    ap (λ k. record (after_swap (after_swap w x) (change_after_swap w x)) { core = k }) (after_exchange-twice w.core x.cells h.0)
+    ∙ ap (λ k. record (after_swap (after_swap w x) (change_after_swap w x)) { core = w.core; control = k }) (control_after_exchange-twice w.control x.control h.1)
+    ∙ ap (λ k. record w { units = k; media = media_after_swap (media_after_swap w.media x.media) (media_changes_after_swap w.media x.media) }) (units_after_swap-twice w.units x.units)
+    ∙ ap (λ k. record w { media = k }) (media_after_swap-twice w.media x.media h.2)
 
 pub change_after_swap-twice : (w : Whole) (x : Change) → CanSwap w x → change_after_swap (after_swap w x) (change_after_swap w x) ≡ x
 change_after_swap-twice w x h =
-    ap (λ k. record {
-      cells = k;
-      control = control_cells_after_exchange (control_after_exchange w.control x.control) (control_cells_after_exchange w.control x.control);
-    }) (cells_after_exchange-twice w.core x.cells h.0)
-    ∙ ap (λ k. record x { control = k }) (control_cells_after_exchange-twice w.control x.control h.1)
+    ap (λ k. record (change_after_swap (after_swap w x) (change_after_swap w x)) { cells = k }) (cells_after_exchange-twice w.core x.cells h.0)
+    ∙ ap (λ k. record (change_after_swap (after_swap w x) (change_after_swap w x)) { cells = x.cells; control = k }) (control_cells_after_exchange-twice w.control x.control h.1)
+    ∙ ap (λ k. record x { units = k; media = media_changes_after_swap (media_after_swap w.media x.media) (media_changes_after_swap w.media x.media) }) (unit_changes_after_swap-twice w.units x.units)
+    ∙ ap (λ k. record x { media = k }) (media_changes_after_swap-twice w.media x.media h.2)
 
 -- what an exchange leaves may be exchanged again, which restores all
 pub record IsSwap (w : Whole) (x : Change) (v : Whole) (y : Change) : Type 0 where
@@ -40,5 +115,11 @@ IsSwap-from w x v y h ev ey f = record {
 -- an exchange keeps the places
 pub places_of_change-after_swap : (w : Whole) (x : Change) → places_of_change (change_after_swap w x) ≡ places_of_change x
 places_of_change-after_swap w x =
-    ap (λ ps. ps ++ places_of_control (control_cells_after_exchange w.control x.control)) (places_of_cells-cells_after_exchange w.core x.cells)
-    ∙ ap (λ ps. places_of_cells x.cells ++ ps) (places_of_control-after w.control x.control)
+    rw (
+      places_of_cells-cells_after_exchange w.core x.cells,
+      places_of_control-after w.control x.control,
+      place_if_any-back the_one w.units.reader x.units.reader,
+      place_if_any-back the_one w.units.punch x.units.punch,
+      place_if_any-back reader_change_after_swap w.media.reader x.media.reader,
+      place_if_any-back punch_change_after_swap w.media.punch x.media.punch,
+    ) refl

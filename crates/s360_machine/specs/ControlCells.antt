@@ -1,13 +1,17 @@
 -- The places of the control part: a control cell is one of them with a value of it. Control cells are
 -- exchanged with the control part one after another: it gets their values, and they get what stood there.
-use Rattle.std.specs.Prelude.{◌≢◌, List, [], ◌∷◌, map}
+use Rattle.std.specs.Prelude.{◌≢◌, Bool, true, false, List, [], ◌∷◌, map}
 use Rattle.s360_store.specs.declared.place.Place.{Place}
 use Rattle.s360_store.specs.declared.place.Place.TheVariants.{Run, External}
-use Rattle.s360_machine.specs.declared.control_cell.ControlCell.{ControlCell}
-use Rattle.s360_machine.specs.declared.control_cell.ControlCell.TheVariants.{Run as run, External as external}
+use Rattle.s360_machine.specs.declared.external.ExternalConditions.{ExternalConditions}
+use Rattle.s360_machine.specs.declared.run_state.RunState.{RunState}
 use Rattle.s360_machine.specs.declared.control_change.ControlChange.{ControlChange}
 use Rattle.s360_machine.specs.declared.control_change.ControlChange.TheVariants.{Neither, Run as OneRun, External as OneExternal, Both}
 use Rattle.s360_machine.specs.Machine.{Control}
+
+pub data ControlCell : Type 0 where
+  run : RunState → ControlCell
+  external : ExternalConditions → ControlCell
 
 -- the cells of what an event alters, in the order of places
 abbrev pub control_cells : ControlChange → List ControlCell
@@ -15,6 +19,17 @@ control_cells Neither = []
 control_cells (OneRun state) = run state ∷ []
 control_cells (OneExternal conditions) = external conditions ∷ []
 control_cells (Both state conditions) = run state ∷ external conditions ∷ []
+
+-- which of the two it is
+abbrev pub has_run_state : ControlChange → Bool
+has_run_state (OneRun state) = true
+has_run_state (Both state conditions) = true
+has_run_state other = false
+
+abbrev pub has_external : ControlChange → Bool
+has_external (OneExternal conditions) = true
+has_external (Both state conditions) = true
+has_external other = false
 
 abbrev pub place_of_control : ControlCell → Place
 place_of_control (run state) = Run

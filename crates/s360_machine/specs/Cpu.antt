@@ -1,25 +1,39 @@
 -- One CPU event (GA22-6821, "Interruptions", "Status Switching" and "System Structure", program execution).
 use Rattle.std.specs.Prelude.{ℕ, Bool, true, false, Option, Some, None}
+use Rattle.std.specs.Option.{option_map}
 use Rattle.s360_model.specs.Core.{Core, core_with_psw}
 use Rattle.s360_model.specs.Psw.{wait_of, with_instruction_address}
 use Rattle.s360_psw.specs.declared.class.Class.{Class}
-use Rattle.s360_psw.specs.declared.class.Class.TheVariants.{External, Program as program, Supervisor}
+use Rattle.s360_psw.specs.declared.class.Class.TheVariants.{External, InputOutput, Program as program, Supervisor}
 use Rattle.s360_psw.specs.declared.instruction_length.InstructionLength.TheVariants.{NotAvailable}
 use Rattle.s360_psw.specs.declared.pending.Pending.{Pending}
 use Rattle.s360_psw.specs.Pending.{next_interruption_of}
 use Rattle.s360_fixed.specs.declared.ended.Ended.{Ended}
-use Rattle.s360_fixed.specs.declared.ended.Ended.TheVariants.{Done, Program, Svc, Io, Unbuilt}
+use Rattle.s360_fixed.specs.declared.ended.Ended.TheVariants.{Done, Program, Svc, Io}
 use Rattle.s360_fixed.specs.ProgramCodes.{number_of_code}
 use Rattle.s360_logic.specs.Instruction.{Instruction, instruction}
 use Rattle.s360_machine.specs.declared.cpu.CpuCase.{CpuCase}
 use Rattle.s360_machine.specs.declared.cpu.CpuCase.TheVariants.{Halted, Interrupted, Waiting, Executing}
 use Rattle.s360_machine.specs.Interruptions.{after_interruption, external_code}
+use Rattle.s360_word.specs.declared.unit.Unit.{Unit as UnitAddress}
+use Rattle.s360_machine.specs.declared.units.Units.{Units}
+use Rattle.s360_machine.specs.InputOutput.{after_input_output, after_io}
 use Rattle.s360_machine.specs.Machine.{Control, Machine, no_external}
 use Rattle.s360_machine.specs.RunStates.{is_operating}
+use Rattle.s360_machine.specs.Units.{address_of_unit, lowest_pending}
 
--- what waits until the PSW lets it interrupt; there are no units yet
-abbrev pub pending_of : Control → Pending
-pending_of c = record { timer = c.external.timer; key = c.external.key; channel0 = None; channel1 = None }
+-- the lowest unit of a channel that has a condition, by its address
+abbrev pub pending_unit : Units → ℕ → Option UnitAddress
+pending_unit us channel = option_map (λ u. record { 0 = address_of_unit u }) (lowest_pending us channel)
+
+-- what waits until the PSW lets it interrupt
+abbrev pub pending_of : Control → Units → Pending
+pending_of c us = record {
+  timer = c.external.timer;
+  key = c.external.key;
+  channel0 = pending_unit us 0;
+  channel1 = pending_unit us 1;
+}
 
 -- the first case that holds: the machine is stopped or loads; an interruption is pending and its mask is one;
 -- the CPU waits; it executes an instruction
@@ -30,7 +44,7 @@ first_case true None true = Waiting
 first_case true None false = Executing
 
 abbrev pub cpu_case : Machine → CpuCase
-cpu_case m = first_case (is_operating m.control.run_state) (next_interruption_of m.core.psw (pending_of m.control)) (wait_of m.core.psw)
+cpu_case m = first_case (is_operating m.control.run_state) (next_interruption_of m.core.psw (pending_of m.control m.units)) (wait_of m.core.psw)
 
 -- all pending external conditions go in one interruption, which is of no instruction (own profile)
 abbrev pub after_external : Machine → Machine
@@ -49,30 +63,23 @@ core_after_ended Done i = i.outcome.core
 core_after_ended (Program code) i = after_interruption program (number_of_code code) i.instruction_length (with_next_address i.next_address i.outcome.core)
 core_after_ended (Svc code) i = after_interruption Supervisor code i.instruction_length (with_next_address i.next_address i.outcome.core)
 core_after_ended (Io operation unit) i = i.outcome.core
-core_after_ended Unbuilt i = i.outcome.core
 
-abbrev pub core_after_instruction : Core → Core
-core_after_instruction m = core_after_ended (instruction m).outcome.ended (instruction m)
+-- an input/output instruction is the channels' to execute
+abbrev pub after_ended : Ended → Instruction → Machine → Machine
+after_ended (Io operation unit) i m = after_io operation unit i.next_address m
+after_ended ended i m = record m { core = core_after_ended ended i }
 
--- what the case makes of the machine; no interruption of another class is pending yet
+abbrev pub after_instruction : Machine → Machine
+after_instruction m = after_ended (instruction m.core).outcome.ended (instruction m.core) m
+
+-- what the case makes of the machine; no other class of interruption waits for its mask
 abbrev pub after_case : CpuCase → Machine → Machine
 after_case Halted m = m
 after_case (Interrupted External) m = after_external m
+after_case (Interrupted InputOutput) m = after_input_output m
 after_case (Interrupted other) m = m
 after_case Waiting m = m
-after_case Executing m = record m { core = core_after_instruction m.core }
+after_case Executing m = after_instruction m
 
 abbrev pub after_cpu : Machine → Machine
 after_cpu m = after_case (cpu_case m) m
-
--- the instruction is one of the channels, which are not built yet
-abbrev pub needs_more : Ended → Bool
-needs_more Done = false
-needs_more (Program code) = false
-needs_more (Svc code) = false
-needs_more (Io operation unit) = true
-needs_more Unbuilt = true
-
-abbrev pub is_case_unbuilt : CpuCase → Machine → Bool
-is_case_unbuilt Executing m = needs_more (instruction m.core).outcome.ended
-is_case_unbuilt other m = false

@@ -1,11 +1,16 @@
+pub mod Units
 pub mod Machine
+pub mod Media
 pub mod RunStates
 pub mod ControlCells
 pub mod Interruptions
 pub mod Timer
 pub mod Operator
+pub mod InputOutput
+pub mod ChannelEvents
 pub mod Cpu
 pub mod Refusals
 pub mod Step
+pub mod IoChanges
 pub mod Change
 pub mod Planned

@@ -1,19 +1,27 @@
 -- What a plan and a change make of a machine.
-use Rattle.std.specs.Prelude.{◌≡◌, ◌⊎◌, ◌++◌, Bool, true, false, not, ◌&&◌, if◌then◌else◌, List, [], ◌∷◌, nat_eq, Result, Ok, Err}
+use Rattle.std.specs.Prelude.{◌≡◌, ◌++◌, Bool, true, false, not, ◌&&◌, if◌then◌else◌, List, [], ◌∷◌, nat_eq}
 use Rattle.s360_store.specs.declared.place.Place.{Place}
 use Rattle.s360_store.specs.declared.place.Place.TheVariants.{Run, External}
 use Rattle.s360_store.specs.declared.place.Cell.{Cell}
 use Rattle.s360_store.specs.Plans.{IsPlanOf}
 use Rattle.s360_store.specs.Differences.{core_differences}
-use Rattle.s360_machine.specs.declared.control_cell.ControlCell.{ControlCell}
+use Rattle.s360_device.specs.Differences.{same_punch, same_reader}
+use Rattle.s360_channel.specs.Differences.{same_unit}
+use Rattle.s360_machine.specs.ControlCells.{ControlCell}
 use Rattle.s360_machine.specs.declared.external.ExternalConditions.{ExternalConditions}
 use Rattle.s360_machine.specs.declared.run_state.RunState.{RunState}
 use Rattle.s360_machine.specs.declared.run_state.RunState.TheVariants.{Operating, Stopped, Loading}
-use Rattle.s360_machine.specs.declared.refusal.Refusal.{Refusal}
-use Rattle.s360_machine.specs.declared.refusal.Refusal.TheVariants.{Memory, Unbuilt}
-use Rattle.s360_machine.specs.Machine.{Machine, Whole, Control, seen}
+use Rattle.s360_machine.specs.declared.configured_unit.ConfiguredUnit.TheVariants.{Reader, Punch}
+use Rattle.s360_machine.specs.declared.machine.PlannedEvent.{PlannedEvent}
+use Rattle.s360_machine.specs.declared.media.MediaChanges.{MediaChanges}
+use Rattle.s360_machine.specs.declared.units.UnitChanges.{UnitChanges}
+use Rattle.s360_machine.specs.declared.units.Units.{Units}
+use Rattle.s360_machine.specs.Machine.{Machine, Media, Whole, Control, seen}
 use Rattle.s360_machine.specs.ControlCells.{HasEachControlOnce, control_after_exchange, places_of_control}
-use Rattle.s360_machine.specs.Change.{Change, CanSwap, after_swap, places_of_change}
+use Rattle.s360_machine.specs.Change.{Change, CanSwap, NeedsNoRoom, after_swap, change_after_swap, places_of_change}
+use Rattle.s360_machine.specs.IoChanges.{CanSwapMedia, cards_of_punch, cards_of_reader, media_after_swap, media_changes_after_swap}
+use Rattle.s360_machine.specs.IoChanges.{media_changes_of, places_of_media, places_of_units, unit_changes_of, units_after_swap}
+use Rattle.s360_machine.specs.Units.{media_place, state_place}
 
 abbrev pub same_run_state : RunState → RunState → Bool
 same_run_state Operating Operating = true
@@ -35,9 +43,19 @@ unless_same same p = if same then [] else p ∷ []
 abbrev pub control_differences : Control → Control → List Place
 control_differences c d = unless_same (same_run_state c.run_state d.run_state) Run ++ unless_same (same_external c.external d.external) External
 
+abbrev pub unit_differences : Units → Units → List Place
+unit_differences us vs = unless_same (same_unit us.reader vs.reader) (state_place Reader) ++ unless_same (same_unit us.punch vs.punch) (state_place Punch)
+
+abbrev pub media_differences : Media → Media → List Place
+media_differences m n = unless_same (same_reader m.reader n.reader) (media_place Reader) ++ unless_same (same_punch m.punch n.punch) (media_place Punch)
+
+-- the places beside the core at which two machines differ, in their order
+abbrev pub differences_beside_core : Machine → Machine → List Place
+differences_beside_core m n = control_differences m.control n.control ++ (unit_differences m.units n.units ++ media_differences m.media n.media)
+
 -- the places at which two machines of one storage size differ, in their order
 abbrev pub differences : Machine → Machine → List Place
-differences m n = core_differences m.core n.core ++ control_differences m.control n.control
+differences m n = core_differences m.core n.core ++ differences_beside_core m n
 
 -- the control cells make the second control part of the first, and have just the places at which the two
 -- differ
@@ -46,21 +64,43 @@ pub record IsControlChangeTo (c : Control) (xs : List ControlCell) (d : Control)
   pub makes : control_after_exchange c xs ≡ d
   pub lists : places_of_control xs ≡ control_differences c d
 
--- a plan makes the core of a machine, and this is its control part
-pub record IsPlanOfMachine (m : Machine) (plan : List Cell) (c : Control) (n : Machine) : Type 0 where
-  pub core : IsPlanOf m.core plan n.core
-  pub control : c ≡ n.control
+-- the changes make the second units of the first, and are just those of the units that differ
+pub record IsUnitsChangeTo (us : Units) (x : UnitChanges) (vs : Units) : Type 0 where
+  pub makes : units_after_swap us x ≡ vs
+  pub lists : places_of_units x ≡ unit_differences us vs
 
--- the change makes a whole of which the machine is seen, and lists the places at which the machines differ
+-- the changes make the second media of the first, are just those of the devices that differ, and want no room to be
+-- taken back
+pub record IsMediaChangeTo (m : Media) (x : MediaChanges) (n : Media) : Type 0 where
+  pub can : CanSwapMedia m x
+  pub makes : media_after_swap m x ≡ n
+  pub lists : places_of_media x ≡ media_differences m n
+  pub reader_back : cards_of_reader (media_changes_after_swap m x) ≡ 0
+  pub punch_back : cards_of_punch (media_changes_after_swap m x) ≡ 0
+
+-- a plan makes the core of a machine, and what was planned beside it the other parts
+pub record IsPlanOfMachine (m : Machine) (plan : List Cell) (planned : PlannedEvent) (n : Machine) : Type 0 where
+  pub core : IsPlanOf m.core plan n.core
+  pub control : planned.control ≡ n.control
+  pub units : IsUnitsChangeTo m.units (unit_changes_of planned.io) n.units
+  pub media : IsMediaChangeTo m.media (media_changes_of planned.io) n.media
+
+-- what was planned has this control part, and alters this of the units
+pub record PlansIo (planned : PlannedEvent) (c : Control) (us : UnitChanges) (ms : MediaChanges) : Type 0 where
+  pub control : planned.control ≡ c
+  pub units : unit_changes_of planned.io ≡ us
+  pub media : media_changes_of planned.io ≡ ms
+
+-- what was planned has this control part, and leaves the units and their devices alone
+pub record LeavesUnits (w : Whole) (c : Control) (planned : PlannedEvent) : Type 0 where
+  pub control : planned.control ≡ c
+  pub units : IsUnitsChangeTo w.units (unit_changes_of planned.io) w.units
+  pub media : IsMediaChangeTo w.media (media_changes_of planned.io) w.media
+
+-- the change makes a whole of which the machine is seen, lists the places at which the machines differ, and wants no
+-- room to be taken back
 pub record IsChangeTo (w : Whole) (x : Change) (n : Machine) : Type 0 where
   pub can : CanSwap w x
   pub makes : seen (after_swap w x) ≡ n
   pub lists : places_of_change x ≡ differences (seen w) n
-
--- what may answer an event that its own sake does not refuse: want of memory always; that it is not built
--- exactly where it is not; else it is accepted
-abbrev pub IsAnswerToEvent : {X : Type 0} → Bool → Result X Refusal → Type 0
-IsAnswerToEvent true (Ok x) = ⊥
-IsAnswerToEvent false (Ok x) = Unit {0}
-IsAnswerToEvent true (Err r) = (r ≡ Unbuilt) ⊎ (r ≡ Memory)
-IsAnswerToEvent false (Err r) = r ≡ Memory
+  pub back : NeedsNoRoom (change_after_swap w x)

@@ -1,19 +1,20 @@
 -- Why an event is refused, by the event and the storage size alone.
-use Rattle.std.specs.Prelude.{ℕ, ◌+◌, Option, Some, None, length, nat_lt, if◌then◌else◌}
+use Rattle.std.specs.Prelude.{ℕ, ◌+◌, Option, Some, None, is_none, length, nat_lt, if◌then◌else◌}
 use Rattle.s360_machine.specs.declared.event.Event.{Event}
-use Rattle.s360_machine.specs.declared.event.Event.TheVariants.{Patch as patch}
+use Rattle.s360_machine.specs.declared.event.Event.TheVariants.{Channel, Patch as patch}
 use Rattle.s360_machine.specs.declared.event.Patch.{Patch}
 use Rattle.s360_machine.specs.declared.event.Patch.TheVariants.{Bytes, Register, StorageKey, Psw}
 use Rattle.s360_machine.specs.declared.refusal.Refusal.{Refusal}
-use Rattle.s360_machine.specs.declared.refusal.Refusal.TheVariants.{Memory, OutsideStorage, PatchTooLong, JournalFull, Unbuilt}
+use Rattle.s360_machine.specs.declared.refusal.Refusal.TheVariants.{Memory, OutsideStorage, NoSuchUnit, PatchTooLong, JournalFull}
+use Rattle.s360_machine.specs.Units.{unit_at}
 
 -- the numbers by which refusals are printed
 abbrev pub number_of_refusal : Refusal → ℕ
 number_of_refusal Memory = 1
 number_of_refusal OutsideStorage = 2
+number_of_refusal NoSuchUnit = 3
 number_of_refusal PatchTooLong = 5
 number_of_refusal JournalFull = 6
-number_of_refusal Unbuilt = 7
 
 -- too long comes before outside
 abbrev pub refusal_of_patch : ℕ → Patch → Option Refusal
@@ -24,4 +25,5 @@ refusal_of_patch size (Psw psw) = None
 
 abbrev pub refusal_of : ℕ → Event → Option Refusal
 refusal_of size (patch p) = refusal_of_patch size p
+refusal_of size (Channel unit) = if is_none (unit_at unit.0) then Some NoSuchUnit else None
 refusal_of size event = None

@@ -1,15 +1,15 @@
 -- What an event makes of the machine.
-use Rattle.std.specs.Prelude.{◌/◌, Bool, true, false, Option, Some, None, Result, Ok, Err}
+use Rattle.std.specs.Prelude.{◌/◌, Option, Some, None, Result, Ok, Err}
 use Rattle.s360_model.specs.Core.{core_with_bytes, core_with_key, core_with_psw, core_with_word}
 use Rattle.s360_model.specs.Psw.{current_psw}
 use Rattle.s360_model.specs.Storage.{block_size}
 use Rattle.s360_machine.specs.declared.event.Event.{Event}
-use Rattle.s360_machine.specs.declared.event.Event.TheVariants.{Cpu, Tick, Key, Patch as patch}
+use Rattle.s360_machine.specs.declared.event.Event.TheVariants.{Cpu, Channel, Tick, Key, Patch as patch}
 use Rattle.s360_machine.specs.declared.event.Patch.{Patch}
 use Rattle.s360_machine.specs.declared.event.Patch.TheVariants.{Bytes, Register, StorageKey, Psw}
 use Rattle.s360_machine.specs.declared.refusal.Refusal.{Refusal}
-use Rattle.s360_machine.specs.declared.refusal.Refusal.TheVariants.{Unbuilt}
-use Rattle.s360_machine.specs.Cpu.{after_cpu, cpu_case, is_case_unbuilt}
+use Rattle.s360_machine.specs.ChannelEvents.{after_channel_event}
+use Rattle.s360_machine.specs.Cpu.{after_cpu}
 use Rattle.s360_machine.specs.Machine.{Machine, storage_size}
 use Rattle.s360_machine.specs.Operator.{after_key}
 use Rattle.s360_machine.specs.Refusals.{refusal_of}
@@ -26,21 +26,15 @@ after_patch m (Psw psw) = record m { core = core_with_psw (current_psw psw) m.co
 -- the machine after an event that is not refused
 abbrev pub after : Machine → Event → Machine
 after m Cpu = after_cpu m
+after m (Channel unit) = after_channel_event unit m
 after m Tick = after_tick m
 after m (Key k) = after_key m k
 after m (patch p) = after_patch m p
 
--- the event is not built yet in this machine
-abbrev pub is_unbuilt : Machine → Event → Bool
-is_unbuilt m Cpu = is_case_unbuilt (cpu_case m) m
-is_unbuilt m event = false
-
--- a refusal for the event's own sake comes before that it is not built yet
-abbrev pub step_to : Option Refusal → Bool → Machine → Result Machine Refusal
-step_to (Some r) unbuilt n = Err r
-step_to None true n = Err Unbuilt
-step_to None false n = Ok n
+abbrev pub step_to : Option Refusal → Machine → Result Machine Refusal
+step_to (Some r) n = Err r
+step_to None n = Ok n
 
 -- the machine after an event, or its refusal
 abbrev pub step : Machine → Event → Result Machine Refusal
-step m e = step_to (refusal_of (storage_size m) e) (is_unbuilt m e) (after m e)
+step m e = step_to (refusal_of (storage_size m) e) (after m e)

@@ -37,5 +37,5 @@ control_after_tick word c = if runs_out word then record c { external = record c
 abbrev pub after_tick : Machine → Machine
 after_tick m =
     if is_operating m.control.run_state
-    then record { core = core_after_tick m.core; control = control_after_tick (timer_of m.core) m.control }
+    then record m { core = core_after_tick m.core; control = control_after_tick (timer_of m.core) m.control }
     else m

@@ -1,10 +1,14 @@
 //! What an event alters, ready to be exchanged with the machine.
-ghost use Rattle.std.specs.Prelude.{◌≡◌, ◌<◌, ◌≤◌, length, Some, slice_get, IfOk};
+ghost use Rattle.std.specs.Prelude.{◌≡◌, ◌<◌, ◌≤◌, ◌++◌, [], ◌∷◌, length, Some, slice_get, IfOk};
+ghost use Rattle.std.specs.Prelude.{if◌then◌else◌};
 ghost use Rattle.std.specs.List.{list_any};
 ghost use Rattle.s360_store.specs.Places.{same_place};
-ghost use Rattle.s360_machine.specs.Change.{places_of_change};
+ghost use Rattle.s360_machine.specs.Change.{places_beside_core, places_of_change};
 
+use crate::configured_unit::ConfiguredUnit;
 use crate::control_change::ControlChange;
+use crate::io_change::IoChange;
+use arrayvec::ArrayVec;
 use s360_store::{Cell, Place};
 use smallvec::SmallVec;
 use std::alloc::AllocError;
@@ -13,12 +17,17 @@ use std::marker::Model;
 /// So many cells of the core stand within a change, as many as most instructions alter.
 pub(crate) const WITHIN: usize = 2;
 
+/// So many places there are beside those of the core.
+const BESIDE: usize = 6;
+
 /// The places that an event alters, in their order, each with the value that stands there while the
-/// change is not made, or no longer: those of the core, and then those of the control part.
+/// change is not made, or no longer: those of the core, then those of the control part, and then those
+/// of the units.
 #[derive(Debug, Drop)]
 pub struct Changes {
     pub(crate) cells: SmallVec<Cell, WITHIN>,
     pub(crate) control: ControlChange,
+    pub(crate) io: Option<Box<IoChange>>,
 }
 
 impl Model for Changes {
@@ -28,17 +37,63 @@ impl Model for Changes {
 
     ghost Value = { Change };
 
-    ghost view = { λ c. record { cells = c.cells.items; control = control_cells c.control } };
+    ghost use Rattle.s360_machine.specs.IoChanges.{media_changes_of, unit_changes_of};
+
+    ghost view = { λ c. record { cells = c.cells.items; control = control_cells c.control; units = unit_changes_of c.io; media = media_changes_of c.io } };
 
     ghost invariant = { λ c. length c.cells.items ≤ 1000000 };
 }
 
+/// Adds a place where there is a change of it.
+fn push_if(places: &mut ArrayVec<Place, BESIDE>, altered: bool, place: Place)
+    requires room { length places.old.items < 6 }
+    ensures { places.new.items ≡ places.old.items ++ (if altered then place ∷ [] else []) }
+{
+    if altered {
+        places.push(place);
+    }
+}
+
 impl Changes {
+    /// The places beside those of the core, in their order.
+    fn beside_core(&self) -> ArrayVec<Place, BESIDE>
+        ensures { result.items ≡ places_beside_core self.now }
+    {
+        let mut places = ArrayVec::new();
+        push_if(&mut places, self.control.has_run_state(), Place::Run);
+        push_if(&mut places, self.control.has_external(), Place::External);
+        let Some(io) = &self.io else {
+            return places;
+        };
+        let (reader, punch) = (ConfiguredUnit::Reader.unit(), ConfiguredUnit::Punch.unit());
+        push_if(
+            &mut places,
+            io.units.reader.is_some(),
+            Place::UnitState(reader),
+        );
+        push_if(
+            &mut places,
+            io.units.punch.is_some(),
+            Place::UnitState(punch),
+        );
+        push_if(
+            &mut places,
+            io.media.reader.is_some(),
+            Place::UnitMedia(reader),
+        );
+        push_if(
+            &mut places,
+            io.media.punch.is_some(),
+            Place::UnitMedia(punch),
+        );
+        places
+    }
+
     /// The number of places.
     pub fn len(&self) -> u32
         ensures { result ≡ length (places_of_change self.now) }
     {
-        self.cells.len() as u32 + self.control.len() as u32
+        self.cells.len() as u32 + self.beside_core().len() as u32
     }
 
     /// The place at `i`, counted from 0.
@@ -49,7 +104,7 @@ impl Changes {
         let i = i as usize;
         match self.cells.get(i) {
             Some(cell) => cell.place,
-            None => self.control.cells()[i - self.cells.len()].place(),
+            None => self.beside_core()[i - self.cells.len()],
         }
     }
 
@@ -59,9 +114,8 @@ impl Changes {
     {
         let alloc = *self.cells.allocator();
         let core = self.cells.iter().map(|cell| cell.place);
-        let control = self.control.cells();
-        let control = control.iter().map(|cell| cell.place());
-        core.chain(control).collect(alloc)
+        let beside = self.beside_core();
+        core.chain(beside.iter().copied()).collect(alloc)
     }
 
     /// Whether a place is among them.
@@ -69,8 +123,8 @@ impl Changes {
         ensures { result ≡ list_any (λ q. same_place q place) (places_of_change self.now) }
     {
         let core = self.cells.iter().map(|cell| cell.place);
-        let control = self.control.cells();
-        let control = control.iter().map(|cell| cell.place());
-        core.chain(control).any(|other| other.is(place))
+        let beside = self.beside_core();
+        core.chain(beside.iter().copied())
+            .any(|other| other.is(place))
     }
 }

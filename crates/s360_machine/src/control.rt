@@ -1,9 +1,7 @@
-//! What the operator's panel and the channels work on beside the core. Source: GA22-6821, "System
-//! Control Panel" and "Input/Output Operations".
+//! What the operator's panel works on beside the core. Source: GA22-6821, "System Control Panel".
 ghost use Rattle.std.specs.Prelude.{◌≡◌, true};
 ghost use Rattle.s360_machine.specs.ControlCells.{control_after_exchange, control_cells};
 ghost use Rattle.s360_machine.specs.ControlCells.{control_cells_after_exchange};
-ghost use Rattle.s360_machine.specs.Cpu.{pending_of};
 ghost use Rattle.s360_machine.specs.Machine.{no_external};
 ghost use Rattle.s360_machine.specs.Operator.{after_start, after_stop, control_after_key};
 ghost use Rattle.s360_machine.specs.Planned.{IsControlChangeTo};
@@ -15,7 +13,6 @@ use crate::external::ExternalConditions;
 use crate::operator::Key;
 use crate::run_state::RunState;
 use crate::timer::runs_out;
-use s360_psw::Pending;
 use s360_word::Word;
 use std::marker::Model;
 
@@ -81,18 +78,6 @@ impl Control {
         self.external
     }
 
-    /// What waits until the PSW lets it interrupt.
-    pub(crate) fn pending(&self) -> Pending
-        ensures { result ≡ pending_of self.now }
-    {
-        Pending {
-            timer: self.external.timer,
-            key: self.external.key,
-            channel0: None,
-            channel1: None,
-        }
-    }
-
     /// The control part with no external condition pending.
     pub(crate) fn without_external(&self) -> Control
         ensures { result ≡ record self.now { external = no_external } }
@@ -143,6 +128,7 @@ impl Control {
                 },
                 ..*self
             },
+            Key::EndOfFile => *self,
         }
     }
 

@@ -1,11 +1,9 @@
 //! What an event alters of the control part.
-ghost use Rattle.std.specs.Prelude.{◌≡◌, ◌≤◌, length};
-ghost use Rattle.s360_machine.specs.ControlCells.{control_cells};
+ghost use Rattle.std.specs.Prelude.{◌≡◌};
+ghost use Rattle.s360_machine.specs.ControlCells.{has_external, has_run_state};
 
-use crate::control_cell::ControlCell;
 use crate::external::ExternalConditions;
 use crate::run_state::RunState;
-use arrayvec::ArrayVec;
 
 /// The places of the control part that an event alters, each with a value of it. A contract sees the
 /// list of their cells. It is small, since each change in the journal has one.
@@ -22,32 +20,17 @@ pub(crate) enum ControlChange {
 }
 
 impl ControlChange {
-    /// The number of places.
-    pub(crate) fn len(self) -> usize
-        ensures len { result ≡ length (control_cells self) }
-        ensures few { result ≤ 2 }
+    /// Whether the run state is among them.
+    pub(crate) fn has_run_state(self) -> bool
+        ensures { result ≡ has_run_state self }
     {
-        match self {
-            ControlChange::Neither => 0,
-            ControlChange::Run(_) | ControlChange::External(_) => 1,
-            ControlChange::Both(..) => 2,
-        }
+        matches!(self, ControlChange::Run(_) | ControlChange::Both(..))
     }
 
-    /// The cells of the places, in their order.
-    pub(crate) fn cells(self) -> ArrayVec<ControlCell, 2>
-        ensures { result.items ≡ control_cells self }
+    /// Whether the external conditions are among them.
+    pub(crate) fn has_external(self) -> bool
+        ensures { result ≡ has_external self }
     {
-        let mut cells = ArrayVec::new();
-        match self {
-            ControlChange::Neither => {}
-            ControlChange::Run(state) => cells.push(ControlCell::Run(state)),
-            ControlChange::External(conditions) => cells.push(ControlCell::External(conditions)),
-            ControlChange::Both(state, conditions) => {
-                cells.push(ControlCell::Run(state));
-                cells.push(ControlCell::External(conditions));
-            }
-        }
-        cells
+        matches!(self, ControlChange::External(_) | ControlChange::Both(..))
     }
 }

@@ -1,18 +1,14 @@
 //! One CPU event: an interruption, or one instruction with the interruption that it causes. Source:
 //! GA22-6821, "Interruptions", "Status Switching" and "System Structure", program execution.
-ghost use Rattle.std.specs.Prelude.{◌≡◌, [], IfOk, OnOk};
-ghost use Rattle.s360_store.specs.Plans.{IsPlanOf};
-ghost use Rattle.s360_logic.specs.Instruction.{instruction};
-ghost use Rattle.s360_machine.specs.Cpu.{after_cpu, after_external, core_after_instruction};
-ghost use Rattle.s360_machine.specs.Cpu.{cpu_case, is_case_unbuilt, needs_more};
+ghost use Rattle.std.specs.Prelude.{◌≡◌, [], IfOk};
+ghost use Rattle.s360_machine.specs.Cpu.{after_cpu, after_external, after_instruction};
+ghost use Rattle.s360_machine.specs.Cpu.{cpu_case, pending_of};
 ghost use Rattle.s360_machine.specs.Machine.{seen};
-ghost use Rattle.s360_machine.specs.Planned.{IsAnswerToEvent, IsPlanOfMachine};
+ghost use Rattle.s360_machine.specs.Planned.{IsPlanOfMachine};
 
-use crate::control::Control;
-use crate::machine::Machine;
-use crate::refusal::Refusal;
+use crate::machine::{Machine, PlannedEvent};
 use s360_fixed::Ended;
-use s360_psw::{Class, InstructionLength, next_interruption};
+use s360_psw::{Class, InstructionLength, Pending, next_interruption};
 use s360_store::Plan;
 use std::alloc::AllocError;
 
@@ -30,6 +26,19 @@ pub(crate) enum CpuCase {
 }
 
 impl Machine {
+    /// What waits until the PSW lets it interrupt.
+    fn pending(&self) -> Pending
+        ensures { result ≡ pending_of self.now.whole.control self.now.whole.units }
+    {
+        let external = self.control.external();
+        Pending {
+            timer: external.timer,
+            key: external.key,
+            channel0: self.units.pending_unit(0),
+            channel1: self.units.pending_unit(1),
+        }
+    }
+
     /// What a CPU event is.
     fn cpu_case(&self) -> CpuCase
         ensures { result ≡ cpu_case (seen self.now.whole) }
@@ -38,59 +47,60 @@ impl Machine {
             return CpuCase::Halted;
         }
         let psw = self.core.psw();
-        match next_interruption(&psw, &self.control.pending()) {
+        match next_interruption(&psw, &self.pending()) {
             Some(class) => CpuCase::Interrupted(class),
             None if psw.wait() => CpuCase::Waiting,
             None => CpuCase::Executing,
         }
     }
 
-    /// Plans a CPU event, and answers the control part after it.
-    pub(crate) fn plan_cpu(&self, plan: &mut Plan) -> Result<Control, Refusal>
+    /// Plans a CPU event.
+    pub(crate) fn plan_cpu(&self, plan: &mut Plan) -> Result<PlannedEvent, AllocError>
         requires empty { plan.old ≡ [] }
-        ensures ok { IfOk result (λ control. IsPlanOfMachine (seen self.now.whole) plan.new control (after_cpu (seen self.now.whole))) }
-        ensures answer { IsAnswerToEvent (is_case_unbuilt (cpu_case (seen self.now.whole)) (seen self.now.whole)) result }
+        ensures { IfOk result (λ planned. IsPlanOfMachine (seen self.now.whole) plan.new planned (after_cpu (seen self.now.whole))) }
     {
         match self.cpu_case() {
-            CpuCase::Interrupted(Class::External) => Ok(self.plan_external(plan)?),
-            CpuCase::Executing => {
-                self.plan_instruction(plan)?;
-                Ok(self.control)
+            CpuCase::Interrupted(Class::External) => self.plan_external(plan),
+            CpuCase::Interrupted(Class::InputOutput) => self.plan_input_output(plan),
+            CpuCase::Executing => self.plan_instruction(plan),
+            CpuCase::Halted | CpuCase::Interrupted(_) | CpuCase::Waiting => {
+                Ok(self.planned(self.control))
             }
-            CpuCase::Halted | CpuCase::Interrupted(_) | CpuCase::Waiting => Ok(self.control),
         }
     }
 
-    /// Plans an external interruption, in which all pending conditions go, and answers the control
-    /// part after it.
-    fn plan_external(&self, plan: &mut Plan) -> Result<Control, AllocError>
+    /// Plans an external interruption, in which all pending conditions go.
+    fn plan_external(&self, plan: &mut Plan) -> Result<PlannedEvent, AllocError>
         requires empty { plan.old ≡ [] }
-        ensures { IfOk result (λ control. IsPlanOfMachine (seen self.now.whole) plan.new control (after_external (seen self.now.whole))) }
+        ensures { IfOk result (λ planned. IsPlanOfMachine (seen self.now.whole) plan.new planned (after_external (seen self.now.whole))) }
     {
         let code = self.control.external().code();
         let length = InstructionLength::NotAvailable;
         self.core
             .plan_interruption(Class::External, self.core.psw(), code, length, plan)?;
-        Ok(self.control.without_external())
+        Ok(self.planned(self.control.without_external()))
     }
 
     /// Plans an instruction, with the program or the supervisor call interruption that it causes.
-    fn plan_instruction(&self, plan: &mut Plan) -> Result<(), Refusal>
+    fn plan_instruction(&self, plan: &mut Plan) -> Result<PlannedEvent, AllocError>
         requires empty { plan.old ≡ [] }
-        ensures ok { OnOk result (IsPlanOf self.now.whole.core plan.new (core_after_instruction self.now.whole.core)) }
-        ensures answer { IsAnswerToEvent (needs_more (instruction self.now.whole.core).outcome.ended) result }
+        ensures { IfOk result (λ planned. IsPlanOfMachine (seen self.now.whole) plan.new planned (after_instruction (seen self.now.whole))) }
     {
         let planned = self.core.plan_instruction(plan)?;
         let (class, code) = match planned.ended {
-            Ended::Done => return Ok(()),
+            Ended::Done => return Ok(self.planned(self.control)),
             Ended::Program(code) => (Class::Program, code.number()),
             Ended::Svc(code) => (Class::Supervisor, u16::from(code)),
-            Ended::Io(..) | Ended::Unbuilt => return Err(Refusal::Unbuilt),
+            Ended::Io(operation, unit) => {
+                // The instruction itself has put nothing.
+                *plan = Plan::new(self.alloc);
+                return self.plan_io(operation, unit, planned.next_address, plan);
+            }
         };
         let psw = self.core.planned_psw(plan);
         let psw = psw.with_instruction_address(planned.next_address);
         self.core
             .plan_interruption(class, psw, code, planned.instruction_length, plan)?;
-        Ok(())
+        Ok(self.planned(self.control))
     }
 }

@@ -1,46 +1,7 @@
 //! The events of the machine, each of which is taken back as one change.
-ghost use Rattle.std.specs.Prelude.{◌≡◌};
-
 use crate::operator::Key;
-use s360_word::{ProtectionKey, RegisterNumber, Word};
-use std::marker::Model;
-
-/// Bytes in their order, which a contract sees as a list.
-#[derive(Debug, Drop)]
-pub struct Bytes {
-    items: Vec<u8>,
-}
-
-impl Model for Bytes {
-    ghost use Rattle.std.specs.Prelude.{List, ℕ};
-
-    ghost Value = { List ℕ };
-
-    ghost view = { λ b. b.items.items };
-}
-
-impl Bytes {
-    /// The bytes of a vector. It takes no memory.
-    pub fn new(items: Vec<u8>) -> Bytes
-        ensures { result ≡ items.items }
-    {
-        Bytes { items }
-    }
-
-    /// The bytes.
-    pub fn as_slice(&self) -> &[u8]
-        ensures { result.now ≡ self.now }
-    {
-        self.items.as_slice()
-    }
-
-    /// The bytes as a vector. It takes no memory.
-    pub fn into_vec(self) -> Vec<u8>
-        ensures { result.items ≡ self }
-    {
-        self.items
-    }
-}
+use s360_store::Bytes;
+use s360_word::{ProtectionKey, RegisterNumber, Unit, Word};
 
 /// What a patch puts into the machine from outside. It ignores protection.
 #[derive(Debug, Drop)]
@@ -62,6 +23,8 @@ pub enum Event {
     /// The central processing unit takes an interruption, or executes an instruction with the
     /// interruption that it causes.
     Cpu,
+    /// The channel of a unit executes one channel command word of the unit's program.
+    Channel(Unit),
     /// The timer counts down.
     Tick,
     /// The operator presses a key.

@@ -1,30 +1,36 @@
 //! The machine and its events: what an event alters is planned first, room is made for it, and then it
 //! is exchanged with the machine, which the same exchange takes back.
 //!
-//! Source: GA22-6821, "System Structure", "Interruptions", "Status Switching" and "System Control
-//! Panel".
+//! Source: GA22-6821, "System Structure", "Interruptions", "Status Switching", "Input/Output
+//! Operations" and "System Control Panel".
 #![tactic(auto)]
 
 mod changes;
+mod channel_event;
+mod configured_unit;
 mod control;
-mod control_cell;
 mod control_change;
 mod core_state;
 mod cpu;
 mod event;
 mod external;
+mod input_output;
 mod interruption;
+mod io_change;
 mod machine;
+mod media;
 mod operator;
 mod refusal;
 mod run_state;
 mod timer;
+mod units;
 
 pub use changes::Changes;
-pub use control_cell::ControlCell;
-pub use event::{Bytes, Event, Patch};
+pub use configured_unit::ConfiguredUnit;
+pub use event::{Event, Patch};
 pub use external::ExternalConditions;
 pub use machine::Machine;
 pub use operator::Key;
 pub use refusal::Refusal;
 pub use run_state::RunState;
+pub use s360_store::Bytes;

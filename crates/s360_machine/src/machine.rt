@@ -1,28 +1,39 @@
 //! The machine: its state, and the events that change it.
 ghost use Rattle.std.specs.Prelude.{◌≡◌, [], slice_index, None, Err, OnOk, IfOk, IsOkUnless};
 ghost use Rattle.std.specs.Prelude.{MatchOption};
+ghost use Rattle.std.specs.Option.{option_copied};
 ghost use Rattle.std.specs.Bool.{MatchBool};
 ghost use Rattle.s360_model.specs.Storage.{is_storage_size};
 ghost use Rattle.s360_store.specs.declared.fault.StoreFault.TheVariants.{Size, Memory as no_memory};
 ghost use Rattle.s360_machine.specs.Machine.{Machine as Seen, new_machine, storage_size, seen};
 ghost use Rattle.s360_machine.specs.Change.{CanSwap, after_swap, change_after_swap};
 ghost use Rattle.s360_machine.specs.Change.{HasRoom, NeedsNoRoom};
-ghost use Rattle.s360_machine.specs.Step.{after, after_patch, is_unbuilt};
+ghost use Rattle.s360_machine.specs.Step.{after, after_patch};
 ghost use Rattle.s360_machine.specs.Timer.{after_tick};
+ghost use Rattle.s360_machine.specs.Units.{attention_at, state_at};
 ghost use Rattle.s360_machine.specs.Refusals.{refusal_of, refusal_of_patch};
 ghost use Rattle.s360_store.specs.Plans.{IsPlanOf};
-ghost use Rattle.s360_machine.specs.Planned.{IsChangeTo, IsAnswerToEvent, IsPlanOfMachine};
+ghost use Rattle.s360_machine.specs.Operator.{after_key};
+ghost use Rattle.s360_machine.specs.Planned.{IsChangeTo, IsPlanOfMachine, LeavesUnits, PlansIo};
+ghost use Rattle.s360_machine.specs.declared.refusal.Refusal.TheVariants.{Memory};
 
 use crate::changes::Changes;
+use crate::configured_unit::ConfiguredUnit;
 use crate::control::Control;
 use crate::core_state::Core;
 use crate::event::{Event, Patch};
 use crate::external::ExternalConditions;
+use crate::io_change::{IoChange, exchange_io};
+use crate::media::{Devices, MediaChanges};
+use crate::operator::Key;
 use crate::refusal::Refusal;
 use crate::run_state::RunState;
+use crate::units::{UnitChanges, Units};
+use s360_channel::UnitState;
+use s360_device::{Deck, Punch, Reader};
 use s360_psw::Psw;
 use s360_store::{Plan, Storage, StoreFault};
-use s360_word::{RegisterNumber, Word};
+use s360_word::{RegisterNumber, Unit, Word};
 use std::alloc::{AllocError, Global};
 use std::marker::Model;
 
@@ -30,12 +41,23 @@ use std::marker::Model;
 const LONGEST_PATCH: usize = 256;
 
 /// The machine. A contract sees the whole of it (PSW, registers, storage with its keys, run state,
-/// pending external conditions) with room beside it.
+/// pending external conditions, the states of the units and their devices) with room beside it.
 #[derive(Drop)]
 pub struct Machine {
     pub(crate) core: Core,
     pub(crate) control: Control,
-    alloc: Global,
+    pub(crate) units: Units,
+    pub(crate) devices: Devices,
+    pub(crate) alloc: Global,
+}
+
+/// What an event makes of the machine beside the core.
+#[derive(Debug, Drop)]
+pub(crate) struct PlannedEvent {
+    /// The control part after it.
+    pub(crate) control: Control,
+    /// What it alters of the units and their devices.
+    pub(crate) io: Option<Box<IoChange>>,
 }
 
 impl Model for Machine {
@@ -43,19 +65,27 @@ impl Model for Machine {
 
     ghost Value = { WithRoom };
 
-    ghost view = { λ m. record { whole = record { core = m.core; control = m.control }; spare = record {} } };
+    ghost use Rattle.s360_machine.specs.Media.{media_of};
+
+    ghost view = { λ m. record { whole = record { core = m.core; control = m.control; units = m.units; media = media_of m.devices }; spare = record { reader = m.devices.reader.room; punch = m.devices.punch.room } } };
 }
 
 impl Machine {
-    /// A new machine with so many bytes of storage. It operates, and all else is zero.
-    pub fn new(alloc: Global, size: u32) -> Result<Machine, StoreFault>
-        ensures new { IfOk result (λ m. seen m.whole ≡ new_machine size) }
+    /// A new machine with so many bytes of storage, and a deck in its card reader. It operates, every
+    /// unit is idle, and all else is zero.
+    pub fn new(alloc: Global, size: u32, deck: Deck) -> Result<Machine, StoreFault>
+        ensures new { IfOk result (λ m. seen m.whole ≡ new_machine size deck) }
         ensures refused { MatchBool (is_storage_size size) (IsOkUnless result no_memory) (result ≡ Err Size) }
     {
         let core = Core::new(alloc, size)?;
         Ok(Machine {
             core,
             control: Control::new(),
+            units: Units::idle(),
+            devices: Devices {
+                reader: Reader::new(alloc, deck),
+                punch: Punch::new(alloc),
+            },
             alloc,
         })
     }
@@ -95,6 +125,38 @@ impl Machine {
         self.control.external()
     }
 
+    /// What the channel does for a unit, if the machine has it.
+    pub fn unit(&self, unit: Unit) -> Option<&UnitState>
+        ensures { option_copied result ≡ state_at self.now.whole.units unit }
+    {
+        let unit = ConfiguredUnit::at(unit)?;
+        Some(&self.units.control(unit).state)
+    }
+
+    /// Whether a unit asks for attention; none does that the machine lacks.
+    pub fn attention(&self, unit: Unit) -> bool
+        ensures { result ≡ attention_at self.now.whole.units unit }
+    {
+        match ConfiguredUnit::at(unit) {
+            Some(unit) => self.units.control(unit).attention,
+            None => false,
+        }
+    }
+
+    /// The card reader.
+    pub fn reader(&self) -> &Reader
+        ensures { result.now.reader ≡ self.now.whole.media.reader }
+    {
+        &self.devices.reader
+    }
+
+    /// The card punch.
+    pub fn punch(&self) -> &Punch
+        ensures { result.now.punch ≡ self.now.whole.media.punch }
+    {
+        &self.devices.punch
+    }
+
     /// Why an event is refused whatever the machine's state, by the event and the storage size
     /// alone.
     pub fn refusal(&self, event: &Event) -> Option<Refusal>
@@ -115,6 +177,9 @@ impl Machine {
             Event::Patch(Patch::StorageKey { at, .. }) if *at >= size => {
                 Some(Refusal::OutsideStorage)
             }
+            Event::Channel(unit) if ConfiguredUnit::at(*unit).is_none() => Some(
+                Refusal::NoSuchUnit,
+            ),
             _ => None,
         }
     }
@@ -122,47 +187,83 @@ impl Machine {
     /// What an event alters, or why it is refused.
     pub fn plan(&self, event: &Event) -> Result<Changes, Refusal>
         ensures ok { IfOk result (λ changes. IsChangeTo self.now.whole changes (after (seen self.now.whole) event.now)) }
-        ensures refused { MatchOption (refusal_of (storage_size (seen self.now.whole)) event.now) (IsAnswerToEvent (is_unbuilt (seen self.now.whole) event.now) result) (λ r. result ≡ Err r) }
+        ensures refused { MatchOption (refusal_of (storage_size (seen self.now.whole)) event.now) (IsOkUnless result Memory) (λ r. result ≡ Err r) }
     {
         if let Some(refusal) = self.refusal(event) {
             return Err(refusal);
         }
         let mut plan = Plan::new(self.alloc);
-        let control = self.plan_event(event, &mut plan)?;
+        let planned = self.plan_event(event, &mut plan)?;
         let cells = self.core.changes(self.alloc, &plan)?;
-        let control = self.control.changes_to(&control);
-        Ok(Changes { cells, control })
+        let control = self.control.changes_to(&planned.control);
+        Ok(Changes {
+            cells,
+            control,
+            io: planned.io,
+        })
     }
 
-    /// Plans what an event puts into the core, if its own sake does not refuse it, and answers the
-    /// control part after it.
-    fn plan_event(&self, event: &Event, plan: &mut Plan) -> Result<Control, Refusal>
+    /// What an event makes that leaves the units alone.
+    pub(crate) fn planned(&self, control: Control) -> PlannedEvent
+        ensures { LeavesUnits self.now.whole control result }
+    {
+        PlannedEvent { control, io: None }
+    }
+
+    /// What an event makes that alters this of the units and their devices.
+    pub(crate) fn planned_with(
+        &self,
+        control: Control,
+        units: UnitChanges,
+        media: MediaChanges,
+    ) -> Result<PlannedEvent, AllocError>
+        ensures { IfOk result (λ planned. PlansIo planned control units media) }
+    {
+        let io = IoChange::of(self.alloc, units, media)?;
+        let planned = PlannedEvent { control, io };
+        Ok(planned)
+    }
+
+    /// Plans what an event puts into the core, if its own sake does not refuse it, and answers what it
+    /// makes of the other parts.
+    fn plan_event(&self, event: &Event, plan: &mut Plan) -> Result<PlannedEvent, AllocError>
         requires empty { plan.old ≡ [] }
         requires accepted { refusal_of (storage_size (seen self.now.whole)) event.now ≡ None }
-        ensures ok { IfOk result (λ control. IsPlanOfMachine (seen self.now.whole) plan.new control (after (seen self.now.whole) event.now)) }
-        ensures answer { IsAnswerToEvent (is_unbuilt (seen self.now.whole) event.now) result }
+        ensures { IfOk result (λ planned. IsPlanOfMachine (seen self.now.whole) plan.new planned (after (seen self.now.whole) event.now)) }
     {
         match event {
             Event::Cpu => self.plan_cpu(plan),
-            Event::Tick => Ok(self.plan_tick(plan)?),
-            Event::Key(key) => Ok(self.control.after_key(*key)),
+            Event::Channel(unit) => self.plan_channel(*unit, plan),
+            Event::Tick => self.plan_tick(plan),
+            Event::Key(key) => self.plan_key(*key),
             Event::Patch(patch) => {
                 self.plan_patch(patch, plan)?;
-                Ok(self.control)
+                Ok(self.planned(self.control))
             }
         }
     }
 
-    /// Plans a tick of the timer, and answers the control part after it.
-    fn plan_tick(&self, plan: &mut Plan) -> Result<Control, AllocError>
+    /// Plans a tick of the timer.
+    fn plan_tick(&self, plan: &mut Plan) -> Result<PlannedEvent, AllocError>
         requires empty { plan.old ≡ [] }
-        ensures { IfOk result (λ control. IsPlanOfMachine (seen self.now.whole) plan.new control (after_tick (seen self.now.whole))) }
+        ensures { IfOk result (λ planned. IsPlanOfMachine (seen self.now.whole) plan.new planned (after_tick (seen self.now.whole))) }
     {
         if !self.control.run_state().is_operating() {
-            return Ok(self.control);
+            return Ok(self.planned(self.control));
         }
         self.core.plan_tick(plan)?;
-        Ok(self.control.after_tick(self.core.timer()))
+        Ok(self.planned(self.control.after_tick(self.core.timer())))
+    }
+
+    /// Plans that a key is pressed.
+    fn plan_key(&self, key: Key) -> Result<PlannedEvent, AllocError>
+        ensures { IfOk result (λ planned. IsPlanOfMachine (seen self.now.whole) [] planned (after_key (seen self.now.whole) key)) }
+    {
+        let control = self.control.after_key(key);
+        let units = self.units.changes_of_key(key);
+        let media = self.devices.changes_of_key(key);
+        let planned = self.planned_with(control, units, media)?;
+        Ok(planned)
     }
 
     /// Plans a patch.
@@ -184,8 +285,10 @@ impl Machine {
         ensures whole { self.new.whole ≡ self.old.whole }
         ensures ok { OnOk result (HasRoom self.new.spare changes.now) }
     {
-        let _ = changes;
-        Ok(())
+        match &changes.io {
+            Some(io) => self.devices.make_room(&io.media),
+            None => Ok(()),
+        }
     }
 
     /// Exchanges the values at the change's places with its own. It takes no memory, and done
@@ -203,5 +306,6 @@ impl Machine {
     {
         self.core.exchange(changes.cells.as_mut_slice());
         self.control.exchange(&mut changes.control);
+        exchange_io(&mut changes.io, &mut self.units, &mut self.devices);
     }
 }

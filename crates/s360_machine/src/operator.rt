@@ -7,8 +7,11 @@ pub enum Key {
     Start,
     /// The machine that operates stops. It does nothing while the machine loads.
     Stop,
-    /// The machine stops, and no external condition is pending any more.
+    /// The machine stops, no external condition is pending any more, and every unit is idle, without
+    /// attention.
     Reset,
     /// The condition of the interrupt key is pending.
     Interrupt,
+    /// The card reader's end-of-file key, which stays pressed.
+    EndOfFile,
 }

@@ -15,15 +15,15 @@ pub enum Refusal {
     /// A patch names bytes, or a block, that are not in storage.
     #[error("outside storage")]
     OutsideStorage,
+    /// The event names a unit that the machine does not have.
+    #[error("no such unit")]
+    NoSuchUnit,
     /// A patch has more than 256 bytes.
     #[error("patch too long")]
     PatchTooLong,
     /// As many changes stand as the session's limit allows.
     #[error("journal full")]
     JournalFull,
-    /// The event needs an instruction of the channels, which are not built yet.
-    #[error("unbuilt")]
-    Unbuilt,
 }
 
 impl Refusal {
@@ -34,9 +34,9 @@ impl Refusal {
         match self {
             Refusal::Memory => 1,
             Refusal::OutsideStorage => 2,
+            Refusal::NoSuchUnit => 3,
             Refusal::PatchTooLong => 5,
             Refusal::JournalFull => 6,
-            Refusal::Unbuilt => 7,
         }
     }
 }

@@ -10,6 +10,7 @@ use std::alloc::Global;
 fn call_of(command: Command) -> Call {
     match command {
         Command::Step => Call::Forward(Event::Cpu),
+        Command::Channel(unit) => Call::Forward(Event::Channel(unit)),
         Command::Tick => Call::Forward(Event::Tick),
         Command::Key(key) => Call::Forward(Event::Key(key)),
         Command::Patch(patch) => Call::Forward(Event::Patch(patch)),

@@ -177,7 +177,11 @@ ending 80000300 p=200 s300=80 -> Done 204 2 p=8000000000000204 false
 ending 0AFF p=200 -> Svc(255) 202 1 p=0 true
 ending 44000300 p=200 s300=0A05 -> Svc(5) 204 2 p=0 true
 ending 0812 p=1000000000200 -> Program(Privileged) 202 1 p=0 true
-ending 9C00000C p=200 -> Unbuilt 204 2 p=0 true
+ending 9C00000C p=200 -> Io(Start, Unit(12)) 204 2 p=0 true
+ending 9D00000D p=200 -> Io(Test, Unit(13)) 204 2 p=0 true
+ending 9E000180 p=200 -> Io(Halt, Unit(384)) 204 2 p=0 true
+ending 9F000100 p=200 -> Io(TestChannel, Unit(256)) 204 2 p=0 true
+ending 9C00000C p=1000000000200 -> Program(Privileged) 204 2 p=0 true
 ending 44000300 p=200 s300=D20007000600 s600=C1 -> Done 204 2 p=204 false
 ending 44000300 p=200 s300=45100400 -> Done 204 2 p=400 false
 ";

@@ -5,6 +5,8 @@
 #[cfg(test)]
 mod calls;
 #[cfg(test)]
+mod channel_programs;
+#[cfg(test)]
 mod codes;
 #[cfg(test)]
 mod devices;
@@ -12,6 +14,8 @@ mod devices;
 mod instructions;
 #[cfg(test)]
 mod machine;
+#[cfg(test)]
+mod machine_with_cards;
 #[cfg(test)]
 mod plans;
 #[cfg(test)]

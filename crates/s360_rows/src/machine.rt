@@ -1,23 +1,50 @@
 //! The machine by its own calls: its sizes, what is refused, and events that are exchanged twice.
 use crate::calls::{event, long_patch};
 use crate::rows::{Subject, Words, assert_rows};
+use s360_device::{Device, deck_from};
 use s360_machine::{Changes, Event, Machine, Refusal, RunState};
 use s360_psw::Psw;
 use s360_store::{Storage, StoreFault};
-use s360_word::{RegisterNumber, Word};
+use s360_word::{RegisterNumber, Unit, Word};
 use std::alloc::{AllocError, Global};
 
 fn word(machine: &Machine, number: u8) -> Word {
     machine.register(RegisterNumber::new(number % 16))
 }
 
+/// The units that a machine has.
+const UNITS: [Unit; 2] = [Unit(0x00C), Unit(0x00D)];
+
+/// A machine of so many bytes, with no card in its reader.
+pub(crate) fn machine_of(alloc: Global, size: u32) -> Result<Machine, StoreFault> {
+    let deck = deck_from(alloc, &[]).map_err(|_| StoreFault::Memory)?;
+    Machine::new(alloc, size, deck)
+}
+
+/// Whether the units of two machines stand alike, and have done alike.
+fn have_like_units(first: &Machine, second: &Machine) -> bool {
+    for unit in UNITS {
+        if first.unit(unit) != second.unit(unit)
+            || first.attention(unit) != second.attention(unit)
+        {
+            return false;
+        }
+    }
+    let (one, other) = (first.reader(), second.reader());
+    one.fed() == other.fed()
+        && one.end_of_file() == other.end_of_file()
+        && one.sense() == other.sense()
+        && first.punch().cards() == second.punch().cards()
+        && first.punch().sense() == second.punch().sense()
+}
+
 /// Whether two machines show the same.
-fn are_same(first: &Machine, second: &Machine) -> bool {
+pub(crate) fn are_same(first: &Machine, second: &Machine) -> bool {
     let (one, other) = (first.storage(), second.storage());
     if first.psw() != second.psw() || first.run() != second.run() || one.size() != other.size() {
         return false;
     }
-    if first.external() != second.external() {
+    if first.external() != second.external() || !have_like_units(first, second) {
         return false;
     }
     for number in 0..16 {
@@ -63,9 +90,9 @@ fn is_zero(storage: &Storage) -> bool {
 const REFUSALS: [Refusal; 5] = [
     Refusal::Memory,
     Refusal::OutsideStorage,
+    Refusal::NoSuchUnit,
     Refusal::PatchTooLong,
     Refusal::JournalFull,
-    Refusal::Unbuilt,
 ];
 
 /// A machine, and another that is always as it was.
@@ -91,6 +118,7 @@ fn exchanged_twice(alloc: Global, machine: &mut Machine, event: &Event) -> Optio
     let before = places_of(alloc, &changes)?;
     machine.swap_all(&mut changes);
     let after = places_of(alloc, &changes)?;
+    machine.room(&changes).ok()?;
     machine.swap_all(&mut changes);
     let now = format!(in alloc; "{changes:?}").ok()?;
     if before == after && planned == now {
@@ -146,7 +174,7 @@ fn text_of_machine(alloc: Global, machine: &Machine) -> Option<String> {
 
 /// What a new machine is, or why there is none.
 fn text_of_new(alloc: Global, size: u32) -> Option<String> {
-    match Machine::new(alloc, size) {
+    match machine_of(alloc, size) {
         Ok(machine) => text_of_machine(alloc, &machine),
         Err(StoreFault::Memory) => None,
         Err(fault) => format!(in alloc; "{fault}").ok(),
@@ -177,8 +205,7 @@ impl Machines {
         format!(in alloc; "{places} {same}").ok()
     }
 
-    /// Why an event is refused, by the call that says so and by its plan. What is not built is
-    /// found by the plan alone.
+    /// Why an event is refused, by the call that says so and by its plan.
     fn refusals(&self, alloc: Global, event: Option<Event>) -> Option<String> {
         let event = event?;
         let known = text_of_refusal(alloc, self.machine.refusal(&event))?;
@@ -193,8 +220,8 @@ impl Machines {
 
 impl Subject for Machines {
     fn new(alloc: Global) -> Option<Machines> {
-        let machine = Machine::new(alloc, 8_192).ok()?;
-        let other = Machine::new(alloc, 8_192).ok()?;
+        let machine = machine_of(alloc, 8_192).ok()?;
+        let other = machine_of(alloc, 8_192).ok()?;
         Some(Machines { machine, other })
     }
 
@@ -251,9 +278,9 @@ patch 1FFF 2 -> 2 outside storage, 2 outside storage
 patch 0 101 -> 5 patch too long, 5 patch too long
 patch 1FFF 101 -> 5 patch too long, 5 patch too long
 patch FFFFFFFF 101 -> 5 patch too long, 5 patch too long
-* what is not built is no refusal for the event's own sake
-do patch s 0 9C00000C -> done
-refusal step -> accepted, 7 unbuilt
+* a channel event of a unit that the machine has, though it is idle, and of one that it lacks
+refusal channel 00C -> accepted, accepted
+refusal channel 00E -> 3 no such unit, 3 no such unit
 * a block, a tick and a key
 refusal patch k 1FFF 1 -> accepted, accepted
 refusal patch k 2000 1 -> 2 outside storage, 2 outside storage
@@ -278,6 +305,17 @@ do key interrupt -> done
 twice tick -> [Byte(80), Byte(81), Byte(82), External] true
 twice key reset -> [Run, External] true
 twice key start -> [] true
+* START I/O of the reader and its channel event, with no card, and its end-of-file key
+do patch p 0000000000000200 -> done
+do patch s 200 9C00000C -> done
+do patch s 48 00000400 -> done
+do patch s 400 0200060020000050 -> done
+twice step -> [Psw, UnitState(Unit(12))] true
+do step -> done
+twice channel 00C -> [UnitState(Unit(12)), UnitMedia(Unit(12))] true
+twice channel 00D -> [] true
+twice key eof -> [UnitMedia(Unit(12))] true
+twice key reset -> [Run, External, UnitState(Unit(12))] true
 ";
 
 /// Bytes and refusals.
@@ -287,5 +325,5 @@ bytes 0 0 -> Patch(Bytes { at: 0, bytes: Bytes { items: [] } })
 bytes 0 2 -> Patch(Bytes { at: 0, bytes: Bytes { items: [165, 165] } })
 size -> true
 * the numbers and the texts of refusals
-refusals -> 1 memory, 2 outside storage, 5 patch too long, 6 journal full, 7 unbuilt, 1 memory
+refusals -> 1 memory, 2 outside storage, 3 no such unit, 5 patch too long, 6 journal full, 1 memory
 ";

@@ -1,10 +1,10 @@
 //! Scripts over readers and writers that are slow or fail, and commands one by one.
 ghost use Rattle.std.specs.Prelude.{◌≤◌};
 
+use crate::machine::machine_of;
 use crate::rows::{Subject, Words, assert_rows};
 use s360_debug::{Command, LineFault, ScriptFault, answer, read_command, run_script};
 use s360_journal::{Breaks, Session};
-use s360_machine::Machine;
 use std::alloc::Global;
 use std::io::{self, Read, Write};
 use std::process::Abort;
@@ -29,7 +29,7 @@ const ADD_ANSWERS: &str = "1 changed 1 r1\n\
 fn session(alloc: Global, limit: u32) -> Option<Session>
     requires { limit ≤ 10000000 }
 {
-    let machine = Machine::new(alloc, 65_536).ok()?;
+    let machine = machine_of(alloc, 65_536).ok()?;
     Some(Session::new(alloc, machine, limit))
 }
 

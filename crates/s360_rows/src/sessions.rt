@@ -2,6 +2,7 @@
 ghost use Rattle.std.specs.Prelude.{◌≤◌};
 
 use crate::calls::{call, calls, event, long_patch, text_of_answer, text_of_report};
+use crate::machine::machine_of;
 use crate::rows::{Subject, Words, assert_rows};
 use s360_journal::{Answer, Places, Session, run_calls};
 use s360_machine::{Machine, Refusal};
@@ -10,14 +11,13 @@ use s360_store::Place;
 use s360_word::{RegisterNumber, Unit, Word};
 use std::alloc::Global;
 
-/// AR of registers 1 and 2 at 0, then an instruction of the channels, which is not built; and the
-/// registers.
-const START: &str = "patch s 0 1A129C00000C\npatch r 1 7FFFFFFF\npatch r 2 1";
+/// AR of registers 1 and 2 at 0, and the registers.
+const START: &str = "patch s 0 1A12\npatch r 1 7FFFFFFF\npatch r 2 1";
 
 /// A machine in which these lines were carried out.
 fn machine(alloc: Global) -> Option<Machine> {
     let calls = calls(alloc, START)?;
-    let machine = Machine::new(alloc, 8_192).ok()?;
+    let machine = machine_of(alloc, 8_192).ok()?;
     let outcome = run_calls(alloc, machine, 100, calls).ok()?;
     // There is no text where memory was wanting, and so no machine.
     let _ = text_of_answers(alloc, &outcome.answers)?;
@@ -99,8 +99,8 @@ impl Running {
         let byte = self.session.last_change(Place::Byte(0x2000));
         let register = self.session.last_change(Place::Register(16));
         let key = self.session.last_change(Place::Key(4));
-        let media = self.session.last_change(Place::UnitMedia(Unit(0x00C)));
-        let unit = self.session.last_change(Place::UnitState(Unit(0x00C)));
+        let media = self.session.last_change(Place::UnitMedia(Unit(0x00E)));
+        let unit = self.session.last_change(Place::UnitState(Unit(0x00E)));
         format!(in alloc; "{byte:?} {register:?} {key:?} {media:?} {unit:?}").ok()
     }
 }
@@ -129,8 +129,9 @@ fn sessions(rt: HostRuntime) {
 }
 
 const ROWS: &str = "
-* a limit of 0: refusals for an event's own sake come first, then a full journal, then what is not built
+* a limit of 0: refusals for an event's own sake come first, then a full journal
 limit 0 -> 0 7FFFFFFF 0 0
+do channel 00E -> no such unit
 long 1FFF 101 -> patch too long
 do patch s 1FFF 0102 -> outside storage
 do patch s 1FFE 0102 -> journal full
@@ -148,7 +149,6 @@ preview step -> journal full
 do standing -> 1
 do back -> Patch(Bytes { at: 768, bytes: Bytes { items: [1] } })
 do step -> [Psw, Register(1)]
-* the next instruction is not built, and the journal is full
 do step -> journal full
 picture -> 30000002 80000000 0 1
 * a limit of 3
@@ -203,7 +203,7 @@ do patch s 2000 01 -> outside storage
 picture -> 30000002 80000000 7 2
 long FFFFFFFF 1 -> outside storage
 picture -> 30000002 80000000 7 2
-do step -> unbuilt
+do channel 00E -> no such unit
 picture -> 30000002 80000000 7 2
 do last r 1 -> Some(2)
 * a place that the machine lacks has no last change

@@ -4,6 +4,7 @@
 //! Addresses count bytes from 0. Source: GA22-6821, "System Structure".
 #![tactic(auto)]
 
+mod bytes;
 mod fault;
 mod place;
 mod plan;
@@ -11,6 +12,7 @@ mod protection;
 mod puts;
 mod storage;
 
+pub use bytes::Bytes;
 pub use fault::StoreFault;
 pub use place::{Cell, Place};
 pub use plan::Plan;

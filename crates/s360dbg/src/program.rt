@@ -1,5 +1,6 @@
 //! What the program does, over any reader and writer.
 use s360_debug::{ScriptFault, run_script};
+use s360_device::deck_from;
 use s360_journal::Session;
 use s360_machine::Machine;
 use std::alloc::Global;
@@ -52,7 +53,10 @@ pub(crate) fn run<R: Read, W: Write + Drop>(
     reader: &mut R,
     writer: W,
 ) -> Result<(), ProgramFault> {
-    let Ok(machine) = Machine::new(alloc, STORAGE) else {
+    let Ok(deck) = deck_from(alloc, &[]) else {
+        return Err(ProgramFault::Memory);
+    };
+    let Ok(machine) = Machine::new(alloc, STORAGE, deck) else {
         return Err(ProgramFault::Memory);
     };
     let mut session = Session::new(alloc, machine, LIMIT);

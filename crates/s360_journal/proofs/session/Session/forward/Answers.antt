@@ -1,17 +1,17 @@
-use Rattle.std.proofs.Common.{◌≡◌, ◌<◌, ◌++◌, ◌∷◌, [], sym, ◌∙◌, ap, subst, List, None, false, Err, Ok, length, length-append, arith}
+use Rattle.std.proofs.Common.{◌≡◌, ◌<◌, ◌++◌, ◌∷◌, [], sym, ◌∙◌, ap, subst, List, None, length, length-append, arith}
 use Rattle.std.proofs.lemmas.List.{length-map}
 use Rattle.s360_store.specs.declared.place.Place.{Place}
 use Rattle.s360_machine.specs.Machine.{Machine, Whole, storage_size, seen}
 use Rattle.s360_machine.specs.Refusals.{refusal_of}
-use Rattle.s360_machine.specs.Step.{after, is_unbuilt}
-use Rattle.s360_machine.specs.Change.{Change, NeedsNoRoom, after_swap, change_after_swap, places_of_change}
-use Rattle.s360_machine.specs.Planned.{differences, IsAnswerToEvent, IsChangeTo}
+use Rattle.s360_machine.specs.declared.refusal.Refusal.TheVariants.{Memory}
+use Rattle.s360_machine.specs.Step.{after}
+use Rattle.s360_machine.specs.Change.{NeedsNoRoom, after_swap, change_after_swap, places_of_change}
+use Rattle.s360_machine.specs.Planned.{differences, IsChangeTo}
 use Rattle.s360_journal.specs.declared.entry.Entry.{Entry}
-use Rattle.s360_journal.specs.declared.report.Report.{Report}
 use Rattle.s360_journal.specs.Reports.{IsReport}
 use Rattle.s360_journal.specs.Standing.{Standing, machine_of, refusal_in, alteration}
 use Rattle.s360_journal.proofs.HistoryLemmas.{machine_of-view}
-use Rattle.s360_journal.proofs.ForwardLemmas.{or_full-None, or_full-room, IsAnswerToEvent-Err, IsAnswerToEvent-Ok, built, IsHistory-forward}
+use Rattle.s360_journal.proofs.ForwardLemmas.{or_full-None, or_full-room, IsHistory-forward}
 use Rattle.s360_journal.proofs.session.Session.forward.Goals as goal
 
 pub returns-in-Err-clause-refused : goal.returns-in-Err-clause-refused
@@ -22,21 +22,8 @@ returns-in-Err-clause-refused c =
     in let none : refusal_in s e ≡ None = sym c.in_default.ensures
     in let accepted : refusal_of (storage_size (seen c.self.inside.machine.whole)) e ≡ None
     = subst (λ (k : Machine). refusal_of (storage_size k) e ≡ None) (sym same) (or_full-None _ (length s.events) s.limit none)
-    in let answer : IsAnswerToEvent {X = Change} (is_unbuilt (machine_of s) e) (Err c.in-Err.refusal)
-    = subst (λ (k : Machine). IsAnswerToEvent {X = Change} (is_unbuilt k e) (Err c.in-Err.refusal)) same (rw accepted at c.in-Err.ensures.refused)
-    in rw none (IsAnswerToEvent-Err Change Report (is_unbuilt (machine_of s) e) c.in-Err.refusal answer)
-
-pub returns-clause-refused : goal.returns-clause-refused
-returns-clause-refused c =
-    let s = c.args.self.now
-    in let e = c.args.event
-    in let same : seen c.self.inside.machine.whole ≡ machine_of s = machine_of-view c.self.inside.machine.whole c.self.inside.entries.items _ s c.self.invariant.0 c.self.view_is
-    in let none : refusal_in s e ≡ None = sym c.in_default.ensures
-    in let accepted : refusal_of (storage_size (seen c.self.inside.machine.whole)) e ≡ None
-    = subst (λ (k : Machine). refusal_of (storage_size k) e ≡ None) (sym same) (or_full-None _ (length s.events) s.limit none)
-    in let answer : IsAnswerToEvent {X = Change} (is_unbuilt (machine_of s) e) (Ok c.in-Ok.changes)
-    = subst (λ (k : Machine). IsAnswerToEvent {X = Change} (is_unbuilt k e) (Ok c.in-Ok.changes)) same (rw accepted at c.in-Ok.ensures.refused)
-    in rw none (IsAnswerToEvent-Ok Change Report (is_unbuilt (machine_of s) e) c.in-Ok.changes c.in_ok-report.report answer)
+    in let answer : c.in-Err.refusal ≡ Memory = rw accepted at c.in-Err.ensures.refused
+    in rw none answer
 
 pub returns-clause-report : goal.returns-clause-report
 returns-clause-report c =
@@ -60,7 +47,6 @@ invariant_of-self-2 c =
     in let none : refusal_in s e ≡ None = sym c.in_default.ensures
     in let accepted : refusal_of (storage_size m) e ≡ None
     = subst (λ (k : Machine). refusal_of (storage_size k) e ≡ None) (sym same) (or_full-None _ (length s.events) s.limit none)
-    in let ready : is_unbuilt m e ≡ false = built Change (is_unbuilt m e) x (rw accepted at c.in-Ok.ensures.refused)
     in let room : c.room.new.self.whole ≡ w = c.room.ensures.whole
     in let now : c.swap_all.new.self.whole ≡ after_swap w x = c.swap_all.ensures.machine ∙ ap (λ (k : Whole). after_swap k x) room
     in let held : c.swap_all.new.changes ≡ change_after_swap w x = c.swap_all.ensures.changes ∙ ap (λ (k : Whole). change_after_swap k x) room
@@ -72,7 +58,7 @@ invariant_of-self-2 c =
     in let limit : s.limit ≡ c.self.inside.limit = ap (λ (t : Standing). t.limit) (sym c.self.view_is)
     in let few : length s.events < s.limit = or_full-room _ (length s.events) s.limit none
     in rw items (
-      IsHistory-forward w c.swap_all.new.self.whole xs e x c.swap_all.new.changes c.self.invariant.0 accepted ready c.in-Ok.ensures.ok now held
+      IsHistory-forward w c.swap_all.new.self.whole xs e x c.swap_all.new.changes c.self.invariant.0 accepted c.in-Ok.ensures.ok now held
           c.swap_all.ensures.again no_room (c.swap_all.ensures.restores_machine ∙ room),
       omega (arith, length-append xs (entry ∷ [])),
       c.self.invariant.2,

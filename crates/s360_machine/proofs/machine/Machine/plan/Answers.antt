@@ -14,7 +14,7 @@ returns-clause-ok c =
     in let core_is : c.self.inside.core ≡ w.core = ap (λ (m : WithRoom). m.whole.core) c.self.view_is
     in let control_is = ap (λ (m : WithRoom). m.whole.control) c.self.view_is
     in let core : IsCoreChangeTo w.core c.in_ok-cells.cells.items n.core
-    = rw (core_is, c.in_ok-control.ensures.ok.core.makes) at c.in_ok-cells.ensures.change
+    = rw (core_is, c.in_ok-planned.ensures.core.makes) at c.in_ok-cells.ensures.change
     in let control : IsControlChangeTo w.control (control_cells c.changes_to-control.result) n.control
-    = rw (control_is, c.in_ok-control.ensures.ok.control) at c.changes_to-control.ensures
-    in IsChangeTo-parts w _ _ n core control
+    = rw (control_is, c.in_ok-planned.ensures.control) at c.changes_to-control.ensures
+    in IsChangeTo-parts w _ _ _ _ n core control c.in_ok-planned.ensures.units c.in_ok-planned.ensures.media

@@ -1,0 +1,59 @@
+-- Whether a unit is in the same state twice, as a test (ours): two active units are alike where their programs are at
+-- the same point.
+use Rattle.std.specs.Prelude.{Bool, true, false, ◌&&◌, nat_eq}
+use Rattle.std.specs.Bool.{beq}
+use Rattle.std.specs.Str.{bytes_eq}
+use Rattle.s360_channel.specs.declared.csw.Csw.{Csw}
+use Rattle.s360_channel.specs.declared.csw.UnitStatus.{UnitStatus}
+use Rattle.s360_channel.specs.declared.csw.ChannelStatus.{ChannelStatus}
+use Rattle.s360_channel.specs.declared.program.Program.{Program}
+use Rattle.s360_channel.specs.declared.program.Progress.{Progress}
+use Rattle.s360_channel.specs.declared.program.Progress.TheVariants.{First, CommandChained, InputChained, OutputChained}
+use Rattle.s360_channel.specs.declared.unit_control.UnitControl.{UnitControl}
+use Rattle.s360_channel.specs.declared.unit_state.UnitState.{UnitState}
+use Rattle.s360_channel.specs.declared.unit_state.UnitState.TheVariants.{Idle, Active, Waiting}
+
+abbrev pub same_unit_status : UnitStatus → UnitStatus → Bool
+same_unit_status s t =
+    beq s.attention t.attention
+    && (beq s.status_modifier t.status_modifier
+    && (beq s.control_unit_end t.control_unit_end
+    && (beq s.busy t.busy
+    && (beq s.channel_end t.channel_end
+    && (beq s.device_end t.device_end
+    && (beq s.unit_check t.unit_check
+    && beq s.unit_exception t.unit_exception))))))
+
+abbrev pub same_channel_status : ChannelStatus → ChannelStatus → Bool
+same_channel_status s t =
+    beq s.program_controlled t.program_controlled
+    && (beq s.incorrect_length t.incorrect_length
+    && (beq s.program_check t.program_check
+    && beq s.protection_check t.protection_check))
+
+abbrev pub same_csw : Csw → Csw → Bool
+same_csw c d =
+    nat_eq c.key d.key
+    && (nat_eq c.address d.address
+    && (same_unit_status c.unit d.unit
+    && (same_channel_status c.channel d.channel
+    && nat_eq c.count d.count)))
+
+abbrev pub same_progress : Progress → Progress → Bool
+same_progress First First = true
+same_progress CommandChained CommandChained = true
+same_progress (InputChained command moved) (InputChained other count) = nat_eq command other && nat_eq moved count
+same_progress (OutputChained command gathered) (OutputChained other bytes) = nat_eq command other && bytes_eq gathered bytes
+same_progress p q = false
+
+abbrev pub same_program : Program → Program → Bool
+same_program p q = nat_eq p.key q.key && (nat_eq p.address q.address && same_progress p.progress q.progress)
+
+abbrev pub same_state : UnitState → UnitState → Bool
+same_state Idle Idle = true
+same_state (Active p) (Active q) = same_program p q
+same_state (Waiting c) (Waiting d) = same_csw c d
+same_state s t = false
+
+abbrev pub same_unit : UnitControl → UnitControl → Bool
+same_unit u v = same_state u.state v.state && beq u.attention v.attention

@@ -1,0 +1,7 @@
+pub mod Words
+pub mod Units
+pub mod Programs
+pub mod IoInstructions
+pub mod Execution
+pub mod Steps
+pub mod Differences

@@ -1,0 +1,98 @@
+-- The three words of a channel (GA22-6821, "Input/Output Operations", channel address word, channel command word
+-- and channel status word). Bits are numbered from 0 at the left.
+use Rattle.std.specs.Prelude.{ℕ, ◌+◌, ◌*◌, ◌/◌, ◌%◌, ◌^◌, Bool, true, false, ◌&&◌, nat_eq, if◌then◌else◌}
+use Rattle.s360_channel.specs.declared.caw.Caw.{Caw}
+use Rattle.s360_channel.specs.declared.ccw.Ccw.{Ccw}
+use Rattle.s360_channel.specs.declared.ccw.CcwFlags.{CcwFlags}
+use Rattle.s360_channel.specs.declared.csw.Csw.{Csw}
+use Rattle.s360_channel.specs.declared.csw.UnitStatus.{UnitStatus}
+use Rattle.s360_channel.specs.declared.csw.ChannelStatus.{ChannelStatus}
+
+-- the channel address word: key in bits 0 to 3, zeros in 4 to 7, address in 8 to 31
+abbrev pub caw_of : ℕ → Caw
+caw_of word = record { key = word / 2 ^ 28; reserved = word / 2 ^ 24 % 16; address = word % 2 ^ 24 }
+
+-- the address is that of a doubleword
+abbrev pub is_doubleword_address : ℕ → Bool
+is_doubleword_address address = nat_eq (address % 8) 0
+
+-- bits 4 to 7 are zero, and the address is that of a doubleword
+abbrev pub is_whole_caw : Caw → Bool
+is_whole_caw c = nat_eq c.reserved 0 && is_doubleword_address c.address
+
+-- the channel command word: command in bits 0 to 7, data address in 8 to 31, flags in 32 to 36, zeros in 37 to 39,
+-- count in 48 to 63; bits 40 to 47 are ignored
+abbrev pub ccw_flags_of : ℕ → CcwFlags
+ccw_flags_of doubleword = record {
+  chain_data = nat_eq (doubleword / 2 ^ 31 % 2) 1;
+  chain_command = nat_eq (doubleword / 2 ^ 30 % 2) 1;
+  suppress_length = nat_eq (doubleword / 2 ^ 29 % 2) 1;
+  skip = nat_eq (doubleword / 2 ^ 28 % 2) 1;
+  program_controlled = nat_eq (doubleword / 2 ^ 27 % 2) 1;
+}
+
+abbrev pub ccw_of : ℕ → Ccw
+ccw_of doubleword = record {
+  command = doubleword / 2 ^ 56;
+  address = doubleword / 2 ^ 32 % 2 ^ 24;
+  flags = ccw_flags_of doubleword;
+  reserved = doubleword / 2 ^ 24 % 8;
+  count = doubleword % 2 ^ 16;
+}
+
+-- transfer in channel: the low four bits of the command are 1000
+abbrev pub is_transfer : Ccw → Bool
+is_transfer c = nat_eq (c.command % 16) 0x8
+
+-- read backward: the low four bits of the command are 1100
+abbrev pub reads_backward : ℕ → Bool
+reads_backward command = nat_eq (command % 16) 0xC
+
+-- the channel status word: key in bits 0 to 3, address in 8 to 31, unit status in 32 to 39, channel status in 40
+-- to 47, residual count in 48 to 63
+abbrev pub weight_of : Bool → ℕ → ℕ
+weight_of one weight = if one then weight else 0
+
+abbrev pub unit_status_byte : UnitStatus → ℕ
+unit_status_byte s =
+    weight_of s.attention 0x80 + weight_of s.status_modifier 0x40 + weight_of s.control_unit_end 0x20 + weight_of s.busy 0x10
+    + weight_of s.channel_end 0x08 + weight_of s.device_end 0x04 + weight_of s.unit_check 0x02 + weight_of s.unit_exception 0x01
+
+abbrev pub channel_status_byte : ChannelStatus → ℕ
+channel_status_byte s =
+    weight_of s.program_controlled 0x80 + weight_of s.incorrect_length 0x40 + weight_of s.program_check 0x20 + weight_of s.protection_check 0x10
+
+-- both, as the halfword in bits 32 to 47
+abbrev pub status_halfword : UnitStatus → ChannelStatus → ℕ
+status_halfword unit channel = unit_status_byte unit * 2 ^ 8 + channel_status_byte channel
+
+abbrev pub csw_doubleword : Csw → ℕ
+csw_doubleword c = c.key * 2 ^ 60 + c.address % 2 ^ 24 * 2 ^ 32 + status_halfword c.unit c.channel * 2 ^ 16 + c.count
+
+-- nothing to tell
+abbrev pub no_unit_status : UnitStatus
+no_unit_status = record {
+  attention = false;
+  status_modifier = false;
+  control_unit_end = false;
+  busy = false;
+  channel_end = false;
+  device_end = false;
+  unit_check = false;
+  unit_exception = false;
+}
+
+abbrev pub no_channel_status : ChannelStatus
+no_channel_status = record { program_controlled = false; incorrect_length = false; program_check = false; protection_check = false }
+
+-- channel and device have done their parts: channel end and device end
+abbrev pub device_has_ended : UnitStatus
+device_has_ended = record no_unit_status { channel_end = true; device_end = true }
+
+-- the unit asks for attention
+abbrev pub asks_attention : UnitStatus
+asks_attention = record no_unit_status { attention = true }
+
+-- the channel program is not well formed
+abbrev pub meets_program_check : ChannelStatus
+meets_program_check = record no_channel_status { program_check = true }

@@ -1,0 +1,28 @@
+//! Channels: the words of a channel program, the state of a unit on a channel, the four input/output
+//! instructions, and the execution of one channel command word over any device.
+//!
+//! Source: GA22-6821, "Input/Output Operations".
+#![tactic(auto)]
+
+mod caw;
+mod ccw;
+mod conclusion;
+mod csw;
+mod engine;
+mod fetching;
+mod gathering;
+mod io_instructions;
+mod program;
+mod storing;
+mod transfer;
+mod unit_control;
+mod unit_state;
+
+pub use caw::Caw;
+pub use ccw::{Ccw, CcwFlags};
+pub use csw::{ChannelStatus, Csw, UnitStatus, status_halfword};
+pub use engine::{ChannelStep, channel_plan};
+pub use io_instructions::{ChannelKind, CswStore, IoResult, halt, start, test, test_channel};
+pub use program::{Program, Progress};
+pub use unit_control::{Condition, UnitControl};
+pub use unit_state::UnitState;

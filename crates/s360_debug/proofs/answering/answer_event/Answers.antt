@@ -1,0 +1,13 @@
+use Rattle.std.proofs.Common.{◌≡◌, ◌+◌, ◌∙◌, ap, length, length-append, None, [], ◌∷◌}
+use Rattle.s360_journal.specs.Standing.{Standing, refusal_in}
+use Rattle.s360_debug.proofs.ReportLemmas.{accepted-None, accepted-text}
+use Rattle.s360_debug.proofs.answering.answer_event.Goals as goal
+
+pub returns-in_ok-text-in-Ok-clause-text : goal.returns-in_ok-text-in-Ok-clause-text
+returns-in_ok-text-in-Ok-clause-text c =
+    let s = c.args.session.now
+    in let e = c.args.event
+    in let none : refusal_in s e ≡ None = accepted-None (refusal_in s e) c.in-Ok.report c.forward.result c.in-Ok.is c.forward.ensures.refused
+    in let count : c.standing.result ≡ length s.events + 1
+    = c.standing.ensures ∙ ap (λ (t : Standing). length t.events) c.in-Ok.ensures.ok ∙ length-append s.events (e ∷ [])
+    in c.in_ok-text-in-Ok.ensures ∙ accepted-text s e c.in-Ok.report c.standing.result none c.in-Ok.ensures.report count

@@ -1,0 +1,126 @@
+//! What is shown of the units and their devices.
+ghost use Rattle.std.specs.Prelude.{◌≡◌, ◌++◌, IfOk, OnOk, length};
+ghost use Rattle.s360_machine.specs.Machine.{seen};
+ghost use Rattle.s360_debug.specs.ShownUnits.{csw_words, device_text, program_word, punch_line};
+ghost use Rattle.s360_debug.specs.ShownUnits.{reader_line, sense_text, state_name, unit_line};
+ghost use Rattle.s360_debug.specs.ShownUnits.{unit_text};
+
+use crate::names::{push_numbered, refusal_text};
+use crate::text::Text;
+use s360_channel::{Program, UnitState};
+use s360_device::{Device, Punch, Reader};
+use s360_machine::{ConfiguredUnit, Machine, Refusal};
+use s360_word::{Unit, Word};
+use std::alloc::{AllocError, Global};
+
+/// What the channel does for a unit; or the refusal where the machine does not have it.
+pub(crate) fn unit_of(alloc: Global, machine: &Machine, unit: Unit) -> Result<Text, AllocError>
+    ensures { IfOk result (λ text. text ≡ unit_text (seen machine.now.whole) unit) }
+{
+    match machine.unit(unit) {
+        Some(state) => line_of_unit(alloc, unit, state, machine.attention(unit)),
+        None => refusal_text(alloc, Refusal::NoSuchUnit),
+    }
+}
+
+/// The line of a unit.
+fn line_of_unit(
+    alloc: Global,
+    unit: Unit,
+    state: &UnitState,
+    attention: bool,
+) -> Result<Text, AllocError>
+    ensures { IfOk result (λ text. text ≡ unit_line unit state.now attention) }
+{
+    let mut text = Text::new(alloc);
+    text.push_hex(u64::from(unit.address()), 3)?;
+    push_state(&mut text, state)?;
+    if attention {
+        text.push_text(" attention")?;
+    }
+    text.push_text("\n")?;
+    Ok(text)
+}
+
+/// Adds the state of a unit after a blank.
+fn push_state(text: &mut Text, state: &UnitState) -> Result<(), AllocError>
+    ensures { OnOk result (text.new ≡ text.old ++ state_name state.now) }
+{
+    match state {
+        UnitState::Idle => text.push_text(" idle"),
+        UnitState::Active(program) => {
+            push_numbered(text, " active ", u64::from(program_word(program)), 8)
+        }
+        UnitState::Waiting(csw) => {
+            text.push_text(" waiting ")?;
+            push_words(text, csw.to_u64())
+        }
+    }
+}
+
+/// A program's key and the address of its next channel command word, as a channel address word has
+/// them.
+fn program_word(program: &Program) -> Word
+    ensures { result ≡ program_word program.now }
+{
+    u32::from(program.key().number()) * (1 << 28) + program.next_address() % (1 << 24)
+}
+
+/// Adds the two words of a channel status word.
+#[tactic(auto, unfolding(crate::specs::ShownUnits::csw_words))]
+fn push_words(text: &mut Text, doubleword: u64) -> Result<(), AllocError>
+    ensures { OnOk result (text.new ≡ text.old ++ csw_words doubleword) }
+{
+    text.push_hex(doubleword / (1 << 32), 8)?;
+    push_numbered(text, " ", doubleword % (1 << 32), 8)?;
+    Ok(())
+}
+
+/// The sense byte of a unit's device, and its media in numbers; or the refusal where the machine does
+/// not have the unit.
+pub(crate) fn device_of(alloc: Global, machine: &Machine, unit: Unit) -> Result<Text, AllocError>
+    ensures { IfOk result (λ text. text ≡ device_text (seen machine.now.whole) unit) }
+{
+    match ConfiguredUnit::at(unit) {
+        Some(ConfiguredUnit::Reader) => line_of_reader(alloc, machine.reader()),
+        Some(ConfiguredUnit::Punch) => line_of_punch(alloc, machine.punch()),
+        None => refusal_text(alloc, Refusal::NoSuchUnit),
+    }
+}
+
+/// Adds the first of the sense bytes.
+fn push_sense(text: &mut Text, sense: &[u8; 6]) -> Result<(), AllocError>
+    ensures { OnOk result (text.new ≡ text.old ++ sense_text sense.now) }
+{
+    push_numbered(text, " sense ", u64::from(sense[0]), 2)
+}
+
+/// The line of the card reader.
+fn line_of_reader(alloc: Global, reader: &Reader) -> Result<Text, AllocError>
+    ensures { IfOk result (λ text. text ≡ reader_line reader.now.reader) }
+{
+    let mut text = Text::new(alloc);
+    text.push_text("00C")?;
+    push_sense(&mut text, &reader.sense())?;
+    text.push_text(" next ")?;
+    text.push_decimal(reader.fed() as u64)?;
+    text.push_text(" of ")?;
+    text.push_decimal(reader.cards() as u64)?;
+    text.push_text(" eof ")?;
+    text.push_text(if reader.end_of_file() { "on" } else { "off" })?;
+    text.push_text("\n")?;
+    Ok(text)
+}
+
+/// The line of the card punch.
+fn line_of_punch(alloc: Global, punch: &Punch) -> Result<Text, AllocError>
+    ensures { IfOk result (λ text. text ≡ punch_line punch.now.punch) }
+{
+    let mut text = Text::new(alloc);
+    text.push_text("00D")?;
+    push_sense(&mut text, &punch.sense())?;
+    text.push_text(" cards ")?;
+    text.push_decimal(punch.cards() as u64)?;
+    text.push_text("\n")?;
+    Ok(text)
+}

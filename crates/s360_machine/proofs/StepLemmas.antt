@@ -1,0 +1,142 @@
+-- A channel event of a unit, and what was planned of the machine beside the core.
+use Rattle.std.proofs.Common.{◌≡◌, ℕ, true, List, [], refl, ap, subst}
+use Rattle.std.specs.Prelude.{Option, Some, None}
+use Rattle.s360_model.specs.Core.{Core}
+use Rattle.s360_model.specs.Storage.{Storage}
+use Rattle.s360_device.specs.declared.reader_change.ReaderChange.{ReaderChange}
+use Rattle.s360_device.specs.declared.punch_change.PunchChange.{PunchChange}
+use Rattle.s360_device.specs.Commands.{command_of}
+use Rattle.s360_device.specs.Motions.{items_put}
+use Rattle.s360_device.specs.Punch.{Punch, PunchWithRoom, punch_table}
+use Rattle.s360_device.specs.PunchChanges.{CanSwapPunch, punch_after_swap, punch_change_after_swap}
+use Rattle.s360_device.specs.Reader.{Reader, ReaderWithRoom, reader_table}
+use Rattle.s360_device.specs.ReaderChanges.{CanSwapReader, reader_after_swap, reader_change_after_swap}
+use Rattle.s360_device.specs.Rows.{after_command}
+use Rattle.s360_store.specs.declared.place.Cell.{Cell}
+use Rattle.s360_store.specs.Plans.{IsPlanOf}
+use Rattle.s360_channel.specs.declared.engine.ChannelStep.{ChannelStep}
+use Rattle.s360_channel.specs.declared.engine.ChannelStep.TheVariants.{NotYet}
+use Rattle.s360_channel.specs.declared.program.Program.{Program}
+use Rattle.s360_channel.specs.declared.unit_control.UnitControl.{UnitControl}
+use Rattle.s360_channel.specs.declared.unit_state.UnitState.{UnitState}
+use Rattle.s360_channel.specs.declared.unit_state.UnitState.TheVariants.{Idle, Active, Waiting}
+use Rattle.s360_channel.specs.Differences.{same_unit}
+use Rattle.s360_channel.specs.Execution.{DeviceView, Ending, channel_execution}
+use Rattle.s360_channel.specs.Steps.{AltersDevice, IsDeviceChange, KeepsDevice, PlansExecution, change_of_step}
+use Rattle.s360_channel.proofs.DifferenceLemmas.{same_unit-Decides}
+use Rattle.s360_machine.specs.declared.channel_event.UnitStep.{UnitStep}
+use Rattle.s360_machine.specs.declared.machine.PlannedEvent.{PlannedEvent}
+use Rattle.s360_machine.specs.declared.media.MediaChanges.{MediaChanges}
+use Rattle.s360_machine.specs.declared.units.UnitChanges.{UnitChanges}
+use Rattle.s360_machine.specs.declared.units.Units.{Units}
+use Rattle.s360_machine.specs.ChannelEvents.{ExecutesProgram, IsAlterationOf, StepsTo, after_ending, execution_with, view_of}
+use Rattle.s360_machine.specs.ChannelEvents.{after_punch_event, after_reader_event, punch_execution, reader_execution}
+use Rattle.s360_machine.specs.Machine.{Control, Machine}
+use Rattle.s360_machine.specs.Planned.{IsMediaChangeTo, IsPlanOfMachine, IsUnitsChangeTo, PlansIo}
+use Rattle.s360_machine.proofs.IoLemmas.{IsMediaChangeTo-from, IsPunchChange, IsReaderChange, IsUnitsChangeTo-from}
+use Rattle.s360_machine.proofs.IoLemmas.{altered-is, punch-becomes, punch-stays, reader-becomes, reader-stays, unit-stays}
+
+-- a machine of its parts
+abbrev pub machine_with : Core → Control → Units → Reader → Punch → Machine
+machine_with core control us reader punch = record { core = core; control = control; units = us; media = record { reader = reader; punch = punch } }
+
+pub IsPlanOfMachine-from : (m n : Machine) (plan : List Cell) (planned : PlannedEvent) (us : UnitChanges) (ms : MediaChanges)
+    → IsPlanOf m.core plan n.core → PlansIo planned n.control us ms → IsUnitsChangeTo m.units us n.units → IsMediaChangeTo m.media ms n.media
+    → IsPlanOfMachine m plan planned n
+IsPlanOfMachine-from m n plan planned us ms core io u x = record {
+  core = core;
+  control = io.control;
+  units = rw io.units u;
+  media = rw io.media x;
+}
+
+-- a unit that becomes what it is
+pub unaltered : (u v : UnitControl) → u ≡ v → IsAlterationOf u v None
+unaltered u v h = let e : same_unit u v ≡ true = (same_unit-Decides u v).1 h in rw e refl
+
+-- a device that cannot begin its command yet
+pub StepsTo-not_yet : (C : Type 0) (u : UnitControl) → StepsTo {C = C} u NotYet None
+StepsTo-not_yet C u p h = unaltered u (record u { state = Active p }) (ap (λ s. record u { state = s }) h)
+
+-- a unit that executes no program
+execution-of-none : (d : DeviceView) (s : Storage) (state : UnitState) → ((p : Program) → state ≡ Active p → ⊥)
+    → execution_with d s state ≡ record { stores = None; state = state; ending = None }
+execution-of-none d s Idle h = refl
+execution-of-none d s (Waiting c) h = refl
+execution-of-none d s (Active p) h = absurd (h p refl)
+
+pub ExecutesProgram-none : {C : Type 0} (s : Storage) (u : UnitControl) (d : DeviceView) (Becomes : Ending → C → Type 0) (Stays : Ending → Type 0)
+    → ((p : Program) → u.state ≡ Active p → ⊥) → ExecutesProgram s u [] d Becomes Stays (record { control = None; change = None })
+ExecutesProgram-none s u d Becomes Stays h =
+    let e : execution_with d s u.state ≡ record { stores = None; state = u.state; ending = None } = execution-of-none d s u.state h
+    in record {
+      stores = rw e (λ m k. record { cells = tt; makes = refl });
+      control = rw e (unaltered u u refl);
+      change = rw e tt;
+    }
+
+-- a step of its program
+pub ExecutesProgram-step : {C : Type 0} (s : Storage) (u : UnitControl) (p : Program) (plan : List Cell) (d : DeviceView) (Becomes : Ending → C → Type 0) (Stays : Ending → Type 0)
+    (step : ChannelStep C) (unit_step : UnitStep C) → u.state ≡ Active p → PlansExecution s p plan (channel_execution d s p) Becomes Stays step
+    → StepsTo u step unit_step.control → unit_step.change ≡ change_of_step step → ExecutesProgram s u plan d Becomes Stays unit_step
+ExecutesProgram-step s u p plan d Becomes Stays step unit_step a h k e =
+    let x : execution_with d s u.state ≡ channel_execution d s p = ap (λ state. execution_with d s state) a
+    in record {
+      stores = rw x h.stores;
+      control = rw x (rw h.state at (k p a));
+      change = rw (x, e) h.change;
+    }
+
+-- the change of the reader, and of the punch, by the contract of every device
+abbrev ReaderEnds : ReaderWithRoom → ℕ → List ℕ → ReaderWithRoom → Type 0
+ReaderEnds r code bytes s = s.reader ≡ after_command reader_table r.reader (command_of code) bytes
+
+abbrev AltersReader : ReaderWithRoom → Ending → ReaderChange → Type 0
+AltersReader d = AltersDevice (λ r x. CanSwapReader r.reader x) (λ r x. record r { reader = reader_after_swap r.reader x }) (λ r x. reader_change_after_swap r.reader x) (λ x. items_put x.motion) (λ r. record r { room = 0 }) ReaderEnds d
+
+reader-change : (d : ReaderWithRoom) (ending : Option Ending) (x : Option ReaderChange) → IsDeviceChange (AltersReader d) (KeepsDevice ReaderEnds d) ending x
+    → IsReaderChange d.reader (after_ending reader_table d.reader ending) x
+reader-change d None None h = reader-stays d.reader
+reader-change d None (Some x) h = absurd h
+reader-change d (Some e) None h = subst (λ (r : Reader). IsReaderChange d.reader r None) h (reader-stays d.reader)
+reader-change d (Some e) (Some x) h = reader-becomes d.reader (after_command reader_table d.reader (command_of e.command) e.output) x h.can h.row h.back h.alters
+
+abbrev PunchEnds : PunchWithRoom → ℕ → List ℕ → PunchWithRoom → Type 0
+PunchEnds r code bytes s = s.punch ≡ after_command punch_table r.punch (command_of code) bytes
+
+abbrev AltersPunch : PunchWithRoom → Ending → PunchChange → Type 0
+AltersPunch d = AltersDevice (λ r x. CanSwapPunch r.punch x) (λ r x. record r { punch = punch_after_swap r.punch x }) (λ r x. punch_change_after_swap r.punch x) (λ x. items_put x.motion) (λ r. record r { room = 0 }) PunchEnds d
+
+punch-change : (d : PunchWithRoom) (ending : Option Ending) (x : Option PunchChange) → IsDeviceChange (AltersPunch d) (KeepsDevice PunchEnds d) ending x
+    → IsPunchChange d.punch (after_ending punch_table d.punch ending) x
+punch-change d None None h = punch-stays d.punch
+punch-change d None (Some x) h = absurd h
+punch-change d (Some e) None h = subst (λ (r : Punch). IsPunchChange d.punch r None) h (punch-stays d.punch)
+punch-change d (Some e) (Some x) h = punch-becomes d.punch (after_command punch_table d.punch (command_of e.command) e.output) x h.can h.row h.back h.alters
+
+-- a channel event of the reader, and of the punch
+pub reader-event : (core : Core) (control : Control) (us : Units) (d : ReaderWithRoom) (punch : Punch) (plan : List Cell) (planned : PlannedEvent) (step : UnitStep ReaderChange)
+    → ExecutesProgram core.storage us.reader plan (view_of reader_table d.reader) (AltersReader d) (KeepsDevice ReaderEnds d) step
+    → PlansIo planned control (record { reader = step.control; punch = None }) (record { reader = step.change; punch = None })
+    → IsPlanOfMachine (machine_with core control us d.reader punch) plan planned (after_reader_event (machine_with core control us d.reader punch))
+reader-event core control us d punch plan planned step run io =
+    let m : Machine = machine_with core control us d.reader punch
+    in let n : Machine = after_reader_event m
+    in let units : IsUnitsChangeTo us (record { reader = step.control; punch = None }) n.units
+    = IsUnitsChangeTo-from us n.units _ (altered-is us.reader n.units.reader step.control run.control) (unit-stays us.punch)
+    in let change : IsReaderChange d.reader n.media.reader step.change = reader-change d (reader_execution m).ending step.change run.change
+    in let media : IsMediaChangeTo m.media (record { reader = step.change; punch = None }) n.media = IsMediaChangeTo-from m.media n.media _ change (punch-stays punch)
+    in IsPlanOfMachine-from m n plan planned _ _ (run.stores core refl) io units media
+
+pub punch-event : (core : Core) (control : Control) (us : Units) (reader : Reader) (d : PunchWithRoom) (plan : List Cell) (planned : PlannedEvent) (step : UnitStep PunchChange)
+    → ExecutesProgram core.storage us.punch plan (view_of punch_table d.punch) (AltersPunch d) (KeepsDevice PunchEnds d) step
+    → PlansIo planned control (record { reader = None; punch = step.control }) (record { reader = None; punch = step.change })
+    → IsPlanOfMachine (machine_with core control us reader d.punch) plan planned (after_punch_event (machine_with core control us reader d.punch))
+punch-event core control us reader d plan planned step run io =
+    let m : Machine = machine_with core control us reader d.punch
+    in let n : Machine = after_punch_event m
+    in let units : IsUnitsChangeTo us (record { reader = None; punch = step.control }) n.units
+    = IsUnitsChangeTo-from us n.units _ (unit-stays us.reader) (altered-is us.punch n.units.punch step.control run.control)
+    in let change : IsPunchChange d.punch n.media.punch step.change = punch-change d (punch_execution m).ending step.change run.change
+    in let media : IsMediaChangeTo m.media (record { reader = None; punch = step.change }) n.media = IsMediaChangeTo-from m.media n.media _ (reader-stays reader) change
+    in IsPlanOfMachine-from m n plan planned _ _ (run.stores core refl) io units media

@@ -1,0 +1,98 @@
+-- What an event alters of the units: another state of a unit on its channel, and a change of its device. Each is
+-- exchanged with what stands there, and the same exchange done again takes it back.
+use Rattle.std.specs.Prelude.{◌≡◌, ℕ, ◌++◌, Option, Some, None, List, [], ◌∷◌, Box, box_value}
+use Rattle.s360_device.specs.declared.reader_change.ReaderChange.{ReaderChange}
+use Rattle.s360_device.specs.declared.punch_change.PunchChange.{PunchChange}
+use Rattle.s360_device.specs.Motions.{items_put}
+use Rattle.s360_device.specs.PunchChanges.{CanSwapPunch, punch_after_swap, punch_change_after_swap}
+use Rattle.s360_device.specs.ReaderChanges.{CanSwapReader, reader_after_swap, reader_change_after_swap}
+use Rattle.s360_store.specs.declared.place.Place.{Place}
+use Rattle.s360_machine.specs.declared.configured_unit.ConfiguredUnit.TheVariants.{Reader, Punch}
+use Rattle.s360_machine.specs.declared.io_change.IoChange.{IoChange}
+use Rattle.s360_machine.specs.declared.media.MediaChanges.{MediaChanges}
+use Rattle.s360_machine.specs.declared.units.UnitChanges.{UnitChanges}
+use Rattle.s360_machine.specs.declared.units.Units.{Units}
+use Rattle.s360_machine.specs.Machine.{Media}
+use Rattle.s360_machine.specs.Units.{media_place, state_place}
+
+-- A change that may be there, by an exchange of one that is: whether it can be made, and what both are afterwards
+abbrev pub CanIfAny : {D C : Type 0} → (D → C → Type 0) → D → Option C → Type 0
+CanIfAny Can d None = Unit {0}
+CanIfAny Can d (Some x) = Can d x
+
+abbrev pub after_if_any : {D C : Type 0} → (D → C → D) → D → Option C → D
+after_if_any after d None = d
+after_if_any after d (Some x) = after d x
+
+abbrev pub back_if_any : {D C : Type 0} → (D → C → C) → D → Option C → Option C
+back_if_any back d None = None
+back_if_any back d (Some x) = Some (back d x)
+
+-- its place, and the room that it needs
+abbrev pub place_if_any : {C : Type 0} → Option C → Place → List Place
+place_if_any None p = []
+place_if_any (Some x) p = p ∷ []
+
+abbrev pub need_if_any : {C : Type 0} → (C → ℕ) → Option C → ℕ
+need_if_any needs None = 0
+need_if_any needs (Some x) = needs x
+
+-- a value exchanged with another
+abbrev pub the_other : {X : Type 0} → X → X → X
+the_other x y = y
+
+abbrev pub the_one : {X : Type 0} → X → X → X
+the_one x y = x
+
+-- the units after the exchange, and the changes
+abbrev pub units_after_swap : Units → UnitChanges → Units
+units_after_swap us x = record { reader = after_if_any the_other us.reader x.reader; punch = after_if_any the_other us.punch x.punch }
+
+abbrev pub unit_changes_after_swap : Units → UnitChanges → UnitChanges
+unit_changes_after_swap us x = record { reader = back_if_any the_one us.reader x.reader; punch = back_if_any the_one us.punch x.punch }
+
+abbrev pub places_of_units : UnitChanges → List Place
+places_of_units x = place_if_any x.reader (state_place Reader) ++ place_if_any x.punch (state_place Punch)
+
+-- the media after the exchange, and the changes
+abbrev pub CanSwapMedia : Media → MediaChanges → Type 0
+CanSwapMedia m x = CanIfAny CanSwapReader m.reader x.reader × CanIfAny CanSwapPunch m.punch x.punch
+
+abbrev pub media_after_swap : Media → MediaChanges → Media
+media_after_swap m x = record { reader = after_if_any reader_after_swap m.reader x.reader; punch = after_if_any punch_after_swap m.punch x.punch }
+
+abbrev pub media_changes_after_swap : Media → MediaChanges → MediaChanges
+media_changes_after_swap m x = record {
+  reader = back_if_any reader_change_after_swap m.reader x.reader;
+  punch = back_if_any punch_change_after_swap m.punch x.punch;
+}
+
+abbrev pub places_of_media : MediaChanges → List Place
+places_of_media x = place_if_any x.reader (media_place Reader) ++ place_if_any x.punch (media_place Punch)
+
+-- the cards for which the changes need room
+abbrev pub cards_of_reader : MediaChanges → ℕ
+cards_of_reader x = need_if_any (λ (c : ReaderChange). items_put c.motion) x.reader
+
+abbrev pub cards_of_punch : MediaChanges → ℕ
+cards_of_punch x = need_if_any (λ (c : PunchChange). items_put c.motion) x.punch
+
+-- what most events alter of the units: nothing
+abbrev pub no_unit_changes : UnitChanges
+no_unit_changes = record { reader = None; punch = None }
+
+abbrev pub no_media_changes : MediaChanges
+no_media_changes = record { reader = None; punch = None }
+
+abbrev pub unit_changes_of : {A : Type 0} → Option (Box IoChange A) → UnitChanges
+unit_changes_of None = no_unit_changes
+unit_changes_of (Some x) = (box_value x).units
+
+abbrev pub media_changes_of : {A : Type 0} → Option (Box IoChange A) → MediaChanges
+media_changes_of None = no_media_changes
+media_changes_of (Some x) = (box_value x).media
+
+-- they are these
+pub record MakesIoChange {A : Type 0} (io : Option (Box IoChange A)) (units : UnitChanges) (media : MediaChanges) : Type 0 where
+  pub units_are : unit_changes_of io ≡ units
+  pub media_are : media_changes_of io ≡ media

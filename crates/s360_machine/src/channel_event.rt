@@ -1,0 +1,126 @@
+//! Channel events. Source: GA22-6821, "Input/Output Operations", execution of input/output operations.
+ghost use Rattle.std.specs.Prelude.{◌≡◌, [], IfOk};
+ghost use Rattle.s360_channel.specs.Steps.{AltersDevice, KeepsDevice, change_of_step};
+ghost use Rattle.s360_machine.specs.ChannelEvents.{ExecutesProgram, StepsTo};
+ghost use Rattle.s360_machine.specs.ChannelEvents.{after_channel_event};
+ghost use Rattle.s360_machine.specs.ChannelEvents.{after_punch_event, after_reader_event};
+ghost use Rattle.s360_machine.specs.Machine.{seen};
+ghost use Rattle.s360_machine.specs.Planned.{IsPlanOfMachine};
+
+use crate::configured_unit::ConfiguredUnit;
+use crate::machine::{Machine, PlannedEvent};
+use crate::media::MediaChanges;
+use crate::units::{UnitChanges, altered_to};
+use s360_channel::{ChannelStep, UnitControl, UnitState, channel_plan};
+use s360_device::Device;
+use s360_store::{Plan, Storage};
+use s360_word::Unit;
+use std::alloc::{AllocError, Global};
+
+/// What a channel event makes of a unit and its device, where they do not stay as they are.
+#[derive(Debug, Drop)]
+pub(crate) struct UnitStep<C> {
+    /// The unit on its channel.
+    pub(crate) control: Option<UnitControl>,
+    /// The change of its device.
+    pub(crate) change: Option<C>,
+}
+
+/// What a step of its program makes of a unit.
+fn unit_step<C: Drop>(unit: &UnitControl, step: ChannelStep<C>) -> UnitStep<C>
+    ensures control { StepsTo unit.now step result.control }
+    ensures change { result.change ≡ change_of_step step }
+{
+    match step {
+        ChannelStep::NotYet => UnitStep {
+            control: None,
+            change: None,
+        },
+        ChannelStep::GoesOn { program, change } => UnitStep {
+            control: altered_to(unit, UnitState::Active(program)),
+            change,
+        },
+        ChannelStep::Ends { csw, change } => UnitStep {
+            control: altered_to(unit, UnitState::Waiting(csw)),
+            change,
+        },
+    }
+}
+
+/// Plans what a channel event of a unit stores, and answers what it makes of the unit.
+fn plan_step<D: Device>(
+    alloc: Global,
+    storage: &Storage,
+    unit: &UnitControl,
+    device: &D,
+    plan: &mut Plan,
+) -> Result<UnitStep<D::Change>, AllocError>
+    requires empty { plan.old ≡ [] }
+    ensures { IfOk result (ExecutesProgram storage.now unit.now plan.new (record { begin = D.begin_of device.now; input = D.input_of device.now; exception = D.exception_of device.now }) (AltersDevice D.can_swap D.after_swap D.change_after_swap D.needs D.bare D.is_after device.now) (KeepsDevice D.is_after device.now)) }
+{
+    let UnitState::Active(program) = &unit.state else {
+        return Ok(UnitStep {
+            control: None,
+            change: None,
+        });
+    };
+    let step = channel_plan(alloc, storage, program, device, plan)?;
+    let step = unit_step(unit, step);
+    Ok(step)
+}
+
+impl Machine {
+    /// Plans a channel event of the card reader.
+    fn plan_reader(&self, plan: &mut Plan) -> Result<PlannedEvent, AllocError>
+        requires empty { plan.old ≡ [] }
+        ensures { IfOk result (λ planned. IsPlanOfMachine (seen self.now.whole) plan.new planned (after_reader_event (seen self.now.whole))) }
+    {
+        let (storage, unit) = (self.core.storage(), &self.units.reader);
+        let step = plan_step(self.alloc, storage, unit, &self.devices.reader, plan)?;
+        let units = UnitChanges {
+            reader: step.control,
+            punch: None,
+        };
+        let media = MediaChanges {
+            reader: step.change,
+            punch: None,
+        };
+        let planned = self.planned_with(self.control, units, media)?;
+        Ok(planned)
+    }
+
+    /// Plans a channel event of the card punch.
+    fn plan_punch(&self, plan: &mut Plan) -> Result<PlannedEvent, AllocError>
+        requires empty { plan.old ≡ [] }
+        ensures { IfOk result (λ planned. IsPlanOfMachine (seen self.now.whole) plan.new planned (after_punch_event (seen self.now.whole))) }
+    {
+        let (storage, unit) = (self.core.storage(), &self.units.punch);
+        let step = plan_step(self.alloc, storage, unit, &self.devices.punch, plan)?;
+        let units = UnitChanges {
+            reader: None,
+            punch: step.control,
+        };
+        let media = MediaChanges {
+            reader: None,
+            punch: step.change,
+        };
+        let planned = self.planned_with(self.control, units, media)?;
+        Ok(planned)
+    }
+
+    /// Plans a channel event of a unit.
+    pub(crate) fn plan_channel(
+        &self,
+        unit: Unit,
+        plan: &mut Plan,
+    ) -> Result<PlannedEvent, AllocError>
+        requires empty { plan.old ≡ [] }
+        ensures { IfOk result (λ planned. IsPlanOfMachine (seen self.now.whole) plan.new planned (after_channel_event unit (seen self.now.whole))) }
+    {
+        match ConfiguredUnit::at(unit) {
+            Some(ConfiguredUnit::Reader) => self.plan_reader(plan),
+            Some(ConfiguredUnit::Punch) => self.plan_punch(plan),
+            None => Ok(self.planned(self.control)),
+        }
+    }
+}

@@ -1,0 +1,51 @@
+//! The units that the machine has. Source: GA22-6821, "Input/Output Operations", unit address; which
+//! units there are, and their addresses, is the own profile.
+ghost use Rattle.std.specs.Prelude.{◌≡◌, ◌<◌};
+ghost use Rattle.s360_machine.specs.Units.{address_of_unit, channel_of, unit_at};
+
+use s360_word::Unit;
+
+/// A unit of the machine.
+#[derive(Clone, Copy, Debug, PartialEq, Eq)]
+pub enum ConfiguredUnit {
+    /// The card reader of the 2540, 00C.
+    Reader,
+    /// The card punch of the 2540, 00D.
+    Punch,
+}
+
+impl ConfiguredUnit {
+    /// All of them, in the order of their addresses.
+    pub(crate) const ALL: [ConfiguredUnit; 2] = [ConfiguredUnit::Reader, ConfiguredUnit::Punch];
+
+    /// The unit at an address, if the machine has it.
+    pub fn at(unit: Unit) -> Option<ConfiguredUnit>
+        ensures { result ≡ unit_at unit.0 }
+    {
+        match unit.address() {
+            0x00C => Some(ConfiguredUnit::Reader),
+            0x00D => Some(ConfiguredUnit::Punch),
+            _ => None,
+        }
+    }
+
+    /// Its address.
+    pub fn unit(self) -> Unit
+        ensures { result ≡ record { 0 = address_of_unit self } }
+    {
+        match self {
+            ConfiguredUnit::Reader => Unit::new(0x00C),
+            ConfiguredUnit::Punch => Unit::new(0x00D),
+        }
+    }
+
+    /// The channel on which it is.
+    pub(crate) fn channel(self) -> u8
+        ensures channel { result ≡ channel_of self }
+        ensures masked { result < 7 }
+    {
+        match self {
+            ConfiguredUnit::Reader | ConfiguredUnit::Punch => 0,
+        }
+    }
+}

@@ -1,0 +1,7 @@
+pub mod KnownUnits
+pub mod CarriageLemmas
+pub mod SignLemmas
+pub mod SkipLemmas
+pub mod DifferenceLemmas
+pub mod PrinterLemmas
+pub mod ConsoleLemmas

@@ -1,0 +1,15 @@
+pub mod Signs
+pub mod Positions
+pub mod Carriage
+pub mod Paper
+pub mod PrinterCommands
+pub mod Printer
+pub mod PrinterChanges
+pub mod PrinterLaws
+pub mod TypedLines
+pub mod ConsoleCommands
+pub mod Console
+pub mod ConsoleChanges
+pub mod ConsoleLaws
+pub mod Differences
+pub mod Laws

@@ -1,0 +1,14 @@
+pub mod Blocks
+pub mod Items
+pub mod Slots
+pub mod SlotLaws
+pub mod TapeCommands
+pub mod Tape
+pub mod WholeTape
+pub mod Attempts
+pub mod TapeLaws
+pub mod Differences
+pub mod Parts
+pub mod Images
+pub mod NextParts
+pub mod ImageLaws
