@@ -76,8 +76,9 @@ class Subject:
         return found, len(refused)
 
 
-def subjects():
+def subjects(folder):
     for row in rows.rows():
+        row = row.placed(folder)
         yield Subject(row.name, rows.PROGRAM, row.args, row.script, row.answers)
     for program in sorted(TOP.glob("crates/*/out/*_tests")):
         listed = subprocess.run([program, "--list"], capture_output=True, text=True)
@@ -88,8 +89,8 @@ def subjects():
 
 
 def main():
-    wanted = list(subjects())
     with tempfile.TemporaryDirectory() as folder:
+        wanted = list(subjects(folder))
         shim = pathlib.Path(folder) / "refuse_nth.so"
         source = TOP / "tests/refuse_nth.c"
         subprocess.run(["cc", "-O1", "-shared", "-fPIC", "-o", shim, source], check=True)

@@ -4,9 +4,11 @@
     tests/rows.py [WORD ..]               over the program as `rt ci` or `./run` has built it
     tests/rows.py --unproved [WORD ..]    by `rt try`, which proves nothing: for work in progress
 
-A row is a script `tests/rows/CHAPTER/NAME` with its answers in `NAME.stdout`, and the words of the
-command line, where there are any, in `NAME.args`, one a line. The examples, whose answers stand
-beside them in `.answers`, are rows too. With words, the rows that have one of them in their path.
+A row is a script `tests/rows/CHAPTER/NAME` with its answers in `NAME.stdout`. Words of the command
+line stand in `NAME.args`, one a line. The deck of the card reader stands in `NAME.cards`: a line of
+hexadecimal digits for each card, whose other columns are blank; a line that begins with `*` is a
+comment. The examples are rows too: their answers stand beside them in `.answers`, and their decks as
+files in `.deck`. With words, the rows that have one of them in their path.
 
 The answers have to be the same to the byte, with status 0 and nothing on standard error. Then the
 row is run a second time with as many `back` as changes stand at its end, and all that can be shown
@@ -28,12 +30,16 @@ from typing import NamedTuple
 
 TOP = pathlib.Path(__file__).resolve().parent.parent
 ROWS = TOP / "tests/rows"
-MEDIA = TOP / "tests/media"
 PROGRAM = TOP / "crates/s360dbg/out/s360dbg"
 STORAGE = 65_536
 BLOCK = 2_048
 MOST_SHOWN = 256
-UNITS = ("00C", "00D")
+UNITS = ("00C", "00D", "00E", "01F")
+# So many of a unit's items are shown, and one more.
+ITEMS = 20
+CARD = 80
+BLANK = b"\x40"
+BESIDE = (".stdout", ".args", ".cards")
 SECONDS = 120
 
 
@@ -42,25 +48,44 @@ class Row(NamedTuple):
     script: bytes
     answers: bytes
     args: list[str]
+    deck: bytes | None
+
+    def placed(self, folder):
+        """The row with its deck as a file of the folder, which its command line names."""
+        if self.deck is None:
+            return self
+        file = pathlib.Path(folder) / self.name.replace("/", "-")
+        file.write_bytes(self.deck)
+        return self._replace(args=["--reader", str(file), *self.args])
+
+
+def deck_of(cards):
+    """The deck of cards that are written as digits."""
+    lines = [line for line in cards.read_text().splitlines() if not line.startswith("*")]
+    return b"".join(bytes.fromhex(line).ljust(CARD, BLANK) for line in lines)
+
+
+def read_if_there(file, read):
+    return read(file) if file.exists() else None
 
 
 def rows():
     for script in sorted(ROWS.glob("*/*")):
-        if script.suffix not in (".stdout", ".args"):
-            args = script.with_name(f"{script.name}.args")
+        if script.suffix not in BESIDE:
+            answers, args, cards = (script.with_name(script.name + part) for part in BESIDE)
             words = args.read_text().splitlines() if args.exists() else []
-            answers = script.with_name(f"{script.name}.stdout").read_bytes()
-            yield Row(str(script.relative_to(ROWS)), script.read_bytes(), answers, words)
+            deck = read_if_there(cards, deck_of)
+            name = str(script.relative_to(ROWS))
+            yield Row(name, script.read_bytes(), answers.read_bytes(), words, deck)
     for script in sorted((TOP / "examples").glob("*.s360")):
         answers = script.with_suffix(".answers").read_bytes()
-        yield Row(f"examples/{script.name}", script.read_bytes(), answers, [])
+        deck = read_if_there(script.with_suffix(".deck"), pathlib.Path.read_bytes)
+        yield Row(f"examples/{script.name}", script.read_bytes(), answers, [], deck)
 
 
 def run(program, args, script, **how):
-    """Carries a script out, where the decks and tapes stand that its command line names."""
-    folder = MEDIA if MEDIA.is_dir() else TOP
     return subprocess.run(
-        [program, *args], input=script, capture_output=True, cwd=folder, timeout=SECONDS, **how
+        [program, *args], input=script, capture_output=True, timeout=SECONDS, **how
     )
 
 
@@ -73,6 +98,7 @@ def show_lines(args):
     yield from (f"show s {at:X} {MOST_SHOWN}" for at in range(0, size, MOST_SHOWN))
     unit_lines = ("show u", "show d", "last u", "last d")
     yield from (f"{line} {unit}" for line in unit_lines for unit in UNITS)
+    yield from (f"show m {unit} {item}" for unit in UNITS for item in range(1, ITEMS + 2))
 
 
 def script_of(lines):
@@ -113,24 +139,31 @@ def fault_of_taking_back(row, program):
 
 def proved(wanted):
     """What is wrong with each row over the program as it was built."""
-    with ThreadPoolExecutor(os.cpu_count()) as pool:
+    with tempfile.TemporaryDirectory() as folder, ThreadPoolExecutor(os.cpu_count()) as pool:
         return list(
             pool.map(
                 lambda row: fault_of_answers(row, PROGRAM) or fault_of_taking_back(row, PROGRAM),
-                wanted,
+                [row.placed(folder) for row in wanted],
             )
         )
 
 
 def unproved(wanted):
     """What is wrong with each row's answers, by one run of `rt try` over all of them."""
-    with tempfile.TemporaryDirectory() as folder:
+    data = []
+    with tempfile.TemporaryDirectory() as folder, tempfile.TemporaryDirectory() as decks:
         for number, row in enumerate(wanted):
             script = pathlib.Path(folder) / f"{number:06}"
             script.write_bytes(row.script)
-            if row.args:
-                script.with_suffix(".args").write_text("".join(f"{word}\n" for word in row.args))
-        data = [f"--data={file.name}={file}" for file in sorted(MEDIA.glob("*"))]
+            args = row.args
+            if row.deck is not None:
+                # The program finds a deck by its name alone, in the folder that it is run in.
+                _, deck, *args = row.placed(decks).args
+                name = pathlib.Path(deck).name
+                data += ["--data", f"{name}={deck}"]
+                args = ["--reader", name, *args]
+            if args:
+                script.with_suffix(".args").write_text("".join(f"{word}\n" for word in args))
         command = ["rt", "try", "--cases", folder, *data]
         done = subprocess.run(command, cwd=PROGRAM.parent.parent, capture_output=True)
     # The answers of each script stand behind a line with its name, and its status in a line of

@@ -1,30 +1,38 @@
-"""The channels and the units of the second machine: the reader 00C and the punch 00D.
+"""The channels and the units of the second machine: reader 00C, punch 00D, printer 00E, console 01F.
 
 A unit's state is `IDLE`, a program or a CSW that waits, and its device is a value that a command
 makes another one of.
 
-Source: GA22-6821, "Input/Output Operations", and the component description of the 2540.
+Source: GA22-6821, "Input/Output Operations", and the component descriptions of 2540, 1403, 1052.
 """
+import string
 from typing import NamedTuple
 
 from second_core import ADDRESSES, BLOCK, SIZE, Core
 
-READER, PUNCH = 0x00C, 0x00D
-UNITS = (READER, PUNCH)
+READER, PUNCH, PRINTER, CONSOLE = 0x00C, 0x00D, 0x00E, 0x01F
+UNITS = (READER, PUNCH, PRINTER, CONSOLE)
 CSW, CAW = 64, 72
 CARD = 80
+PRINT_LINE, TYPED_LINE = 132, 256
+LINES_OF_PAGE, LAST_LINES, PAGES = 66, 56, 1 << 32
 IDLE = 0
 # What a CCW follows.
 SIO, COMMAND_CHAIN, DATA_CHAIN = "sio", "command chain", "data chain"
 # What a command is to its device.
 INPUT, OUTPUT, CONTROL, REFUSED = "input", "output", "control", "refused"
+NOT_YET = "not yet"
 # Bits 32 to 47 of the CSW.
 ENDED, UNIT_EXCEPTION, UNIT_CHECK = 0x0C00, 0x0100, 0x0200
+ATTENTION, BUSY = 0x8000, 0x1000
 INCORRECT_LENGTH, PROGRAM_CHECK, PROTECTION_CHECK = 0x0040, 0x0020, 0x0010
 # Sense.
 REJECTED, INTERVENTION = 0x80, 0x40
 NO_OPERATION, SENSE = 0x03, 0x04
 START, TEST, HALT, TEST_CHANNEL = 0x9C, 0x9D, 0x9E, 0x9F
+# The signs of EBCDIC bytes that are shown, and where a card lies.
+SIGNS = string.ascii_letters + string.digits + " .<(+|&!$*);-/,%_>?:#@'=\""
+READ_STACKERS, PUNCH_STACKERS = ("R1", "R2", "RP3"), ("P1", "P2", "RP3")
 
 
 class Program(NamedTuple):
@@ -48,6 +56,22 @@ class Ended(NamedTuple):
 
     def words(self):
         return self.key << 28 | self.at, self.status << 16 | self.residual
+
+
+class Control(NamedTuple):
+    """How a unit stands on its channel."""
+
+    state: object = IDLE
+    attention: bool = False
+
+    @property
+    def condition(self):
+        """The CSW of its condition for an interruption, and how it stands once that is taken."""
+        if isinstance(self.state, Ended):
+            return self.state, self._replace(state=IDLE)
+        if self.state == IDLE and self.attention:
+            return Ended(0, 0, ATTENTION, 0), Control()
+        return None
 
 
 class Ccw(NamedTuple):
@@ -81,6 +105,12 @@ class Ccw(NamedTuple):
         return not has_code or self.flags & 7 != 0 or self.count == 0
 
 
+def with_text(name, line):
+    """A name, and the signs of a line without the blanks at their end."""
+    signs = "".join(sign if sign in SIGNS else "." for sign in line.decode("cp037"))
+    return f"{name} {signs}".rstrip(" ")
+
+
 class Reader(NamedTuple):
     sense: int = 0
     cards: tuple = ()
@@ -105,6 +135,11 @@ class Reader(NamedTuple):
         end = "on" if self.has_end else "off"
         return f"next {len(self.stackers)} of {len(self.cards)} eof {end}"
 
+    def items(self):
+        fed = [READ_STACKERS[stacker] for stacker in self.stackers]
+        places = fed + ["hopper"] * (len(self.cards) - len(fed))
+        return [with_text(place, card) for place, card in zip(places, self.cards)]
+
 
 class Punch(NamedTuple):
     sense: int = 0
@@ -118,6 +153,95 @@ class Punch(NamedTuple):
 
     def shown(self):
         return f"cards {len(self.cards)}"
+
+    def items(self):
+        return [with_text(PUNCH_STACKERS[command >> 6], card) for command, card in self.cards]
+
+
+class Carriage(NamedTuple):
+    page: int = 1
+    line: int = 1
+
+    def spaced(self, lines):
+        """The carriage after spacing, and whether it came to the last lines of a page."""
+        line = self.line + lines
+        exception = UNIT_EXCEPTION if self.line < LAST_LINES <= line else 0
+        if line > LINES_OF_PAGE:
+            return self.next_page(line - LINES_OF_PAGE), exception
+        return self._replace(line=line), exception
+
+    def skipped(self, channel):
+        line = 5 * channel - 4
+        return (self._replace(line=line) if line > self.line else self.next_page(line)), 0
+
+    def next_page(self, line):
+        return Carriage(self.page % (PAGES - 1) + 1, line)
+
+    def moved(self, command):
+        """By what its code says before its lowest three bits."""
+        if command & 0x80:
+            return self.skipped(command >> 3 & 15)
+        return self.spaced(command >> 3)
+
+
+def moves(command):
+    """Whether the code of a printer's command has a motion."""
+    number = command >> 3 & 15
+    return 1 <= number <= 12 if command & 0x80 else number <= 3
+
+
+class Printer(NamedTuple):
+    sense: int = 0
+    records: tuple = ()
+    carriage: Carriage = Carriage()
+
+    def begun(self, command):
+        if command & 7 == 1 and moves(command):
+            return OUTPUT, PRINT_LINE
+        if command & 7 == 3 and moves(command):
+            return CONTROL, b""
+        return REFUSED, REJECTED
+
+    def done(self, command, written):
+        records = self.records
+        if command & 7 == 1:
+            records += ((self.carriage, written),)
+        carriage, exception = self.carriage.moved(command)
+        return self._replace(records=records, carriage=carriage), exception
+
+    def shown(self):
+        return f"page {self.carriage.page} line {self.carriage.line} records {len(self.records)}"
+
+    def items(self):
+        return [with_text(f"page {at.page} line {at.line}", line) for at, line in self.records]
+
+
+class Console(NamedTuple):
+    sense: int = 0
+    typed: tuple = ()
+    entered: tuple = ()
+    taken: int = 0
+
+    def begun(self, command):
+        if command in (0x01, 0x09):
+            return OUTPUT, TYPED_LINE
+        if command == 0x0B:
+            return CONTROL, b""
+        if command != 0x0A:
+            return REFUSED, REJECTED
+        return (INPUT, self.entered[self.taken]) if self.taken < len(self.entered) else (NOT_YET, b"")
+
+    def done(self, command, written):
+        if command == 0x0A:
+            return self._replace(taken=self.taken + 1), 0
+        names = {0x01: "type", 0x09: "return", 0x0B: "alarm"}
+        return self._replace(typed=self.typed + ((names[command], written),)), 0
+
+    def shown(self):
+        return f"typed {len(self.typed)} entered {len(self.entered)} taken {self.taken}"
+
+    def items(self):
+        return [with_text(name, line) for name, line in self.typed]
 
 
 def begun(device, command):
@@ -147,32 +271,47 @@ def device_name(unit):
     return f"d{unit:03X}"
 
 
-class Channels(Core):
-    def __init__(self):
-        super().__init__()
-        self.values |= {device_name(READER): Reader(), device_name(PUNCH): Punch()}
+def shown_state(state):
+    if state == IDLE:
+        return "idle"
+    if isinstance(state, Program):
+        return f"active {state.key << 28 | state.at:08X}"
+    return "waiting " + " ".join(f"{word:08X}" for word in state.words())
 
-    def unit(self, unit):
+
+class Channels(Core):
+    def __init__(self, deck=()):
+        super().__init__()
+        devices = (Reader(cards=tuple(deck)), Punch(), Printer(), Console())
+        for unit, device in zip(UNITS, devices):
+            self.values[device_name(unit)] = device
+            self.values[state_name(unit)] = Control()
+
+    def control(self, unit):
         return self.value(state_name(unit))
 
+    def unit(self, unit):
+        return self.control(unit).state
+
     def put_unit(self, unit, state):
-        self.put(state_name(unit), state)
+        self.put(state_name(unit), self.control(unit)._replace(state=state))
 
     def device(self, unit):
         return self.value(device_name(unit))
 
     def waiting(self):
-        """The lowest unit with a CSW that waits, where its channel's mask is one."""
+        """The lowest unit that has a condition, where its channel's mask is one."""
         for unit in UNITS:
-            if isinstance(self.unit(unit), Ended) and self.psw_field(63 - unit // 256, 1):
+            if self.control(unit).condition and self.psw_field(63 - unit // 256, 1):
                 return unit
         return None
 
     def store_csw(self, unit):
-        """Stores the whole CSW that waits, which is then cleared."""
-        for at, word in zip((CSW, CSW + 4), self.unit(unit).words()):
+        """Stores the whole CSW of a condition, which is then taken."""
+        csw, control = self.control(unit).condition
+        for at, word in zip((CSW, CSW + 4), csw.words()):
             self.put_bytes(at, word.to_bytes(4, "big"))
-        self.put_unit(unit, IDLE)
+        self.put(state_name(unit), control)
 
     def store_status(self, status):
         self.put_bytes(CSW + 4, status.to_bytes(2, "big"))
@@ -180,10 +319,17 @@ class Channels(Core):
 
     def reset_units(self):
         for unit in UNITS:
-            self.put_unit(unit, IDLE)
+            self.put(state_name(unit), Control())
 
     def press_end_of_file(self):
         self.put(device_name(READER), self.device(READER)._replace(has_end=True))
+
+    def press_request(self):
+        self.put(state_name(CONSOLE), self.control(CONSOLE)._replace(attention=True))
+
+    def enter(self, line):
+        console = self.device(CONSOLE)
+        self.put(device_name(CONSOLE), console._replace(entered=console.entered + (line,)))
 
     # The instructions.
 
@@ -200,6 +346,9 @@ class Channels(Core):
     def start(self, unit):
         if self.unit(unit) != IDLE:
             return 2
+        if self.control(unit).attention:
+            self.put(state_name(unit), Control())
+            return self.store_status(ATTENTION | BUSY)
         caw = self.number(CAW, 4)
         key, at = caw >> 28, caw % ADDRESSES
         program = Program(key, at, SIO)
@@ -214,10 +363,9 @@ class Channels(Core):
         return 0
 
     def test(self, unit):
-        state = self.unit(unit)
-        if isinstance(state, Program):
+        if isinstance(self.unit(unit), Program):
             return 2
-        if state == IDLE:
+        if not self.control(unit).condition:
             return 0
         self.store_csw(unit)
         return 1
@@ -261,6 +409,8 @@ class Channels(Core):
         if program.after != DATA_CHAIN:
             program = program._replace(command=ccw.command, moved=0, gathered=b"")
         kind, record = begun(self.device(unit), program.command)
+        if kind == NOT_YET:
+            return
         if kind == INPUT:
             left = len(record) - program.moved
         elif kind == OUTPUT:
@@ -316,12 +466,8 @@ class Channels(Core):
     # What is shown.
 
     def shown_unit(self, unit):
-        state = self.unit(unit)
-        if state == IDLE:
-            return f"{unit:03X} idle"
-        if isinstance(state, Program):
-            return f"{unit:03X} active {state.key << 28 | state.at:08X}"
-        return f"{unit:03X} waiting " + " ".join(f"{word:08X}" for word in state.words())
+        state, attention = self.control(unit)
+        return f"{unit:03X} {shown_state(state)}{' attention' * attention}"
 
     def shown_device(self, unit):
         device = self.device(unit)

@@ -100,6 +100,8 @@ class Machine(Channels):
             self.reset_units()
         elif key == "eof":
             self.press_end_of_file()
+        elif key == "request":
+            self.press_request()
         else:
             self.put("ext", self.value("ext") | KEY_PENDING)
 

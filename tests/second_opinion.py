@@ -2,11 +2,12 @@
 """Compares the program with a second machine, written in another language.
 
 Random words, PSWs, storage keys, operands, tables, instructions and channel programs are patched
-in and stepped, and the channels, the timer and the operator's keys come in between. Each answer is
-compared: reports, refusals, the PSW, the registers, the pending conditions, the units with their
-last changes and the bytes that are shown, and these again after a step back. `second_opinion.py FIRST LAST` takes the seeds from the first to the last, and each of
-them tries 300 instructions. It needs the program as `rt ci` or `./run` has built it. It prints the
-first answer of a seed that is another, and how many seeds had none.
+in and stepped or run over a random deck, with breakpoints, and the channels, the timer and the
+operator's keys come in between. Each answer is compared: reports, refusals, the PSW, the registers,
+the pending conditions, the units with their media and last changes and the bytes that are shown,
+and these again after a step back. `second_opinion.py FIRST LAST` takes the seeds from the first to
+the last, and each of them tries 300 instructions. It needs the program as `rt ci` or `./run` has
+built it. It prints the first answer of a seed that is another, and how many seeds had none.
 
 `second_machine.py` says what the comparison can find.
 """
@@ -15,12 +16,14 @@ import pathlib
 import random
 import subprocess
 import sys
+import tempfile
 from concurrent.futures import ThreadPoolExecutor
 
-from second_channels import CAW, CSW, START, UNITS, device_name, state_name
+from second_channels import CAW, CSW, SIGNS, START, UNITS
 from second_core import ADDRESSES, BLOCK, SIZE, WORD, signed
-from second_machine import STOPPED, TIMER, Machine
-from second_programs import CHAIN, address_word, chain
+from second_debugger import Debugger
+from second_machine import STOPPED, TIMER
+from second_programs import CHAIN, address_word, chain, deck
 
 TOP = pathlib.Path(__file__).resolve().parent.parent
 PROGRAM = TOP / "crates/s360dbg/out/s360dbg"
@@ -34,7 +37,7 @@ LOGICAL = [0x4E, 0x4F, *range(0x91, 0x98), *range(0xD1, 0xD8), 0xDC, 0xDD, 0xF1,
 STATUS = [0x04, 0x08, 0x09, 0x0A, 0x80, 0x82]
 INPUT_OUTPUT = [0x9C, 0x9D, 0x9D, 0x9E, 0x9E, 0x9F]
 # Units that are not configured, the last two of them of other channels.
-OTHER_UNITS = [0x00B, 0x00E, 0x10C, 0x70D]
+OTHER_UNITS = [0x00B, 0x00F, 0x10C, 0x71F]
 EXECUTE = 0x44
 # Operands on the boundary of a doubleword.
 DOUBLEWORDS = (0x4E, 0x4F, 0x82)
@@ -47,7 +50,8 @@ SHOWN = 256
 # The old PSWs with the CSW, and the new PSWs that are patched: all but that of machine checks.
 OLD_PSWS = range(24, CSW + 8)
 NEW_PSWS = (88, 96, 104, 120)
-CONDITIONS = {0: "none", 0x80: "timer", 0x40: "key", 0xC0: "timer key"}
+# Addresses of breakpoints, some of which instructions are at.
+BREAKPOINTS = [0, 0x200, 0x202, 0x204, 0x206, 0x300, 0xFFFE, 0xFFFFFE]
 # The register that mostly points near the end of storage or of all addresses, and how far before.
 END = 13
 BEFORE_THE_END = (1, 2, 3, 4, 8, 16, 24, 256)
@@ -58,65 +62,37 @@ class Script:
 
     def __init__(self, seed):
         self.random = random.Random(seed)
-        self.machine = Machine()
+        self.deck = deck(self.random)
+        self.debugger = Debugger(self.deck)
+        self.machine = self.debugger.machine
         self.lines = []
         self.answers = []
-        # The places that each standing change alters.
-        self.changes = []
 
-    @property
-    def standing(self):
-        return len(self.changes)
-
-    def report(self):
-        changed = self.machine.changed()
-        self.changes.append(changed)
-        names = " ".join(changed[:8]) + (" .." if len(changed) > 8 else "")
-        what = f"changed {len(changed)} {names}" if changed else "idle"
-        self.answers.append(f"{self.standing} {what}")
-
-    def patch(self, line, values):
-        self.machine.begin()
-        for place, value in values.items():
-            self.machine.put(place, value)
+    def say(self, line):
         self.lines.append(line)
-        self.report()
-
-    def patch_bytes(self, at, run):
-        places = {f"s{at + i:06X}": byte for i, byte in enumerate(run)}
-        self.patch(f"patch s {at:X} {run.hex()}", places)
+        self.answers += self.debugger.answer(line)
 
     def show(self, stored=range(0)):
         """Shows the operands, and where they do not hold them the bytes that a step stored."""
-        machine = self.machine
-        self.lines += ["show psw", "show regs"]
-        run = "stopped" if machine.value("run") == STOPPED else "operating"
-        self.answers.append(f"psw {machine.value('p'):016X} {run}")
-        for first in range(0, 16, 4):
-            words = [f"{machine.register(first + i):08X}" for i in range(4)]
-            self.answers.append(f"r{first:X} {' '.join(words)}")
+        self.say("show psw")
+        self.say("show regs")
         self.show_bytes(range(OPERANDS, OPERANDS + SHOWN))
         if stored and not OPERANDS <= stored[0] <= stored[-1] < OPERANDS + SHOWN:
             self.show_bytes(stored)
         self.show_bytes(OLD_PSWS)
         self.show_bytes(range(TIMER, TIMER + 4))
-        self.lines.append("show ext")
-        self.answers.append(f"ext {CONDITIONS[machine.value('ext')]}")
+        self.say("show ext")
         for unit in UNITS:
-            self.lines += [f"{line} {unit:X}" for line in ("show u", "show d", "last u", "last d")]
-            self.answers += [machine.shown_unit(unit), machine.shown_device(unit)]
-            self.answers += [self.last(state_name(unit)), self.last(device_name(unit))]
-
-    def last(self, place):
-        numbers = range(self.standing, 0, -1)
-        found = (number for number in numbers if place in self.changes[number - 1])
-        return f"last {next(found, 'none')}"
+            for line in ("show u", "show d", "last u", "last d"):
+                self.say(f"{line} {unit:X}")
+            items = len(self.machine.device(unit).items())
+            self.say(f"show m {unit:X} {self.random.randint(1, items + 1)}")
 
     def show_bytes(self, run):
-        self.lines.append(f"show s {run[0]:X} {len(run)}")
-        for i in range(0, len(run), 16):
-            shown = bytes(self.machine.byte(at) for at in run[i : i + 16])
-            self.answers.append(f"{run[i]:06X} {shown.hex().upper()}")
+        self.say(f"show s {run[0]:X} {len(run)}")
+
+    def patch_bytes(self, at, run):
+        self.say(f"patch s {at:X} {run.hex()}")
 
     # What is patched in.
 
@@ -231,52 +207,67 @@ class Script:
         some = self.random
         block = some.choice([0, BLOCK, SIZE - BLOCK, some.randrange(0, SIZE, BLOCK), SIZE])
         word = some.getrandbits(8) << 24 | block | some.choice([0, 0, 0, 0x7F0, 1, 8])
-        self.patch(f"patch r {number:X} {word:X}", {f"r{number:X}": word})
+        self.say(f"patch r {number:X} {word:X}")
 
     def patch_key(self):
         some = self.random
         at, key = some.choice([0, OPERANDS, SIZE - 1, some.randrange(SIZE)]), some.choice([0, 5])
-        place = self.machine.key_name(at // BLOCK)
-        self.patch(f"patch k {at:X} {key:X}", {place: key})
+        self.say(f"patch k {at:X} {key:X}")
 
     def patch_new_psws(self):
         for at in NEW_PSWS:
             psw = self.psw(self.random.choice([0x200, 0x300, 0x201]))
             self.patch_bytes(at, (psw | self.random.getrandbits(18) << 30).to_bytes(8, "big"))
 
-    def happen(self, line, event):
+    def happen(self, line):
         """What the operator or the timer does, which is now and then taken back."""
-        self.machine.begin()
-        event()
-        self.lines.append(line)
-        self.report()
-        if self.random.random() < 0.3:
-            self.take_back(line, self.machine.noted)
+        self.say(line)
+        if self.random.random() < 0.3 and self.debugger.changes:
+            self.say("back")
 
     def outside(self):
         """The timer and the operator's keys."""
-        some, machine = self.random, self.machine
+        some = self.random
         if some.random() < 0.3:
             if some.random() < 0.7:
                 word = some.choice([0, 255, 256, 0x80000000, 0x800000FF, 0x7FFFFFFF, 0xFFFFFFFF])
                 self.patch_bytes(TIMER, word.to_bytes(4, "big"))
-            self.happen("tick", machine.tick)
+            self.happen("tick")
         if some.random() < 0.2:
-            keys = ["start", "stop", "reset", "interrupt", "eof"]
-            key = some.choices(keys, [2, 1, 1, 4, 1])[0]
-            self.happen(f"key {key}", lambda: machine.press(key))
-        if machine.value("run") == STOPPED and some.random() < 0.7:
-            self.happen("key start", lambda: machine.press("start"))
+            keys = ["start", "stop", "reset", "interrupt", "eof", "request"]
+            self.happen(f"key {some.choices(keys, [2, 1, 1, 4, 1, 4])[0]}")
+        if some.random() < 0.1:
+            self.happen(f"enter {self.line()}".rstrip())
+        if self.machine.value("run") == STOPPED and some.random() < 0.7:
+            self.happen("key start")
+
+    def line(self):
+        some = self.random
+        count = some.choice([0, 1, 5, some.randrange(80), 256, 257])
+        return "".join(some.choice(SIGNS) for _ in range(count))
 
     def channels(self):
         """Channel events."""
-        some, machine = self.random, self.machine
+        some = self.random
         while some.random() < 0.75:
-            unit = some.choice(UNITS)
-            self.happen(f"channel {unit:03X}", lambda: machine.channel(unit))
+            self.happen(f"channel {some.choice(UNITS):03X}")
         if some.random() < 0.02:
-            self.lines.append(f"channel {some.choice(OTHER_UNITS):X}")
-            self.answers.append("refused 3 no such unit")
+            self.say(f"channel {some.choice(OTHER_UNITS):X}")
+
+    def breakpoints(self):
+        some = self.random
+        for word in ("break", "clear"):
+            if some.random() < 0.1:
+                self.say(f"{word} {some.choice([*BREAKPOINTS, some.randrange(ADDRESSES)]):X}")
+
+    def run_and_return(self):
+        """Some events, and at times the way back to a breakpoint."""
+        some = self.random
+        self.say(f"run {some.choice([1, 2, 3, some.randint(1, 20)])}")
+        if some.random() < 0.1:
+            self.show()
+            self.say("until")
+            self.show()
 
     def start_of_program(self):
         """SIO, with its CAW and CCWs."""
@@ -288,8 +279,9 @@ class Script:
 
     def case(self):
         some = self.random
-        if some.random() < 0.1 or not self.standing:
+        if some.random() < 0.1 or not self.debugger.changes:
             self.patch_new_psws()
+        self.breakpoints()
         if some.random() < 0.2:
             self.patch_key()
         self.outside()
@@ -298,11 +290,11 @@ class Script:
                 word = self.word()
                 if number == END:
                     word = some.choice([SIZE] * 4 + [ADDRESSES]) - some.choice(BEFORE_THE_END)
-                self.patch(f"patch r {number:X} {word:X}", {f"r{number:X}": word})
+                self.say(f"patch r {number:X} {word:X}")
         address = some.choice([0x300, 0xFFFC, 0xFFFE, 0x201]) if some.random() < 0.1 else 0x200
         psw = self.psw(address)
         # Bits 16 to 33 are dropped.
-        self.patch(f"patch p {psw | some.getrandbits(18) << 30:016X}", {"p": psw})
+        self.say(f"patch p {psw | some.getrandbits(18) << 30:016X}")
         self.patch_bytes(OPERANDS + 4 * some.randrange(60), self.operand())
         starts = some.random() < 0.3
         instruction = self.start_of_program() if starts else self.instruction()
@@ -310,35 +302,36 @@ class Script:
         self.patch_inside(address, instruction)
         self.channels()
         self.step()
+        if some.random() < 0.3:
+            self.run_and_return()
 
     def step(self):
-        machine = self.machine
-        self.lines.append("step")
-        machine.begin()
-        machine.step()
-        noted = machine.noted
-        stored = sorted(int(place[1:], 16) for place in machine.changed() if place[0] == "s")
+        self.say("step")
+        places = self.debugger.changes[-1].places
+        stored = sorted(int(place[1:], 16) for place in places if place[0] == "s")
         stored = [at for at in stored if at not in OLD_PSWS]
         run = range(stored[0], stored[-1] + 1) if stored else range(0)
-        self.report()
         self.show(run)
         if self.random.random() < 0.3:
-            self.take_back("cpu", noted)
+            self.say("back")
             self.show(run)
 
-    def take_back(self, event, noted):
-        self.lines.append("back")
-        self.answers.append(f"back {self.standing} {event}")
-        self.changes.pop()
-        self.machine.undo(noted)
+
+def carried_out(script):
+    """What the program answers to a script over its deck."""
+    text = "".join(f"{line}\n" for line in script.lines).encode()
+    with tempfile.NamedTemporaryFile() as file:
+        file.write(b"".join(script.deck))
+        file.flush()
+        command = [PROGRAM, "--reader", file.name]
+        return subprocess.run(command, input=text, capture_output=True, timeout=120)
 
 
 def first_difference(seed):
     script = Script(seed)
     for _ in range(CASES):
         script.case()
-    text = "".join(f"{line}\n" for line in script.lines).encode()
-    done = subprocess.run([PROGRAM], input=text, capture_output=True, timeout=120)
+    done = carried_out(script)
     if done.returncode != 0:
         return f"seed {seed}: status {done.returncode}: {done.stderr.decode()}"
     found = done.stdout.decode().splitlines()

@@ -1,18 +1,22 @@
-"""Random channel programs for `second_opinion.py`: CAWs and chains of CCWs from `CHAIN` on.
+"""Random decks and channel programs for `second_opinion.py`: CAWs and chains of CCWs from `CHAIN` on.
 
-Most of them are right, or wrong at one edge.
+Most of the programs are right, or wrong at one edge.
 """
-from second_channels import READER
+from second_channels import CARD, CONSOLE, PRINTER, PUNCH, READER
 from second_core import BLOCK, SIZE
 
 CHAIN = 0x400
 MOST_WORDS = 6
-READS = [0x02, 0x42, 0x82, 0xC2, 0x23, 0x63, 0xA3]
-PUNCHES = [0x01, 0x41, 0x81]
+COMMANDS = {
+    READER: [0x02, 0x42, 0x82, 0xC2, 0x23, 0x63, 0xA3],
+    PUNCH: [0x01, 0x41, 0x81],
+    PRINTER: [0x01, 0x09, 0x11, 0x19, 0x0B, 0x13, 0x1B, 0x89, 0xD9, 0xE1, 0x8B, 0xDB, 0xE3],
+    CONSOLE: [0x01, 0x09, 0x0A, 0x0A, 0x0B],
+}
 TRANSFERS = [0x08, 0x08, 0x08, 0xF8]
 FLAGS = [0x00, 0x20, 0x40, 0x60, 0x40, 0x60, 0x60, 0x80, 0x80, 0x80, 0xA0, 0xC0, 0xE0, 0x10, 0x90]
 FLAGS += [0x50, 0x08]
-COUNTS = [1, 1, 2, 3, 39, 40, 77, 79, 80, 80, 81]
+COUNTS = [1, 1, 2, 3, 39, 40, 77, 79, 80, 80, 81, 131, 132, 133, 255, 256, 257]
 
 
 def address_word(some):
@@ -31,8 +35,8 @@ def command_word(some, operands, unit):
         near = [operands + some.randrange(256), BLOCK - some.randrange(81)]
         far = [SIZE - some.randrange(84), some.getrandbits(24)]
         data = some.choices([*near, *far], [80, 8, 8, 4])[0]
-        own, other = (READS, PUNCHES) if unit == READER else (PUNCHES, READS)
-        commands = [*map(some.choice, (own, other)), 0x03, 0x04, some.getrandbits(8)]
+        others = COMMANDS[some.choice(list(COMMANDS))]
+        commands = [*map(some.choice, (COMMANDS[unit], others)), 0x03, 0x04, some.getrandbits(8)]
         command = some.choices(commands, [50, 5, 15, 20, 10])[0]
     flags = some.choices([some.choice(FLAGS), some.getrandbits(8)], [95, 5])[0]
     count = some.choices([some.choice(COUNTS), some.getrandbits(16), 0], [90, 7, 3])[0]
@@ -43,3 +47,13 @@ def command_word(some, operands, unit):
 def chain(some, operands, unit):
     count = some.randint(1, MOST_WORDS)
     return b"".join(command_word(some, operands, unit) for _ in range(count))
+
+
+def deck(some):
+    """Cards of signs and of any bytes, with blanks at their end."""
+    return [card(some).ljust(CARD, b"\x40") for _ in range(some.choice([0, 1, 20, 200]))]
+
+
+def card(some):
+    kinds = [bytes(range(0xC1, 0xCA)), bytes(range(0xF0, 0xFA)), bytes(range(256)), b"\x40"]
+    return bytes(some.choice(some.choice(kinds)) for _ in range(some.randint(0, CARD)))

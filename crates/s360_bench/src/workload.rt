@@ -1,5 +1,7 @@
 //! The loops that a session is measured by, and what is patched into storage for each. A loop ends
-//! with a branch back to its first instruction. Addresses are in hexadecimal.
+//! with a branch back to its first instruction, or with a transfer in channel to its first command
+//! word. Addresses are in hexadecimal.
+use s360_machine::{ConfiguredUnit, Event};
 use std::fmt::{self, Display, Formatter};
 
 /// Where a loop stands.
@@ -38,6 +40,16 @@ const CALL: [u8; 6] = [0x0A, 0x05, 0x46, 0x30, 0x02, 0x00];
 const CALL_NEW_PSW: [u8; 8] = [0x00, 0x00, 0x00, 0x00, 0x00, 0x00, 0x03, 0x00];
 
 const CALL_RETURN: [u8; 4] = [0x82, 0x00, 0x00, 0x20];
+
+/// SIO C. The word at 48 is the address of the reader's channel program.
+const START_READER: [u8; 4] = [0x9C, 0x00, 0x00, 0x0C];
+
+const CHANNEL_ADDRESS: [u8; 4] = [0x00, 0x00, 0x04, 0x00];
+
+/// Read 80 bytes to 500, chained to the next command; transfer in channel to 400.
+const READ_CARDS: [u8; 16] = [
+    0x02, 0x00, 0x05, 0x00, 0x40, 0x00, 0x00, 0x50, 0x08, 0x00, 0x04, 0x00, 0x00, 0x00, 0x00, 0x00,
+];
 
 /// What the bytes of an area are.
 #[derive(Clone, Copy, Debug)]
@@ -79,11 +91,21 @@ impl Operands {
     }
 }
 
-/// What a loop is: its name, its instructions, the areas and the runs of bytes that are patched,
-/// each with its address, and the operands whose bytes are counted.
+/// What each event of a loop is.
+#[derive(Clone, Copy, Debug, PartialEq, Eq)]
+enum Turn {
+    /// The CPU executes an instruction.
+    Instruction,
+    /// The card reader's channel executes a command word, which reads a card.
+    Card,
+}
+
+/// What a loop is: its name, what its events are, its instructions, the areas and the runs of bytes
+/// that are patched, each with its address, and the operands whose bytes are counted.
 #[derive(Clone, Copy, Debug)]
 struct Row {
     name: &'static str,
+    turn: Turn,
     program: &'static [u8],
     areas: &'static [(u32, Filling)],
     runs: &'static [(u32, &'static [u8])],
@@ -107,10 +129,12 @@ pub(crate) enum Workload {
     CompareLogical,
     /// Supervisor calls, each with its interruption, and the return by a PSW that is loaded.
     SupervisorCall,
+    /// Cards, read by a channel program that one START I/O begins.
+    Cards,
 }
 
 /// Each loop.
-const WORKLOADS: [Workload; 7] = [
+const WORKLOADS: [Workload; 8] = [
     Workload::Fixed,
     Workload::Move,
     Workload::ExclusiveOr,
@@ -118,6 +142,7 @@ const WORKLOADS: [Workload; 7] = [
     Workload::Pack,
     Workload::CompareLogical,
     Workload::SupervisorCall,
+    Workload::Cards,
 ];
 
 impl Workload {
@@ -131,6 +156,27 @@ impl Workload {
     /// Its instructions.
     pub(crate) fn program(self) -> &'static [u8] {
         self.row().program
+    }
+
+    /// An event of it.
+    pub(crate) fn event(self) -> Event {
+        match self.row().turn {
+            Turn::Instruction => Event::Cpu,
+            Turn::Card => Event::Channel(ConfiguredUnit::Reader.unit()),
+        }
+    }
+
+    /// Whether its events are those of a channel, which its instructions start.
+    pub(crate) fn is_started(self) -> bool {
+        self.row().turn == Turn::Card
+    }
+
+    /// The number of cards that so many of its events read.
+    pub(crate) fn cards(self, events: u32) -> u32 {
+        match self.row().turn {
+            Turn::Instruction => 0,
+            Turn::Card => events,
+        }
     }
 
     /// The areas that are patched, with their addresses.
@@ -153,6 +199,7 @@ impl Workload {
         match self {
             Workload::Fixed => Row {
                 name: "fixed",
+                turn: Turn::Instruction,
                 program: &ADD_AND_STORE,
                 areas: &[],
                 runs: &[],
@@ -160,6 +207,7 @@ impl Workload {
             },
             Workload::Move => Row {
                 name: "mvc",
+                turn: Turn::Instruction,
                 program: &MOVE_TWICE,
                 areas: &[
                     (0x500, Filling::Rising(0x00)),
@@ -170,6 +218,7 @@ impl Workload {
             },
             Workload::ExclusiveOr => Row {
                 name: "xc",
+                turn: Turn::Instruction,
                 program: &EXCLUSIVE_OR,
                 areas: &[(0x500, Filling::Same(0xFF))],
                 runs: &[],
@@ -177,6 +226,7 @@ impl Workload {
             },
             Workload::Translate => Row {
                 name: "tr",
+                turn: Turn::Instruction,
                 program: &TRANSLATE,
                 areas: &[(0x500, Filling::Rising(0x01))],
                 runs: &[],
@@ -184,6 +234,7 @@ impl Workload {
             },
             Workload::Pack => Row {
                 name: "pack",
+                turn: Turn::Instruction,
                 program: &PACK_TWICE,
                 areas: &[(0x500, Filling::Same(0xF1)), (0x600, Filling::Same(0xF2))],
                 runs: &[],
@@ -191,6 +242,7 @@ impl Workload {
             },
             Workload::CompareLogical => Row {
                 name: "clc",
+                turn: Turn::Instruction,
                 program: &COMPARE,
                 areas: &[
                     (0x400, Filling::Rising(0x00)),
@@ -201,9 +253,18 @@ impl Workload {
             },
             Workload::SupervisorCall => Row {
                 name: "svc",
+                turn: Turn::Instruction,
                 program: &CALL,
                 areas: &[],
                 runs: &[(0x60, &CALL_NEW_PSW), (0x300, &CALL_RETURN)],
+                operands: None,
+            },
+            Workload::Cards => Row {
+                name: "cards",
+                turn: Turn::Card,
+                program: &START_READER,
+                areas: &[],
+                runs: &[(0x48, &CHANNEL_ADDRESS), (0x400, &READ_CARDS)],
                 operands: None,
             },
         }

@@ -1,9 +1,10 @@
 //! A channel program: what a channel keeps of it from one command word to the next. Source:
 //! GA22-6821, "Input/Output Operations", execution of input/output operations.
-ghost use Rattle.std.specs.Prelude.{◌≡◌};
+ghost use Rattle.std.specs.Prelude.{◌≡◌, IfOk};
 
 use s360_store::Bytes;
 use s360_word::ProtectionKey;
+use std::alloc::{AllocError, Global};
 
 /// How the next channel command word follows what went before it.
 #[derive(Debug, PartialEq, Eq, Drop)]
@@ -17,6 +18,29 @@ pub enum Progress {
     /// It is chained to data: the output of this command goes on, for which these bytes were
     /// gathered.
     OutputChained { command: u8, gathered: Bytes },
+}
+
+impl Progress {
+    /// The same in memory of its own.
+    fn copy(&self, alloc: Global) -> Result<Progress, AllocError>
+        ensures { IfOk result (λ copy. copy ≡ self.now) }
+    {
+        Ok(match self {
+            Progress::First => Progress::First,
+            Progress::CommandChained => Progress::CommandChained,
+            Progress::InputChained { command, moved } => Progress::InputChained {
+                command: *command,
+                moved: *moved,
+            },
+            Progress::OutputChained { command, gathered } => {
+                let gathered = gathered.as_slice().to_vec(alloc)?;
+                Progress::OutputChained {
+                    command: *command,
+                    gathered: Bytes::new(gathered),
+                }
+            }
+        })
+    }
 }
 
 /// A channel program that a unit executes.
@@ -43,5 +67,17 @@ impl Program {
         ensures { result ≡ self.now.address }
     {
         self.address
+    }
+
+    /// The same in memory of its own.
+    pub(crate) fn copy(&self, alloc: Global) -> Result<Program, AllocError>
+        ensures { IfOk result (λ copy. copy ≡ self.now) }
+    {
+        let progress = self.progress.copy(alloc)?;
+        Ok(Program {
+            key: self.key,
+            address: self.address,
+            progress,
+        })
     }
 }

@@ -1,10 +1,11 @@
 //! What a channel does for a unit. Source: GA22-6821, "Input/Output Operations", states of the
 //! input/output system.
-ghost use Rattle.std.specs.Prelude.{◌≡◌};
+ghost use Rattle.std.specs.Prelude.{◌≡◌, IfOk};
 ghost use Rattle.s360_channel.specs.Units.{is_active, is_waiting};
 
 use crate::csw::Csw;
 use crate::program::Program;
+use std::alloc::{AllocError, Global};
 
 /// What a channel does for a unit.
 #[derive(Debug, PartialEq, Eq, Drop)]
@@ -30,5 +31,16 @@ impl UnitState {
         ensures { result ≡ is_waiting self.now }
     {
         matches!(self, UnitState::Waiting(_))
+    }
+
+    /// The same in memory of its own.
+    pub fn copy(&self, alloc: Global) -> Result<UnitState, AllocError>
+        ensures { IfOk result (λ copy. copy ≡ self.now) }
+    {
+        Ok(match self {
+            UnitState::Idle => UnitState::Idle,
+            UnitState::Active(program) => UnitState::Active(program.copy(alloc)?),
+            UnitState::Waiting(csw) => UnitState::Waiting(*csw),
+        })
     }
 }

@@ -1,10 +1,12 @@
 pub mod WordLemmas
 pub mod DigitLemmas
 pub mod HexTextLemmas
+pub mod DecimalLemmas
 pub mod PlaceNameLemmas
 pub mod ShownLemmas
 pub mod LineLemmas
 pub mod StandingLemmas
+pub mod RunningLemmas
 pub mod ReportLemmas
 pub mod Writes
 pub mod Readings

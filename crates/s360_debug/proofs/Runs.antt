@@ -6,7 +6,7 @@ use Rattle.s360_journal.specs.Standing.{Standing}
 use Rattle.s360_debug.specs.Debugger.{Debugger}
 use Rattle.s360_debug.specs.Reading.{reading_of}
 use Rattle.s360_debug.specs.Lines.{lines_from, lines_of, is_skipped, without_return}
-use Rattle.s360_debug.specs.Script.{answer_to_reading, state_after_reading, answer_to_line, state_after_line, answers_to_lines, state_after_lines, command_lines, StandsAfterReading, IsStopped}
+use Rattle.s360_debug.specs.Script.{answer_to_reading, state_after_reading, answer_to_line, state_after_line, answers_to_lines, state_after_lines, command_lines, StandsAfterReading, IsStopped, IsPartWritten, IsCut}
 use Rattle.s360_debug.proofs.Writes.{Appends-join, Appends-nothing}
 use Rattle.s360_debug.proofs.Readings.{unmoved}
 
@@ -75,6 +75,22 @@ Answered-stop old new s t u all left line n a h = record {
   split = a.split;
   written = a.written;
   stands = rw a.state at h;
+}
+
+-- a write of the last line's answer failed
+pub Answered-cut : (old mid new : Option (List ℕ)) (s t : Debugger) (u : Debugger) (all left : List (List ℕ)) (line : List ℕ) (n : ℕ)
+    → Answered old mid s t all (line ∷ left) n → is_skipped line ≡ false → IsPartWritten mid new (answer_to_reading t (reading_of line))
+    → u ≡ state_after_reading t (reading_of line) → IsCut old new s u.session all
+unfolding answer_to_line state_after_line
+Answered-cut old mid new s t u all left line n a h w e = record {
+  done = a.done;
+  next = line;
+  left = left;
+  split = a.split;
+  count = w.count;
+  short = rw (← a.state, h) w.short;
+  written = rw (← a.state, h) (Appends-join old mid new _ _ a.written w.written);
+  stands = rw (state-push s a.done line, ← a.state, h) (ap (λ (v : Debugger). v.session) e);
 }
 
 -- all lines are answered

@@ -11,12 +11,16 @@ use Rattle.s360_journal.specs.declared.report.Report.{Report}
 use Rattle.s360_journal.specs.declared.report.Report.TheVariants.{Changed, Idle}
 use Rattle.s360_journal.specs.Rerun.{last_change_of}
 use Rattle.s360_journal.specs.Standing.{Standing, machine_of, refusal_in, alteration, last_of}
+use Rattle.s360_journal.specs.Breakpoints.{has_room_for, with_address, without_address}
+use Rattle.s360_journal.specs.Stops.{stop_of}
 use Rattle.s360_debug.specs.Debugger.{Debugger}
 use Rattle.s360_debug.specs.declared.command.Command.{Command}
-use Rattle.s360_debug.specs.declared.command.Command.TheVariants.{Step, Channel, Tick, Key, Patch, Back, Standing as standing, Last, Show}
+use Rattle.s360_debug.specs.declared.command.Command.TheVariants.{Step, Channel, Tick, Key, Patch, Back, Standing as standing, Last, Show, Break, Clear, Until, Run}
 use Rattle.s360_debug.specs.declared.command.LineFault.{LineFault}
 use Rattle.s360_debug.specs.declared.command.LineFault.TheVariants.{LineTooLong, Unknown, Argument, Memory}
 use Rattle.s360_debug.specs.Names.{place_name, event_name, refused_text}
+use Rattle.s360_debug.specs.Offers.{unless_refused, with_events}
+use Rattle.s360_debug.specs.Running.{run_of, run_text}
 use Rattle.s360_debug.specs.Shown.{shown_text}
 
 -- the names of places, each after a blank
@@ -69,18 +73,29 @@ abbrev pub last_text : Option ℕ → List ℕ
 last_text None = codes "last none" ++ codes "\n"
 last_text (Some number) = codes "last " ++ decimal number ++ codes "\n"
 
+-- the number of breakpoints that are kept
+abbrev pub breaks_text : List ℕ → List ℕ
+breaks_text breaks = codes "breaks " ++ decimal (length breaks) ++ codes "\n"
+
+-- a breakpoint is set, if there is room for it
+abbrev pub break_text : List ℕ → ℕ → List ℕ
+break_text breaks at = if has_room_for breaks at then breaks_text (with_address breaks at) else codes "breaks full" ++ codes "\n"
+
+-- how many of the events stand after going back to the last stop at a breakpoint
+abbrev pub stop_in : Debugger → ℕ
+stop_in d = stop_of (seen d.session.start) d.session.events d.breaks
+
 -- a command's answer; each that has no row of its own offers an event
 unfoldable pub answer_to : Debugger → Command → List ℕ
 answer_to d Back = back_text (length d.session.events) (last_of d.session.events)
 answer_to d standing = codes "standing " ++ decimal (length d.session.events) ++ codes "\n"
 answer_to d (Last place) = last_text (last_change_of (seen d.session.start) d.session.events place)
 answer_to d (Show shown) = shown_text (machine_of d.session) shown
+answer_to d (Break at) = break_text d.breaks at
+answer_to d (Clear at) = breaks_text (without_address d.breaks at)
+answer_to d Until = codes "until " ++ decimal (stop_in d) ++ codes "\n"
+answer_to d (Run most) = run_text (length (run_of d.breaks d.session most).events) (run_of d.breaks d.session most).why
 answer_to d command = text_of_offer d.session (event_of command)
-
--- an event that is offered, unless it is refused
-abbrev pub unless_refused : Option Refusal → Event → List Event
-unless_refused (Some r) e = []
-unless_refused None e = e ∷ []
 
 abbrev pub accepted_of_offer : Standing → Option Event → List Event
 accepted_of_offer s (Some e) = unless_refused (refusal_in s e) e
@@ -88,15 +103,15 @@ accepted_of_offer s None = []
 
 -- of the events that a command offers, those that are accepted, up to where it stops
 abbrev pub accepted_events : Debugger → Command → List Event
+accepted_events d (Run most) = (run_of d.breaks d.session most).events
 accepted_events d command = accepted_of_offer d.session (event_of command)
-
--- the session in which more events stand
-abbrev pub with_events : Standing → List Event → Standing
-with_events s es = record s { events = s.events ++ es }
 
 -- what stands after a command; each that has no row of its own adds the events that are accepted
 unfoldable pub state_after : Debugger → Command → Debugger
 state_after d Back = record d { session = record d.session { events = take (length d.session.events - 1) d.session.events } }
+state_after d (Break at) = record d { breaks = with_address d.breaks at }
+state_after d (Clear at) = record d { breaks = without_address d.breaks at }
+state_after d Until = record d { session = record d.session { events = take (stop_in d) d.session.events } }
 state_after d command = record d { session = with_events d.session (accepted_events d command) }
 
 -- after want of memory the first n of the accepted events are added, for some n

@@ -2,8 +2,12 @@ pub mod Words
 pub mod Digits
 pub mod Names
 pub mod ShownUnits
+pub mod Blanks
+pub mod ShownItems
 pub mod Shown
 pub mod Debugger
+pub mod Offers
+pub mod Running
 pub mod Answers
 pub mod Reading
 pub mod Lines

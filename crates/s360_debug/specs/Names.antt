@@ -10,9 +10,9 @@ use Rattle.s360_machine.specs.declared.event.Patch.{Patch}
 use Rattle.s360_machine.specs.declared.event.Patch.TheVariants.{Bytes, Register as register, StorageKey, Psw as psw}
 use Rattle.s360_machine.specs.declared.external.ExternalConditions.{ExternalConditions}
 use Rattle.s360_machine.specs.declared.operator.Key.{Key as OperatorKey}
-use Rattle.s360_machine.specs.declared.operator.Key.TheVariants.{Start, Stop, Reset, Interrupt, EndOfFile}
+use Rattle.s360_machine.specs.declared.operator.Key.TheVariants.{Start, Stop, Reset, Interrupt, EndOfFile, Request, Enter}
 use Rattle.s360_machine.specs.declared.refusal.Refusal.{Refusal}
-use Rattle.s360_machine.specs.declared.refusal.Refusal.TheVariants.{Memory, OutsideStorage, NoSuchUnit, PatchTooLong, JournalFull}
+use Rattle.s360_machine.specs.declared.refusal.Refusal.TheVariants.{Memory, OutsideStorage, NoSuchUnit, LineTooLong, PatchTooLong, JournalFull}
 use Rattle.s360_machine.specs.declared.run_state.RunState.{RunState}
 use Rattle.s360_machine.specs.declared.run_state.RunState.TheVariants.{Operating, Stopped, Loading}
 use Rattle.s360_machine.specs.Refusals.{number_of_refusal}
@@ -34,6 +34,8 @@ key_name Stop = codes "key stop"
 key_name Reset = codes "key reset"
 key_name Interrupt = codes "key interrupt"
 key_name EndOfFile = codes "key eof"
+key_name Request = codes "key request"
+key_name (Enter line) = codes "enter"
 
 abbrev pub patch_name : Patch → List ℕ
 patch_name (Bytes at bytes) = codes "patch s"
@@ -52,6 +54,7 @@ abbrev pub refusal_name : Refusal → List ℕ
 refusal_name Memory = codes "memory"
 refusal_name OutsideStorage = codes "outside storage"
 refusal_name NoSuchUnit = codes "no such unit"
+refusal_name LineTooLong = codes "line too long"
 refusal_name PatchTooLong = codes "patch too long"
 refusal_name JournalFull = codes "journal full"
 

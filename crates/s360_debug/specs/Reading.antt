@@ -2,20 +2,22 @@
 -- that is wrong, missing or too many is named by its number, the first word of the line being 0.
 use Rattle.std.specs.Prelude.{◌≡◌, ◌⊎◌, ◌/◌, ℕ, Bool, nat_eq, nat_lt, if◌then◌else◌, Option, None, Some, Result, Ok, Err, List, [], ◌∷◌, codes, drop, length}
 use Rattle.std.specs.Cmp.Lexicographic.{pointwise}
-use Rattle.std.specs.Option.{ok_or}
+use Rattle.std.specs.List.{filter_map, list_all}
+use Rattle.std.specs.Option.{is_some, ok_or}
 use Rattle.std.specs.Result.{result_ok}
 use Rattle.hex.specs.Hex.{decode_of}
 use Rattle.s360_model.specs.Storage.{block_size}
-use Rattle.s360_store.specs.declared.place.Place.TheVariants.{Psw, Register, Byte, Key as key_place, Run, External, UnitState, UnitMedia}
+use Rattle.s360_store.specs.declared.place.Place.TheVariants.{Psw, Register, Byte, Key as key_place, Run as run_place, External, UnitState, UnitMedia}
+use Rattle.s360_print.specs.Signs.{ebcdic_of}
 use Rattle.s360_machine.specs.declared.event.Patch.TheVariants.{Bytes as bytes_patch, Register as register_patch, StorageKey as storage_key_patch, Psw as psw_patch}
 use Rattle.s360_machine.specs.declared.operator.Key.{Key as OperatorKey}
-use Rattle.s360_machine.specs.declared.operator.Key.TheVariants.{Start, Stop, Reset, Interrupt, EndOfFile}
+use Rattle.s360_machine.specs.declared.operator.Key.TheVariants.{Start, Stop, Reset, Interrupt, EndOfFile, Request, Enter}
 use Rattle.s360_debug.specs.declared.command.Command.{Command}
-use Rattle.s360_debug.specs.declared.command.Command.TheVariants.{Step, Channel, Tick, Key, Patch, Back, Standing, Last, Show}
-use Rattle.s360_debug.specs.declared.command.Shown.TheVariants.{Registers, Psw as psw, Storage, StorageKey, External as external, UnitState as unit_state, Device as device}
+use Rattle.s360_debug.specs.declared.command.Command.TheVariants.{Step, Channel, Tick, Key, Patch, Back, Standing, Last, Show, Break, Clear, Until, Run}
+use Rattle.s360_debug.specs.declared.command.Shown.TheVariants.{Registers, Psw as psw, Storage, StorageKey, External as external, UnitState as unit_state, Device as device, Item as item}
 use Rattle.s360_debug.specs.declared.command.LineFault.{LineFault}
 use Rattle.s360_debug.specs.declared.command.LineFault.TheVariants.{LineTooLong, Unknown, Argument, Memory}
-use Rattle.s360_debug.specs.Words.{words_of}
+use Rattle.s360_debug.specs.Words.{text_behind, words_of}
 use Rattle.s360_debug.specs.Digits.{hex_number, doubleword_of, count_of}
 
 abbrev pub Reading : Type 0
@@ -27,6 +29,10 @@ longest_line = 1024
 
 abbrev pub most_shown : ℕ
 most_shown = 256
+
+-- the greatest count of events, and number of an item
+abbrev pub most_count : ℕ
+most_count = 10000000
 
 abbrev pub is_word : List ℕ → List ℕ → Bool
 is_word word name = pointwise nat_eq word name
@@ -97,15 +103,35 @@ key_of word =
     else (if is_word word (codes "reset") then Some Reset
     else (if is_word word (codes "interrupt") then Some Interrupt
     else (if is_word word (codes "eof") then Some EndOfFile
-    else None))))
+    else (if is_word word (codes "request") then Some Request
+    else None)))))
 
 -- `channel U`, after its first word
 abbrev pub channel_reading : List (List ℕ) → Reading
 channel_reading words = and_then (number_argument 1 3 words) (λ n. finished 2 (Channel (record { 0 = n })) (drop 1 words))
 
+-- `break A` and `clear A`, after their first word
+abbrev pub break_reading : List (List ℕ) → Reading
+break_reading words = and_then (number_argument 1 6 words) (λ at. finished 2 (Break at) (drop 1 words))
+
+abbrev pub clear_reading : List (List ℕ) → Reading
+clear_reading words = and_then (number_argument 1 6 words) (λ at. finished 2 (Clear at) (drop 1 words))
+
+-- `run N`, after its first word
+abbrev pub run_reading : List (List ℕ) → Reading
+run_reading words = and_then (argument 1 (count_of most_count) words) (λ most. finished 2 (Run most) (drop 1 words))
+
 -- `key` with a name
 abbrev pub key_reading : List (List ℕ) → Reading
 key_reading words = and_then (argument 1 key_of words) (λ k. finished 2 (Key k) (drop 1 words))
+
+-- the EBCDIC bytes of a text in ASCII, if each of its signs has one
+abbrev pub ebcdic_text : List ℕ → Option (List ℕ)
+ebcdic_text text = if list_all (λ sign. is_some (ebcdic_of sign)) text then Some (filter_map ebcdic_of text) else None
+
+-- `enter TEXT`
+abbrev pub enter_reading : List ℕ → Reading
+enter_reading text = and_then (ok_or (ebcdic_text text) (Argument 1)) (λ bytes. Ok (Key (Enter bytes)))
 
 -- `last s A`, `last r R` and `last k A`, after their first two words
 abbrev pub last_byte : List (List ℕ) → Reading
@@ -132,7 +158,7 @@ last_reading (kind ∷ words) =
     else (if is_word kind (codes "r") then last_register words
     else (if is_word kind (codes "k") then last_key words
     else (if is_word kind (codes "p") then finished 2 (Last Psw) words
-    else (if is_word kind (codes "run") then finished 2 (Last Run) words
+    else (if is_word kind (codes "run") then finished 2 (Last run_place) words
     else (if is_word kind (codes "ext") then finished 2 (Last External) words
     else (if is_word kind (codes "u") then last_state words
     else (if is_word kind (codes "d") then last_media words
@@ -156,6 +182,13 @@ show_unit words = and_then (number_argument 2 3 words) (λ n. finished 3 (Show (
 abbrev pub show_device : List (List ℕ) → Reading
 show_device words = and_then (number_argument 2 3 words) (λ n. finished 3 (Show (device (record { 0 = n }))) (drop 1 words))
 
+-- `show m U N`, after its first two words
+abbrev pub show_item : List (List ℕ) → Reading
+show_item words =
+    and_then (number_argument 2 3 words) (λ n.
+    and_then (argument 3 (count_of most_count) (drop 1 words)) (λ number.
+    finished 4 (Show (item (record { 0 = n }) number)) (drop 2 words)))
+
 -- `show` with a kind
 abbrev pub show_reading : List (List ℕ) → Reading
 show_reading [] = Err (Argument 1)
@@ -167,26 +200,32 @@ show_reading (kind ∷ words) =
     else (if is_word kind (codes "ext") then finished 2 (Show external) words
     else (if is_word kind (codes "u") then show_unit words
     else (if is_word kind (codes "d") then show_device words
-    else Err (Argument 1)))))))
+    else (if is_word kind (codes "m") then show_item words
+    else Err (Argument 1))))))))
 
--- a row for each first word
-abbrev pub reading_of_words : List (List ℕ) → Reading
-reading_of_words [] = Err Unknown
-reading_of_words (name ∷ words) =
+-- a row for each first word; the text is what follows it in the line
+abbrev pub reading_of_words : List ℕ → List (List ℕ) → Reading
+reading_of_words text [] = Err Unknown
+reading_of_words text (name ∷ words) =
     if is_word name (codes "step") then finished 1 Step words
     else (if is_word name (codes "channel") then channel_reading words
     else (if is_word name (codes "tick") then finished 1 Tick words
     else (if is_word name (codes "key") then key_reading words
+    else (if is_word name (codes "enter") then enter_reading text
     else (if is_word name (codes "back") then finished 1 Back words
     else (if is_word name (codes "standing") then finished 1 Standing words
     else (if is_word name (codes "patch") then patch_reading words
     else (if is_word name (codes "last") then last_reading words
     else (if is_word name (codes "show") then show_reading words
-    else Err Unknown))))))))
+    else (if is_word name (codes "break") then break_reading words
+    else (if is_word name (codes "clear") then clear_reading words
+    else (if is_word name (codes "until") then finished 1 Until words
+    else (if is_word name (codes "run") then run_reading words
+    else Err Unknown)))))))))))))
 
 -- a line that is too long comes first
 abbrev pub reading_of : List ℕ → Reading
-reading_of line = if nat_lt longest_line (length line) then Err LineTooLong else reading_of_words (words_of line)
+reading_of line = if nat_lt longest_line (length line) then Err LineTooLong else reading_of_words (text_behind line) (words_of line)
 
 -- what may answer a reading: the fault whatever memory there is; the command, or want of memory
 abbrev pub Reads : Reading → Reading → Type 0

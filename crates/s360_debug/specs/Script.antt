@@ -1,5 +1,5 @@
 -- What a script answers (own profile): a fold over its lines that carries what the debugger keeps.
-use Rattle.std.specs.Prelude.{◌≡◌, ℕ, ◌+◌, if◌then◌else◌, Ok, Err, Option, List, [], ◌∷◌, ◌++◌}
+use Rattle.std.specs.Prelude.{◌≡◌, ◌<◌, ℕ, ◌+◌, if◌then◌else◌, Ok, Err, Option, List, [], ◌∷◌, ◌++◌, length, take}
 use Rattle.std.specs.Io.KnownBytes.{Appends}
 use Rattle.s360_journal.specs.Standing.{Standing}
 use Rattle.s360_debug.specs.Debugger.{Debugger, new_debugger}
@@ -57,3 +57,21 @@ pub record IsStopped (old new : Option (List ℕ)) (d : Debugger) (s : Standing)
   pub split : lines ≡ done ++ next ∷ left
   pub written : Appends old new (answers_to_lines d done)
   pub stands : StandsAfterReading (reading_of next) (state_after_lines d done) s
+
+-- of a text the first bytes, fewer than it has, are written
+pub record IsPartWritten (old new : Option (List ℕ)) (text : List ℕ) : Type 0 where
+  pub count : ℕ
+  pub short : count < length text
+  pub written : Appends old new (take count text)
+
+-- the answers of some first lines are written, and of the next line's answer the first bytes, fewer than it has; what
+-- stands is as after all of these lines
+pub record IsCut (old new : Option (List ℕ)) (d : Debugger) (s : Standing) (lines : List (List ℕ)) : Type 0 where
+  pub done : List (List ℕ)
+  pub next : List ℕ
+  pub left : List (List ℕ)
+  pub split : lines ≡ done ++ next ∷ left
+  pub count : ℕ
+  pub short : count < length (answer_to_line (state_after_lines d done) next)
+  pub written : Appends old new (answers_to_lines d done ++ take count (answer_to_line (state_after_lines d done) next))
+  pub stands : s ≡ (state_after_lines d (done ++ next ∷ [])).session

@@ -4,12 +4,14 @@ use Rattle.s360_model.specs.Text.{decimal, hex_text}
 use Rattle.s360_word.specs.declared.unit.Unit.{Unit}
 use Rattle.s360_device.specs.Punch.{Punch}
 use Rattle.s360_device.specs.Reader.{Reader}
+use Rattle.s360_print.specs.Console.{Console}
+use Rattle.s360_print.specs.Printer.{Printer}
 use Rattle.s360_channel.specs.declared.program.Program.{Program}
 use Rattle.s360_channel.specs.declared.unit_state.UnitState.{UnitState}
 use Rattle.s360_channel.specs.declared.unit_state.UnitState.TheVariants.{Idle, Active, Waiting}
 use Rattle.s360_channel.specs.Words.{csw_doubleword}
 use Rattle.s360_machine.specs.declared.configured_unit.ConfiguredUnit.{ConfiguredUnit}
-use Rattle.s360_machine.specs.declared.configured_unit.ConfiguredUnit.TheVariants.{Reader as reader_unit, Punch as punch_unit}
+use Rattle.s360_machine.specs.declared.configured_unit.ConfiguredUnit.TheVariants.{Reader as reader_unit, Punch as punch_unit, Printer as printer_unit, Console as console_unit}
 use Rattle.s360_machine.specs.declared.refusal.Refusal.TheVariants.{NoSuchUnit}
 use Rattle.s360_machine.specs.Machine.{Machine}
 use Rattle.s360_machine.specs.Units.{attention_at, state_at, unit_at}
@@ -59,10 +61,24 @@ reader_line r =
 abbrev pub punch_line : Punch → List ℕ
 punch_line p = codes "00D" ++ sense_text p.sense ++ codes " cards " ++ decimal (length p.media) ++ codes "\n"
 
+-- where the carriage stands, and the lines that were printed
+abbrev pub printer_line : Printer → List ℕ
+printer_line p =
+    codes "00E" ++ sense_text p.sense ++ codes " page " ++ decimal p.media.position.page ++ codes " line " ++ decimal p.media.position.line
+    ++ codes " records " ++ decimal (length p.media.records) ++ codes "\n"
+
+-- the items that were typed, the lines that were entered, and how many of these were taken
+abbrev pub console_line : Console → List ℕ
+console_line c =
+    codes "01F" ++ sense_text c.sense ++ codes " typed " ++ decimal (length c.media.typed) ++ codes " entered " ++ decimal (length c.media.entered)
+    ++ codes " taken " ++ decimal c.media.taken ++ codes "\n"
+
 -- a unit's device, if the machine has it
 abbrev pub text_of_device : Machine → Option ConfiguredUnit → List ℕ
 text_of_device m (Some reader_unit) = reader_line m.media.reader
 text_of_device m (Some punch_unit) = punch_line m.media.punch
+text_of_device m (Some printer_unit) = printer_line m.media.printer
+text_of_device m (Some console_unit) = console_line m.media.console
 text_of_device m None = refused_text NoSuchUnit
 
 abbrev pub device_text : Machine → Unit → List ℕ

@@ -2,9 +2,12 @@
 ghost use Rattle.std.specs.Prelude.{◌≡◌, ◌≢◌, ◌⊎◌, ◌++◌, length, take, ◌-◌, ◌<◌, IfOk, OnErr, OnOk, Some, codes};
 ghost use Rattle.std.specs.Option.{option_copied};
 ghost use Rattle.s360_model.specs.Text.{decimal};
+ghost use Rattle.s360_journal.specs.Breakpoints.{with_address, without_address};
 ghost use Rattle.s360_journal.specs.Standing.{last_of};
 ghost use Rattle.s360_debug.specs.Answers.{answer_to, state_after, StandsPartly};
-ghost use Rattle.s360_debug.specs.Answers.{text_of_event, with_events, accepted_of_offer};
+ghost use Rattle.s360_debug.specs.Answers.{text_of_event, accepted_of_offer};
+ghost use Rattle.s360_debug.specs.Answers.{break_text, breaks_text, stop_in};
+ghost use Rattle.s360_debug.specs.Offers.{with_events};
 ghost use Rattle.s360_debug.specs.Answers.{text_of_report};
 ghost use Rattle.s360_debug.specs.Answers.{back_text, last_text};
 ghost use Rattle.s360_debug.specs.declared.command.LineFault.TheVariants.{Memory};
@@ -12,6 +15,8 @@ ghost use Rattle.s360_debug.specs.Answers.{place_names, fault_text, changed_afte
 
 use crate::command::{Command, LineFault};
 use crate::names::{push_event, push_place, refusal_text};
+use crate::open_line::OpenLine;
+use crate::running::answer_run;
 use crate::show::text_of_shown;
 use crate::text::Text;
 use s360_journal::{Breaks, Report, Session};
@@ -23,8 +28,7 @@ use std::alloc::{AllocError, Global};
 const NAMED: usize = 8;
 
 /// Carries a command out, and answers its text. After want of memory some first ones of the events stand
-/// that it would have run, and a command that offers none leaves all as it was. No command sets a
-/// breakpoint yet.
+/// that it would have run, and a command that offers none leaves all as it was.
 #[tactic(auto, unfolding(crate::specs::Answers::answer_to, crate::specs::Answers::state_after))]
 pub fn answer(
     alloc: Global,
@@ -42,6 +46,10 @@ pub fn answer(
         Command::Standing => standing_text(alloc, session.standing()),
         Command::Last(place) => last_text(alloc, session.last_change(place)),
         Command::Show(shown) => text_of_shown(alloc, session.machine(), shown),
+        Command::Break { at } => answer_break(alloc, breaks, at),
+        Command::Clear { at } => answer_clear(alloc, breaks, at),
+        Command::Until => answer_until(alloc, session, breaks),
+        Command::Run { most } => answer_run(alloc, session, breaks, most),
         command => match command.into_event() {
             Some(event) => answer_event(alloc, session, event),
             None => unreachable!(),
@@ -130,6 +138,52 @@ fn text_of_back(alloc: Global, number: u32, event: Option<&Event>) -> Result<Tex
     }
     text.push_text("\n")?;
     Ok(text)
+}
+
+/// Sets a breakpoint. Room for its text is made first, so that want of memory leaves all as it was.
+fn answer_break(alloc: Global, breaks: &mut Breaks, at: u32) -> Result<Text, AllocError>
+    ensures text { IfOk result (λ text. text ≡ break_text breaks.old at) }
+    ensures state { OnOk result (breaks.new ≡ with_address breaks.old at) }
+    ensures memory { OnErr result (breaks.new ≡ breaks.old) }
+{
+    let line = OpenLine::new(alloc, "breaks ")?;
+    if breaks.add(at) {
+        Ok(line.finish(breaks.len()))
+    } else {
+        full_text(alloc)
+    }
+}
+
+/// No breakpoint more can be kept.
+fn full_text(alloc: Global) -> Result<Text, AllocError>
+    ensures { IfOk result (λ text. text ≡ codes "breaks full" ++ codes "\n") }
+{
+    let mut text = Text::new(alloc);
+    text.push_text("breaks full")?;
+    text.push_text("\n")?;
+    Ok(text)
+}
+
+/// Clears a breakpoint. Room for its text is made first, so that want of memory leaves all as it was.
+fn answer_clear(alloc: Global, breaks: &mut Breaks, at: u32) -> Result<Text, AllocError>
+    ensures text { IfOk result (λ text. text ≡ breaks_text (without_address breaks.old at)) }
+    ensures state { OnOk result (breaks.new ≡ without_address breaks.old at) }
+    ensures memory { OnErr result (breaks.new ≡ breaks.old) }
+{
+    let line = OpenLine::new(alloc, "breaks ")?;
+    breaks.remove(at);
+    Ok(line.finish(breaks.len()))
+}
+
+/// Goes back to the last stop at a breakpoint. Room for its text is made first, so that want of memory
+/// leaves all changes standing.
+fn answer_until(alloc: Global, session: &mut Session, breaks: &Breaks) -> Result<Text, AllocError>
+    ensures text { IfOk result (λ text. text ≡ codes "until " ++ decimal (stop_in (record { session = session.old; breaks = breaks.now })) ++ codes "\n") }
+    ensures state { OnOk result (session.new ≡ record session.old { events = take (stop_in (record { session = session.old; breaks = breaks.now })) session.old.events }) }
+    ensures memory { OnErr result (session.new ≡ session.old) }
+{
+    let line = OpenLine::new(alloc, "until ")?;
+    Ok(line.finish(session.back_until(breaks)))
 }
 
 /// The number of changes that stand.

@@ -1,6 +1,7 @@
 //! A script's bytes in, and its answers out.
-ghost use Rattle.std.specs.Prelude.{◌≡◌, ◌≤◌, ◌<◌, ℕ, length, IfOk, IfSome, OnOk, Err, IfErr};
+ghost use Rattle.std.specs.Prelude.{◌≡◌, ◌≢◌, ◌≤◌, ◌<◌, ℕ, length, IfOk, IfSome, OnOk, OnErr, Err, IfErr};
 ghost use Rattle.std.specs.Io.KnownBytes.{Appends, Consumes};
+ghost use Rattle.s360_debug.specs.Script.{IsPartWritten};
 ghost use Rattle.s360_debug.specs.declared.bytes.ScriptFault.TheVariants.{TooLong, Memory, Write as write_failed};
 
 use std::alloc::{AllocError, Global};
@@ -43,6 +44,7 @@ pub(crate) fn read_whole<R: Read>(alloc: Global, reader: &mut R) -> Result<Vec<u
     ensures ok { IfOk result (λ v. IfSome (R.remaining reader.old) (λ xs. v.items ≡ xs)) }
     ensures short { IfOk result (λ v. length v.items ≤ 1048576) }
     ensures too_long { result ≡ Err TooLong → IfSome (R.remaining reader.old) (λ xs. 1048576 < length xs) }
+    ensures unwritten { result ≢ Err write_failed }
 {
     let mut bytes = Vec::new(alloc);
     let mut piece = [0u8; 4096];
@@ -61,10 +63,11 @@ pub(crate) fn read_whole<R: Read>(alloc: Global, reader: &mut R) -> Result<Vec<u
     Err(ScriptFault::Read)
 }
 
-/// Writes a text by as many writes as it takes.
+/// Writes a text by as many writes as it takes. After a fault a first part of it is written.
 pub(crate) fn write_whole<W: Write>(writer: &mut W, text: &[u8]) -> Result<(), ScriptFault>
     ensures ok { OnOk result (Appends (W.contents writer.old) (W.contents writer.new) text.now) }
     ensures fault { IfErr result (λ e. e ≡ write_failed) }
+    ensures part { OnErr result (IsPartWritten (W.contents writer.old) (W.contents writer.new) text.now) }
 {
     let mut at = 0;
     while at < text.len() {

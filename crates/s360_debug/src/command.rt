@@ -30,6 +30,14 @@ pub enum Command {
     Last(Place),
     /// `show`: a part of the machine.
     Show(Shown),
+    /// `break A`: a breakpoint is set at an address.
+    Break { at: u32 },
+    /// `clear A`: the breakpoint at an address is cleared.
+    Clear { at: u32 },
+    /// `until`: changes are taken back to the last stop at a breakpoint.
+    Until,
+    /// `run N`: at most so many events are offered, each the one whose turn it is.
+    Run { most: u32 },
 }
 
 impl Command {
@@ -43,7 +51,14 @@ impl Command {
             Command::Tick => Some(Event::Tick),
             Command::Key(key) => Some(Event::Key(key)),
             Command::Patch(patch) => Some(Event::Patch(patch)),
-            Command::Back | Command::Standing | Command::Last(_) | Command::Show(_) => None,
+            Command::Back
+            | Command::Standing
+            | Command::Last(_)
+            | Command::Show(_)
+            | Command::Break { .. }
+            | Command::Clear { .. }
+            | Command::Until
+            | Command::Run { .. } => None,
         }
     }
 }
@@ -65,6 +80,8 @@ pub enum Shown {
     UnitState(Unit),
     /// `show d U`: the sense byte of a unit's device, and its media in numbers.
     Device(Unit),
+    /// `show m U N`: an item of a unit's media, by its number from 1.
+    Item { unit: Unit, number: u32 },
 }
 
 /// Why a line is no command, in the order in which it is found.

@@ -3,14 +3,17 @@
 ghost use Rattle.std.specs.Prelude.{◌≡◌, ◌≤◌, ◌<◌, ◌^◌, IfOk, IfSome, drop, take, length, MatchOption, Some, None};
 ghost use Rattle.s360_debug.specs.Reading.{Reads, reading_of, patch_reading};
 ghost use Rattle.s360_debug.specs.Reading.{storage_patch, word_patch, key_patch, doubleword_patch};
-ghost use Rattle.s360_debug.specs.Reading.{channel_reading, key_of, key_reading, last_reading};
-ghost use Rattle.s360_debug.specs.Reading.{show_reading, show_storage, finished};
-ghost use Rattle.s360_debug.specs.Reading.{argument, number_argument, bytes_in, AtEnd, is_word};
+ghost use Rattle.s360_debug.specs.Reading.{break_reading, clear_reading, run_reading};
+ghost use Rattle.s360_debug.specs.Reading.{channel_reading, key_of, key_reading, enter_reading};
+ghost use Rattle.s360_debug.specs.Reading.{last_reading, show_reading, show_storage, show_item};
+ghost use Rattle.s360_debug.specs.Reading.{argument, number_argument, bytes_in, is_word, finished};
+ghost use Rattle.s360_debug.specs.Reading.{AtEnd};
 ghost use Rattle.s360_debug.specs.Digits.{doubleword_of, count_of};
 
 use crate::command::{Command, LineFault, Shown};
 use crate::digits::number_in;
-use crate::words::Words;
+use crate::ebcdic::{ebcdic_in, has_ebcdic};
+use crate::words::{Words, text_behind};
 use s360_machine::{Bytes, Key, Patch};
 use s360_store::{BLOCK_SIZE, Place};
 use s360_word::{ProtectionKey, RegisterNumber, Unit};
@@ -27,6 +30,9 @@ const COUNT_DIGITS: usize = 8;
 
 /// A line shows at most so many bytes of storage.
 const MOST_SHOWN: u32 = 256;
+
+/// The greatest count of events, and number of an item.
+const MOST_COUNT: u32 = 10_000_000;
 
 /// The command of a line, without its line end. A fault is answered whatever memory there is. A line of
 /// blanks alone is `Unknown`.
@@ -48,6 +54,8 @@ pub fn read_command(alloc: Global, line: &[u8]) -> Result<Command, LineFault>
         finish(words, 1, Command::Tick)
     } else if is(name, "key") {
         read_key(words)
+    } else if is(name, "enter") {
+        read_enter(alloc, text_behind(line))
     } else if is(name, "back") {
         finish(words, 1, Command::Back)
     } else if is(name, "standing") {
@@ -58,6 +66,14 @@ pub fn read_command(alloc: Global, line: &[u8]) -> Result<Command, LineFault>
         read_last(words)
     } else if is(name, "show") {
         read_show(words)
+    } else if is(name, "break") {
+        read_break(words)
+    } else if is(name, "clear") {
+        read_clear(words)
+    } else if is(name, "until") {
+        finish(words, 1, Command::Until)
+    } else if is(name, "run") {
+        read_run(words)
     } else {
         Err(LineFault::Unknown)
     }
@@ -76,6 +92,30 @@ fn read_channel(mut words: Words<'_>) -> Result<Command, LineFault>
 {
     let unit = next_number(&mut words, 1, 3)?;
     finish(words, 2, Command::Channel(Unit::new(unit as u16)))
+}
+
+/// `break A`
+fn read_break(mut words: Words<'_>) -> Result<Command, LineFault>
+    ensures { result ≡ break_reading words.entry }
+{
+    let at = next_number(&mut words, 1, 6)?;
+    finish(words, 2, Command::Break { at })
+}
+
+/// `clear A`
+fn read_clear(mut words: Words<'_>) -> Result<Command, LineFault>
+    ensures { result ≡ clear_reading words.entry }
+{
+    let at = next_number(&mut words, 1, 6)?;
+    finish(words, 2, Command::Clear { at })
+}
+
+/// `run N`
+fn read_run(mut words: Words<'_>) -> Result<Command, LineFault>
+    ensures { result ≡ run_reading words.entry }
+{
+    let most = next_count(&mut words, 1, MOST_COUNT)?;
+    finish(words, 2, Command::Run { most })
 }
 
 /// `key` with the name of a key.
@@ -103,9 +143,22 @@ fn key_of(name: &[u8]) -> Option<Key>
         Some(Key::Interrupt)
     } else if is(name, "eof") {
         Some(Key::EndOfFile)
+    } else if is(name, "request") {
+        Some(Key::Request)
     } else {
         None
     }
+}
+
+/// `enter TEXT`
+fn read_enter(alloc: Global, text: &[u8]) -> Result<Command, LineFault>
+    ensures { Reads (enter_reading text.now) result }
+{
+    if !has_ebcdic(text) {
+        return Err(LineFault::Argument(1));
+    }
+    let bytes = ebcdic_in(alloc, text)?;
+    Ok(Command::Key(Key::Enter(Bytes::new(bytes))))
 }
 
 /// `patch`, by its kind.
@@ -238,6 +291,8 @@ fn read_show(mut words: Words<'_>) -> Result<Command, LineFault>
             3,
             Command::Show(Shown::Device(Unit::new(unit as u16))),
         )
+    } else if is(kind, "m") {
+        read_show_item(words)
     } else {
         Err(LineFault::Argument(1))
     }
@@ -250,6 +305,16 @@ fn read_show_storage(mut words: Words<'_>) -> Result<Command, LineFault>
     let at = next_number(&mut words, 2, 6)?;
     let count = next_count(&mut words, 3, MOST_SHOWN)?;
     finish(words, 4, Command::Show(Shown::Storage { at, count }))
+}
+
+/// `show m U N`
+fn read_show_item(mut words: Words<'_>) -> Result<Command, LineFault>
+    ensures { result ≡ show_item words.entry }
+{
+    let unit = next_number(&mut words, 2, 3)?;
+    let number = next_count(&mut words, 3, MOST_COUNT)?;
+    let unit = Unit::new(unit as u16);
+    finish(words, 4, Command::Show(Shown::Item { unit, number }))
 }
 
 /// The command, if no word is left; the word of this number is too many.

@@ -40,8 +40,8 @@ pub(crate) fn push_numbered(
 }
 
 /// The name of a key that the operator presses.
-fn name_of_key(key: Key) -> &'static str
-    ensures { result.now ≡ key_name key }
+fn name_of_key(key: &Key) -> &'static str
+    ensures { result.now ≡ key_name key.now }
 {
     match key {
         Key::Start => "key start",
@@ -49,6 +49,8 @@ fn name_of_key(key: Key) -> &'static str
         Key::Reset => "key reset",
         Key::Interrupt => "key interrupt",
         Key::EndOfFile => "key eof",
+        Key::Request => "key request",
+        Key::Enter(_) => "enter",
     }
 }
 
@@ -72,7 +74,7 @@ pub(crate) fn push_event(text: &mut Text, event: &Event) -> Result<(), AllocErro
         Event::Cpu => text.push_text("cpu"),
         Event::Channel(unit) => push_numbered(text, "channel ", u64::from(unit.0), 3),
         Event::Tick => text.push_text("tick"),
-        Event::Key(key) => text.push_text(name_of_key(*key)),
+        Event::Key(key) => text.push_text(name_of_key(key)),
         Event::Patch(patch) => text.push_text(name_of_patch(patch)),
     }
 }
@@ -85,6 +87,7 @@ fn name_of_refusal(refusal: Refusal) -> &'static str
         Refusal::Memory => "memory",
         Refusal::OutsideStorage => "outside storage",
         Refusal::NoSuchUnit => "no such unit",
+        Refusal::LineTooLong => "line too long",
         Refusal::PatchTooLong => "patch too long",
         Refusal::JournalFull => "journal full",
     }
@@ -95,12 +98,20 @@ pub(crate) fn refusal_text(alloc: Global, refusal: Refusal) -> Result<Text, Allo
     ensures { IfOk result (λ text. text ≡ refused_text refusal) }
 {
     let mut text = Text::new(alloc);
+    push_refusal(&mut text, refusal)?;
+    Ok(text)
+}
+
+/// Adds what a refusal answers.
+pub(crate) fn push_refusal(text: &mut Text, refusal: Refusal) -> Result<(), AllocError>
+    ensures { OnOk result (text.new ≡ text.old ++ refused_text refusal) }
+{
     text.push_text("refused ")?;
     text.push_decimal(u64::from(refusal.number()))?;
     text.push_text(" ")?;
     text.push_text(name_of_refusal(refusal))?;
     text.push_text("\n")?;
-    Ok(text)
+    Ok(())
 }
 
 /// Adds the name of a run state.

@@ -5,8 +5,9 @@ ghost use Rattle.s360_debug.specs.Debugger.{new_debugger};
 ghost use Rattle.s360_debug.specs.Reading.{reading_of};
 ghost use Rattle.s360_debug.specs.Lines.{lines_of};
 ghost use Rattle.s360_debug.specs.Script.{answer_to_reading, state_after_reading, StandsAfterReading};
-ghost use Rattle.s360_debug.specs.Script.{answers_of, lines_of_script, state_after_lines, IsStopped};
+ghost use Rattle.s360_debug.specs.Script.{answers_of, lines_of_script, state_after_lines, IsStopped, IsCut};
 ghost use Rattle.s360_debug.specs.declared.bytes.ScriptFault.TheVariants.{Read as read_failed, TooLong, Memory};
+ghost use Rattle.s360_debug.specs.declared.bytes.ScriptFault.TheVariants.{Write as write_failed};
 
 use crate::answering::{answer, text_of_fault};
 use crate::bytes::{ScriptFault, read_whole, write_whole};
@@ -34,6 +35,7 @@ pub fn run_script<R: Read, W: Write>(
     ensures unread_writer { (result ≡ Err read_failed) ⊎ (result ≡ Err TooLong) → writer.new ≡ writer.old }
     ensures too_long { result ≡ Err TooLong → IfSome (R.remaining reader.old) (λ text. 1048576 < length text) }
     ensures memory { result ≡ Err Memory → IfSome (R.remaining reader.old) (λ text. IsStopped (W.contents writer.old) (W.contents writer.new) (new_debugger session.old) session.new (lines_of text)) }
+    ensures write { result ≡ Err write_failed → IfSome (R.remaining reader.old) (λ text. IsCut (W.contents writer.old) (W.contents writer.new) (new_debugger session.old) session.new (lines_of text)) }
 {
     let script = read_whole(alloc, reader)?;
     answer_script(alloc, session, &script, writer)
@@ -51,6 +53,7 @@ fn answer_script<W: Write>(
     ensures lines { IfOk result (λ n. n ≡ lines_of_script script.now) }
     ensures state { OnOk result (session.new ≡ (state_after_lines (new_debugger session.old) (lines_of script.now)).session) }
     ensures memory { result ≡ Err Memory → IsStopped (W.contents writer.old) (W.contents writer.new) (new_debugger session.old) session.new (lines_of script.now) }
+    ensures write { result ≡ Err write_failed → IsCut (W.contents writer.old) (W.contents writer.new) (new_debugger session.old) session.new (lines_of script.now) }
     ensures read { result ≢ Err read_failed }
     ensures too_long { result ≢ Err TooLong }
 {

@@ -7,6 +7,7 @@ ghost use Rattle.s360_debug.specs.Shown.{external_text, key_line, key_text};
 
 use crate::command::Shown;
 use crate::names::{name_of_external, push_run_state, refusal_text};
+use crate::show_items::item_of;
 use crate::show_units::{device_of, unit_of};
 use crate::text::Text;
 use s360_machine::{ExternalConditions, Machine, Refusal};
@@ -34,6 +35,7 @@ pub(crate) fn text_of_shown(
         Shown::External => external_of(alloc, machine.external()),
         Shown::UnitState(unit) => unit_of(alloc, machine, unit),
         Shown::Device(unit) => device_of(alloc, machine, unit),
+        Shown::Item { unit, number } => item_of(alloc, machine, unit, number),
     }
 }
 

@@ -1,15 +1,16 @@
 //! What is shown of the units and their devices.
 ghost use Rattle.std.specs.Prelude.{◌≡◌, ◌++◌, IfOk, OnOk, length};
 ghost use Rattle.s360_machine.specs.Machine.{seen};
-ghost use Rattle.s360_debug.specs.ShownUnits.{csw_words, device_text, program_word, punch_line};
-ghost use Rattle.s360_debug.specs.ShownUnits.{reader_line, sense_text, state_name, unit_line};
-ghost use Rattle.s360_debug.specs.ShownUnits.{unit_text};
+ghost use Rattle.s360_debug.specs.ShownUnits.{console_line, csw_words, device_text, printer_line};
+ghost use Rattle.s360_debug.specs.ShownUnits.{program_word, punch_line, reader_line, sense_text};
+ghost use Rattle.s360_debug.specs.ShownUnits.{state_name, unit_line, unit_text};
 
 use crate::names::{push_numbered, refusal_text};
 use crate::text::Text;
 use s360_channel::{Program, UnitState};
 use s360_device::{Device, Punch, Reader};
 use s360_machine::{ConfiguredUnit, Machine, Refusal};
+use s360_print::{Console, Printer};
 use s360_word::{Unit, Word};
 use std::alloc::{AllocError, Global};
 
@@ -84,6 +85,8 @@ pub(crate) fn device_of(alloc: Global, machine: &Machine, unit: Unit) -> Result<
     match ConfiguredUnit::at(unit) {
         Some(ConfiguredUnit::Reader) => line_of_reader(alloc, machine.reader()),
         Some(ConfiguredUnit::Punch) => line_of_punch(alloc, machine.punch()),
+        Some(ConfiguredUnit::Printer) => line_of_printer(alloc, machine.printer()),
+        Some(ConfiguredUnit::Console) => line_of_console(alloc, machine.console()),
         None => refusal_text(alloc, Refusal::NoSuchUnit),
     }
 }
@@ -121,6 +124,41 @@ fn line_of_punch(alloc: Global, punch: &Punch) -> Result<Text, AllocError>
     push_sense(&mut text, &punch.sense())?;
     text.push_text(" cards ")?;
     text.push_decimal(punch.cards() as u64)?;
+    text.push_text("\n")?;
+    Ok(text)
+}
+
+/// The line of the printer.
+fn line_of_printer(alloc: Global, printer: &Printer) -> Result<Text, AllocError>
+    ensures { IfOk result (λ text. text ≡ printer_line printer.now.printer) }
+{
+    let position = printer.position();
+    let mut text = Text::new(alloc);
+    text.push_text("00E")?;
+    push_sense(&mut text, &printer.sense())?;
+    text.push_text(" page ")?;
+    text.push_decimal(u64::from(position.page()))?;
+    text.push_text(" line ")?;
+    text.push_decimal(u64::from(position.line()))?;
+    text.push_text(" records ")?;
+    text.push_decimal(printer.records() as u64)?;
+    text.push_text("\n")?;
+    Ok(text)
+}
+
+/// The line of the console.
+fn line_of_console(alloc: Global, console: &Console) -> Result<Text, AllocError>
+    ensures { IfOk result (λ text. text ≡ console_line console.now.console) }
+{
+    let mut text = Text::new(alloc);
+    text.push_text("01F")?;
+    push_sense(&mut text, &console.sense())?;
+    text.push_text(" typed ")?;
+    text.push_decimal(console.typed_count() as u64)?;
+    text.push_text(" entered ")?;
+    text.push_decimal(console.entered_count() as u64)?;
+    text.push_text(" taken ")?;
+    text.push_decimal(console.taken() as u64)?;
     text.push_text("\n")?;
     Ok(text)
 }

@@ -1,6 +1,8 @@
 //! The text of an answer, made piece by piece.
-ghost use Rattle.std.specs.Prelude.{◌≡◌, ◌≤◌, ◌<◌, ◌++◌, [], OnOk};
+ghost use Rattle.std.specs.Prelude.{◌≡◌, ◌≤◌, ◌<◌, ◌++◌, ◌∷◌, [], OnOk, length, nat_eq};
+ghost use Rattle.std.specs.List.{suffix_len};
 ghost use Rattle.s360_model.specs.Text.{decimal, hex_text, hex_digit};
+ghost use Rattle.s360_debug.specs.Blanks.{without_blanks};
 
 use std::alloc::{AllocError, Global};
 use std::marker::Model;
@@ -31,6 +33,13 @@ impl Text {
         }
     }
 
+    /// The text of these bytes.
+    pub(crate) fn of_bytes(alloc: Global, bytes: Vec<u8>) -> Text
+        ensures { result ≡ bytes.items }
+    {
+        Text { bytes, alloc }
+    }
+
     /// Its bytes.
     pub fn as_bytes(&self) -> &[u8]
         ensures { result.now ≡ self.now }
@@ -43,6 +52,14 @@ impl Text {
         ensures { OnOk result (self.new ≡ self.old ++ text.now) }
     {
         self.bytes.extend_from_slice(text.as_bytes())?;
+        Ok(())
+    }
+
+    /// Adds a byte.
+    pub(crate) fn push_byte(&mut self, byte: u8) -> Result<(), AllocError>
+        ensures { OnOk result (self.new ≡ self.old ++ byte ∷ []) }
+    {
+        self.bytes.push(byte)?;
         Ok(())
     }
 
@@ -61,6 +78,22 @@ impl Text {
     {
         push_hex(&mut self.bytes, number, width)
     }
+
+    /// Drops the blanks at its end.
+    pub(crate) fn drop_blanks(&mut self)
+        ensures { self.new ≡ without_blanks self.old }
+    {
+        let kept = self.bytes.len() - blanks_at_end(&self.bytes);
+        self.bytes.truncate(kept);
+    }
+}
+
+/// How many blanks stand at the end of a text.
+fn blanks_at_end(text: &[u8]) -> usize
+    ensures count { result ≡ suffix_len (λ b. nat_eq b 32) text.now }
+    ensures within { result ≤ length text.now }
+{
+    text.iter().rev().take_while(|byte| **byte == b' ').count()
 }
 
 /// Adds the low digits of a number in hexadecimal, the highest first.

@@ -1,7 +1,7 @@
 //! The words of a line: what stands between its blanks.
 ghost use Rattle.std.specs.Prelude.{◌≡◌, ◌≤◌, ◌+◌, ◌∷◌, [], MatchOption, IfSome, length, nat_eq, not};
 ghost use Rattle.std.specs.List.{position};
-ghost use Rattle.s360_debug.specs.Words.{words_of};
+ghost use Rattle.s360_debug.specs.Words.{behind_word, text_behind, words_of};
 
 use std::marker::Model;
 
@@ -59,6 +59,7 @@ fn first_blank(line: &[u8]) -> Option<usize>
 /// The first word of a line, and what follows it.
 fn split_word(line: &[u8]) -> Option<(&[u8], &[u8])>
     ensures word { MatchOption result (words_of line.now ≡ []) (λ r. words_of line.now ≡ r.0.now ∷ words_of r.1.now) }
+    ensures rest { MatchOption result (behind_word line.now ≡ []) (λ r. behind_word line.now ≡ r.1.now) }
     ensures short { IfSome result (λ r. length r.0.now + length r.1.now ≤ length line.now) }
 {
     let start = first_other(line)?;
@@ -66,5 +67,15 @@ fn split_word(line: &[u8]) -> Option<(&[u8], &[u8])>
     match first_blank(line) {
         Some(end) => Some(line.split_at(end)),
         None => Some((line, &[])),
+    }
+}
+
+/// The text of a line: what follows its first word and one blank.
+pub(crate) fn text_behind(line: &[u8]) -> &[u8]
+    ensures { result.now ≡ text_behind line.now }
+{
+    match split_word(line) {
+        Some((_, [_, text @ ..])) => text,
+        _ => &[],
     }
 }

@@ -1,5 +1,7 @@
 pub mod HistoryLemmas
 pub mod LastChangeLemmas
+pub mod BreakpointLemmas
+pub mod StopLemmas
 pub mod ForwardLemmas
 pub mod RunLemmas
 pub mod LawLemmas

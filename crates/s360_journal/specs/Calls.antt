@@ -4,18 +4,20 @@ use Rattle.s360_machine.specs.declared.event.Event.{Event}
 use Rattle.s360_machine.specs.Machine.{seen}
 use Rattle.s360_machine.specs.declared.refusal.Refusal.TheVariants.{Memory}
 use Rattle.s360_journal.specs.declared.calls.Call.{Call}
-use Rattle.s360_journal.specs.declared.calls.Call.TheVariants.{Forward, Back, Standing as standing, LastChange}
+use Rattle.s360_journal.specs.declared.calls.Call.TheVariants.{Forward, Back, BackUntil, Standing as standing, LastChange}
 use Rattle.s360_journal.specs.declared.calls.Answer.{Answer}
-use Rattle.s360_journal.specs.declared.calls.Answer.TheVariants.{Forwarded, TookBack, Stands, LastChanged}
+use Rattle.s360_journal.specs.declared.calls.Answer.TheVariants.{Forwarded, TookBack, WentBack, Stands, LastChanged}
 use Rattle.s360_journal.specs.Reports.{IsReport}
 use Rattle.s360_journal.specs.Rerun.{last_change_of}
+use Rattle.s360_journal.specs.Stops.{stop_of}
 use Rattle.s360_journal.specs.Standing.{Standing, refusal_in, alteration}
 
 -- the events that stand after a call with its answer: an accepted event is added, a step back drops the
--- last, and all else leaves them
+-- last, going back until a stop keeps as many as it answers, and all else leaves them
 abbrev pub events_after : List Event → Call → Answer → List Event
 events_after es (Forward e) (Forwarded (Ok r)) = es ++ e ∷ []
 events_after es Back (TookBack (Ok e)) = take (length es - 1) es
+events_after es (BackUntil breaks) (WentBack k) = take k es
 events_after es c a = es
 
 -- the events that stand after calls with their answers
@@ -31,6 +33,7 @@ IsAnswer s (Forward e) (Forwarded (Err r)) t =
     MatchOption (refusal_in s e) (r ≡ Memory) (λ q. r ≡ q) × (t ≡ s)
 IsAnswer s Back (TookBack (Ok e)) t = s ≡ record t { events = t.events ++ e ∷ [] }
 IsAnswer s Back (TookBack (Err n)) t = (s.events ≡ []) × (t ≡ s)
+IsAnswer s (BackUntil breaks) (WentBack k) t = (k ≡ stop_of (seen s.start) s.events breaks) × (t ≡ record s { events = take k s.events })
 IsAnswer s standing (Stands n) t = (n ≡ length s.events) × (t ≡ s)
 IsAnswer s (LastChange p) (LastChanged k) t = (k ≡ last_change_of (seen s.start) s.events p) × (t ≡ s)
 IsAnswer s c a t = ⊥

@@ -1,10 +1,14 @@
--- What the last change of a place is, in other words than those of its definition.
-use Rattle.std.specs.Prelude.{◌≡◌, ◌<◌, ◌+◌, ℕ, zero, suc, true, List, [], ◌∷◌, Option, Some, None}
+-- What the last change of a place, the breakpoints and the last stop are, in other words than those of their
+-- definitions.
+use Rattle.std.specs.Prelude.{◌≡◌, ◌≢◌, ◌<◌, ◌+◌, ◌↔◌, ◌⊎◌, ℕ, zero, suc, true, false, List, [], ◌∷◌, length, take, Option, Some, None}
+use Rattle.std.specs.List.{Contains}
 use Rattle.s360_store.specs.declared.place.Place.{Place}
 use Rattle.s360_machine.specs.declared.event.Event.{Event}
 use Rattle.s360_machine.specs.Machine.{Machine}
 use Rattle.s360_machine.specs.Step.{after}
-use Rattle.s360_journal.specs.Rerun.{alters, last_change_of}
+use Rattle.s360_journal.specs.Breakpoints.{AreBreakpoints, has_address, has_room_for, with_address, without_address, is_at_breakpoint}
+use Rattle.s360_journal.specs.Rerun.{rerun, alters, last_change_of}
+use Rattle.s360_journal.specs.Stops.{stop_of}
 
 -- the event of this index, counted from 0, alters the place
 abbrev pub IsAltered : Machine → List Event → Place → ℕ → Type 0
@@ -21,3 +25,30 @@ IsGreatestFrom first m es p (Some n) = (i : ℕ) × (n ≡ first + i) × IsAlter
 -- the last change of a place is the greatest number of a change that alters it, counted from 1
 abbrev pub LastChangeIsTheGreatest : Type 0
 LastChangeIsTheGreatest = (m : Machine) (es : List Event) (p : Place) → IsGreatestFrom 1 m es p (last_change_of m es p)
+
+-- the breakpoints are a set of at most 64 addresses
+pub record BreakpointsAreASet : Type 0 where
+  -- an address is found just where it is one of them
+  pub found : (breaks : List ℕ) (a : ℕ) → (has_address breaks a ≡ true) ↔ Contains breaks a
+  -- it is refused just where 64 others are set
+  pub refused : (breaks : List ℕ) (a : ℕ) → AreBreakpoints breaks → (has_room_for breaks a ≡ false) ↔ ((length breaks ≡ 64) × (Contains breaks a → ⊥))
+  -- a refused one changes nothing; any other is then one of them, beside those before
+  pub unchanged : (breaks : List ℕ) (a : ℕ) → has_room_for breaks a ≡ false → with_address breaks a ≡ breaks
+  pub added : (breaks : List ℕ) (a b : ℕ) → has_room_for breaks a ≡ true → Contains (with_address breaks a) b ↔ ((b ≡ a) ⊎ Contains breaks b)
+  -- one that is removed is none of them, and each other stays
+  pub removed : (breaks : List ℕ) (a b : ℕ) → Contains (without_address breaks a) b ↔ ((b ≢ a) × Contains breaks b)
+  -- no two are the same, and they are at most 64: at first, and after each of these
+  pub at_first : AreBreakpoints []
+  pub after_add : (breaks : List ℕ) (a : ℕ) → AreBreakpoints breaks → AreBreakpoints (with_address breaks a)
+  pub after_remove : (breaks : List ℕ) (a : ℕ) → AreBreakpoints breaks → AreBreakpoints (without_address breaks a)
+
+-- after so many of the events, but not all, the CPU operates at a breakpoint
+abbrev pub IsStop : Machine → List Event → List ℕ → ℕ → Type 0
+IsStop start es breaks k = (k < length es) × (is_at_breakpoint (rerun start (take k es)) breaks ≡ true)
+
+-- the last stop is the greatest, or 0 where none is greater
+abbrev pub LastStopIsTheGreatest : Type 0
+LastStopIsTheGreatest =
+    (start : Machine) (es : List Event) (breaks : List ℕ)
+    → (IsStop start es breaks (stop_of start es breaks) ⊎ (stop_of start es breaks ≡ 0))
+    × ((k : ℕ) → stop_of start es breaks < k → IsStop start es breaks k → ⊥)

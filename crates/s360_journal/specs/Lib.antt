@@ -1,6 +1,8 @@
 pub mod Places
 pub mod Reports
 pub mod Rerun
+pub mod Breakpoints
+pub mod Stops
 pub mod Laws
 pub mod Standing
 pub mod History

@@ -7,6 +7,7 @@ ghost use Rattle.s360_journal.specs.Rerun.{rerun, AreAccepted};
 ghost use Rattle.s360_journal.specs.Calls.{IsAnswer, IsRun, standing_events};
 ghost use Rattle.s360_journal.specs.Standing.{Standing as State};
 
+use crate::breaks::Breaks;
 use crate::report::Report;
 use crate::session::{NothingStands, Session};
 use s360_machine::{Event, Machine, Refusal};
@@ -21,6 +22,8 @@ pub enum Call {
     Forward(Event),
     /// `Session::back`
     Back,
+    /// `Session::back_until`
+    BackUntil(Breaks),
     /// `Session::standing`
     Standing,
     /// `Session::last_change`
@@ -34,6 +37,8 @@ pub enum Answer {
     Forwarded(Result<Report, Refusal>),
     /// Of `Session::back`.
     TookBack(Result<Event, NothingStands>),
+    /// Of `Session::back_until`.
+    WentBack(u32),
     /// Of `Session::standing`.
     Stands(u32),
     /// Of `Session::last_change`.
@@ -57,6 +62,7 @@ impl Session {
         match call {
             Call::Forward(event) => Answer::Forwarded(self.forward(event)),
             Call::Back => Answer::TookBack(self.back()),
+            Call::BackUntil(breaks) => Answer::WentBack(self.back_until(&breaks)),
             Call::Standing => Answer::Stands(self.standing()),
             Call::LastChange(place) => Answer::LastChanged(self.last_change(place)),
         }

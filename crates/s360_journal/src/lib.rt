@@ -16,7 +16,7 @@ mod session;
 
 pub use breaks::Breaks;
 pub use calls::{Answer, Call, Outcome, run_calls};
-pub use laws::last_change_is_the_greatest;
+pub use laws::{breakpoints_are_a_set, last_change_is_the_greatest, last_stop_is_the_greatest};
 pub use places::Places;
 pub use report::Report;
 pub use session::{NothingStands, Session};

@@ -1,13 +1,15 @@
 //! The session: the machine, and the journal of the changes that stand.
-ghost use Rattle.std.specs.Prelude.{◌≡◌, ◌++◌, ◌∷◌, ◌≤◌, [], length, OnOk, OnErr, IfOk, Err};
+ghost use Rattle.std.specs.Prelude.{◌≡◌, ◌++◌, ◌∷◌, ◌≤◌, [], length, take, OnOk, OnErr, IfOk, Err};
 ghost use Rattle.std.specs.Prelude.{IsOkUnless, MatchOption};
 ghost use Rattle.s360_machine.specs.Machine.{seen};
 ghost use Rattle.s360_machine.specs.declared.refusal.Refusal.TheVariants.{Memory};
 ghost use Rattle.s360_journal.specs.Reports.{IsReport};
 ghost use Rattle.s360_journal.specs.Rerun.{rerun, AreAccepted, last_change_of};
+ghost use Rattle.s360_journal.specs.Stops.{stop_of};
 ghost use Rattle.std.specs.Option.{option_copied};
 ghost use Rattle.s360_journal.specs.Standing.{machine_of, refusal_in, alteration, last_of};
 
+use crate::breaks::Breaks;
 use crate::entry::Entry;
 use crate::report::Report;
 use s360_machine::{Event, Machine, Refusal};
@@ -160,6 +162,21 @@ impl Session {
         let Entry { event, mut changes } = entry;
         self.machine.swap_all(&mut changes);
         Ok(event)
+    }
+
+    /// Goes back to the last stop: to the greatest number of changes, below that which stand, after
+    /// which the CPU operates at a breakpoint, else to 0. It answers that number. It takes no
+    /// memory.
+    pub fn back_until(&mut self, breaks: &Breaks) -> u32
+        ensures stop { result ≡ stop_of (seen self.old.start) self.old.events breaks.now }
+        ensures kept { self.new ≡ record self.old { events = take result self.old.events } }
+    {
+        while self.back().is_ok() {
+            if breaks.stops(self.machine()) {
+                return self.standing();
+            }
+        }
+        0
     }
 
     /// What an event would report, or why it is refused: it is run and taken back, which restores the

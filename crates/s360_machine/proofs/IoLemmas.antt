@@ -1,5 +1,6 @@
 -- What an event alters of the units and their devices.
-use Rattle.std.proofs.Common.{◌≡◌, Bool, true, false, refl, ap, ◌∙◌, if◌then◌else◌}
+use Rattle.std.proofs.Common.{◌≡◌, ℕ, ◌+◌, ◌++◌, Bool, true, false, List, [], ◌∷◌, length, arith, refl, ap, ◌∙◌, if◌then◌else◌}
+use Rattle.std.proofs.lemmas.List.{length-append}
 use Rattle.std.specs.Bool.{Decides}
 use Rattle.std.specs.Prelude.{Option, Some, None}
 use Rattle.s360_device.specs.declared.reader_change.ReaderChange.{ReaderChange}
@@ -11,6 +12,14 @@ use Rattle.s360_device.specs.PunchChanges.{CanSwapPunch, punch_after_swap, punch
 use Rattle.s360_device.specs.Reader.{Reader, with_end_key}
 use Rattle.s360_device.specs.ReaderChanges.{CanSwapReader, reader_after_swap, reader_change_after_swap}
 use Rattle.s360_device.proofs.DifferenceLemmas.{same_punch-Decides, same_reader-Decides}
+use Rattle.s360_print.specs.declared.console_change.ConsoleChange.{ConsoleChange}
+use Rattle.s360_print.specs.declared.printer_change.PrinterChange.{PrinterChange}
+use Rattle.s360_print.specs.Console.{Console, with_line}
+use Rattle.s360_print.specs.ConsoleChanges.{CanSwapConsole, console_after_swap, console_change_after_swap, console_needs}
+use Rattle.s360_print.specs.Differences.{same_console, same_printer}
+use Rattle.s360_print.specs.Printer.{Printer}
+use Rattle.s360_print.specs.PrinterChanges.{CanSwapPrinter, printer_after_swap, printer_change_after_swap}
+use Rattle.s360_print.proofs.DifferenceLemmas.{same_console-Decides, same_printer-Decides}
 use Rattle.s360_channel.specs.declared.unit_control.UnitControl.{UnitControl}
 use Rattle.s360_channel.specs.Differences.{same_unit}
 use Rattle.s360_channel.proofs.DifferenceLemmas.{same_unit-Decides}
@@ -18,8 +27,11 @@ use Rattle.s360_store.specs.declared.place.Place.{Place}
 use Rattle.s360_machine.specs.declared.media.MediaChanges.{MediaChanges}
 use Rattle.s360_machine.specs.declared.units.UnitChanges.{UnitChanges}
 use Rattle.s360_machine.specs.declared.units.Units.{Units}
+use Rattle.s360_machine.specs.declared.configured_unit.ConfiguredUnit.{ConfiguredUnit}
+use Rattle.s360_machine.specs.declared.configured_unit.ConfiguredUnit.TheVariants.{Reader as reader_unit, Punch as punch_unit, Printer as printer_unit, Console as console_unit}
 use Rattle.s360_machine.specs.IoChanges.{CanIfAny, after_if_any, back_if_any, need_if_any, place_if_any, the_other}
-use Rattle.s360_machine.specs.IoChanges.{no_media_changes, no_unit_changes}
+use Rattle.s360_machine.specs.IoChanges.{media_after_swap, no_media_changes, no_unit_changes, unit_change_of, units_after_swap}
+use Rattle.s360_machine.specs.Units.{control_of, with_control_of}
 use Rattle.s360_machine.specs.Machine.{Media}
 use Rattle.s360_machine.specs.Planned.{IsMediaChangeTo, IsUnitsChangeTo, unless_same}
 
@@ -53,60 +65,114 @@ altered-by u v false h = IsPartChange-some the_other same_unit u v h
 pub altered-is : (u v : UnitControl) (x : Option UnitControl) → x ≡ (if same_unit u v then None else Some v) → IsUnitChange u v x
 altered-is u v x h = rw h (altered-by u v (same_unit u v) refl)
 
-pub IsUnitsChangeTo-from : (us vs : Units) (x : UnitChanges) → IsUnitChange us.reader vs.reader x.reader → IsUnitChange us.punch vs.punch x.punch → IsUnitsChangeTo us x vs
-IsUnitsChangeTo-from us vs x r p = record {
-  makes = ap (λ (k : UnitControl). record { reader = k; punch = after_if_any the_other us.punch x.punch }) r.makes ∙ ap (λ (k : UnitControl). record { reader = vs.reader; punch = k }) p.makes;
-  lists = rw (r.lists, p.lists) refl;
+pub IsUnitsChangeTo-from : (us vs : Units) (x : UnitChanges)
+    → IsUnitChange us.reader vs.reader x.reader → IsUnitChange us.punch vs.punch x.punch
+    → IsUnitChange us.printer vs.printer x.printer → IsUnitChange us.console vs.console x.console
+    → IsUnitsChangeTo us x vs
+IsUnitsChangeTo-from us vs x r p t c = record {
+  makes =
+      ap (λ (k : UnitControl). record (units_after_swap us x) { reader = k }) r.makes
+      ∙ ap (λ (k : UnitControl). record (units_after_swap us x) { reader = vs.reader; punch = k }) p.makes
+      ∙ ap (λ (k : UnitControl). record vs { printer = k; console = after_if_any the_other us.console x.console }) t.makes
+      ∙ ap (λ (k : UnitControl). record vs { console = k }) c.makes;
+  lists = rw (r.lists, p.lists, t.lists, c.lists) refl;
 }
 
+-- all units but one stay
+pub IsUnitsChangeTo-one : (us : Units) (unit : ConfiguredUnit) (v : UnitControl) (x : Option UnitControl)
+    → IsUnitChange (control_of us unit) v x → IsUnitsChangeTo us (unit_change_of unit x) (with_control_of us unit v)
+IsUnitsChangeTo-one us reader_unit v x h = IsUnitsChangeTo-from us (record us { reader = v }) _ h (unit-stays us.punch) (unit-stays us.printer) (unit-stays us.console)
+IsUnitsChangeTo-one us punch_unit v x h = IsUnitsChangeTo-from us (record us { punch = v }) _ (unit-stays us.reader) h (unit-stays us.printer) (unit-stays us.console)
+IsUnitsChangeTo-one us printer_unit v x h = IsUnitsChangeTo-from us (record us { printer = v }) _ (unit-stays us.reader) (unit-stays us.punch) h (unit-stays us.console)
+IsUnitsChangeTo-one us console_unit v x h = IsUnitsChangeTo-from us (record us { console = v }) _ (unit-stays us.reader) (unit-stays us.punch) (unit-stays us.printer) h
+
 pub units-stay : (us : Units) → IsUnitsChangeTo us no_unit_changes us
-units-stay us = IsUnitsChangeTo-from us us no_unit_changes (unit-stays us.reader) (unit-stays us.punch)
+units-stay us = IsUnitsChangeTo-one us reader_unit us.reader None (unit-stays us.reader)
+
+-- a change of a device that may be there makes one of another, is there just where the two differ, and wants no room
+-- to be taken back
+pub record IsDeviceStep {D C : Type 0} (Can : D → C → Type 0) (after : D → C → D) (back : D → C → C) (needs : C → ℕ) (same : D → D → Bool) (d e : D) (x : Option C) : Type 0 where
+  pub can : CanIfAny Can d x
+  pub part : IsPartChange after same d e x
+  pub no_room : need_if_any needs (back_if_any back d x) ≡ 0
+
+device-stays : {D C : Type 0} (Can : D → C → Type 0) (after : D → C → D) (back : D → C → C) (needs : C → ℕ) (same : D → D → Bool)
+    → ((d e : D) → Decides (same d e) (d ≡ e)) → (d : D) → IsDeviceStep Can after back needs same d d None
+device-stays Can after back needs same decides d = record { can = tt; part = IsPartChange-none after same d ((decides d d).1 refl); no_room = refl }
+
+device-becomes : {D C : Type 0} (Can : D → C → Type 0) (after : D → C → D) (back : D → C → C) (needs : C → ℕ) (same : D → D → Bool)
+    → ((d e : D) → Decides (same d e) (d ≡ e)) → (d e : D) (x : C) → Can d x → after d x ≡ e → needs (back d x) ≡ 0 → (d ≡ e → ⊥)
+    → IsDeviceStep Can after back needs same d e (Some x)
+device-becomes Can after back needs same decides d e x h is b n = record {
+  can = h;
+  part = record { makes = is; lists = λ p. rw (different (same d e) d e (decides d e) n) refl };
+  no_room = b;
+}
 
 -- the reader
-pub record IsReaderChange (r s : Reader) (x : Option ReaderChange) : Type 0 where
-  pub can : CanIfAny CanSwapReader r x
-  pub part : IsPartChange reader_after_swap same_reader r s x
-  pub back : need_if_any (λ (c : ReaderChange). items_put c.motion) (back_if_any reader_change_after_swap r x) ≡ 0
+abbrev pub IsReaderChange : Reader → Reader → Option ReaderChange → Type 0
+IsReaderChange r s x = IsDeviceStep CanSwapReader reader_after_swap reader_change_after_swap (λ (c : ReaderChange). items_put c.motion) same_reader r s x
 
 pub reader-stays : (r : Reader) → IsReaderChange r r None
-reader-stays r = record { can = tt; part = IsPartChange-none reader_after_swap same_reader r ((same_reader-Decides r r).1 refl); back = refl }
+reader-stays r = device-stays CanSwapReader reader_after_swap reader_change_after_swap _ same_reader same_reader-Decides r
 
 pub reader-becomes : (r s : Reader) (x : ReaderChange) → CanSwapReader r x → reader_after_swap r x ≡ s → items_put (reader_change_after_swap r x).motion ≡ 0 → (r ≡ s → ⊥)
     → IsReaderChange r s (Some x)
-reader-becomes r s x h e b n = record {
-  can = h;
-  part = record { makes = e; lists = λ p. rw (different (same_reader r s) r s (same_reader-Decides r s) n) refl };
-  back = b;
-}
+reader-becomes r s x h e b n = device-becomes CanSwapReader reader_after_swap reader_change_after_swap _ same_reader same_reader-Decides r s x h e b n
 
 -- the punch
-pub record IsPunchChange (p q : Punch) (x : Option PunchChange) : Type 0 where
-  pub can : CanIfAny CanSwapPunch p x
-  pub part : IsPartChange punch_after_swap same_punch p q x
-  pub back : need_if_any (λ (c : PunchChange). items_put c.motion) (back_if_any punch_change_after_swap p x) ≡ 0
+abbrev pub IsPunchChange : Punch → Punch → Option PunchChange → Type 0
+IsPunchChange p q x = IsDeviceStep CanSwapPunch punch_after_swap punch_change_after_swap (λ (c : PunchChange). items_put c.motion) same_punch p q x
 
 pub punch-stays : (p : Punch) → IsPunchChange p p None
-punch-stays p = record { can = tt; part = IsPartChange-none punch_after_swap same_punch p ((same_punch-Decides p p).1 refl); back = refl }
+punch-stays p = device-stays CanSwapPunch punch_after_swap punch_change_after_swap _ same_punch same_punch-Decides p
 
 pub punch-becomes : (p q : Punch) (x : PunchChange) → CanSwapPunch p x → punch_after_swap p x ≡ q → items_put (punch_change_after_swap p x).motion ≡ 0 → (p ≡ q → ⊥)
     → IsPunchChange p q (Some x)
-punch-becomes p q x h e b n = record {
-  can = h;
-  part = record { makes = e; lists = λ k. rw (different (same_punch p q) p q (same_punch-Decides p q) n) refl };
-  back = b;
-}
+punch-becomes p q x h e b n = device-becomes CanSwapPunch punch_after_swap punch_change_after_swap _ same_punch same_punch-Decides p q x h e b n
 
-pub IsMediaChangeTo-from : (m n : Media) (x : MediaChanges) → IsReaderChange m.reader n.reader x.reader → IsPunchChange m.punch n.punch x.punch → IsMediaChangeTo m x n
-IsMediaChangeTo-from m n x r p = record {
-  can = (r.can, p.can);
-  makes = ap (λ (k : Reader). record { reader = k; punch = after_if_any punch_after_swap m.punch x.punch }) r.part.makes ∙ ap (λ (k : Punch). record { reader = n.reader; punch = k }) p.part.makes;
-  lists = rw (r.part.lists, p.part.lists) refl;
-  reader_back = r.back;
-  punch_back = p.back;
+-- the printer
+abbrev pub IsPrinterChange : Printer → Printer → Option PrinterChange → Type 0
+IsPrinterChange p q x = IsDeviceStep CanSwapPrinter printer_after_swap printer_change_after_swap (λ (c : PrinterChange). items_put c.motion) same_printer p q x
+
+pub printer-stays : (p : Printer) → IsPrinterChange p p None
+printer-stays p = device-stays CanSwapPrinter printer_after_swap printer_change_after_swap _ same_printer same_printer-Decides p
+
+pub printer-becomes : (p q : Printer) (x : PrinterChange) → CanSwapPrinter p x → printer_after_swap p x ≡ q → items_put (printer_change_after_swap p x).motion ≡ 0 → (p ≡ q → ⊥)
+    → IsPrinterChange p q (Some x)
+printer-becomes p q x h e b n = device-becomes CanSwapPrinter printer_after_swap printer_change_after_swap _ same_printer same_printer-Decides p q x h e b n
+
+-- the console
+abbrev pub IsConsoleChange : Console → Console → Option ConsoleChange → Type 0
+IsConsoleChange c d x = IsDeviceStep CanSwapConsole console_after_swap console_change_after_swap (λ (k : ConsoleChange). console_needs k) same_console c d x
+
+pub console-stays : (c : Console) → IsConsoleChange c c None
+console-stays c = device-stays CanSwapConsole console_after_swap console_change_after_swap _ same_console same_console-Decides c
+
+pub console-becomes : (c d : Console) (x : ConsoleChange) → CanSwapConsole c x → console_after_swap c x ≡ d → console_needs (console_change_after_swap c x) ≡ 0 → (c ≡ d → ⊥)
+    → IsConsoleChange c d (Some x)
+console-becomes c d x h e b n = device-becomes CanSwapConsole console_after_swap console_change_after_swap _ same_console same_console-Decides c d x h e b n
+
+pub IsMediaChangeTo-from : (m n : Media) (x : MediaChanges)
+    → IsReaderChange m.reader n.reader x.reader → IsPunchChange m.punch n.punch x.punch
+    → IsPrinterChange m.printer n.printer x.printer → IsConsoleChange m.console n.console x.console
+    → IsMediaChangeTo m x n
+IsMediaChangeTo-from m n x r p t c = record {
+  can = (r.can, p.can, t.can, c.can);
+  makes =
+      ap (λ (k : Reader). record (media_after_swap m x) { reader = k }) r.part.makes
+      ∙ ap (λ (k : Punch). record (media_after_swap m x) { reader = n.reader; punch = k }) p.part.makes
+      ∙ ap (λ (k : Printer). record n { printer = k; console = after_if_any console_after_swap m.console x.console }) t.part.makes
+      ∙ ap (λ (k : Console). record n { console = k }) c.part.makes;
+  lists = rw (r.part.lists, p.part.lists, t.part.lists, c.part.lists) refl;
+  reader_back = r.no_room;
+  punch_back = p.no_room;
+  printer_back = t.no_room;
+  console_back = c.no_room;
 }
 
 pub media-stay : (m : Media) → IsMediaChangeTo m no_media_changes m
-media-stay m = IsMediaChangeTo-from m m no_media_changes (reader-stays m.reader) (punch-stays m.punch)
+media-stay m = IsMediaChangeTo-from m m no_media_changes (reader-stays m.reader) (punch-stays m.punch) (printer-stays m.printer) (console-stays m.console)
 
 -- the end-of-file key
 pub end-key-stays : (m : Media) → m.reader.media.end_of_file ≡ true → IsMediaChangeTo m no_media_changes (record m { reader = with_end_key m.reader })
@@ -117,7 +183,27 @@ not-pressed r h e = let k : r.media.end_of_file ≡ true = ap (λ (s : Reader). 
 
 pub end-key-pressed : (m : Media) (x : ReaderChange) → m.reader.media.end_of_file ≡ false → CanSwapReader m.reader x → reader_after_swap m.reader x ≡ with_end_key m.reader
     → items_put (reader_change_after_swap m.reader x).motion ≡ 0
-    → IsMediaChangeTo m (record { reader = Some x; punch = None }) (record m { reader = with_end_key m.reader })
+    → IsMediaChangeTo m (record no_media_changes { reader = Some x }) (record m { reader = with_end_key m.reader })
 end-key-pressed m x h can e back =
-    IsMediaChangeTo-from m (record m { reader = with_end_key m.reader }) (record { reader = Some x; punch = None })
-    (reader-becomes m.reader (with_end_key m.reader) x can e back (not-pressed m.reader h)) (punch-stays m.punch)
+    IsMediaChangeTo-from m (record m { reader = with_end_key m.reader }) (record no_media_changes { reader = Some x })
+    (reader-becomes m.reader (with_end_key m.reader) x can e back (not-pressed m.reader h))
+    (punch-stays m.punch)
+    (printer-stays m.printer)
+    (console-stays m.console)
+
+-- a line that is entered
+not-entered : (c : Console) (line : List ℕ) → c ≡ with_line c line → ⊥
+not-entered c line e =
+    let k : length c.media.entered ≡ length (c.media.entered ++ line ∷ []) = ap (λ (d : Console). length d.media.entered) e
+    in let l : length (c.media.entered ++ line ∷ []) ≡ length c.media.entered + 1 = length-append c.media.entered (line ∷ [])
+    in absurd (omega (arith, k, l))
+
+pub line-entered : (m : Media) (line : List ℕ) (x : ConsoleChange) → CanSwapConsole m.console x → console_after_swap m.console x ≡ with_line m.console line
+    → console_needs (console_change_after_swap m.console x) ≡ 0
+    → IsMediaChangeTo m (record no_media_changes { console = Some x }) (record m { console = with_line m.console line })
+line-entered m line x can e back =
+    IsMediaChangeTo-from m (record m { console = with_line m.console line }) (record no_media_changes { console = Some x })
+    (reader-stays m.reader)
+    (punch-stays m.punch)
+    (printer-stays m.printer)
+    (console-becomes m.console (with_line m.console line) x can e back (not-entered m.console line))

@@ -5,6 +5,8 @@ use Rattle.s360_model.specs.Storage.{doubleword_at, with_run, word_at}
 use Rattle.s360_logic.specs.Instruction.{instruction}
 use Rattle.s360_device.specs.Punch.{new_punch}
 use Rattle.s360_device.specs.Reader.{new_reader}
+use Rattle.s360_print.specs.Console.{new_console}
+use Rattle.s360_print.specs.Printer.{new_printer}
 use Rattle.s360_machine.specs.declared.external.ExternalConditions.{ExternalConditions}
 use Rattle.s360_machine.specs.declared.operator.Key.TheVariants.{Start, Stop, Reset, Interrupt}
 use Rattle.s360_machine.specs.declared.run_state.RunState.{RunState}
@@ -34,7 +36,7 @@ known psw r1 r2 bytes run_state external = record {
   };
   control = record { run_state = run_state; external = external };
   units = idle_units;
-  media = record { reader = new_reader []; punch = new_punch };
+  media = record { reader = new_reader []; punch = new_punch; printer = new_printer; console = new_console };
 }
 
 -- AR that overflows with its mask one is completed, and then interrupts with code 8

@@ -12,6 +12,12 @@ use Rattle.s360_device.specs.PunchChanges.{CanSwapPunch, punch_after_swap, punch
 use Rattle.s360_device.specs.Reader.{Reader, ReaderWithRoom, reader_table}
 use Rattle.s360_device.specs.ReaderChanges.{CanSwapReader, reader_after_swap, reader_change_after_swap}
 use Rattle.s360_device.specs.Rows.{after_command}
+use Rattle.s360_print.specs.declared.console_change.ConsoleChange.{ConsoleChange}
+use Rattle.s360_print.specs.declared.printer_change.PrinterChange.{PrinterChange}
+use Rattle.s360_print.specs.Console.{Console, ConsoleWithRoom, console_table}
+use Rattle.s360_print.specs.ConsoleChanges.{CanSwapConsole, console_after_swap, console_change_after_swap, console_needs}
+use Rattle.s360_print.specs.Printer.{Printer, PrinterWithRoom, printer_table}
+use Rattle.s360_print.specs.PrinterChanges.{CanSwapPrinter, printer_after_swap, printer_change_after_swap}
 use Rattle.s360_store.specs.declared.place.Cell.{Cell}
 use Rattle.s360_store.specs.Plans.{IsPlanOf}
 use Rattle.s360_channel.specs.declared.engine.ChannelStep.{ChannelStep}
@@ -30,15 +36,18 @@ use Rattle.s360_machine.specs.declared.media.MediaChanges.{MediaChanges}
 use Rattle.s360_machine.specs.declared.units.UnitChanges.{UnitChanges}
 use Rattle.s360_machine.specs.declared.units.Units.{Units}
 use Rattle.s360_machine.specs.ChannelEvents.{ExecutesProgram, IsAlterationOf, StepsTo, after_ending, execution_with, view_of}
-use Rattle.s360_machine.specs.ChannelEvents.{after_punch_event, after_reader_event, punch_execution, reader_execution}
-use Rattle.s360_machine.specs.Machine.{Control, Machine}
+use Rattle.s360_machine.specs.declared.configured_unit.ConfiguredUnit.TheVariants.{Reader as reader_unit, Punch as punch_unit, Printer as printer_unit, Console as console_unit}
+use Rattle.s360_machine.specs.ChannelEvents.{after_console_event, after_printer_event, after_punch_event, after_reader_event}
+use Rattle.s360_machine.specs.ChannelEvents.{console_execution, printer_execution, punch_execution, reader_execution}
+use Rattle.s360_machine.specs.IoChanges.{no_media_changes, unit_change_of}
+use Rattle.s360_machine.specs.Machine.{Control, Machine, Media}
 use Rattle.s360_machine.specs.Planned.{IsMediaChangeTo, IsPlanOfMachine, IsUnitsChangeTo, PlansIo}
-use Rattle.s360_machine.proofs.IoLemmas.{IsMediaChangeTo-from, IsPunchChange, IsReaderChange, IsUnitsChangeTo-from}
-use Rattle.s360_machine.proofs.IoLemmas.{altered-is, punch-becomes, punch-stays, reader-becomes, reader-stays, unit-stays}
+use Rattle.s360_machine.proofs.IoLemmas.{IsConsoleChange, IsMediaChangeTo-from, IsPrinterChange, IsPunchChange, IsReaderChange, IsUnitsChangeTo-one}
+use Rattle.s360_machine.proofs.IoLemmas.{altered-is, console-becomes, console-stays, printer-becomes, printer-stays, punch-becomes, punch-stays, reader-becomes, reader-stays}
 
 -- a machine of its parts
-abbrev pub machine_with : Core → Control → Units → Reader → Punch → Machine
-machine_with core control us reader punch = record { core = core; control = control; units = us; media = record { reader = reader; punch = punch } }
+abbrev pub machine_with : Core → Control → Units → Media → Machine
+machine_with core control us media = record { core = core; control = control; units = us; media = media }
 
 pub IsPlanOfMachine-from : (m n : Machine) (plan : List Cell) (planned : PlannedEvent) (us : UnitChanges) (ms : MediaChanges)
     → IsPlanOf m.core plan n.core → PlansIo planned n.control us ms → IsUnitsChangeTo m.units us n.units → IsMediaChangeTo m.media ms n.media
@@ -87,7 +96,7 @@ ExecutesProgram-step s u p plan d Becomes Stays step unit_step a h k e =
       change = rw (x, e) h.change;
     }
 
--- the change of the reader, and of the punch, by the contract of every device
+-- the change of each device, by the contract of every device
 abbrev ReaderEnds : ReaderWithRoom → ℕ → List ℕ → ReaderWithRoom → Type 0
 ReaderEnds r code bytes s = s.reader ≡ after_command reader_table r.reader (command_of code) bytes
 
@@ -114,29 +123,77 @@ punch-change d None (Some x) h = absurd h
 punch-change d (Some e) None h = subst (λ (r : Punch). IsPunchChange d.punch r None) h (punch-stays d.punch)
 punch-change d (Some e) (Some x) h = punch-becomes d.punch (after_command punch_table d.punch (command_of e.command) e.output) x h.can h.row h.back h.alters
 
--- a channel event of the reader, and of the punch
-pub reader-event : (core : Core) (control : Control) (us : Units) (d : ReaderWithRoom) (punch : Punch) (plan : List Cell) (planned : PlannedEvent) (step : UnitStep ReaderChange)
-    → ExecutesProgram core.storage us.reader plan (view_of reader_table d.reader) (AltersReader d) (KeepsDevice ReaderEnds d) step
-    → PlansIo planned control (record { reader = step.control; punch = None }) (record { reader = step.change; punch = None })
-    → IsPlanOfMachine (machine_with core control us d.reader punch) plan planned (after_reader_event (machine_with core control us d.reader punch))
-reader-event core control us d punch plan planned step run io =
-    let m : Machine = machine_with core control us d.reader punch
-    in let n : Machine = after_reader_event m
-    in let units : IsUnitsChangeTo us (record { reader = step.control; punch = None }) n.units
-    = IsUnitsChangeTo-from us n.units _ (altered-is us.reader n.units.reader step.control run.control) (unit-stays us.punch)
-    in let change : IsReaderChange d.reader n.media.reader step.change = reader-change d (reader_execution m).ending step.change run.change
-    in let media : IsMediaChangeTo m.media (record { reader = step.change; punch = None }) n.media = IsMediaChangeTo-from m.media n.media _ change (punch-stays punch)
-    in IsPlanOfMachine-from m n plan planned _ _ (run.stores core refl) io units media
+abbrev PrinterEnds : PrinterWithRoom → ℕ → List ℕ → PrinterWithRoom → Type 0
+PrinterEnds r code bytes s = s.printer ≡ after_command printer_table r.printer (command_of code) bytes
 
-pub punch-event : (core : Core) (control : Control) (us : Units) (reader : Reader) (d : PunchWithRoom) (plan : List Cell) (planned : PlannedEvent) (step : UnitStep PunchChange)
-    → ExecutesProgram core.storage us.punch plan (view_of punch_table d.punch) (AltersPunch d) (KeepsDevice PunchEnds d) step
-    → PlansIo planned control (record { reader = None; punch = step.control }) (record { reader = None; punch = step.change })
-    → IsPlanOfMachine (machine_with core control us reader d.punch) plan planned (after_punch_event (machine_with core control us reader d.punch))
-punch-event core control us reader d plan planned step run io =
-    let m : Machine = machine_with core control us reader d.punch
+abbrev AltersPrinter : PrinterWithRoom → Ending → PrinterChange → Type 0
+AltersPrinter d = AltersDevice (λ r x. CanSwapPrinter r.printer x) (λ r x. record r { printer = printer_after_swap r.printer x }) (λ r x. printer_change_after_swap r.printer x) (λ x. items_put x.motion) (λ r. record r { room = 0 }) PrinterEnds d
+
+printer-change : (d : PrinterWithRoom) (ending : Option Ending) (x : Option PrinterChange) → IsDeviceChange (AltersPrinter d) (KeepsDevice PrinterEnds d) ending x
+    → IsPrinterChange d.printer (after_ending printer_table d.printer ending) x
+printer-change d None None h = printer-stays d.printer
+printer-change d None (Some x) h = absurd h
+printer-change d (Some e) None h = subst (λ (r : Printer). IsPrinterChange d.printer r None) h (printer-stays d.printer)
+printer-change d (Some e) (Some x) h = printer-becomes d.printer (after_command printer_table d.printer (command_of e.command) e.output) x h.can h.row h.back h.alters
+
+abbrev ConsoleEnds : ConsoleWithRoom → ℕ → List ℕ → ConsoleWithRoom → Type 0
+ConsoleEnds r code bytes s = s.console ≡ after_command console_table r.console (command_of code) bytes
+
+abbrev AltersConsole : ConsoleWithRoom → Ending → ConsoleChange → Type 0
+AltersConsole d = AltersDevice (λ r x. CanSwapConsole r.console x) (λ r x. record r { console = console_after_swap r.console x }) (λ r x. console_change_after_swap r.console x) (λ x. console_needs x) (λ r. record r { room = 0 }) ConsoleEnds d
+
+console-change : (d : ConsoleWithRoom) (ending : Option Ending) (x : Option ConsoleChange) → IsDeviceChange (AltersConsole d) (KeepsDevice ConsoleEnds d) ending x
+    → IsConsoleChange d.console (after_ending console_table d.console ending) x
+console-change d None None h = console-stays d.console
+console-change d None (Some x) h = absurd h
+console-change d (Some e) None h = subst (λ (r : Console). IsConsoleChange d.console r None) h (console-stays d.console)
+console-change d (Some e) (Some x) h = console-becomes d.console (after_command console_table d.console (command_of e.command) e.output) x h.can h.row h.back h.alters
+
+-- a channel event of each unit
+pub reader-event : (core : Core) (control : Control) (us : Units) (media : Media) (room : ℕ) (plan : List Cell) (planned : PlannedEvent) (step : UnitStep ReaderChange)
+    → ExecutesProgram core.storage us.reader plan (view_of reader_table media.reader) (AltersReader (record { reader = media.reader; room = room })) (KeepsDevice ReaderEnds (record { reader = media.reader; room = room })) step
+    → PlansIo planned control (unit_change_of reader_unit step.control) (record no_media_changes { reader = step.change })
+    → IsPlanOfMachine (machine_with core control us media) plan planned (after_reader_event (machine_with core control us media))
+reader-event core control us media room plan planned step run io =
+    let m : Machine = machine_with core control us media
+    in let n : Machine = after_reader_event m
+    in let units : IsUnitsChangeTo us (unit_change_of reader_unit step.control) n.units
+    = IsUnitsChangeTo-one us reader_unit n.units.reader step.control (altered-is us.reader n.units.reader step.control run.control)
+    in let change : IsReaderChange media.reader n.media.reader step.change = reader-change (record { reader = media.reader; room = room }) (reader_execution m).ending step.change run.change
+    in IsPlanOfMachine-from m n plan planned _ _ (run.stores core refl) io units (IsMediaChangeTo-from media n.media _ change (punch-stays media.punch) (printer-stays media.printer) (console-stays media.console))
+
+pub punch-event : (core : Core) (control : Control) (us : Units) (media : Media) (room : ℕ) (plan : List Cell) (planned : PlannedEvent) (step : UnitStep PunchChange)
+    → ExecutesProgram core.storage us.punch plan (view_of punch_table media.punch) (AltersPunch (record { punch = media.punch; room = room })) (KeepsDevice PunchEnds (record { punch = media.punch; room = room })) step
+    → PlansIo planned control (unit_change_of punch_unit step.control) (record no_media_changes { punch = step.change })
+    → IsPlanOfMachine (machine_with core control us media) plan planned (after_punch_event (machine_with core control us media))
+punch-event core control us media room plan planned step run io =
+    let m : Machine = machine_with core control us media
     in let n : Machine = after_punch_event m
-    in let units : IsUnitsChangeTo us (record { reader = None; punch = step.control }) n.units
-    = IsUnitsChangeTo-from us n.units _ (unit-stays us.reader) (altered-is us.punch n.units.punch step.control run.control)
-    in let change : IsPunchChange d.punch n.media.punch step.change = punch-change d (punch_execution m).ending step.change run.change
-    in let media : IsMediaChangeTo m.media (record { reader = None; punch = step.change }) n.media = IsMediaChangeTo-from m.media n.media _ (reader-stays reader) change
-    in IsPlanOfMachine-from m n plan planned _ _ (run.stores core refl) io units media
+    in let units : IsUnitsChangeTo us (unit_change_of punch_unit step.control) n.units
+    = IsUnitsChangeTo-one us punch_unit n.units.punch step.control (altered-is us.punch n.units.punch step.control run.control)
+    in let change : IsPunchChange media.punch n.media.punch step.change = punch-change (record { punch = media.punch; room = room }) (punch_execution m).ending step.change run.change
+    in IsPlanOfMachine-from m n plan planned _ _ (run.stores core refl) io units (IsMediaChangeTo-from media n.media _ (reader-stays media.reader) change (printer-stays media.printer) (console-stays media.console))
+
+pub printer-event : (core : Core) (control : Control) (us : Units) (media : Media) (room : ℕ) (plan : List Cell) (planned : PlannedEvent) (step : UnitStep PrinterChange)
+    → ExecutesProgram core.storage us.printer plan (view_of printer_table media.printer) (AltersPrinter (record { printer = media.printer; room = room })) (KeepsDevice PrinterEnds (record { printer = media.printer; room = room })) step
+    → PlansIo planned control (unit_change_of printer_unit step.control) (record no_media_changes { printer = step.change })
+    → IsPlanOfMachine (machine_with core control us media) plan planned (after_printer_event (machine_with core control us media))
+printer-event core control us media room plan planned step run io =
+    let m : Machine = machine_with core control us media
+    in let n : Machine = after_printer_event m
+    in let units : IsUnitsChangeTo us (unit_change_of printer_unit step.control) n.units
+    = IsUnitsChangeTo-one us printer_unit n.units.printer step.control (altered-is us.printer n.units.printer step.control run.control)
+    in let change : IsPrinterChange media.printer n.media.printer step.change = printer-change (record { printer = media.printer; room = room }) (printer_execution m).ending step.change run.change
+    in IsPlanOfMachine-from m n plan planned _ _ (run.stores core refl) io units (IsMediaChangeTo-from media n.media _ (reader-stays media.reader) (punch-stays media.punch) change (console-stays media.console))
+
+pub console-event : (core : Core) (control : Control) (us : Units) (media : Media) (room : ℕ) (plan : List Cell) (planned : PlannedEvent) (step : UnitStep ConsoleChange)
+    → ExecutesProgram core.storage us.console plan (view_of console_table media.console) (AltersConsole (record { console = media.console; room = room })) (KeepsDevice ConsoleEnds (record { console = media.console; room = room })) step
+    → PlansIo planned control (unit_change_of console_unit step.control) (record no_media_changes { console = step.change })
+    → IsPlanOfMachine (machine_with core control us media) plan planned (after_console_event (machine_with core control us media))
+console-event core control us media room plan planned step run io =
+    let m : Machine = machine_with core control us media
+    in let n : Machine = after_console_event m
+    in let units : IsUnitsChangeTo us (unit_change_of console_unit step.control) n.units
+    = IsUnitsChangeTo-one us console_unit n.units.console step.control (altered-is us.console n.units.console step.control run.control)
+    in let change : IsConsoleChange media.console n.media.console step.change = console-change (record { console = media.console; room = room }) (console_execution m).ending step.change run.change
+    in IsPlanOfMachine-from m n plan planned _ _ (run.stores core refl) io units (IsMediaChangeTo-from media n.media _ (reader-stays media.reader) (punch-stays media.punch) (printer-stays media.printer) change)

@@ -9,6 +9,14 @@ use Rattle.s360_device.specs.PunchChanges.{CanSwapPunch, punch_after_swap, punch
 use Rattle.s360_device.specs.PunchLaws.{CanSwapPunch-again, punch_after_swap-twice, punch_change_after_swap-twice}
 use Rattle.s360_device.specs.ReaderChanges.{CanSwapReader, reader_after_swap, reader_change_after_swap}
 use Rattle.s360_device.specs.ReaderLaws.{CanSwapReader-again, reader_after_swap-twice, reader_change_after_swap-twice}
+use Rattle.s360_print.specs.declared.console_change.ConsoleChange.{ConsoleChange}
+use Rattle.s360_print.specs.declared.printer_change.PrinterChange.{PrinterChange}
+use Rattle.s360_print.specs.Console.{Console}
+use Rattle.s360_print.specs.ConsoleChanges.{CanSwapConsole, console_after_swap, console_change_after_swap}
+use Rattle.s360_print.specs.ConsoleLaws.{CanSwapConsole-again, console_after_swap-twice, console_change_after_swap-twice}
+use Rattle.s360_print.specs.Printer.{Printer}
+use Rattle.s360_print.specs.PrinterChanges.{CanSwapPrinter, printer_after_swap, printer_change_after_swap}
+use Rattle.s360_print.specs.PrinterLaws.{CanSwapPrinter-again, printer_after_swap-twice, printer_change_after_swap-twice}
 use Rattle.s360_channel.specs.declared.unit_control.UnitControl.{UnitControl}
 use Rattle.s360_store.specs.declared.place.Place.{Place}
 use Rattle.s360_store.specs.Cells.{cells_after_exchange, AllFit}
@@ -56,29 +64,40 @@ unit_change-twice u None = refl
 unit_change-twice u (Some x) = refl
 
 units_after_swap-twice : (us : Units) (x : UnitChanges) → units_after_swap (units_after_swap us x) (unit_changes_after_swap us x) ≡ us
-units_after_swap-twice us x = rw (unit-twice us.reader x.reader, unit-twice us.punch x.punch) refl
+units_after_swap-twice us x = rw (unit-twice us.reader x.reader, unit-twice us.punch x.punch, unit-twice us.printer x.printer, unit-twice us.console x.console) refl
 
 unit_changes_after_swap-twice : (us : Units) (x : UnitChanges) → unit_changes_after_swap (units_after_swap us x) (unit_changes_after_swap us x) ≡ x
-unit_changes_after_swap-twice us x = rw (unit_change-twice us.reader x.reader, unit_change-twice us.punch x.punch) refl
+unit_changes_after_swap-twice us x = rw (unit_change-twice us.reader x.reader, unit_change-twice us.punch x.punch, unit_change-twice us.printer x.printer, unit_change-twice us.console x.console) refl
 
 -- the media
 CanSwapMedia-again : (m : Media) (x : MediaChanges) → CanSwapMedia m x → CanSwapMedia (media_after_swap m x) (media_changes_after_swap m x)
 CanSwapMedia-again m x h = (
   CanIfAny-again CanSwapReader reader_after_swap reader_change_after_swap CanSwapReader-again m.reader x.reader h.0,
   CanIfAny-again CanSwapPunch punch_after_swap punch_change_after_swap CanSwapPunch-again m.punch x.punch h.1,
+  CanIfAny-again CanSwapPrinter printer_after_swap printer_change_after_swap CanSwapPrinter-again m.printer x.printer h.2,
+  CanIfAny-again CanSwapConsole console_after_swap console_change_after_swap CanSwapConsole-again m.console x.console h.3,
 )
 
-media_after_swap-twice : (m : Media) (x : MediaChanges) → CanSwapMedia m x → media_after_swap (media_after_swap m x) (media_changes_after_swap m x) ≡ m
-media_after_swap-twice m x h =
-    ap (λ (r : Reader). record { reader = r; punch = after_if_any punch_after_swap (after_if_any punch_after_swap m.punch x.punch) (back_if_any punch_change_after_swap m.punch x.punch) })
-    (after_if_any-twice CanSwapReader reader_after_swap reader_change_after_swap reader_after_swap-twice m.reader x.reader h.0)
-    ∙ ap (λ (p : Punch). record { reader = m.reader; punch = p }) (after_if_any-twice CanSwapPunch punch_after_swap punch_change_after_swap punch_after_swap-twice m.punch x.punch h.1)
+-- both exchanges of the media
+abbrev media_twice : Media → MediaChanges → Media
+media_twice m x = media_after_swap (media_after_swap m x) (media_changes_after_swap m x)
 
-media_changes_after_swap-twice : (m : Media) (x : MediaChanges) → CanSwapMedia m x → media_changes_after_swap (media_after_swap m x) (media_changes_after_swap m x) ≡ x
+media_after_swap-twice : (m : Media) (x : MediaChanges) → CanSwapMedia m x → media_twice m x ≡ m
+media_after_swap-twice m x h =
+    ap (λ (k : Reader). record (media_twice m x) { reader = k }) (after_if_any-twice CanSwapReader reader_after_swap reader_change_after_swap reader_after_swap-twice m.reader x.reader h.0)
+    ∙ ap (λ (k : Punch). record (media_twice m x) { reader = m.reader; punch = k }) (after_if_any-twice CanSwapPunch punch_after_swap punch_change_after_swap punch_after_swap-twice m.punch x.punch h.1)
+    ∙ ap (λ (k : Printer). record m { printer = k; console = (media_twice m x).console }) (after_if_any-twice CanSwapPrinter printer_after_swap printer_change_after_swap printer_after_swap-twice m.printer x.printer h.2)
+    ∙ ap (λ (k : Console). record m { console = k }) (after_if_any-twice CanSwapConsole console_after_swap console_change_after_swap console_after_swap-twice m.console x.console h.3)
+
+abbrev media_changes_twice : Media → MediaChanges → MediaChanges
+media_changes_twice m x = media_changes_after_swap (media_after_swap m x) (media_changes_after_swap m x)
+
+media_changes_after_swap-twice : (m : Media) (x : MediaChanges) → CanSwapMedia m x → media_changes_twice m x ≡ x
 media_changes_after_swap-twice m x h =
-    ap (λ (r : Option ReaderChange). record { reader = r; punch = back_if_any punch_change_after_swap (after_if_any punch_after_swap m.punch x.punch) (back_if_any punch_change_after_swap m.punch x.punch) })
-    (back_if_any-twice CanSwapReader reader_after_swap reader_change_after_swap reader_change_after_swap-twice m.reader x.reader h.0)
-    ∙ ap (λ (p : Option PunchChange). record { reader = x.reader; punch = p }) (back_if_any-twice CanSwapPunch punch_after_swap punch_change_after_swap punch_change_after_swap-twice m.punch x.punch h.1)
+    ap (λ (k : Option ReaderChange). record (media_changes_twice m x) { reader = k }) (back_if_any-twice CanSwapReader reader_after_swap reader_change_after_swap reader_change_after_swap-twice m.reader x.reader h.0)
+    ∙ ap (λ (k : Option PunchChange). record (media_changes_twice m x) { reader = x.reader; punch = k }) (back_if_any-twice CanSwapPunch punch_after_swap punch_change_after_swap punch_change_after_swap-twice m.punch x.punch h.1)
+    ∙ ap (λ (k : Option PrinterChange). record x { printer = k; console = (media_changes_twice m x).console }) (back_if_any-twice CanSwapPrinter printer_after_swap printer_change_after_swap printer_change_after_swap-twice m.printer x.printer h.2)
+    ∙ ap (λ (k : Option ConsoleChange). record x { console = k }) (back_if_any-twice CanSwapConsole console_after_swap console_change_after_swap console_change_after_swap-twice m.console x.console h.3)
 
 -- the whole
 pub CanSwap-again : (w : Whole) (x : Change) → CanSwap w x → AllFit (cells_after_exchange w.core x.cells) → CanSwap (after_swap w x) (change_after_swap w x)
@@ -120,6 +139,10 @@ places_of_change-after_swap w x =
       places_of_control-after w.control x.control,
       place_if_any-back the_one w.units.reader x.units.reader,
       place_if_any-back the_one w.units.punch x.units.punch,
+      place_if_any-back the_one w.units.printer x.units.printer,
+      place_if_any-back the_one w.units.console x.units.console,
       place_if_any-back reader_change_after_swap w.media.reader x.media.reader,
       place_if_any-back punch_change_after_swap w.media.punch x.media.punch,
+      place_if_any-back printer_change_after_swap w.media.printer x.media.printer,
+      place_if_any-back console_change_after_swap w.media.console x.media.console,
     ) refl

@@ -10,7 +10,8 @@ use Rattle.s360_machine.specs.declared.media.MediaChanges.{MediaChanges}
 use Rattle.s360_machine.specs.declared.units.UnitChanges.{UnitChanges}
 use Rattle.s360_machine.specs.ControlCells.{places_of_control, HasEachControlOnce}
 use Rattle.s360_machine.specs.ControlCells.{control_after_exchange, control_cells_after_exchange}
-use Rattle.s360_machine.specs.IoChanges.{CanSwapMedia, cards_of_punch, cards_of_reader, media_after_swap, media_changes_after_swap}
+use Rattle.s360_machine.specs.IoChanges.{CanSwapMedia, media_after_swap, media_changes_after_swap}
+use Rattle.s360_machine.specs.IoChanges.{cards_of_punch, cards_of_reader, lines_of_console, lines_of_printer}
 use Rattle.s360_machine.specs.IoChanges.{places_of_media, places_of_units, units_after_swap, unit_changes_after_swap}
 use Rattle.s360_machine.specs.Machine.{Whole, Spare}
 
@@ -34,7 +35,11 @@ CanSwap w x = AreCellsOf w.core x.cells × HasEachControlOnce x.control × CanSw
 
 -- the room is enough for the exchange
 abbrev pub HasRoom : Spare → Change → Type 0
-HasRoom s x = (cards_of_reader x.media ≤ s.reader) × (cards_of_punch x.media ≤ s.punch)
+HasRoom s x =
+    (cards_of_reader x.media ≤ s.reader)
+    × (cards_of_punch x.media ≤ s.punch)
+    × (lines_of_printer x.media ≤ s.printer)
+    × (lines_of_console x.media ≤ s.console)
 
 -- the exchange wants no room
 abbrev pub NeedsNoRoom : Change → Type 0

@@ -8,6 +8,8 @@ use Rattle.s360_device.specs.Commands.{command_of}
 use Rattle.s360_device.specs.Punch.{punch_table}
 use Rattle.s360_device.specs.Reader.{reader_table}
 use Rattle.s360_device.specs.Rows.{DeviceWith, Table, after_command, begin_of, exception_of, input_of}
+use Rattle.s360_print.specs.Console.{console_table}
+use Rattle.s360_print.specs.Printer.{printer_table}
 use Rattle.s360_store.specs.declared.place.Cell.{Cell}
 use Rattle.s360_channel.specs.declared.unit_control.UnitControl.{UnitControl}
 use Rattle.s360_channel.specs.declared.unit_state.UnitState.{UnitState}
@@ -19,7 +21,7 @@ use Rattle.s360_channel.specs.declared.program.Program.{Program}
 use Rattle.s360_channel.specs.Differences.{same_unit}
 use Rattle.s360_machine.specs.declared.channel_event.UnitStep.{UnitStep}
 use Rattle.s360_machine.specs.declared.configured_unit.ConfiguredUnit.{ConfiguredUnit}
-use Rattle.s360_machine.specs.declared.configured_unit.ConfiguredUnit.TheVariants.{Reader, Punch}
+use Rattle.s360_machine.specs.declared.configured_unit.ConfiguredUnit.TheVariants.{Reader, Punch, Printer, Console}
 use Rattle.s360_machine.specs.Machine.{Machine}
 use Rattle.s360_machine.specs.Units.{unit_at}
 
@@ -44,14 +46,20 @@ execution_with d s other = record { stores = None; state = other; ending = None 
 abbrev pub execution_of : {M : Type 0} → Table M → DeviceWith M → Storage → UnitState → Execution
 execution_of t d s state = execution_with (view_of t d) s state
 
--- the execution of the reader's program, and of the punch's
+-- the execution of each unit's program
 abbrev pub reader_execution : Machine → Execution
 reader_execution m = execution_of reader_table m.media.reader m.core.storage m.units.reader.state
 
 abbrev pub punch_execution : Machine → Execution
 punch_execution m = execution_of punch_table m.media.punch m.core.storage m.units.punch.state
 
--- the machine after a channel event of the reader, and of the punch
+abbrev pub printer_execution : Machine → Execution
+printer_execution m = execution_of printer_table m.media.printer m.core.storage m.units.printer.state
+
+abbrev pub console_execution : Machine → Execution
+console_execution m = execution_of console_table m.media.console m.core.storage m.units.console.state
+
+-- the machine after a channel event of each unit
 abbrev pub after_reader_event : Machine → Machine
 after_reader_event m = record m {
   core = core_with_run (reader_execution m).stores m.core;
@@ -66,9 +74,25 @@ after_punch_event m = record m {
   media = record m.media { punch = after_ending punch_table m.media.punch (punch_execution m).ending };
 }
 
+abbrev pub after_printer_event : Machine → Machine
+after_printer_event m = record m {
+  core = core_with_run (printer_execution m).stores m.core;
+  units = record m.units { printer = record m.units.printer { state = (printer_execution m).state } };
+  media = record m.media { printer = after_ending printer_table m.media.printer (printer_execution m).ending };
+}
+
+abbrev pub after_console_event : Machine → Machine
+after_console_event m = record m {
+  core = core_with_run (console_execution m).stores m.core;
+  units = record m.units { console = record m.units.console { state = (console_execution m).state } };
+  media = record m.media { console = after_ending console_table m.media.console (console_execution m).ending };
+}
+
 abbrev pub after_channel : ConfiguredUnit → Machine → Machine
 after_channel Reader m = after_reader_event m
 after_channel Punch m = after_punch_event m
+after_channel Printer m = after_printer_event m
+after_channel Console m = after_console_event m
 
 -- the machine after a channel event, by the address of the unit
 abbrev pub after_channel_event : Unit → Machine → Machine

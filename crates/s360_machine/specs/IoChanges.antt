@@ -6,8 +6,14 @@ use Rattle.s360_device.specs.declared.punch_change.PunchChange.{PunchChange}
 use Rattle.s360_device.specs.Motions.{items_put}
 use Rattle.s360_device.specs.PunchChanges.{CanSwapPunch, punch_after_swap, punch_change_after_swap}
 use Rattle.s360_device.specs.ReaderChanges.{CanSwapReader, reader_after_swap, reader_change_after_swap}
+use Rattle.s360_print.specs.declared.console_change.ConsoleChange.{ConsoleChange}
+use Rattle.s360_print.specs.declared.printer_change.PrinterChange.{PrinterChange}
+use Rattle.s360_print.specs.ConsoleChanges.{CanSwapConsole, console_after_swap, console_change_after_swap, console_needs}
+use Rattle.s360_print.specs.PrinterChanges.{CanSwapPrinter, printer_after_swap, printer_change_after_swap}
 use Rattle.s360_store.specs.declared.place.Place.{Place}
-use Rattle.s360_machine.specs.declared.configured_unit.ConfiguredUnit.TheVariants.{Reader, Punch}
+use Rattle.s360_channel.specs.declared.unit_control.UnitControl.{UnitControl}
+use Rattle.s360_machine.specs.declared.configured_unit.ConfiguredUnit.{ConfiguredUnit}
+use Rattle.s360_machine.specs.declared.configured_unit.ConfiguredUnit.TheVariants.{Reader, Punch, Printer, Console}
 use Rattle.s360_machine.specs.declared.io_change.IoChange.{IoChange}
 use Rattle.s360_machine.specs.declared.media.MediaChanges.{MediaChanges}
 use Rattle.s360_machine.specs.declared.units.UnitChanges.{UnitChanges}
@@ -46,43 +52,85 @@ the_one x y = x
 
 -- the units after the exchange, and the changes
 abbrev pub units_after_swap : Units → UnitChanges → Units
-units_after_swap us x = record { reader = after_if_any the_other us.reader x.reader; punch = after_if_any the_other us.punch x.punch }
+units_after_swap us x = record {
+  reader = after_if_any the_other us.reader x.reader;
+  punch = after_if_any the_other us.punch x.punch;
+  printer = after_if_any the_other us.printer x.printer;
+  console = after_if_any the_other us.console x.console;
+}
 
 abbrev pub unit_changes_after_swap : Units → UnitChanges → UnitChanges
-unit_changes_after_swap us x = record { reader = back_if_any the_one us.reader x.reader; punch = back_if_any the_one us.punch x.punch }
+unit_changes_after_swap us x = record {
+  reader = back_if_any the_one us.reader x.reader;
+  punch = back_if_any the_one us.punch x.punch;
+  printer = back_if_any the_one us.printer x.printer;
+  console = back_if_any the_one us.console x.console;
+}
 
 abbrev pub places_of_units : UnitChanges → List Place
-places_of_units x = place_if_any x.reader (state_place Reader) ++ place_if_any x.punch (state_place Punch)
+places_of_units x =
+    place_if_any x.reader (state_place Reader)
+    ++ place_if_any x.punch (state_place Punch)
+    ++ place_if_any x.printer (state_place Printer)
+    ++ place_if_any x.console (state_place Console)
 
 -- the media after the exchange, and the changes
 abbrev pub CanSwapMedia : Media → MediaChanges → Type 0
-CanSwapMedia m x = CanIfAny CanSwapReader m.reader x.reader × CanIfAny CanSwapPunch m.punch x.punch
+CanSwapMedia m x =
+    CanIfAny CanSwapReader m.reader x.reader
+    × CanIfAny CanSwapPunch m.punch x.punch
+    × CanIfAny CanSwapPrinter m.printer x.printer
+    × CanIfAny CanSwapConsole m.console x.console
 
 abbrev pub media_after_swap : Media → MediaChanges → Media
-media_after_swap m x = record { reader = after_if_any reader_after_swap m.reader x.reader; punch = after_if_any punch_after_swap m.punch x.punch }
+media_after_swap m x = record {
+  reader = after_if_any reader_after_swap m.reader x.reader;
+  punch = after_if_any punch_after_swap m.punch x.punch;
+  printer = after_if_any printer_after_swap m.printer x.printer;
+  console = after_if_any console_after_swap m.console x.console;
+}
 
 abbrev pub media_changes_after_swap : Media → MediaChanges → MediaChanges
 media_changes_after_swap m x = record {
   reader = back_if_any reader_change_after_swap m.reader x.reader;
   punch = back_if_any punch_change_after_swap m.punch x.punch;
+  printer = back_if_any printer_change_after_swap m.printer x.printer;
+  console = back_if_any console_change_after_swap m.console x.console;
 }
 
 abbrev pub places_of_media : MediaChanges → List Place
-places_of_media x = place_if_any x.reader (media_place Reader) ++ place_if_any x.punch (media_place Punch)
+places_of_media x =
+    place_if_any x.reader (media_place Reader)
+    ++ place_if_any x.punch (media_place Punch)
+    ++ place_if_any x.printer (media_place Printer)
+    ++ place_if_any x.console (media_place Console)
 
--- the cards for which the changes need room
+-- the cards, printed lines and console lines for which the changes need room
 abbrev pub cards_of_reader : MediaChanges → ℕ
 cards_of_reader x = need_if_any (λ (c : ReaderChange). items_put c.motion) x.reader
 
 abbrev pub cards_of_punch : MediaChanges → ℕ
 cards_of_punch x = need_if_any (λ (c : PunchChange). items_put c.motion) x.punch
 
+abbrev pub lines_of_printer : MediaChanges → ℕ
+lines_of_printer x = need_if_any (λ (c : PrinterChange). items_put c.motion) x.printer
+
+abbrev pub lines_of_console : MediaChanges → ℕ
+lines_of_console x = need_if_any (λ (c : ConsoleChange). console_needs c) x.console
+
 -- what most events alter of the units: nothing
 abbrev pub no_unit_changes : UnitChanges
-no_unit_changes = record { reader = None; punch = None }
+no_unit_changes = record { reader = None; punch = None; printer = None; console = None }
 
 abbrev pub no_media_changes : MediaChanges
-no_media_changes = record { reader = None; punch = None }
+no_media_changes = record { reader = None; punch = None; printer = None; console = None }
+
+-- that of one unit
+abbrev pub unit_change_of : ConfiguredUnit → Option UnitControl → UnitChanges
+unit_change_of Reader x = record no_unit_changes { reader = x }
+unit_change_of Punch x = record no_unit_changes { punch = x }
+unit_change_of Printer x = record no_unit_changes { printer = x }
+unit_change_of Console x = record no_unit_changes { console = x }
 
 abbrev pub unit_changes_of : {A : Type 0} → Option (Box IoChange A) → UnitChanges
 unit_changes_of None = no_unit_changes

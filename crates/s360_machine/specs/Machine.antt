@@ -3,6 +3,8 @@ use Rattle.std.specs.Prelude.{ℕ, false, List, length}
 use Rattle.s360_model.specs.Core.{Core, zero_core}
 use Rattle.s360_device.specs.Punch.{Punch, new_punch}
 use Rattle.s360_device.specs.Reader.{Reader, new_reader}
+use Rattle.s360_print.specs.Console.{Console, new_console}
+use Rattle.s360_print.specs.Printer.{Printer, new_printer}
 use Rattle.s360_machine.specs.declared.external.ExternalConditions.{ExternalConditions}
 use Rattle.s360_machine.specs.declared.run_state.RunState.{RunState}
 use Rattle.s360_machine.specs.declared.run_state.RunState.TheVariants.{Operating}
@@ -22,6 +24,8 @@ no_external = record { timer = false; key = false }
 pub record Media : Type 0 where
   pub reader : Reader
   pub punch : Punch
+  pub printer : Printer
+  pub console : Console
 
 -- what the written rules speak of
 pub record Machine : Type 0 where
@@ -43,10 +47,12 @@ abbrev pub seen : Whole → Machine
 seen w = record { core = w.core; control = w.control; units = w.units; media = w.media }
 
 -- room that was made for what will be put there; it is no part of the whole, and no law speaks of it: the cards
--- that can be fed, and those that can be punched
+-- that can be fed, those that can be punched, the lines that can be printed, and those of the console
 pub record Spare : Type 0 where
   pub reader : ℕ
   pub punch : ℕ
+  pub printer : ℕ
+  pub console : ℕ
 
 -- a whole with room beside it
 pub record WithRoom : Type 0 where
@@ -60,7 +66,7 @@ new_machine size deck = record {
   core = zero_core size;
   control = record { run_state = Operating; external = no_external };
   units = idle_units;
-  media = record { reader = new_reader deck; punch = new_punch };
+  media = record { reader = new_reader deck; punch = new_punch; printer = new_printer; console = new_console };
 }
 
 -- bytes of storage

@@ -3,4 +3,4 @@ use Rattle.s360_machine.specs.declared.media.Devices.{Devices}
 use Rattle.s360_machine.specs.Machine.{Media}
 
 abbrev pub media_of : Devices → Media
-media_of d = record { reader = d.reader.reader; punch = d.punch.punch }
+media_of d = record { reader = d.reader.reader; punch = d.punch.punch; printer = d.printer.printer; console = d.console.console }

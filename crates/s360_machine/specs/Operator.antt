@@ -1,10 +1,11 @@
 -- The keys of the operator (GA22-6821, "System Control Panel").
 use Rattle.std.specs.Prelude.{true}
 use Rattle.s360_machine.specs.declared.operator.Key.{Key}
-use Rattle.s360_machine.specs.declared.operator.Key.TheVariants.{Start, Stop, Reset, Interrupt, EndOfFile}
+use Rattle.s360_machine.specs.declared.operator.Key.TheVariants.{Start, Stop, Reset, Interrupt, EndOfFile, Request, Enter}
 use Rattle.s360_machine.specs.declared.run_state.RunState.{RunState}
 use Rattle.s360_machine.specs.declared.run_state.RunState.TheVariants.{Operating, Stopped}
 use Rattle.s360_device.specs.Reader.{with_end_key}
+use Rattle.s360_print.specs.Console.{with_line}
 use Rattle.s360_machine.specs.declared.units.Units.{Units}
 use Rattle.s360_machine.specs.Machine.{Control, Machine, Media, no_external}
 use Rattle.s360_machine.specs.Units.{idle_units}
@@ -19,23 +20,26 @@ after_stop Operating = Stopped
 after_stop other = other
 
 -- the reset key stops the machine, and no external condition is pending any more; the PSW, the registers,
--- storage and the storage keys stay (own profile). The interrupt key makes its condition pending. The end-of-file key
--- is the card reader's
+-- storage and the storage keys stay (own profile). The interrupt key makes its condition pending. The other keys are
+-- those of units
 abbrev pub control_after_key : Key → Control → Control
 control_after_key Start c = record c { run_state = after_start c.run_state }
 control_after_key Stop c = record c { run_state = after_stop c.run_state }
 control_after_key Reset c = record c { run_state = Stopped; external = no_external }
 control_after_key Interrupt c = record c { external = record c.external { key = true } }
-control_after_key EndOfFile c = c
+control_after_key other c = c
 
--- the reset key makes every unit idle, without attention; sense bytes and media stay (own profile)
+-- the reset key makes every unit idle, without attention; sense bytes and media stay (own profile). The request key
+-- makes the console ask for attention
 abbrev pub units_after_key : Key → Units → Units
 units_after_key Reset us = idle_units
+units_after_key Request us = record us { console = record us.console { attention = true } }
 units_after_key other us = us
 
--- the end-of-file key stays pressed (own profile)
+-- the end-of-file key stays pressed (own profile). A line that is entered is the console's
 abbrev pub media_after_key : Key → Media → Media
 media_after_key EndOfFile m = record m { reader = with_end_key m.reader }
+media_after_key (Enter line) m = record m { console = with_line m.console line }
 media_after_key other m = m
 
 abbrev pub after_key : Machine → Key → Machine

@@ -6,12 +6,13 @@ use Rattle.s360_store.specs.declared.place.Cell.{Cell}
 use Rattle.s360_store.specs.Plans.{IsPlanOf}
 use Rattle.s360_store.specs.Differences.{core_differences}
 use Rattle.s360_device.specs.Differences.{same_punch, same_reader}
+use Rattle.s360_print.specs.Differences.{same_console, same_printer}
 use Rattle.s360_channel.specs.Differences.{same_unit}
 use Rattle.s360_machine.specs.ControlCells.{ControlCell}
 use Rattle.s360_machine.specs.declared.external.ExternalConditions.{ExternalConditions}
 use Rattle.s360_machine.specs.declared.run_state.RunState.{RunState}
 use Rattle.s360_machine.specs.declared.run_state.RunState.TheVariants.{Operating, Stopped, Loading}
-use Rattle.s360_machine.specs.declared.configured_unit.ConfiguredUnit.TheVariants.{Reader, Punch}
+use Rattle.s360_machine.specs.declared.configured_unit.ConfiguredUnit.TheVariants.{Reader, Punch, Printer, Console}
 use Rattle.s360_machine.specs.declared.machine.PlannedEvent.{PlannedEvent}
 use Rattle.s360_machine.specs.declared.media.MediaChanges.{MediaChanges}
 use Rattle.s360_machine.specs.declared.units.UnitChanges.{UnitChanges}
@@ -19,7 +20,8 @@ use Rattle.s360_machine.specs.declared.units.Units.{Units}
 use Rattle.s360_machine.specs.Machine.{Machine, Media, Whole, Control, seen}
 use Rattle.s360_machine.specs.ControlCells.{HasEachControlOnce, control_after_exchange, places_of_control}
 use Rattle.s360_machine.specs.Change.{Change, CanSwap, NeedsNoRoom, after_swap, change_after_swap, places_of_change}
-use Rattle.s360_machine.specs.IoChanges.{CanSwapMedia, cards_of_punch, cards_of_reader, media_after_swap, media_changes_after_swap}
+use Rattle.s360_machine.specs.IoChanges.{CanSwapMedia, media_after_swap, media_changes_after_swap}
+use Rattle.s360_machine.specs.IoChanges.{cards_of_punch, cards_of_reader, lines_of_console, lines_of_printer}
 use Rattle.s360_machine.specs.IoChanges.{media_changes_of, places_of_media, places_of_units, unit_changes_of, units_after_swap}
 use Rattle.s360_machine.specs.Units.{media_place, state_place}
 
@@ -44,10 +46,18 @@ abbrev pub control_differences : Control → Control → List Place
 control_differences c d = unless_same (same_run_state c.run_state d.run_state) Run ++ unless_same (same_external c.external d.external) External
 
 abbrev pub unit_differences : Units → Units → List Place
-unit_differences us vs = unless_same (same_unit us.reader vs.reader) (state_place Reader) ++ unless_same (same_unit us.punch vs.punch) (state_place Punch)
+unit_differences us vs =
+    unless_same (same_unit us.reader vs.reader) (state_place Reader)
+    ++ unless_same (same_unit us.punch vs.punch) (state_place Punch)
+    ++ unless_same (same_unit us.printer vs.printer) (state_place Printer)
+    ++ unless_same (same_unit us.console vs.console) (state_place Console)
 
 abbrev pub media_differences : Media → Media → List Place
-media_differences m n = unless_same (same_reader m.reader n.reader) (media_place Reader) ++ unless_same (same_punch m.punch n.punch) (media_place Punch)
+media_differences m n =
+    unless_same (same_reader m.reader n.reader) (media_place Reader)
+    ++ unless_same (same_punch m.punch n.punch) (media_place Punch)
+    ++ unless_same (same_printer m.printer n.printer) (media_place Printer)
+    ++ unless_same (same_console m.console n.console) (media_place Console)
 
 -- the places beside the core at which two machines differ, in their order
 abbrev pub differences_beside_core : Machine → Machine → List Place
@@ -77,6 +87,8 @@ pub record IsMediaChangeTo (m : Media) (x : MediaChanges) (n : Media) : Type 0 w
   pub lists : places_of_media x ≡ media_differences m n
   pub reader_back : cards_of_reader (media_changes_after_swap m x) ≡ 0
   pub punch_back : cards_of_punch (media_changes_after_swap m x) ≡ 0
+  pub printer_back : lines_of_printer (media_changes_after_swap m x) ≡ 0
+  pub console_back : lines_of_console (media_changes_after_swap m x) ≡ 0
 
 -- a plan makes the core of a machine, and what was planned beside it the other parts
 pub record IsPlanOfMachine (m : Machine) (plan : List Cell) (planned : PlannedEvent) (n : Machine) : Type 0 where

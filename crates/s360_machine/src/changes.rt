@@ -1,13 +1,16 @@
 //! What an event alters, ready to be exchanged with the machine.
-ghost use Rattle.std.specs.Prelude.{◌≡◌, ◌<◌, ◌≤◌, ◌++◌, [], ◌∷◌, length, Some, slice_get, IfOk};
+ghost use Rattle.std.specs.Prelude.{◌≡◌, ◌<◌, ◌≤◌, ◌+◌, ◌++◌, [], ◌∷◌, length, Some, slice_get, IfOk};
 ghost use Rattle.std.specs.Prelude.{if◌then◌else◌};
 ghost use Rattle.std.specs.List.{list_any};
 ghost use Rattle.s360_store.specs.Places.{same_place};
 ghost use Rattle.s360_machine.specs.Change.{places_beside_core, places_of_change};
+ghost use Rattle.s360_machine.specs.IoChanges.{places_of_media, places_of_units};
 
 use crate::configured_unit::ConfiguredUnit;
 use crate::control_change::ControlChange;
 use crate::io_change::IoChange;
+use crate::media::MediaChanges;
+use crate::units::UnitChanges;
 use arrayvec::ArrayVec;
 use s360_store::{Cell, Place};
 use smallvec::SmallVec;
@@ -18,7 +21,7 @@ use std::marker::Model;
 pub(crate) const WITHIN: usize = 2;
 
 /// So many places there are beside those of the core.
-const BESIDE: usize = 6;
+const BESIDE: usize = 10;
 
 /// The places that an event alters, in their order, each with the value that stands there while the
 /// change is not made, or no longer: those of the core, then those of the control part, and then those
@@ -46,12 +49,68 @@ impl Model for Changes {
 
 /// Adds a place where there is a change of it.
 fn push_if(places: &mut ArrayVec<Place, BESIDE>, altered: bool, place: Place)
-    requires room { length places.old.items < 6 }
-    ensures { places.new.items ≡ places.old.items ++ (if altered then place ∷ [] else []) }
+    requires room { length places.old.items < 10 }
+    ensures places { places.new.items ≡ places.old.items ++ (if altered then place ∷ [] else []) }
+    ensures few { length places.new.items ≤ length places.old.items + 1 }
 {
     if altered {
         places.push(place);
     }
+}
+
+/// Adds the places of the units that do not stay as they are.
+fn push_units(places: &mut ArrayVec<Place, BESIDE>, units: &UnitChanges)
+    requires room { length places.old.items ≤ 6 }
+    ensures places { places.new.items ≡ places.old.items ++ places_of_units units.now }
+    ensures few { length places.new.items ≤ length places.old.items + 4 }
+{
+    push_if(
+        places,
+        units.reader.is_some(),
+        Place::UnitState(ConfiguredUnit::Reader.unit()),
+    );
+    push_if(
+        places,
+        units.punch.is_some(),
+        Place::UnitState(ConfiguredUnit::Punch.unit()),
+    );
+    push_if(
+        places,
+        units.printer.is_some(),
+        Place::UnitState(ConfiguredUnit::Printer.unit()),
+    );
+    push_if(
+        places,
+        units.console.is_some(),
+        Place::UnitState(ConfiguredUnit::Console.unit()),
+    );
+}
+
+/// Adds the places of the devices that do not stay as they are.
+fn push_media(places: &mut ArrayVec<Place, BESIDE>, media: &MediaChanges)
+    requires room { length places.old.items ≤ 6 }
+    ensures { places.new.items ≡ places.old.items ++ places_of_media media.now }
+{
+    push_if(
+        places,
+        media.reader.is_some(),
+        Place::UnitMedia(ConfiguredUnit::Reader.unit()),
+    );
+    push_if(
+        places,
+        media.punch.is_some(),
+        Place::UnitMedia(ConfiguredUnit::Punch.unit()),
+    );
+    push_if(
+        places,
+        media.printer.is_some(),
+        Place::UnitMedia(ConfiguredUnit::Printer.unit()),
+    );
+    push_if(
+        places,
+        media.console.is_some(),
+        Place::UnitMedia(ConfiguredUnit::Console.unit()),
+    );
 }
 
 impl Changes {
@@ -65,27 +124,8 @@ impl Changes {
         let Some(io) = &self.io else {
             return places;
         };
-        let (reader, punch) = (ConfiguredUnit::Reader.unit(), ConfiguredUnit::Punch.unit());
-        push_if(
-            &mut places,
-            io.units.reader.is_some(),
-            Place::UnitState(reader),
-        );
-        push_if(
-            &mut places,
-            io.units.punch.is_some(),
-            Place::UnitState(punch),
-        );
-        push_if(
-            &mut places,
-            io.media.reader.is_some(),
-            Place::UnitMedia(reader),
-        );
-        push_if(
-            &mut places,
-            io.media.punch.is_some(),
-            Place::UnitMedia(punch),
-        );
+        push_units(&mut places, &io.units);
+        push_media(&mut places, &io.media);
         places
     }
 

@@ -3,6 +3,7 @@ ghost use Rattle.std.specs.Prelude.{◌≡◌, [], IfOk};
 ghost use Rattle.s360_channel.specs.Steps.{AltersDevice, KeepsDevice, change_of_step};
 ghost use Rattle.s360_machine.specs.ChannelEvents.{ExecutesProgram, StepsTo};
 ghost use Rattle.s360_machine.specs.ChannelEvents.{after_channel_event};
+ghost use Rattle.s360_machine.specs.ChannelEvents.{after_console_event, after_printer_event};
 ghost use Rattle.s360_machine.specs.ChannelEvents.{after_punch_event, after_reader_event};
 ghost use Rattle.s360_machine.specs.Machine.{seen};
 ghost use Rattle.s360_machine.specs.Planned.{IsPlanOfMachine};
@@ -77,13 +78,10 @@ impl Machine {
     {
         let (storage, unit) = (self.core.storage(), &self.units.reader);
         let step = plan_step(self.alloc, storage, unit, &self.devices.reader, plan)?;
-        let units = UnitChanges {
-            reader: step.control,
-            punch: None,
-        };
+        let units = UnitChanges::of(ConfiguredUnit::Reader, step.control);
         let media = MediaChanges {
             reader: step.change,
-            punch: None,
+            ..MediaChanges::none()
         };
         let planned = self.planned_with(self.control, units, media)?;
         Ok(planned)
@@ -96,13 +94,42 @@ impl Machine {
     {
         let (storage, unit) = (self.core.storage(), &self.units.punch);
         let step = plan_step(self.alloc, storage, unit, &self.devices.punch, plan)?;
-        let units = UnitChanges {
-            reader: None,
-            punch: step.control,
-        };
+        let units = UnitChanges::of(ConfiguredUnit::Punch, step.control);
         let media = MediaChanges {
-            reader: None,
             punch: step.change,
+            ..MediaChanges::none()
+        };
+        let planned = self.planned_with(self.control, units, media)?;
+        Ok(planned)
+    }
+
+    /// Plans a channel event of the printer.
+    fn plan_printer(&self, plan: &mut Plan) -> Result<PlannedEvent, AllocError>
+        requires empty { plan.old ≡ [] }
+        ensures { IfOk result (λ planned. IsPlanOfMachine (seen self.now.whole) plan.new planned (after_printer_event (seen self.now.whole))) }
+    {
+        let (storage, unit) = (self.core.storage(), &self.units.printer);
+        let step = plan_step(self.alloc, storage, unit, &self.devices.printer, plan)?;
+        let units = UnitChanges::of(ConfiguredUnit::Printer, step.control);
+        let media = MediaChanges {
+            printer: step.change,
+            ..MediaChanges::none()
+        };
+        let planned = self.planned_with(self.control, units, media)?;
+        Ok(planned)
+    }
+
+    /// Plans a channel event of the console.
+    fn plan_console(&self, plan: &mut Plan) -> Result<PlannedEvent, AllocError>
+        requires empty { plan.old ≡ [] }
+        ensures { IfOk result (λ planned. IsPlanOfMachine (seen self.now.whole) plan.new planned (after_console_event (seen self.now.whole))) }
+    {
+        let (storage, unit) = (self.core.storage(), &self.units.console);
+        let step = plan_step(self.alloc, storage, unit, &self.devices.console, plan)?;
+        let units = UnitChanges::of(ConfiguredUnit::Console, step.control);
+        let media = MediaChanges {
+            console: step.change,
+            ..MediaChanges::none()
         };
         let planned = self.planned_with(self.control, units, media)?;
         Ok(planned)
@@ -120,6 +147,8 @@ impl Machine {
         match ConfiguredUnit::at(unit) {
             Some(ConfiguredUnit::Reader) => self.plan_reader(plan),
             Some(ConfiguredUnit::Punch) => self.plan_punch(plan),
+            Some(ConfiguredUnit::Printer) => self.plan_printer(plan),
+            Some(ConfiguredUnit::Console) => self.plan_console(plan),
             None => Ok(self.planned(self.control)),
         }
     }

@@ -12,11 +12,20 @@ pub enum ConfiguredUnit {
     Reader,
     /// The card punch of the 2540, 00D.
     Punch,
+    /// The printer, a 1403, 00E.
+    Printer,
+    /// The console, a 1052, 01F.
+    Console,
 }
 
 impl ConfiguredUnit {
     /// All of them, in the order of their addresses.
-    pub(crate) const ALL: [ConfiguredUnit; 2] = [ConfiguredUnit::Reader, ConfiguredUnit::Punch];
+    pub const ALL: [ConfiguredUnit; 4] = [
+        ConfiguredUnit::Reader,
+        ConfiguredUnit::Punch,
+        ConfiguredUnit::Printer,
+        ConfiguredUnit::Console,
+    ];
 
     /// The unit at an address, if the machine has it.
     pub fn at(unit: Unit) -> Option<ConfiguredUnit>
@@ -25,6 +34,8 @@ impl ConfiguredUnit {
         match unit.address() {
             0x00C => Some(ConfiguredUnit::Reader),
             0x00D => Some(ConfiguredUnit::Punch),
+            0x00E => Some(ConfiguredUnit::Printer),
+            0x01F => Some(ConfiguredUnit::Console),
             _ => None,
         }
     }
@@ -36,6 +47,8 @@ impl ConfiguredUnit {
         match self {
             ConfiguredUnit::Reader => Unit::new(0x00C),
             ConfiguredUnit::Punch => Unit::new(0x00D),
+            ConfiguredUnit::Printer => Unit::new(0x00E),
+            ConfiguredUnit::Console => Unit::new(0x01F),
         }
     }
 
@@ -45,7 +58,10 @@ impl ConfiguredUnit {
         ensures masked { result < 7 }
     {
         match self {
-            ConfiguredUnit::Reader | ConfiguredUnit::Punch => 0,
+            ConfiguredUnit::Reader
+            | ConfiguredUnit::Punch
+            | ConfiguredUnit::Printer
+            | ConfiguredUnit::Console => 0,
         }
     }
 }

@@ -105,8 +105,8 @@ impl Control {
     }
 
     /// The control part after a key is pressed.
-    pub(crate) fn after_key(&self, key: Key) -> Control
-        ensures { result ≡ control_after_key key self.now }
+    pub(crate) fn after_key(&self, key: &Key) -> Control
+        ensures { result ≡ control_after_key key.now self.now }
     {
         match key {
             Key::Start => Control {
@@ -128,7 +128,7 @@ impl Control {
                 },
                 ..*self
             },
-            Key::EndOfFile => *self,
+            Key::EndOfFile | Key::Request | Key::Enter(_) => *self,
         }
     }
 

@@ -11,7 +11,7 @@ ghost use Rattle.s360_machine.specs.Change.{HasRoom, NeedsNoRoom};
 ghost use Rattle.s360_machine.specs.Step.{after, after_patch};
 ghost use Rattle.s360_machine.specs.Timer.{after_tick};
 ghost use Rattle.s360_machine.specs.Units.{attention_at, state_at};
-ghost use Rattle.s360_machine.specs.Refusals.{refusal_of, refusal_of_patch};
+ghost use Rattle.s360_machine.specs.Refusals.{refusal_of, refusal_of_key, refusal_of_patch};
 ghost use Rattle.s360_store.specs.Plans.{IsPlanOf};
 ghost use Rattle.s360_machine.specs.Operator.{after_key};
 ghost use Rattle.s360_machine.specs.Planned.{IsChangeTo, IsPlanOfMachine, LeavesUnits, PlansIo};
@@ -31,6 +31,7 @@ use crate::run_state::RunState;
 use crate::units::{UnitChanges, Units};
 use s360_channel::UnitState;
 use s360_device::{Deck, Punch, Reader};
+use s360_print::{Console, LINE_LIMIT, Printer};
 use s360_psw::Psw;
 use s360_store::{Plan, Storage, StoreFault};
 use s360_word::{RegisterNumber, Unit, Word};
@@ -67,7 +68,7 @@ impl Model for Machine {
 
     ghost use Rattle.s360_machine.specs.Media.{media_of};
 
-    ghost view = { λ m. record { whole = record { core = m.core; control = m.control; units = m.units; media = media_of m.devices }; spare = record { reader = m.devices.reader.room; punch = m.devices.punch.room } } };
+    ghost view = { λ m. record { whole = record { core = m.core; control = m.control; units = m.units; media = media_of m.devices }; spare = record { reader = m.devices.reader.room; punch = m.devices.punch.room; printer = m.devices.printer.room; console = m.devices.console.room } } };
 }
 
 impl Machine {
@@ -85,6 +86,8 @@ impl Machine {
             devices: Devices {
                 reader: Reader::new(alloc, deck),
                 punch: Punch::new(alloc),
+                printer: Printer::new(alloc),
+                console: Console::new(alloc),
             },
             alloc,
         })
@@ -157,6 +160,20 @@ impl Machine {
         &self.devices.punch
     }
 
+    /// The printer.
+    pub fn printer(&self) -> &Printer
+        ensures { result.now.printer ≡ self.now.whole.media.printer }
+    {
+        &self.devices.printer
+    }
+
+    /// The console.
+    pub fn console(&self) -> &Console
+        ensures { result.now.console ≡ self.now.whole.media.console }
+    {
+        &self.devices.console
+    }
+
     /// Why an event is refused whatever the machine's state, by the event and the storage size
     /// alone.
     pub fn refusal(&self, event: &Event) -> Option<Refusal>
@@ -179,6 +196,9 @@ impl Machine {
             }
             Event::Channel(unit) if ConfiguredUnit::at(*unit).is_none() => Some(
                 Refusal::NoSuchUnit,
+            ),
+            Event::Key(Key::Enter(line)) if line.as_slice().len() > LINE_LIMIT => Some(
+                Refusal::LineTooLong,
             ),
             _ => None,
         }
@@ -235,7 +255,7 @@ impl Machine {
             Event::Cpu => self.plan_cpu(plan),
             Event::Channel(unit) => self.plan_channel(*unit, plan),
             Event::Tick => self.plan_tick(plan),
-            Event::Key(key) => self.plan_key(*key),
+            Event::Key(key) => self.plan_key(key),
             Event::Patch(patch) => {
                 self.plan_patch(patch, plan)?;
                 Ok(self.planned(self.control))
@@ -256,12 +276,13 @@ impl Machine {
     }
 
     /// Plans that a key is pressed.
-    fn plan_key(&self, key: Key) -> Result<PlannedEvent, AllocError>
-        ensures { IfOk result (λ planned. IsPlanOfMachine (seen self.now.whole) [] planned (after_key (seen self.now.whole) key)) }
+    fn plan_key(&self, key: &Key) -> Result<PlannedEvent, AllocError>
+        requires accepted { refusal_of_key key.now ≡ None }
+        ensures { IfOk result (λ planned. IsPlanOfMachine (seen self.now.whole) [] planned (after_key (seen self.now.whole) key.now)) }
     {
         let control = self.control.after_key(key);
-        let units = self.units.changes_of_key(key);
-        let media = self.devices.changes_of_key(key);
+        let units = self.units.changes_of_key(self.alloc, key)?;
+        let media = self.devices.changes_of_key(key)?;
         let planned = self.planned_with(control, units, media)?;
         Ok(planned)
     }

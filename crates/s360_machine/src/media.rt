@@ -1,17 +1,23 @@
 //! The devices of the machine, and what an event alters of them. Source: GA22-6821, "Input/Output
 //! Operations".
-ghost use Rattle.std.specs.Prelude.{◌≡◌, ◌≤◌, OnOk};
+ghost use Rattle.std.specs.Prelude.{◌≡◌, ◌≤◌, IfOk, OnOk, length};
 ghost use Rattle.s360_machine.specs.IoChanges.{CanIfAny, CanSwapMedia, after_if_any, back_if_any};
 ghost use Rattle.s360_machine.specs.IoChanges.{cards_of_punch, cards_of_reader, need_if_any};
 ghost use Rattle.s360_machine.specs.IoChanges.{media_after_swap, media_changes_after_swap};
+ghost use Rattle.s360_machine.specs.IoChanges.{lines_of_console, lines_of_printer};
 ghost use Rattle.s360_machine.specs.IoChanges.{no_media_changes};
+ghost use Rattle.s360_machine.specs.Refusals.{refusal_of_key};
+ghost use Rattle.s360_print.specs.TypedLines.{line_limit};
+ghost use Rattle.std.specs.Prelude.{None};
+ghost use Rattle.std.specs.Bool.{MatchBool};
 ghost use Rattle.s360_machine.specs.Media.{media_of};
 ghost use Rattle.s360_machine.specs.Operator.{media_after_key};
 ghost use Rattle.s360_machine.specs.Planned.{IsMediaChangeTo};
-ghost use Rattle.s360_machine.specs.declared.operator.Key.TheVariants.{EndOfFile};
+ghost use Rattle.s360_machine.specs.declared.operator.Key.TheVariants.{EndOfFile, Enter};
 
 use crate::operator::Key;
 use s360_device::{Device, Punch, PunchChange, Reader, ReaderChange};
+use s360_print::{Console, ConsoleChange, Printer, PrinterChange};
 use std::alloc::AllocError;
 
 /// The devices.
@@ -19,6 +25,8 @@ use std::alloc::AllocError;
 pub(crate) struct Devices {
     pub(crate) reader: Reader,
     pub(crate) punch: Punch,
+    pub(crate) printer: Printer,
+    pub(crate) console: Console,
 }
 
 /// What is exchanged with the devices that do not stay as they are.
@@ -26,6 +34,32 @@ pub(crate) struct Devices {
 pub(crate) struct MediaChanges {
     pub(crate) reader: Option<ReaderChange>,
     pub(crate) punch: Option<PunchChange>,
+    pub(crate) printer: Option<PrinterChange>,
+    pub(crate) console: Option<ConsoleChange>,
+}
+
+impl MediaChanges {
+    /// None of them.
+    pub(crate) fn none() -> MediaChanges
+        ensures { result ≡ no_media_changes }
+    {
+        MediaChanges {
+            reader: None,
+            punch: None,
+            printer: None,
+            console: None,
+        }
+    }
+
+    /// Whether there is none.
+    pub(crate) fn is_none(&self) -> bool
+        ensures { MatchBool result (self.now ≡ no_media_changes) Unit }
+    {
+        self.reader.is_none()
+            && self.punch.is_none()
+            && self.printer.is_none()
+            && self.console.is_none()
+    }
 }
 
 /// Makes room in a device for its change, if there is one.
@@ -57,20 +91,33 @@ impl Devices {
         ensures changes { result ≡ no_media_changes }
         ensures same { IsMediaChangeTo (media_of self.now) result (media_of self.now) }
     {
-        MediaChanges {
-            reader: None,
-            punch: None,
+        MediaChanges::none()
+    }
+
+    /// What a key of the operator makes of them, if its own sake does not refuse it.
+    pub(crate) fn changes_of_key(&self, key: &Key) -> Result<MediaChanges, AllocError>
+        requires accepted { refusal_of_key key.now ≡ None }
+        ensures { IfOk result (λ changes. IsMediaChangeTo (media_of self.now) changes (media_after_key key.now (media_of self.now))) }
+    {
+        match key {
+            Key::EndOfFile => Ok(self.changes_of_end_key()),
+            Key::Enter(line) => self.changes_of_line(line.as_slice()),
+            Key::Start | Key::Stop | Key::Reset | Key::Interrupt | Key::Request => {
+                Ok(self.unchanged())
+            }
         }
     }
 
-    /// What a key of the operator makes of them.
-    pub(crate) fn changes_of_key(&self, key: Key) -> MediaChanges
-        ensures { IsMediaChangeTo (media_of self.now) result (media_after_key key (media_of self.now)) }
+    /// What a line that is entered does.
+    fn changes_of_line(&self, line: &[u8]) -> Result<MediaChanges, AllocError>
+        requires fits { length line.now ≤ line_limit }
+        ensures { IfOk result (λ changes. IsMediaChangeTo (media_of self.now) changes (media_after_key (Enter line.now) (media_of self.now))) }
     {
-        match key {
-            Key::EndOfFile => self.changes_of_end_key(),
-            Key::Start | Key::Stop | Key::Reset | Key::Interrupt => self.unchanged(),
-        }
+        let console = self.console.plan_line(line)?;
+        Ok(MediaChanges {
+            console: Some(console),
+            ..MediaChanges::none()
+        })
     }
 
     /// What the end-of-file key does, which stays pressed.
@@ -82,7 +129,7 @@ impl Devices {
         }
         MediaChanges {
             reader: Some(self.reader.plan_end_key()),
-            punch: None,
+            ..MediaChanges::none()
         }
     }
 
@@ -91,9 +138,13 @@ impl Devices {
         ensures media { media_of self.new ≡ media_of self.old }
         ensures reader { OnOk result (cards_of_reader changes.now ≤ self.new.reader.room) }
         ensures punch { OnOk result (cards_of_punch changes.now ≤ self.new.punch.room) }
+        ensures printer { OnOk result (lines_of_printer changes.now ≤ self.new.printer.room) }
+        ensures console { OnOk result (lines_of_console changes.now ≤ self.new.console.room) }
     {
         make_room(&mut self.reader, &changes.reader)?;
         make_room(&mut self.punch, &changes.punch)?;
+        make_room(&mut self.printer, &changes.printer)?;
+        make_room(&mut self.console, &changes.console)?;
         Ok(())
     }
 
@@ -102,10 +153,14 @@ impl Devices {
         requires can { CanSwapMedia (media_of self.old) changes.old }
         requires reader { cards_of_reader changes.old ≤ self.old.reader.room }
         requires punch { cards_of_punch changes.old ≤ self.old.punch.room }
+        requires printer { lines_of_printer changes.old ≤ self.old.printer.room }
+        requires console { lines_of_console changes.old ≤ self.old.console.room }
         ensures media { media_of self.new ≡ media_after_swap (media_of self.old) changes.old }
         ensures changes { changes.new ≡ media_changes_after_swap (media_of self.old) changes.old }
     {
         exchange(&mut self.reader, &mut changes.reader);
         exchange(&mut self.punch, &mut changes.punch);
+        exchange(&mut self.printer, &mut changes.printer);
+        exchange(&mut self.console, &mut changes.console);
     }
 }

@@ -1,7 +1,10 @@
-//! The keys of the operator. Source: GA22-6821, "System Control Panel".
+//! The keys of the operator. Source: GA22-6821, "System Control Panel", and the component description
+//! of the 1052.
+
+use s360_store::Bytes;
 
 /// A key that the operator presses.
-#[derive(Clone, Copy, Debug, PartialEq, Eq)]
+#[derive(Debug, PartialEq, Eq, Drop)]
 pub enum Key {
     /// The stopped machine operates. It does nothing while the machine loads.
     Start,
@@ -14,4 +17,8 @@ pub enum Key {
     Interrupt,
     /// The card reader's end-of-file key, which stays pressed.
     EndOfFile,
+    /// The console's request key: the console asks for attention.
+    Request,
+    /// The operator enters a line at the console: at most 256 bytes, in EBCDIC.
+    Enter(Bytes),
 }

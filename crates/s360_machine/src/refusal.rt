@@ -18,6 +18,9 @@ pub enum Refusal {
     /// The event names a unit that the machine does not have.
     #[error("no such unit")]
     NoSuchUnit,
+    /// A line that is entered has more than 256 bytes.
+    #[error("line too long")]
+    LineTooLong,
     /// A patch has more than 256 bytes.
     #[error("patch too long")]
     PatchTooLong,
@@ -35,6 +38,7 @@ impl Refusal {
             Refusal::Memory => 1,
             Refusal::OutsideStorage => 2,
             Refusal::NoSuchUnit => 3,
+            Refusal::LineTooLong => 4,
             Refusal::PatchTooLong => 5,
             Refusal::JournalFull => 6,
         }

@@ -1,10 +1,13 @@
 //! The units as the channels have them, and what an event alters of that. Source: GA22-6821,
 //! "Input/Output Operations", states of the input/output system.
-ghost use Rattle.std.specs.Prelude.{◌≡◌};
+ghost use Rattle.std.specs.Prelude.{◌≡◌, IfOk};
+ghost use Rattle.std.specs.Bool.{MatchBool};
 ghost use Rattle.s360_machine.specs.ChannelEvents.{IsAlterationOf};
 ghost use Rattle.s360_machine.specs.Cpu.{pending_unit};
 ghost use Rattle.s360_machine.specs.IoChanges.{after_if_any, back_if_any, the_one, the_other};
+ghost use Rattle.s360_machine.specs.IoChanges.{no_unit_changes, unit_change_of};
 ghost use Rattle.s360_machine.specs.IoChanges.{unit_changes_after_swap, units_after_swap};
+ghost use Rattle.s360_machine.specs.declared.operator.Key.TheVariants.{Request};
 ghost use Rattle.s360_machine.specs.Planned.{IsUnitsChangeTo};
 ghost use Rattle.s360_machine.specs.InputOutput.{interrupting_unit, units_with};
 ghost use Rattle.s360_machine.specs.Operator.{units_after_key};
@@ -16,6 +19,7 @@ use crate::operator::Key;
 use s360_channel::{UnitControl, UnitState};
 use s360_psw::Psw;
 use s360_word::Unit;
+use std::alloc::{AllocError, Global};
 use std::mem;
 
 /// How each unit stands on its channel.
@@ -23,6 +27,8 @@ use std::mem;
 pub(crate) struct Units {
     pub(crate) reader: UnitControl,
     pub(crate) punch: UnitControl,
+    pub(crate) printer: UnitControl,
+    pub(crate) console: UnitControl,
 }
 
 /// What becomes of the units that do not stay as they are.
@@ -30,6 +36,57 @@ pub(crate) struct Units {
 pub(crate) struct UnitChanges {
     pub(crate) reader: Option<UnitControl>,
     pub(crate) punch: Option<UnitControl>,
+    pub(crate) printer: Option<UnitControl>,
+    pub(crate) console: Option<UnitControl>,
+}
+
+impl UnitChanges {
+    /// None of them.
+    pub(crate) fn none() -> UnitChanges
+        ensures { result ≡ no_unit_changes }
+    {
+        UnitChanges {
+            reader: None,
+            punch: None,
+            printer: None,
+            console: None,
+        }
+    }
+
+    /// That of one unit.
+    pub(crate) fn of(unit: ConfiguredUnit, change: Option<UnitControl>) -> UnitChanges
+        ensures { result ≡ unit_change_of unit change }
+    {
+        let none = UnitChanges::none();
+        match unit {
+            ConfiguredUnit::Reader => UnitChanges {
+                reader: change,
+                ..none
+            },
+            ConfiguredUnit::Punch => UnitChanges {
+                punch: change,
+                ..none
+            },
+            ConfiguredUnit::Printer => UnitChanges {
+                printer: change,
+                ..none
+            },
+            ConfiguredUnit::Console => UnitChanges {
+                console: change,
+                ..none
+            },
+        }
+    }
+
+    /// Whether there is none.
+    pub(crate) fn is_none(&self) -> bool
+        ensures { MatchBool result (self.now ≡ no_unit_changes) Unit }
+    {
+        self.reader.is_none()
+            && self.punch.is_none()
+            && self.printer.is_none()
+            && self.console.is_none()
+    }
 }
 
 /// What a unit becomes, where that is not what it is.
@@ -68,6 +125,8 @@ impl Units {
         Units {
             reader: UnitControl::idle(),
             punch: UnitControl::idle(),
+            printer: UnitControl::idle(),
+            console: UnitControl::idle(),
         }
     }
 
@@ -78,6 +137,8 @@ impl Units {
         match unit {
             ConfiguredUnit::Reader => &self.reader,
             ConfiguredUnit::Punch => &self.punch,
+            ConfiguredUnit::Printer => &self.printer,
+            ConfiguredUnit::Console => &self.console,
         }
     }
 
@@ -102,27 +163,14 @@ impl Units {
     pub(crate) fn unchanged(&self) -> UnitChanges
         ensures { IsUnitsChangeTo self.now result self.now }
     {
-        UnitChanges {
-            reader: None,
-            punch: None,
-        }
+        UnitChanges::none()
     }
 
     /// What makes a unit stand so.
     pub(crate) fn changes_of(&self, unit: ConfiguredUnit, next: UnitControl) -> UnitChanges
         ensures { IsUnitsChangeTo self.now result (with_control_of self.now unit next) }
     {
-        let next = altered(self.control(unit), next);
-        match unit {
-            ConfiguredUnit::Reader => UnitChanges {
-                reader: next,
-                punch: None,
-            },
-            ConfiguredUnit::Punch => UnitChanges {
-                reader: None,
-                punch: next,
-            },
-        }
+        UnitChanges::of(unit, altered(self.control(unit), next))
     }
 
     /// What makes a unit stand so, where there are both.
@@ -143,13 +191,27 @@ impl Units {
     }
 
     /// What a key of the operator makes of them.
-    pub(crate) fn changes_of_key(&self, key: Key) -> UnitChanges
-        ensures { IsUnitsChangeTo self.now result (units_after_key key self.now) }
+    pub(crate) fn changes_of_key(&self, alloc: Global, key: &Key) -> Result<UnitChanges, AllocError>
+        ensures { IfOk result (λ changes. IsUnitsChangeTo self.now changes (units_after_key key.now self.now)) }
     {
         match key {
-            Key::Reset => self.changes_to_idle(),
-            Key::Start | Key::Stop | Key::Interrupt | Key::EndOfFile => self.unchanged(),
+            Key::Reset => Ok(self.changes_to_idle()),
+            Key::Request => self.changes_of_request(alloc),
+            Key::Start | Key::Stop | Key::Interrupt | Key::EndOfFile | Key::Enter(_) => {
+                Ok(self.unchanged())
+            }
         }
+    }
+
+    /// What makes the console ask for attention.
+    fn changes_of_request(&self, alloc: Global) -> Result<UnitChanges, AllocError>
+        ensures { IfOk result (λ changes. IsUnitsChangeTo self.now changes (units_after_key Request self.now)) }
+    {
+        let next = UnitControl {
+            state: self.console.state.copy(alloc)?,
+            attention: true,
+        };
+        Ok(self.changes_of(ConfiguredUnit::Console, next))
     }
 
     /// What makes all of them idle, without attention.
@@ -159,6 +221,8 @@ impl Units {
         UnitChanges {
             reader: altered(&self.reader, UnitControl::idle()),
             punch: altered(&self.punch, UnitControl::idle()),
+            printer: altered(&self.printer, UnitControl::idle()),
+            console: altered(&self.console, UnitControl::idle()),
         }
     }
 
@@ -169,5 +233,7 @@ impl Units {
     {
         exchange(&mut self.reader, &mut changes.reader);
         exchange(&mut self.punch, &mut changes.punch);
+        exchange(&mut self.printer, &mut changes.printer);
+        exchange(&mut self.console, &mut changes.console);
     }
 }

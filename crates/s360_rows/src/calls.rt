@@ -2,11 +2,12 @@
 //! of them is there where a line is no command or memory is out.
 use crate::rows::Words;
 use s360_debug::{Command, read_command};
-use s360_journal::{Answer, Call, Report};
+use s360_journal::{Answer, Breaks, Call, Report};
 use s360_machine::{Bytes, Event, Patch, Refusal};
 use std::alloc::Global;
 
-/// The call that a command asks of a session; one that shows something asks how many changes stand.
+/// The call that a command asks of a session. `until` has no breakpoint, and one that asks no session or
+/// is a run asks how many changes stand.
 fn call_of(command: Command) -> Call {
     match command {
         Command::Step => Call::Forward(Event::Cpu),
@@ -15,8 +16,9 @@ fn call_of(command: Command) -> Call {
         Command::Key(key) => Call::Forward(Event::Key(key)),
         Command::Patch(patch) => Call::Forward(Event::Patch(patch)),
         Command::Back => Call::Back,
+        Command::Until => Call::BackUntil(Breaks::new()),
         Command::Last(place) => Call::LastChange(place),
-        Command::Standing | Command::Show(_) => Call::Standing,
+        _ => Call::Standing,
     }
 }
 
@@ -67,6 +69,7 @@ pub(crate) fn text_of_answer(alloc: Global, answer: &Answer) -> Option<String> {
         Answer::Forwarded(report) => text_of_report(alloc, report),
         Answer::TookBack(Ok(event)) => format!(in alloc; "{event:?}").ok(),
         Answer::TookBack(Err(fault)) => format!(in alloc; "{fault}").ok(),
+        Answer::WentBack(number) => format!(in alloc; "until {number}").ok(),
         Answer::Stands(count) => format!(in alloc; "{count}").ok(),
         Answer::LastChanged(number) => format!(in alloc; "{number:?}").ok(),
     }

@@ -15,8 +15,6 @@ mod instructions;
 #[cfg(test)]
 mod machine;
 #[cfg(test)]
-mod machine_with_cards;
-#[cfg(test)]
 mod plans;
 #[cfg(test)]
 mod rows;
@@ -28,5 +26,7 @@ mod sessions;
 mod slate;
 #[cfg(test)]
 mod storage;
+#[cfg(test)]
+mod texts;
 #[cfg(test)]
 mod words_and_psw;

@@ -1,8 +1,9 @@
 //! The machine by its own calls: its sizes, what is refused, and events that are exchanged twice.
 use crate::calls::{event, long_patch};
 use crate::rows::{Subject, Words, assert_rows};
-use s360_device::{Device, deck_from};
+use s360_device::{Device, Punch, Reader, deck_from};
 use s360_machine::{Changes, Event, Machine, Refusal, RunState};
+use s360_print::{Console, Printer};
 use s360_psw::Psw;
 use s360_store::{Storage, StoreFault};
 use s360_word::{RegisterNumber, Unit, Word};
@@ -13,7 +14,7 @@ fn word(machine: &Machine, number: u8) -> Word {
 }
 
 /// The units that a machine has.
-const UNITS: [Unit; 2] = [Unit(0x00C), Unit(0x00D)];
+const UNITS: [Unit; 4] = [Unit(0x00C), Unit(0x00D), Unit(0x00E), Unit(0x01F)];
 
 /// A machine of so many bytes, with no card in its reader.
 pub(crate) fn machine_of(alloc: Global, size: u32) -> Result<Machine, StoreFault> {
@@ -30,12 +31,37 @@ fn have_like_units(first: &Machine, second: &Machine) -> bool {
             return false;
         }
     }
-    let (one, other) = (first.reader(), second.reader());
+    are_like_readers(first.reader(), second.reader())
+        && are_like_punches(first.punch(), second.punch())
+        && are_like_printers(first.printer(), second.printer())
+        && are_like_consoles(first.console(), second.console())
+}
+
+/// Whether two card readers have fed as many cards, and stand alike.
+fn are_like_readers(one: &Reader, other: &Reader) -> bool {
     one.fed() == other.fed()
         && one.end_of_file() == other.end_of_file()
         && one.sense() == other.sense()
-        && first.punch().cards() == second.punch().cards()
-        && first.punch().sense() == second.punch().sense()
+}
+
+/// Whether two card punches have punched as many cards, and stand alike.
+fn are_like_punches(one: &Punch, other: &Punch) -> bool {
+    one.cards() == other.cards() && one.sense() == other.sense()
+}
+
+/// Whether two printers have printed as many lines, and stand alike.
+fn are_like_printers(one: &Printer, other: &Printer) -> bool {
+    one.records() == other.records()
+        && one.position() == other.position()
+        && one.sense() == other.sense()
+}
+
+/// Whether two consoles have typed as many items and got as many lines, and stand alike.
+fn are_like_consoles(one: &Console, other: &Console) -> bool {
+    one.typed_count() == other.typed_count()
+        && one.entered_count() == other.entered_count()
+        && one.taken() == other.taken()
+        && one.sense() == other.sense()
 }
 
 /// Whether two machines show the same.
@@ -87,10 +113,11 @@ fn is_zero(storage: &Storage) -> bool {
 }
 
 /// Why events are refused.
-const REFUSALS: [Refusal; 5] = [
+const REFUSALS: [Refusal; 6] = [
     Refusal::Memory,
     Refusal::OutsideStorage,
     Refusal::NoSuchUnit,
+    Refusal::LineTooLong,
     Refusal::PatchTooLong,
     Refusal::JournalFull,
 ];
@@ -280,7 +307,9 @@ patch 1FFF 101 -> 5 patch too long, 5 patch too long
 patch FFFFFFFF 101 -> 5 patch too long, 5 patch too long
 * a channel event of a unit that the machine has, though it is idle, and of one that it lacks
 refusal channel 00C -> accepted, accepted
-refusal channel 00E -> 3 no such unit, 3 no such unit
+refusal channel 00E -> accepted, accepted
+refusal channel 01F -> accepted, accepted
+refusal channel 00F -> 3 no such unit, 3 no such unit
 * a block, a tick and a key
 refusal patch k 1FFF 1 -> accepted, accepted
 refusal patch k 2000 1 -> 2 outside storage, 2 outside storage
@@ -316,6 +345,18 @@ twice channel 00C -> [UnitState(Unit(12)), UnitMedia(Unit(12))] true
 twice channel 00D -> [] true
 twice key eof -> [UnitMedia(Unit(12))] true
 twice key reset -> [Run, External, UnitState(Unit(12))] true
+* the printer and the console: a line that is printed, the request key, and lines that are entered and typed
+do patch p 0000000000000200 -> done
+do patch s 203 0E9C00001F -> done
+do patch s 400 0900060020000004 -> done
+do step -> done
+twice channel 00E -> [UnitState(Unit(14)), UnitMedia(Unit(14))] true
+do channel 00E -> done
+do step -> done
+twice channel 01F -> [UnitState(Unit(31)), UnitMedia(Unit(31))] true
+twice enter A LINE -> [UnitMedia(Unit(31))] true
+do enter A LINE -> done
+twice key request -> [UnitState(Unit(31))] true
 ";
 
 /// Bytes and refusals.
@@ -325,5 +366,5 @@ bytes 0 0 -> Patch(Bytes { at: 0, bytes: Bytes { items: [] } })
 bytes 0 2 -> Patch(Bytes { at: 0, bytes: Bytes { items: [165, 165] } })
 size -> true
 * the numbers and the texts of refusals
-refusals -> 1 memory, 2 outside storage, 3 no such unit, 5 patch too long, 6 journal full, 1 memory
+refusals -> 1 memory, 2 outside storage, 3 no such unit, 4 line too long, 5 patch too long, 6 journal full, 1 memory
 ";

@@ -1,9 +1,9 @@
 //! Scripts over readers and writers that are slow or fail, and commands one by one.
 ghost use Rattle.std.specs.Prelude.{◌≤◌};
 
-use crate::machine::machine_of;
+use crate::machine::{are_same, machine_of};
 use crate::rows::{Subject, Words, assert_rows};
-use s360_debug::{Command, LineFault, ScriptFault, answer, read_command, run_script};
+use s360_debug::{ScriptFault, answer, read_command, run_script};
 use s360_journal::{Breaks, Session};
 use std::alloc::Global;
 use std::io::{self, Read, Write};
@@ -24,6 +24,13 @@ const ADD_ANSWERS: &str = "1 changed 1 r1\n\
     r8 00000000 00000000 00000000 00000000\n\
     rC 00000000 00000000 00000000 00000000\n\
     back 4 cpu\n";
+
+/// So many lines are carried out by the time that an answer is written behind so many line feeds. The
+/// fifth line has four of them.
+const CARRIED_OUT: [usize; 9] = [1, 2, 3, 4, 5, 5, 5, 5, 6];
+
+/// More reads of one byte than a number of eight bits counts.
+const COMMENT: usize = 400;
 
 /// A session where at most so many changes may stand.
 fn session(alloc: Global, limit: u32) -> Option<Session>
@@ -58,7 +65,7 @@ impl<'a> Read for SlowReader<'a> {
     }
 }
 
-/// A writer that takes one byte a call, and fails after so many.
+/// A writer that takes one byte a call, and fails once after so many: it would take the rest.
 #[derive(Drop)]
 struct SlowWriter {
     taken: Vec<u8>,
@@ -71,6 +78,7 @@ impl Write for SlowWriter {
             return Ok(0);
         };
         if self.room == 0 {
+            self.room = ROOM;
             return Err(io::Error::from(io::ErrorKind::Other));
         }
         self.taken.push(*byte)?;
@@ -83,32 +91,57 @@ impl Write for SlowWriter {
     }
 }
 
-/// What a script leaves over a reader that gives so many bytes before it fails, and a writer that
-/// takes so many: its outcome, the number of bytes written, whether they are a first part of the
-/// answers, and how many changes stand.
-fn outcome(alloc: Global, calls: usize, room: usize) -> Option<String> {
-    let mut session = session(alloc, 10)?;
-    let left = ADD.as_bytes();
-    let mut reader = SlowReader { left, calls };
-    let taken = Vec::with_capacity(alloc, ROOM).ok()?;
-    let mut writer = SlowWriter { taken, room };
-    let outcome = run_script(alloc, &mut session, &mut reader, &mut writer);
-    text_of_outcome(alloc, outcome, &writer.taken, session.standing())
+/// What a script leaves.
+#[derive(Drop)]
+struct Left {
+    outcome: Result<u32, ScriptFault>,
+    written: Vec<u8>,
+    session: Session,
 }
 
-/// The same as a text, if memory was not wanting.
-fn text_of_outcome(
-    alloc: Global,
-    outcome: Result<u32, ScriptFault>,
-    written: &[u8],
-    standing: u32,
-) -> Option<String> {
-    if outcome == Err(ScriptFault::Memory) {
-        return None;
+impl Left {
+    /// Of a script over a reader that gives so many bytes before it fails, and a writer that takes so
+    /// many before it does.
+    fn of(alloc: Global, script: &[u8], calls: usize, room: usize) -> Option<Left> {
+        let mut session = session(alloc, 10)?;
+        let left = script;
+        let mut reader = SlowReader { left, calls };
+        let taken = Vec::with_capacity(alloc, ROOM).ok()?;
+        let mut writer = SlowWriter { taken, room };
+        let outcome = run_script(alloc, &mut session, &mut reader, &mut writer);
+        if outcome == Err(ScriptFault::Memory) {
+            return None;
+        }
+        let written = writer.taken;
+        Some(Left {
+            outcome,
+            written,
+            session,
+        })
     }
-    let first = ADD_ANSWERS.as_bytes().starts_with(written);
-    let count = written.len();
-    format!(in alloc; "{outcome:?} {count:X} {first} {standing}").ok()
+
+    /// Its outcome, the number of bytes written, whether they are a first part of the answers, and how
+    /// many changes stand.
+    fn text(&self, alloc: Global) -> Option<String> {
+        let first = ADD_ANSWERS.as_bytes().starts_with(&self.written);
+        let (count, standing) = (self.written.len(), self.session.standing());
+        let outcome = self.outcome;
+        format!(in alloc; "{outcome:?} {count:X} {first} {standing}").ok()
+    }
+
+    /// Whether as many changes stand as in another, and the machines are the same.
+    fn stands_as(&self, other: &Left) -> bool {
+        self.session.standing() == other.session.standing()
+            && are_same(self.session.machine(), other.session.machine())
+    }
+}
+
+/// What a script leaves behind a long comment.
+fn behind_a_comment(alloc: Global) -> Option<Left> {
+    let mut script = vec![in alloc; b'*'; COMMENT].ok()?;
+    script.push(b'\n').ok()?;
+    script.extend_from_slice(ADD.as_bytes()).ok()?;
+    Left::of(alloc, &script, script.len() + 1, ROOM)
 }
 
 /// Bytes that are a text, within quotes.
@@ -133,27 +166,12 @@ struct Lines {
 }
 
 impl Lines {
-    /// The answer to a command.
-    fn text_of_command(&mut self, alloc: Global, command: Command) -> Option<String> {
+    /// The answer to a line.
+    fn text_of_line(&mut self, alloc: Global, line: &str) -> Option<String> {
+        let command = read_command(alloc, line.as_bytes()).ok()?;
         let text = answer(alloc, &mut self.session, &mut self.breaks, command).ok()?;
         quoted(alloc, text.as_bytes())
     }
-
-    /// The answer to a line, or the text of its fault.
-    fn text_of_line(&mut self, alloc: Global, line: &str) -> Option<String> {
-        match read_command(alloc, line.as_bytes()) {
-            Ok(command) => self.text_of_command(alloc, command),
-            Err(LineFault::Memory) => None,
-            Err(fault) => format!(in alloc; "{fault}").ok(),
-        }
-    }
-}
-
-/// The texts of faults.
-fn text_of_faults(alloc: Global) -> Option<String> {
-    let (read, too_long) = (ScriptFault::Read, ScriptFault::TooLong);
-    let (write, memory) = (ScriptFault::Write, ScriptFault::Memory);
-    format!(in alloc; "{read}, {too_long}, {write}, {memory}").ok()
 }
 
 impl Subject for Lines {
@@ -164,22 +182,43 @@ impl Subject for Lines {
     }
 
     fn answer(&mut self, alloc: Global, words: &mut Words<'_>) -> Option<String> {
+        let script = ADD.as_bytes();
         match words.next_word() {
             "line" => self.text_of_line(alloc, words.behind_the_first()),
-            "limit" => answers_at_the_limit(alloc, "patch r 1 5\npatch r 1 5\n"),
-            "whole" => outcome(alloc, ADD.len() + 1, ADD_ANSWERS.len()),
-            "cut" => outcome(alloc, ADD.len(), ADD_ANSWERS.len()),
-            _ => text_of_faults(alloc),
+            "limit" => answers_at_the_limit(alloc, "tick\ntick\nrun 5\nstanding\n"),
+            "whole" => Left::of(alloc, script, script.len() + 1, ROOM)?.text(alloc),
+            "cut" => Left::of(alloc, script, script.len(), ROOM)?.text(alloc),
+            "long" => behind_a_comment(alloc)?.text(alloc),
+            _ => None,
         }
     }
 }
 
-/// Asserts that a script fails at a writer that takes so many bytes, once it has taken them.
+/// The first lines of the script that are carried out where its writer fails after so many bytes.
+fn carried_out(room: usize) -> usize {
+    let written = ADD_ANSWERS.as_bytes().iter().take(room);
+    let line_feeds = written.filter(|byte| **byte == b'\n').count();
+    let lines = CARRIED_OUT.get(line_feeds).copied().unwrap_or_default();
+    ADD.lines().take(lines).map(|line| line.len() + 1).sum()
+}
+
+/// What is wrong where a script fails at a writer that takes so many bytes: it has taken them and no
+/// more, and the session stands as after the line whose answer was cut.
+fn fault_of_write(alloc: Global, room: usize) -> Option<String> {
+    let found = Left::of(alloc, ADD.as_bytes(), ADD.len() + 1, room)?;
+    let (first, _) = ADD.as_bytes().split_at_checked(carried_out(room))?;
+    let wanted = Left::of(alloc, first, first.len() + 1, ROOM)?;
+    let written = ADD_ANSWERS.as_bytes().get(..room) == Some(&*found.written);
+    if found.outcome == Err(ScriptFault::Write) && written && found.stands_as(&wanted) {
+        return Some(String::new(alloc));
+    }
+    found.text(alloc)
+}
+
+/// Asserts that nothing is wrong with a writer that takes so many bytes.
 fn assert_write_fails(rt: &impl Abort, alloc: Global, room: usize) {
-    let found = outcome(alloc, ADD.len() + 1, room).expect(rt, "out of memory");
-    let wanted = format!(in alloc; "Err(Write) {room:X} true").expect(rt, "out of memory");
-    let is_right = found.as_str().starts_with(wanted.as_str());
-    assert!(rt; is_right, "{found} and not {wanted}");
+    let fault = fault_of_write(alloc, room).expect(rt, "out of memory");
+    assert!(rt; fault.is_empty(), "after {room} bytes: {fault}");
 }
 
 #[test]
@@ -201,18 +240,18 @@ const STREAMS: &str = "
 whole -> Ok(6) F2 true 3
 * a reader that fails before its end
 cut -> Err(Read) 0 true 0
+* a reader that gives its bytes in more than 300 calls
+long -> Ok(6) F2 true 3
 ";
 
 /// Commands one by one.
 const LINES: &str = r#"
-* two patches where one change may stand
-limit -> "1 changed 1 r1\nrefused 6 journal full\n"
-* lines, and their answers or their faults
+* a session where one change may stand
+limit -> "1 changed 4 s000050 s000051 s000052 ext\nrefused 6 journal full\nrun 0 refused 6 journal full\nstanding 1\n"
+* lines and their answers
 line patch r 1 2A -> "1 changed 1 r1\n"
 line patch r 1 2A -> "2 idle\n"
-line -> unknown
-line halt -> unknown
-line show -> argument 1
-line patch r 1 1 1 -> argument 4
-faults -> read failed, script too long, write failed, out of memory
+line break 200 -> "breaks 1\n"
+line until -> "until 0\n"
+line standing -> "standing 0\n"
 "#;

@@ -99,8 +99,8 @@ impl Running {
         let byte = self.session.last_change(Place::Byte(0x2000));
         let register = self.session.last_change(Place::Register(16));
         let key = self.session.last_change(Place::Key(4));
-        let media = self.session.last_change(Place::UnitMedia(Unit(0x00E)));
-        let unit = self.session.last_change(Place::UnitState(Unit(0x00E)));
+        let media = self.session.last_change(Place::UnitMedia(Unit(0x00F)));
+        let unit = self.session.last_change(Place::UnitState(Unit(0x00F)));
         format!(in alloc; "{byte:?} {register:?} {key:?} {media:?} {unit:?}").ok()
     }
 }
@@ -131,7 +131,7 @@ fn sessions(rt: HostRuntime) {
 const ROWS: &str = "
 * a limit of 0: refusals for an event's own sake come first, then a full journal
 limit 0 -> 0 7FFFFFFF 0 0
-do channel 00E -> no such unit
+do channel 00F -> no such unit
 long 1FFF 101 -> patch too long
 do patch s 1FFF 0102 -> outside storage
 do patch s 1FFE 0102 -> journal full
@@ -203,7 +203,7 @@ do patch s 2000 01 -> outside storage
 picture -> 30000002 80000000 7 2
 long FFFFFFFF 1 -> outside storage
 picture -> 30000002 80000000 7 2
-do channel 00E -> no such unit
+do channel 00F -> no such unit
 picture -> 30000002 80000000 7 2
 do last r 1 -> Some(2)
 * a place that the machine lacks has no last change

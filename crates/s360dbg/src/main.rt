@@ -1,33 +1,61 @@
-//! The program: carries a script out over a machine of 65,536 bytes.
+//! The program: carries a script out over a machine. docs/DEBUGGER.md has its command line.
 #![tactic(auto)]
 
+mod arguments;
+mod command_line;
+mod failure;
+mod images;
 mod program;
+mod telling;
 
-use program::ProgramFault;
+use clap::Error;
+use clap::error::ErrorKind;
+use command_line::options;
+use failure::Failure;
 use std::process::ExitCode;
 use std::{env, io};
+use telling::ending;
+
+/// The status where the command line did not ask for what can be done.
+const USAGE: u8 = 2;
 
 fn main(rt: HostRuntime) -> ExitCode {
-    match carry_out(&rt) {
-        Ok(()) => ExitCode::SUCCESS,
-        Err(fault) => {
-            // Where standard error takes nothing either, the status alone tells of the fault.
-            let _ = eprintln!(rt; "s360dbg: {fault}");
-            ExitCode::from(fault.status())
-        }
+    ExitCode::from(match words_of(&rt) {
+        Ok(words) => status_for(&rt, words.as_slice()),
+        Err(failure) => ending(&failure, &mut rt.stderr()),
+    })
+}
+
+/// The words of the command line, of which the first is the name of the program.
+fn words_of(rt: &HostRuntime) -> Result<Vec<String>, Failure> {
+    match env::args(rt) {
+        Ok(words) => Ok(words.collect(rt.alloc())?),
+        Err(fault) if fault.kind() == io::ErrorKind::OutOfMemory => Err(Failure::Memory),
+        Err(_) => Err(Failure::Word),
     }
 }
 
-fn carry_out(rt: &HostRuntime) -> Result<(), ProgramFault> {
-    expect_no_arguments(rt)?;
-    program::run(rt.alloc(), &mut rt.reader(), io::writer(rt))
+/// Does what the words ask for, and answers the status.
+fn status_for(rt: &HostRuntime, words: &[String]) -> u8 {
+    match options(rt.alloc(), words) {
+        Ok(options) => match program::run(rt, options) {
+            Ok(()) => 0,
+            Err(failure) => ending(&failure, &mut rt.stderr()),
+        },
+        Err(error) if error.kind() == ErrorKind::OutOfMemory => {
+            ending(&Failure::Memory, &mut rt.stderr())
+        }
+        Err(error) => show(rt, &error),
+    }
 }
 
-/// There are no options yet, so a word that the user takes for one is refused.
-fn expect_no_arguments(rt: &HostRuntime) -> Result<(), ProgramFault> {
-    match env::args(rt) {
-        Ok(words) if words.len() <= 1 => Ok(()),
-        Err(fault) if fault.kind() == io::ErrorKind::OutOfMemory => Err(ProgramFault::Memory),
-        _ => Err(ProgramFault::CommandLine),
+/// Shows the help or the version on standard output, or what is wrong with the command line on
+/// standard error, and answers the status.
+fn show(rt: &HostRuntime, error: &Error) -> u8 {
+    let shown = error.print(rt);
+    if error.use_stderr() {
+        USAGE
+    } else {
+        u8::from(shown.is_err())
     }
 }

@@ -1,73 +1,114 @@
-//! What the program does, over any reader and writer.
+//! What the program does once its command line is read. Faults are found in the order of the steps.
+ghost use Rattle.std.specs.Prelude.{◌≡◌, ◌≤◌, true, false, length, IfErr, IfSome, OnOk, Err};
+ghost use Rattle.s360_model.specs.Storage.{is_storage_size};
+ghost use Rattle.s360_debug.specs.Debugger.{new_debugger};
+ghost use Rattle.s360_debug.specs.Lines.{lines_of};
+ghost use Rattle.s360_debug.specs.Script.{state_after_lines};
+ghost use Rattle.s360dbg.specs.Failures.{IsFailureOf, IsDeckFailure, IsScriptFailure};
+ghost use Rattle.s360dbg.specs.declared.failure.Part.TheVariants.{Reader};
+ghost use Rattle.s360dbg.specs.declared.failure.Fault.TheVariants.{CannotRead};
+ghost use Rattle.s360dbg.specs.declared.failure.Failure.TheVariants.{Part as failure_of_part, StorageSize};
+
+use crate::arguments::Options;
+use crate::failure::{Failure, Fault, Part};
+use crate::images::{LONGEST_FILE, read_whole};
 use s360_debug::{ScriptFault, run_script};
-use s360_device::deck_from;
+use s360_device::{Deck, deck_from};
 use s360_journal::Session;
 use s360_machine::Machine;
 use std::alloc::Global;
-use std::io::{BufWriter, Read, Write};
-use thiserror::Error;
-
-/// The size of storage, in bytes.
-const STORAGE: u32 = 65_536;
+use std::fs::{self, File};
+use std::io::{self, BufWriter, Input, IsTerminal, Read, Write};
 
 /// So many changes can stand.
 const LIMIT: u32 = 10_000_000;
 
-/// Why the program does not end with status 0.
-#[derive(Clone, Copy, Debug, PartialEq, Eq, Error)]
-pub(crate) enum ProgramFault {
-    /// The command line has a word.
-    #[error("there are no options; the script is read from standard input")]
-    CommandLine,
-    /// The script was not carried out to its end.
-    #[error("script: {0}")]
-    Script(ScriptFault),
-    /// A growth was refused.
-    #[error("memory: out of memory")]
-    Memory,
-}
+/// What a person is told from whose terminal the script is read. All of it is read before its first
+/// line is carried out.
+const AT_A_TERMINAL: &str =
+    "s360dbg: reads a script from the terminal, and answers it at its end; end it with Ctrl-D";
 
-impl ProgramFault {
-    /// The status: 2 for the command line, and else 1.
-    pub(crate) fn status(self) -> u8 {
-        match self {
-            ProgramFault::CommandLine => 2,
-            ProgramFault::Script(_) | ProgramFault::Memory => 1,
+/// Sets a machine up, and carries the script out over it.
+pub(crate) fn run(rt: &HostRuntime, options: Options<'_>) -> Result<(), Failure>
+    ensures size { OnOk result (is_storage_size options.entry.storage ≡ true) }
+    ensures no_size { result ≡ Err StorageSize → is_storage_size options.entry.storage ≡ false }
+{
+    let alloc = rt.alloc();
+    let deck = read_deck(rt, alloc, options.reader)?;
+    let machine = Machine::new(alloc, options.storage, deck)?;
+    let mut session = Session::new(alloc, machine, LIMIT);
+    match options.script {
+        Some(name) => {
+            let mut file = open(rt, Part::Script, name)?;
+            carry_out(alloc, &mut session, &mut file, io::writer(rt))
+        }
+        None => {
+            tell_terminal(rt);
+            carry_out(alloc, &mut session, &mut rt.reader(), io::writer(rt))
         }
     }
 }
 
-impl From<ScriptFault> for ProgramFault {
-    fn from(fault: ScriptFault) -> ProgramFault {
-        match fault {
-            ScriptFault::Memory => ProgramFault::Memory,
-            fault => ProgramFault::Script(fault),
-        }
+/// The deck in a file, or one with no card where none is named.
+fn read_deck(rt: &HostRuntime, alloc: Global, name: Option<&str>) -> Result<Deck, Failure>
+    ensures { IfErr result (λ failure. IsDeckFailure failure) }
+{
+    let file = match name {
+        Some(name) => read_image(rt, alloc, Part::Reader, name)?,
+        None => Vec::new(alloc),
+    };
+    Ok(deck_from(alloc, &file)?)
+}
+
+/// The bytes of a file of a part.
+fn read_image(rt: &HostRuntime, alloc: Global, part: Part, name: &str) -> Result<Vec<u8>, Failure>
+    ensures { IfErr result (IsFailureOf part) }
+{
+    let mut file = open(rt, part, name)?;
+    match read_whole(alloc, &mut file, LONGEST_FILE) {
+        Ok(bytes) => Ok(bytes),
+        Err(fault) => Err(part.failure(fault)),
     }
 }
 
-/// Carries out the script that a reader has left over a new machine, and writes its answers. The
-/// answers that come before a fault are written too.
-pub(crate) fn run<R: Read, W: Write + Drop>(
+/// The file of a part, opened.
+fn open(rt: &HostRuntime, part: Part, name: &str) -> Result<File, Failure>
+    ensures { IfErr result (λ failure. failure ≡ failure_of_part part CannotRead) }
+{
+    match fs::open(rt, name) {
+        Ok(file) => Ok(file),
+        Err(_) => Err(Failure::Part(part, Fault::CannotRead)),
+    }
+}
+
+/// Where a person is at the terminal from which the script is read, says what is waited for.
+fn tell_terminal(rt: &HostRuntime) {
+    if rt.stdin().is_terminal() {
+        // The script is read all the same where standard error does not take this.
+        let _ = eprintln!(rt; "{AT_A_TERMINAL}");
+    }
+}
+
+/// Carries out the script that a reader has left, and writes its answers. The answers that come before
+/// a fault are written too.
+fn carry_out<R: Read, W: Write + Drop>(
     alloc: Global,
+    session: &mut Session,
     reader: &mut R,
     writer: W,
-) -> Result<(), ProgramFault> {
-    let Ok(deck) = deck_from(alloc, &[]) else {
-        return Err(ProgramFault::Memory);
-    };
-    let Ok(machine) = Machine::new(alloc, STORAGE, deck) else {
-        return Err(ProgramFault::Memory);
-    };
-    let mut session = Session::new(alloc, machine, LIMIT);
+) -> Result<(), Failure>
+    ensures length { OnOk result (IfSome (R.remaining reader.old) (λ text. length text ≤ 1048576)) }
+    ensures state { OnOk result (IfSome (R.remaining reader.old) (λ text. session.new ≡ (state_after_lines (new_debugger session.old) (lines_of text)).session)) }
+    ensures failure { IfErr result IsScriptFailure }
+{
     let Ok(mut writer) = BufWriter::new(alloc, writer) else {
-        return Err(ProgramFault::Memory);
+        return Err(Failure::Memory);
     };
-    let answered = run_script(alloc, &mut session, reader, &mut writer);
+    let answered = run_script(alloc, session, reader, &mut writer);
     let flushed = writer.flush();
-    answered?;
+    let _lines = answered?;
     if flushed.is_err() {
-        return Err(ProgramFault::Script(ScriptFault::Write));
+        return Err(Failure::from(ScriptFault::Write));
     }
     Ok(())
 }

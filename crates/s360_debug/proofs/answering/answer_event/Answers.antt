@@ -1,4 +1,4 @@
-use Rattle.std.proofs.Common.{◌≡◌, ◌+◌, ◌∙◌, ap, length, length-append, None, [], ◌∷◌}
+use Rattle.std.proofs.Common.{rules, tests, ◌≡◌, ◌+◌, ◌∙◌, ap, length, length-append, None, [], ◌∷◌}
 use Rattle.s360_journal.specs.Standing.{Standing, refusal_in}
 use Rattle.s360_debug.proofs.ReportLemmas.{accepted-None, accepted-text}
 use Rattle.s360_debug.proofs.answering.answer_event.Goals as goal
@@ -11,3 +11,6 @@ returns-in_ok-text-in-Ok-clause-text c =
     in let count : c.standing.result ≡ length s.events + 1
     = c.standing.ensures ∙ ap (λ (t : Standing). length t.events) c.in-Ok.ensures.ok ∙ length-append s.events (e ∷ [])
     in c.in_ok-text-in-Ok.ensures ∙ accepted-text s e c.in-Ok.report c.standing.result none c.in-Ok.ensures.report count
+
+pub returns-in-Err-clause-text : goal.returns-in-Err-clause-text
+returns-in-Err-clause-text c = search (tests, rules)

@@ -1,13 +1,14 @@
 use Rattle.std.proofs.Common.{◌≡◌, subst, sym}
 use Rattle.s360_machine.specs.InputOutput.{after_io, io_result}
 use Rattle.s360_machine.specs.Machine.{Machine, WithRoom, seen}
+use Rattle.s360_machine.specs.Media.{media_of}
 use Rattle.s360_machine.specs.Planned.{IsPlanOfMachine}
 use Rattle.s360_machine.proofs.StepLemmas.{IsPlanOfMachine-from, machine_with}
 use Rattle.s360_machine.proofs.machine.Machine.plan_io.Goals as goal
 
 pub returns : goal.returns
 returns c =
-    let m : Machine = machine_with c.self.inside.core c.self.inside.control c.self.inside.units c.self.inside.devices.reader.reader c.self.inside.devices.punch.punch
+    let m : Machine = machine_with c.self.inside.core c.self.inside.control c.self.inside.units (media_of c.self.inside.devices)
     in let done : c.io_result-done.result ≡ io_result c.args.operation c.args.unit m
     = subst (λ (k : WithRoom). c.io_result-done.result ≡ io_result c.args.operation c.args.unit (seen k.whole)) (sym c.self.view_is) c.io_result-done.ensures
     in subst (λ (k : WithRoom). IsPlanOfMachine (seen k.whole) c.plan_io.new.plan c.in_ok-planned.planned (after_io c.args.operation c.args.unit c.args.next_address (seen k.whole))) c.self.view_is

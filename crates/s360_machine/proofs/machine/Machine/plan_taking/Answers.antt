@@ -4,13 +4,14 @@ use Rattle.s360_machine.specs.Units.{address_of_unit}
 use Rattle.s360_store.specs.Plans.{IsPlanOf}
 use Rattle.s360_channel.specs.declared.io_instructions.CswStore.TheVariants.{Csw}
 use Rattle.s360_machine.specs.Machine.{Machine, WithRoom, seen}
+use Rattle.s360_machine.specs.Media.{media_of}
 use Rattle.s360_machine.specs.Planned.{IsPlanOfMachine}
 use Rattle.s360_machine.proofs.StepLemmas.{IsPlanOfMachine-from, machine_with}
 use Rattle.s360_machine.proofs.machine.Machine.plan_taking.Goals as goal
 
 pub returns : goal.returns
 returns c =
-    let m : Machine = machine_with c.self.inside.core c.self.inside.control c.self.inside.units c.self.inside.devices.reader.reader c.self.inside.devices.punch.punch
+    let m : Machine = machine_with c.self.inside.core c.self.inside.control c.self.inside.units (media_of c.self.inside.devices)
     in let csw : IsPlanOf m.core c.plan_csw.new.plan (core_with_csw (Csw c.args.condition.csw) m.core)
     = c.in_ok-plan_csw.ensures.plans m.core (rw c.requires.empty (record { cells = tt; makes = refl }))
     in let code : c.address-code.result ≡ address_of_unit c.args.unit = rw c.unit.ensures at c.address-code.ensures

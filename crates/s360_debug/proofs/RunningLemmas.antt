@@ -1,0 +1,133 @@
+-- A run, turn by turn.
+use Rattle.std.proofs.Common.{◌≡◌, ◌≢◌, ◌+◌, ◌++◌, ◌∷◌, ◌∙◌, [], ℕ, suc, List, Option, Some, None, Bool, true, false, refl, sym, ap, append_assoc, arith, if◌then◌else◌, length, take, Ok, Err, IsOkUnless}
+use Rattle.std.specs.Prelude.{MatchOption, OnErr, Result}
+use Rattle.std.proofs.lemmas.List.{append-nil}
+use Rattle.std.proofs.Math.Seq.{take-append_seam}
+use Rattle.s360_store.specs.declared.place.Place.{Place}
+use Rattle.s360_machine.specs.declared.event.Event.{Event}
+use Rattle.s360_machine.specs.declared.refusal.Refusal.{Refusal}
+use Rattle.s360_machine.specs.declared.refusal.Refusal.TheVariants.{Memory}
+use Rattle.s360_journal.specs.Breakpoints.{is_at_breakpoint}
+use Rattle.s360_journal.specs.Standing.{Standing, machine_of, refusal_in, alteration}
+use Rattle.s360_debug.specs.declared.running.RunEnd.{RunEnd}
+use Rattle.s360_debug.specs.declared.running.RunEnd.TheVariants.{Refused, Break, Done}
+use Rattle.s360_debug.specs.Offers.{unless_refused, with_events}
+use Rattle.s360_debug.specs.Running.{end_of_turn, end_with, next_event, run_of}
+use Rattle.s360_debug.proofs.StandingLemmas.{with_events-none}
+
+-- what is reported of an accepted event
+pub end-changed : (ps : List Place) (stops : Bool) → ps ≢ [] → end_with None ps stops ≡ (if stops then Some Break else None)
+end-changed [] stops h = absurd (h refl)
+end-changed (p ∷ ps) true h = refl
+end-changed (p ∷ ps) false h = refl
+
+-- a turn, by what its event is answered
+pub turn-accepted : (breaks : List ℕ) (s t : Standing) (e : Event) (end : Option RunEnd) → refusal_in s e ≡ None → t ≡ with_events s (e ∷ [])
+    → end ≡ end_with None (alteration s e) (is_at_breakpoint (machine_of t) breaks) → end ≡ end_of_turn breaks s e
+unfolding end_of_turn
+turn-accepted breaks s t e end h is k =
+    k ∙ ap (λ (u : Standing). end_with None (alteration s e) (is_at_breakpoint (machine_of u) breaks)) is ∙ rw h refl
+
+pub turn-refused : (breaks : List ℕ) (s : Standing) (e : Event) (r : Refusal) → refusal_in s e ≡ Some r → Some (Refused r) ≡ end_of_turn breaks s e
+unfolding end_of_turn
+turn-refused breaks s e r h = rw h refl
+
+pub refused-stands : (s : Standing) (e : Event) (r : Refusal) → refusal_in s e ≡ Some r → s ≡ with_events s (unless_refused (refusal_in s e) e)
+refused-stands s e r h = sym (rw h (with_events-none s))
+
+pub refused-Some : {X : Type 0} (o : Option Refusal) (result : Result X Refusal) (r : Refusal) → result ≡ Err r → r ≢ Memory
+    → MatchOption o (IsOkUnless result Memory) (λ q. result ≡ Err q) → o ≡ Some r
+refused-Some None (Ok x) r is not h = absurd (cc)
+refused-Some None (Err q) r is not h = absurd (not (cc))
+refused-Some (Some q) result r is not h = let same : q ≡ r = cc in ap (λ (x : Refusal). Some x) same
+
+-- an event with which no run ends is accepted
+accepted : (o : Option Refusal) (ps : List Place) (stops : Bool) (e : Event) → end_with o ps stops ≡ None → unless_refused o e ≡ e ∷ []
+accepted (Some r) ps stops e h = absurd (cc)
+accepted None ps stops e h = refl
+
+turn-accepts : (breaks : List ℕ) (s : Standing) (e : Event) → end_of_turn breaks s e ≡ None → unless_refused (refusal_in s e) e ≡ e ∷ []
+unfolding end_of_turn
+turn-accepts breaks s e h = accepted (refusal_in s e) (alteration s e) _ e h
+
+with_events-twice : (s : Standing) (es fs : List Event) → with_events (with_events s es) fs ≡ with_events s (es ++ fs)
+with_events-twice s es fs = ap (λ (gs : List Event). record s { events = gs }) (append_assoc s.events es fs)
+
+-- the turns of a run that are done, and that so many are left
+pub record IsRunning (breaks : List ℕ) (start now : Standing) (most left : ℕ) : Type 0 where
+  pub done : List Event
+  pub stands : now ≡ with_events start done
+  pub events : (run_of breaks start most).events ≡ done ++ (run_of breaks now left).events
+  pub why : (run_of breaks start most).why ≡ (run_of breaks now left).why
+
+pub IsRunning-start : (breaks : List ℕ) (s : Standing) (most : ℕ) → IsRunning breaks s s most most
+IsRunning-start breaks s most = record { done = []; stands = sym (with_events-none s); events = refl; why = refl }
+
+-- the turn that is next
+abbrev turn : Standing → Event
+turn s = next_event (machine_of s)
+
+abbrev turn_events : Standing → List Event
+turn_events s = unless_refused (refusal_in s (turn s)) (turn s)
+
+-- a turn more, with which the run does not end
+pub IsRunning-more : (breaks : List ℕ) (start now next : Standing) (most n m : ℕ) → n ≡ m + 1 → IsRunning breaks start now most n
+    → end_of_turn breaks now (turn now) ≡ None → next ≡ with_events now (turn_events now) → IsRunning breaks start next most m
+unfolding run_of
+IsRunning-more breaks start now next most n m count r goes_on stands =
+    let left : n ≡ suc m = omega arith
+    in let accepts : turn_events now ≡ turn now ∷ [] = turn-accepts breaks now (turn now) goes_on
+    in let is : next ≡ with_events now (turn now ∷ []) = rw accepts at stands
+    in let events : (run_of breaks start most).events ≡ r.done ++ (run_of breaks now (suc m)).events = rw left at r.events
+    in let why : (run_of breaks start most).why ≡ (run_of breaks now (suc m)).why = rw left at r.why
+    in record {
+      done = r.done ++ turn now ∷ [];
+      stands = is ∙ ap (λ (s : Standing). with_events s (turn now ∷ [])) r.stands ∙ with_events-twice start r.done (turn now ∷ []);
+      events = events ∙ rw (goes_on, accepts, is, append_assoc) refl;
+      why = why ∙ rw (goes_on, is) refl;
+    }
+
+-- what a run comes to: why it ends, and what stands
+pub record IsRun (breaks : List ℕ) (start : Standing) (most : ℕ) (end : RunEnd) (now : Standing) : Type 0 where
+  pub why : end ≡ (run_of breaks start most).why
+  pub stands : now ≡ with_events start (run_of breaks start most).events
+
+-- a turn more, with which the run ends
+pub IsRunning-ended : (breaks : List ℕ) (start now next : Standing) (most n m : ℕ) (why : RunEnd) → n ≡ m + 1 → IsRunning breaks start now most n
+    → end_of_turn breaks now (turn now) ≡ Some why → next ≡ with_events now (turn_events now) → IsRun breaks start most why next
+unfolding run_of
+IsRunning-ended breaks start now next most n m why count r ends stands =
+    let left : n ≡ suc m = omega arith
+    in let events : (run_of breaks start most).events ≡ r.done ++ (run_of breaks now (suc m)).events = rw left at r.events
+    in let last : (run_of breaks now (suc m)).events ≡ turn_events now = rw ends refl
+    in let reason : (run_of breaks start most).why ≡ (run_of breaks now (suc m)).why = rw left at r.why
+    in record {
+      why = sym (reason ∙ rw ends refl);
+      stands = stands ∙ ap (λ (s : Standing). with_events s (turn_events now)) r.stands ∙ with_events-twice start r.done (turn_events now)
+          ∙ sym (ap (λ (es : List Event). with_events start es) (events ∙ ap (λ (es : List Event). r.done ++ es) last));
+    }
+
+-- no turn is left
+pub IsRunning-all : (breaks : List ℕ) (start now : Standing) (most n : ℕ) → n ≡ 0 → IsRunning breaks start now most n → IsRun breaks start most Done now
+unfolding run_of
+IsRunning-all breaks start now most n none r =
+    let events : (run_of breaks start most).events ≡ r.done ++ [] = rw none at r.events
+    in let reason : (run_of breaks start most).why ≡ Done = rw none at r.why
+    in record {
+      why = sym reason;
+      stands = r.stands ∙ sym (ap (λ (es : List Event). with_events start es) (events ∙ append-nil r.done));
+    }
+
+-- some first ones of the events stand
+pub IsRunning-part : (breaks : List ℕ) (start now : Standing) (most left : ℕ) → IsRunning breaks start now most left
+    → (n : ℕ) × (now ≡ with_events start (take n (run_of breaks start most).events))
+IsRunning-part breaks start now most left r = (
+  length r.done,
+  r.stands ∙ sym (ap (λ (es : List Event). with_events start es)
+      (ap (take (length r.done)) r.events ∙ take-append_seam r.done (run_of breaks now left).events)),
+)
+
+-- what holds holds after an error
+pub OnErr-from : {X E : Type 0} (r : Result X E) (P : Type 0) → P → OnErr r P
+OnErr-from (Ok x) P h = tt
+OnErr-from (Err e) P h = h

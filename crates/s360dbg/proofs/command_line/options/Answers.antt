@@ -1,0 +1,35 @@
+use Rattle.std.proofs.Common.{◌∙◌, codes, map}
+use Rattle.s360dbg.proofs.CommandLineLemmas.{first_value-given, no_fault-given, passes-given, IfErr-passed_on}
+use Rattle.s360dbg.proofs.command_line.options.Goals as goal
+
+pub returns-clause-reader : goal.returns-clause-reader
+returns-clause-reader g c =
+    c.get_str-2.ensures
+    ∙ first_value-given c.in_ok-command_line.field-0 (map g.S.AsStr.text c.args.words.now) c.in_ok-matches.matches (codes "reader") c.in_ok-command_line.ensures c.in_ok-matches.ensures.matches
+
+pub returns-clause-script : goal.returns-clause-script
+returns-clause-script g c =
+    c.get_str-3.ensures
+    ∙ first_value-given c.in_ok-command_line.field-0 (map g.S.AsStr.text c.args.words.now) c.in_ok-matches.matches (codes "script") c.in_ok-command_line.ensures c.in_ok-matches.ensures.matches
+
+pub returns-clause-storage : goal.returns-clause-storage
+returns-clause-storage g c =
+    let word = c.get_str.ensures
+    ∙ first_value-given c.in_ok-command_line.field-0 (map g.S.AsStr.text c.args.words.now) c.in_ok-matches.matches (codes "storage") c.in_ok-command_line.ensures c.in_ok-matches.ensures.matches in
+    rw (← word) c.in_ok-storage_size.ensures.size
+
+pub returns-in_err-storage_size-clause-passes : goal.returns-in_err-storage_size-clause-passes
+returns-in_err-storage_size-clause-passes g c =
+    let word = c.get_str.ensures
+    ∙ first_value-given c.in_ok-command_line.field-0 (map g.S.AsStr.text c.args.words.now) c.in_ok-matches.matches (codes "storage") c.in_ok-command_line.ensures c.in_ok-matches.ensures.matches in
+    let passes = rw word at c.in_err-storage_size.ensures.passes in
+    IfErr-passed_on _ c.in_err-storage_size.field-0.0 _ c.from_residual-in_err-storage_size.ensures.1 (λ _. passes)
+
+pub returns-in_err-matches-clause-passes : goal.returns-in_err-matches-clause-passes
+returns-in_err-matches-clause-passes g c =
+    IfErr-passed_on _ c.in_err-matches.field-0.0 _ c.from_residual-in_err-matches.ensures.1
+    (λ taken _. passes-given c.in_ok-command_line.field-0 (map g.S.AsStr.text c.args.words.now) c.in_err-matches.field-0.0 c.in_ok-command_line.ensures c.in_err-matches.ensures.passes taken)
+
+pub returns-clause-accepted : goal.returns-clause-accepted
+returns-clause-accepted g c =
+    no_fault-given c.in_ok-command_line.field-0 (map g.S.AsStr.text c.args.words.now) c.in_ok-command_line.ensures c.in_ok-matches.ensures.kinds

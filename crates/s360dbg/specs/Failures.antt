@@ -1,0 +1,45 @@
+-- What the faults of the crates below are to the program (own profile). Want of memory is of no part.
+use Rattle.std.specs.Prelude.{◌≡◌, ◌⊎◌}
+use Rattle.s360_debug.specs.declared.bytes.ScriptFault.{ScriptFault}
+use Rattle.s360_debug.specs.declared.bytes.ScriptFault.TheVariants as script
+use Rattle.s360_device.specs.declared.fault.DeckFault.{DeckFault}
+use Rattle.s360_device.specs.declared.fault.DeckFault.TheVariants as deck
+use Rattle.s360_store.specs.declared.fault.StoreFault.{StoreFault}
+use Rattle.s360_store.specs.declared.fault.StoreFault.TheVariants as storage
+use Rattle.s360dbg.specs.declared.images.ReadFault.{ReadFault}
+use Rattle.s360dbg.specs.declared.images.ReadFault.TheVariants as read
+use Rattle.s360dbg.specs.declared.failure.Part as part
+use Rattle.s360dbg.specs.declared.failure.Part.TheVariants.{Reader, Script}
+use Rattle.s360dbg.specs.declared.failure.Fault.TheVariants.{CannotRead, FileTooLong, ShortCard, ReadFailed, ScriptTooLong, WriteFailed}
+use Rattle.s360dbg.specs.declared.failure.Failure.{Failure}
+use Rattle.s360dbg.specs.declared.failure.Failure.TheVariants.{StorageSize, Memory, Part}
+
+-- of reading the file of a part
+abbrev pub failure_of_read : part.Part → ReadFault → Failure
+failure_of_read p read.Failed = Part p CannotRead
+failure_of_read p read.TooLong = Part p FileTooLong
+failure_of_read p read.Memory = Memory
+
+abbrev pub failure_of_deck : DeckFault → Failure
+failure_of_deck (deck.ShortCard at) = Part Reader (ShortCard at)
+failure_of_deck deck.Memory = Memory
+
+abbrev pub failure_of_storage : StoreFault → Failure
+failure_of_storage storage.Size = StorageSize
+failure_of_storage storage.Memory = Memory
+
+abbrev pub failure_of_script : ScriptFault → Failure
+failure_of_script script.Read = Part Script ReadFailed
+failure_of_script script.TooLong = Part Script ScriptTooLong
+failure_of_script script.Write = Part Script WriteFailed
+failure_of_script script.Memory = Memory
+
+-- the failures that reading the file of a part, the reader's deck, and carrying out a script end with
+abbrev pub IsFailureOf : part.Part → Failure → Type 0
+IsFailureOf p failure = (fault : ReadFault) × (failure ≡ failure_of_read p fault)
+
+abbrev pub IsDeckFailure : Failure → Type 0
+IsDeckFailure failure = IsFailureOf Reader failure ⊎ ((fault : DeckFault) × (failure ≡ failure_of_deck fault))
+
+abbrev pub IsScriptFailure : Failure → Type 0
+IsScriptFailure failure = (fault : ScriptFault) × (failure ≡ failure_of_script fault)

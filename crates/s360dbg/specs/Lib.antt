@@ -1,0 +1,4 @@
+pub mod CommandLine
+pub mod Ending
+pub mod Failures
+pub mod Partial

@@ -1,0 +1,156 @@
+//! Why the program did not do all that it was asked for.
+ghost use Rattle.std.specs.Prelude.{◌≡◌};
+ghost use Rattle.s360dbg.specs.Ending.{part_name, fault_name, offset_digits, ending_status};
+ghost use Rattle.s360dbg.specs.Failures.{failure_of_storage, failure_of_deck, failure_of_script, failure_of_read};
+ghost use Rattle.s360dbg.specs.declared.failure.Failure.TheVariants.{Memory};
+
+use crate::images::ReadFault;
+use itoa::Buffer;
+use s360_debug::ScriptFault;
+use s360_device::DeckFault;
+use s360_store::StoreFault;
+use std::alloc::AllocError;
+
+/// What a fault is of.
+#[derive(Clone, Copy, Debug, PartialEq, Eq)]
+pub(crate) enum Part {
+    /// The file of the card reader's deck.
+    Reader,
+    /// The script and its answers.
+    Script,
+}
+
+/// What went wrong with a part.
+#[derive(Clone, Copy, Debug, PartialEq, Eq)]
+pub(crate) enum Fault {
+    /// The file did not open, or reading it failed.
+    CannotRead,
+    /// The file has more than 67,108,864 bytes.
+    FileTooLong,
+    /// The card that starts here, in bytes from the start of the file, has less than 80.
+    ShortCard(usize),
+    /// A read of the script failed after it was opened.
+    ReadFailed,
+    /// The script has more than 1,048,576 bytes.
+    ScriptTooLong,
+    /// A write of answers failed, or took no byte.
+    WriteFailed,
+}
+
+/// Why the program did not do all that it was asked for, in the order in which it is found. Want of
+/// memory can come at any time.
+#[derive(Clone, Copy, Debug, PartialEq, Eq)]
+pub(crate) enum Failure {
+    /// A word of the command line is not UTF-8.
+    Word,
+    /// A part has a fault.
+    Part(Part, Fault),
+    /// No storage has the size that was asked for.
+    StorageSize,
+    /// A growth was refused.
+    Memory,
+}
+
+impl Part {
+    /// The name by which an ending tells of it.
+    pub(crate) fn name(self) -> &'static str
+        ensures { result.now ≡ part_name self }
+    {
+        match self {
+            Part::Reader => "reader",
+            Part::Script => "script",
+        }
+    }
+
+    /// What a fault of reading a file is where the file is of this part.
+    pub(crate) fn failure(self, fault: ReadFault) -> Failure
+        ensures { result ≡ failure_of_read self fault }
+    {
+        match fault {
+            ReadFault::Failed => Failure::Part(self, Fault::CannotRead),
+            ReadFault::TooLong => Failure::Part(self, Fault::FileTooLong),
+            ReadFault::Memory => Failure::Memory,
+        }
+    }
+}
+
+impl Fault {
+    /// The words by which an ending tells of it.
+    pub(crate) fn name(self) -> &'static str
+        ensures { result.now ≡ fault_name self }
+    {
+        match self {
+            Fault::CannotRead => "cannot read",
+            Fault::FileTooLong => "file too long",
+            Fault::ShortCard(_) => "short card at ",
+            Fault::ReadFailed => "read failed",
+            Fault::ScriptTooLong => "script too long",
+            Fault::WriteFailed => "write failed",
+        }
+    }
+
+    /// The offset that follows those words, in decimal digits, or nothing. It takes no memory.
+    pub(crate) fn offset(self, digits: &mut Buffer) -> &str
+        ensures { result.now ≡ offset_digits self }
+    {
+        match self {
+            Fault::ShortCard(at) => digits.format(at),
+            _ => "",
+        }
+    }
+}
+
+impl Failure {
+    /// The status with which the program ends: 2 for the command line and the storage size, else 1.
+    pub(crate) fn status(self) -> u8
+        ensures { result ≡ ending_status self }
+    {
+        match self {
+            Failure::Word | Failure::StorageSize => 2,
+            Failure::Part(..) | Failure::Memory => 1,
+        }
+    }
+}
+
+impl From<AllocError> for Failure {
+    ghost from_gives = { λ _ failure. failure ≡ Memory };
+
+    fn from(_e: AllocError) -> Failure {
+        Failure::Memory
+    }
+}
+
+impl From<StoreFault> for Failure {
+    ghost from_gives = { λ fault failure. failure ≡ failure_of_storage fault };
+
+    fn from(fault: StoreFault) -> Failure {
+        match fault {
+            StoreFault::Size => Failure::StorageSize,
+            StoreFault::Memory => Failure::Memory,
+        }
+    }
+}
+
+impl From<DeckFault> for Failure {
+    ghost from_gives = { λ fault failure. failure ≡ failure_of_deck fault };
+
+    fn from(fault: DeckFault) -> Failure {
+        match fault {
+            DeckFault::ShortCard(at) => Failure::Part(Part::Reader, Fault::ShortCard(at)),
+            DeckFault::Memory => Failure::Memory,
+        }
+    }
+}
+
+impl From<ScriptFault> for Failure {
+    ghost from_gives = { λ fault failure. failure ≡ failure_of_script fault };
+
+    fn from(fault: ScriptFault) -> Failure {
+        match fault {
+            ScriptFault::Read => Failure::Part(Part::Script, Fault::ReadFailed),
+            ScriptFault::TooLong => Failure::Part(Part::Script, Fault::ScriptTooLong),
+            ScriptFault::Write => Failure::Part(Part::Script, Fault::WriteFailed),
+            ScriptFault::Memory => Failure::Memory,
+        }
+    }
+}
