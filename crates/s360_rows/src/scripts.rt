@@ -199,7 +199,10 @@ fn carried_out(room: usize) -> usize {
     let written = ADD_ANSWERS.as_bytes().iter().take(room);
     let line_feeds = written.filter(|byte| **byte == b'\n').count();
     let lines = CARRIED_OUT.get(line_feeds).copied().unwrap_or_default();
-    ADD.lines().take(lines).map(|line| line.len() + 1).sum()
+    ADD.lines().take(lines).fold(
+        0,
+        |length: usize, line| length.saturating_add(line.len() + 1),
+    )
 }
 
 /// What is wrong where a script fails at a writer that takes so many bytes: it has taken them and no
