@@ -5,6 +5,7 @@ use crate::workload::{START, Workload};
 use s360_device::{COLUMNS, Deck, deck_from};
 use s360_journal::Session;
 use s360_machine::{Bytes, Event, Machine, Patch};
+use s360_tape::Tape;
 use s360_word::{RegisterNumber, Word};
 use std::alloc::Global;
 use std::fs;
@@ -54,7 +55,8 @@ fn ready_session(
     cards: u32,
     size: u32,
 ) -> Result<Session, BenchFault> {
-    let machine = Machine::new(alloc, size, deck_of(alloc, cards)?)?;
+    let deck = deck_of(alloc, cards)?;
+    let machine = Machine::new(alloc, size, deck, Tape::blank(alloc), Tape::blank(alloc))?;
     let mut session = Session::new(alloc, machine, LIMIT);
     set_bytes(&mut session, alloc, START, workload.program())?;
     for &(at, filling) in workload.areas() {

@@ -9,7 +9,8 @@ ghost use Rattle.s360_machine.specs.IoChanges.{no_unit_changes, unit_change_of};
 ghost use Rattle.s360_machine.specs.IoChanges.{unit_changes_after_swap, units_after_swap};
 ghost use Rattle.s360_machine.specs.declared.operator.Key.TheVariants.{Request};
 ghost use Rattle.s360_machine.specs.Planned.{IsUnitsChangeTo};
-ghost use Rattle.s360_machine.specs.InputOutput.{interrupting_unit, units_with};
+ghost use Rattle.s360_machine.specs.InputOutput.{active_beside, halted_unit, interrupting_unit};
+ghost use Rattle.s360_machine.specs.InputOutput.{is_occupied, unit_of_result, units_with};
 ghost use Rattle.s360_machine.specs.Operator.{units_after_key};
 ghost use Rattle.s360_machine.specs.Units.{control_of, idle_units, lowest_pending};
 ghost use Rattle.s360_machine.specs.Units.{with_control_of};
@@ -17,6 +18,7 @@ ghost use Rattle.s360_machine.specs.Units.{with_control_of};
 use crate::configured_unit::ConfiguredUnit;
 use crate::operator::Key;
 use s360_channel::{UnitControl, UnitState};
+use s360_fixed::IoOperation;
 use s360_psw::Psw;
 use s360_word::Unit;
 use std::alloc::{AllocError, Global};
@@ -29,6 +31,8 @@ pub(crate) struct Units {
     pub(crate) punch: UnitControl,
     pub(crate) printer: UnitControl,
     pub(crate) console: UnitControl,
+    pub(crate) tape0: UnitControl,
+    pub(crate) tape1: UnitControl,
 }
 
 /// What becomes of the units that do not stay as they are.
@@ -38,6 +42,8 @@ pub(crate) struct UnitChanges {
     pub(crate) punch: Option<UnitControl>,
     pub(crate) printer: Option<UnitControl>,
     pub(crate) console: Option<UnitControl>,
+    pub(crate) tape0: Option<UnitControl>,
+    pub(crate) tape1: Option<UnitControl>,
 }
 
 impl UnitChanges {
@@ -50,6 +56,8 @@ impl UnitChanges {
             punch: None,
             printer: None,
             console: None,
+            tape0: None,
+            tape1: None,
         }
     }
 
@@ -75,6 +83,14 @@ impl UnitChanges {
                 console: change,
                 ..none
             },
+            ConfiguredUnit::Tape0 => UnitChanges {
+                tape0: change,
+                ..none
+            },
+            ConfiguredUnit::Tape1 => UnitChanges {
+                tape1: change,
+                ..none
+            },
         }
     }
 
@@ -86,6 +102,8 @@ impl UnitChanges {
             && self.punch.is_none()
             && self.printer.is_none()
             && self.console.is_none()
+            && self.tape0.is_none()
+            && self.tape1.is_none()
     }
 }
 
@@ -127,6 +145,8 @@ impl Units {
             punch: UnitControl::idle(),
             printer: UnitControl::idle(),
             console: UnitControl::idle(),
+            tape0: UnitControl::idle(),
+            tape1: UnitControl::idle(),
         }
     }
 
@@ -139,6 +159,8 @@ impl Units {
             ConfiguredUnit::Punch => &self.punch,
             ConfiguredUnit::Printer => &self.printer,
             ConfiguredUnit::Console => &self.console,
+            ConfiguredUnit::Tape0 => &self.tape0,
+            ConfiguredUnit::Tape1 => &self.tape1,
         }
     }
 
@@ -157,6 +179,49 @@ impl Units {
     {
         ConfiguredUnit::ALL.iter().copied().find(|unit| psw.channel_mask(unit.channel())
             && self.control(*unit).is_pending())
+    }
+
+    /// The other tape, where a unit is a tape and the other is active.
+    fn active_beside(&self, unit: ConfiguredUnit) -> Option<ConfiguredUnit>
+        ensures { result ≡ active_beside self.now unit }
+    {
+        match unit {
+            ConfiguredUnit::Tape0 if self.tape1.state.is_active() => Some(ConfiguredUnit::Tape1),
+            ConfiguredUnit::Tape1 if self.tape0.state.is_active() => Some(ConfiguredUnit::Tape0),
+            _ => None,
+        }
+    }
+
+    /// Whether the channel of a unit executes another program, and one at a time.
+    pub(crate) fn is_occupied(&self, unit: ConfiguredUnit) -> bool
+        ensures { result ≡ is_occupied self.now unit }
+    {
+        self.active_beside(unit).is_some()
+    }
+
+    /// The unit whose program HALT I/O ends: itself where it is active, or else the other tape where
+    /// that one is.
+    pub(crate) fn halted(&self, unit: ConfiguredUnit) -> ConfiguredUnit
+        ensures { result ≡ halted_unit self.now unit }
+    {
+        if self.control(unit).state.is_active() {
+            return unit;
+        }
+        self.active_beside(unit).unwrap_or(unit)
+    }
+
+    /// The unit of which the result of an input/output instruction tells what it becomes.
+    pub(crate) fn of_result(
+        &self,
+        operation: IoOperation,
+        unit: Option<ConfiguredUnit>,
+    ) -> Option<ConfiguredUnit>
+        ensures { result ≡ unit_of_result operation self.now unit }
+    {
+        match operation {
+            IoOperation::Halt => Some(self.halted(unit?)),
+            _ => unit,
+        }
     }
 
     /// What leaves them as they are.
@@ -223,6 +288,8 @@ impl Units {
             punch: altered(&self.punch, UnitControl::idle()),
             printer: altered(&self.printer, UnitControl::idle()),
             console: altered(&self.console, UnitControl::idle()),
+            tape0: altered(&self.tape0, UnitControl::idle()),
+            tape1: altered(&self.tape1, UnitControl::idle()),
         }
     }
 
@@ -235,5 +302,7 @@ impl Units {
         exchange(&mut self.punch, &mut changes.punch);
         exchange(&mut self.printer, &mut changes.printer);
         exchange(&mut self.console, &mut changes.console);
+        exchange(&mut self.tape0, &mut changes.tape0);
+        exchange(&mut self.tape1, &mut changes.tape1);
     }
 }

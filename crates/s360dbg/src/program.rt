@@ -16,6 +16,7 @@ use s360_debug::{ScriptFault, run_script};
 use s360_device::{Deck, deck_from};
 use s360_journal::Session;
 use s360_machine::Machine;
+use s360_tape::Tape;
 use std::alloc::Global;
 use std::fs::{self, File};
 use std::io::{self, BufWriter, Input, IsTerminal, Read, Write};
@@ -35,7 +36,8 @@ pub(crate) fn run(rt: &HostRuntime, options: Options<'_>) -> Result<(), Failure>
 {
     let alloc = rt.alloc();
     let deck = read_deck(rt, alloc, options.reader)?;
-    let machine = Machine::new(alloc, options.storage, deck)?;
+    let (tape0, tape1) = (Tape::blank(alloc), Tape::blank(alloc));
+    let machine = Machine::new(alloc, options.storage, deck, tape0, tape1)?;
     let mut session = Session::new(alloc, machine, LIMIT);
     match options.script {
         Some(name) => {
