@@ -7,6 +7,7 @@ use Rattle.s360_device.specs.Punch.{new_punch}
 use Rattle.s360_device.specs.Reader.{new_reader}
 use Rattle.s360_print.specs.Console.{new_console}
 use Rattle.s360_print.specs.Printer.{new_printer}
+use Rattle.s360_tape.specs.Tape.{new_tape}
 use Rattle.s360_machine.specs.declared.external.ExternalConditions.{ExternalConditions}
 use Rattle.s360_machine.specs.declared.operator.Key.TheVariants.{Start, Stop, Reset, Interrupt}
 use Rattle.s360_machine.specs.declared.run_state.RunState.{RunState}
@@ -36,7 +37,14 @@ known psw r1 r2 bytes run_state external = record {
   };
   control = record { run_state = run_state; external = external };
   units = idle_units;
-  media = record { reader = new_reader []; punch = new_punch; printer = new_printer; console = new_console };
+  media = record {
+    reader = new_reader [];
+    punch = new_punch;
+    printer = new_printer;
+    console = new_console;
+    tape0 = new_tape [] false;
+    tape1 = new_tape [] false;
+  };
 }
 
 -- AR that overflows with its mask one is completed, and then interrupts with code 8

@@ -17,3 +17,5 @@ returns c =
     (idle-is us.punch _ _ c.idle-2.ensures c.altered-2.ensures)
     (idle-is us.printer _ _ c.idle-3.ensures c.altered-3.ensures)
     (idle-is us.console _ _ c.idle-4.ensures c.altered-4.ensures)
+    (idle-is us.tape0 _ _ c.idle-5.ensures c.altered-5.ensures)
+    (idle-is us.tape1 _ _ c.idle-6.ensures c.altered-6.ensures)
