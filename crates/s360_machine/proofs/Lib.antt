@@ -1,3 +1,4 @@
+pub mod PlaceLemmas
 pub mod ControlLemmas
 pub mod SwapLemmas
 pub mod ChangeLemmas
@@ -6,3 +7,4 @@ pub mod StepLemmas
 pub mod CswLemmas
 pub mod InterruptionLemmas
 mod KnownEvents
+mod KnownTapes
