@@ -1,10 +1,8 @@
 -- Input/output instructions of one tape while the other executes a program, worked by hand.
-use Rattle.std.specs.Prelude.{◌≡◌, Option, Some, None, refl}
+use Rattle.std.specs.Prelude.{◌≡◌, Some, refl}
 use Rattle.s360_model.specs.Storage.{Storage}
-use Rattle.s360_word.specs.declared.unit.Unit.{Unit}
 use Rattle.s360_fixed.specs.declared.ended.IoOperation.TheVariants.{Start, Test, Halt}
 use Rattle.s360_channel.specs.declared.program.Program.{Program}
-use Rattle.s360_channel.specs.declared.unit_control.UnitControl.{UnitControl}
 use Rattle.s360_channel.specs.declared.unit_state.UnitState.{UnitState}
 use Rattle.s360_channel.specs.declared.unit_state.UnitState.TheVariants.{Active, Waiting}
 use Rattle.s360_channel.specs.IoInstructions.{condition_alone, csw_of_halted}
