@@ -1,5 +1,5 @@
 -- Lines of bytes, one byte and one line more at the end.
-use Rattle.std.proofs.Common.{◌≡◌, ◌<◌, ◌≤◌, ◌+◌, ◌-◌, ◌/◌, ◌%◌, ◌^◌, ◌++◌, ℕ, List, [], ◌∷◌, ap, sym, ◌∙◌, refl, drop, get_or, length, map, append_assoc, arith, codes}
+use Rattle.std.proofs.Common.{◌≡◌, ◌<◌, ◌≤◌, ◌+◌, ◌-◌, ◌/◌, ◌%◌, ◌^◌, ◌++◌, ℕ, List, [], ◌∷◌, ap, sym, ◌∙◌, refl, drop, take, get_or, length, map, append_assoc, arith, codes}
 use Rattle.std.proofs.lemmas.List.{append-nil, take_more, get_or-drop, length-drop}
 use Rattle.std.proofs.lemmas.List.Folds.{flat_map-map}
 use Rattle.std.proofs.lemmas.List.FromFn.{map-range_with_len_more}
@@ -28,6 +28,19 @@ pub hex_bytes-more : (bytes : List ℕ) (first end : ℕ) → first ≤ end → 
     → hex_bytes (slice_range bytes first (end + 1)) ≡ hex_bytes (slice_range bytes first end) ++ hex_text 2 (get_or bytes end 0)
 hex_bytes-more bytes first end order inside =
     ap hex_bytes (slice_range-more bytes first end order inside) ∙ hex_bytes-push (slice_range bytes first end) (get_or bytes end 0)
+
+hex_bytes-taken : (bytes : List ℕ) (i : ℕ) → i < length bytes → hex_bytes (take (i + 1) bytes) ≡ hex_bytes (take i bytes) ++ hex_text 2 (get_or bytes i 0)
+hex_bytes-taken bytes i inside = ap hex_bytes (take_more bytes i 0 inside) ∙ hex_bytes-push (take i bytes) (get_or bytes i 0)
+
+-- and after a text
+pub digits-pushed : (bytes old text new : List ℕ) (i byte : ℕ) → text ≡ old ++ hex_bytes (take i bytes) → i < length bytes → byte ≡ get_or bytes i 0
+    → new ≡ text ++ hex_text 2 byte → new ≡ old ++ hex_bytes (take (i + 1) bytes)
+digits-pushed bytes old text new i byte h inside e k =
+    k
+    ∙ ap (λ (t : List ℕ). t ++ hex_text 2 byte) h
+    ∙ ap (λ (b : ℕ). (old ++ hex_bytes (take i bytes)) ++ hex_text 2 b) e
+    ∙ append_assoc old (hex_bytes (take i bytes)) (hex_text 2 (get_or bytes i 0))
+    ∙ ap (λ (t : List ℕ). old ++ t) (sym (hex_bytes-taken bytes i inside))
 
 -- one line more
 pub lines-more : (line : ℕ → List ℕ) (n : ℕ) → flat_map line (range_with_len 0 (n + 1)) ≡ flat_map line (range_with_len 0 n) ++ line n
