@@ -118,7 +118,8 @@ fn push_begin(text: &mut Text, bytes: &[u8]) -> Result<(), AllocError>
         return Ok(());
     }
     text.push_text(" ")?;
-    push_digits(text, &bytes[..bytes.len().min(BLOCK_BEGIN)])
+    push_digits(text, &bytes[..BLOCK_BEGIN.min(bytes.len())])?;
+    Ok(())
 }
 
 /// The line of a line that was printed.
