@@ -9,7 +9,7 @@ Source: GA22-6821, "Fixed-Point Arithmetic", "Decimal Arithmetic", "Logical Oper
 import operator
 
 from second_channels import Channels
-from second_core import ADDRESSES, BLOCK, DOUBLEWORD, SIZE, WORD, Interruption, signed
+from second_core import ADDRESSES, BLOCK, DOUBLEWORD, WORD, Interruption, signed
 
 # The addresses of the old and the new PSW.
 EXTERNAL, SUPERVISOR, PROGRAM = (24, 88), (32, 96), (40, 104)
@@ -176,7 +176,7 @@ class Machine(Channels):
         block = (word & 0xFFFFFF) // BLOCK
         if word & 15:
             raise Interruption(6)
-        if block >= SIZE // BLOCK:
+        if block >= self.size // BLOCK:
             raise Interruption(5)
         if code == 0x08:
             self.put(self.key_name(block), self.register(r1) >> 4 & 15)
@@ -271,7 +271,7 @@ class Machine(Channels):
     def multiple(self, code, r1, r3, address):
         numbers = [(r1 + i) % 16 for i in range((r3 - r1) % 16 + 1)]
         self.check(address, 4 * len(numbers), 4, is_store=code == 0x90)
-        for at, number in zip(range(address, SIZE, 4), numbers):
+        for at, number in zip(range(address, self.size, 4), numbers):
             if code == 0x90:
                 self.store(at, self.register(number), 4, 4)
             else:

@@ -1,9 +1,11 @@
-"""Random decks and channel programs for `second_opinion.py`: CAWs and chains of CCWs from `CHAIN` on.
+"""Random media and channel programs for `second_opinion.py`: CAWs and chains of CCWs from `CHAIN` on.
 
 Most of the programs are right, or wrong at one edge.
 """
-from second_channels import CARD, CONSOLE, PRINTER, PUNCH, READER
+from second_channels import CONSOLE, PRINTER, PUNCH, READER, TAPES
 from second_core import BLOCK, SIZE
+from second_devices import CARD
+from second_tapes import FIRST, LAST, MARK, MIDDLE, TAPE_MARK, WHOLE, Tape, header
 
 CHAIN = 0x400
 MOST_WORDS = 6
@@ -13,6 +15,9 @@ COMMANDS = {
     PRINTER: [0x01, 0x09, 0x11, 0x19, 0x0B, 0x13, 0x1B, 0x89, 0xD9, 0xE1, 0x8B, 0xDB, 0xE3],
     CONSOLE: [0x01, 0x09, 0x0A, 0x0A, 0x0B],
 }
+# A tape is mostly read, and seldom unloaded, which nothing undoes.
+TAPE_COMMANDS = [0x01, 0x1F, 0x17, 0x07, 0x3F, 0x2F, *[0x02, 0x0C, 0x37, 0x27] * 2] * 4 + [0x0F]
+COMMANDS |= {unit: TAPE_COMMANDS for unit in TAPES}
 TRANSFERS = [0x08, 0x08, 0x08, 0xF8]
 FLAGS = [0x00, 0x20, 0x40, 0x60, 0x40, 0x60, 0x60, 0x80, 0x80, 0x80, 0xA0, 0xC0, 0xE0, 0x10, 0x90]
 FLAGS += [0x50, 0x08]
@@ -57,3 +62,33 @@ def deck(some):
 def card(some):
     kinds = [bytes(range(0xC1, 0xCA)), bytes(range(0xF0, 0xFA)), bytes(range(256)), b"\x40"]
     return bytes(some.choice(some.choice(kinds)) for _ in range(some.randint(0, CARD)))
+
+
+def tape(some):
+    """Blocks, some of them long and some empty, and marks."""
+    count = some.choice([0, 1, 5, 40])
+    return Tape(recorded=tuple(item(some) for _ in range(count)), is_protected=some.random() < 0.2)
+
+
+def item(some):
+    if some.random() < 0.3:
+        return MARK
+    return some.randbytes(some.choice([0, 1, 2, 39, 80, some.randrange(400)]))
+
+
+def image(some, items):
+    """A file of a tape, with blocks in parts, and with any numbers where none is checked."""
+    return b"".join(
+        header(len(part), some.getrandbits(16), flags, some.getrandbits(8)) + part
+        for item in items
+        for flags, part in parts(some, item)
+    )
+
+
+def parts(some, item):
+    if item is MARK:
+        return [(TAPE_MARK, b"")]
+    cuts = sorted(some.randint(0, len(item)) for _ in range(some.choice([0, 0, 1, 2, 3])))
+    ends = zip([0, *cuts], [*cuts, len(item)])
+    flags = [FIRST, *[MIDDLE] * (len(cuts) - 1), LAST] if cuts else [WHOLE]
+    return [(flag, item[start:end]) for flag, (start, end) in zip(flags, ends)]
