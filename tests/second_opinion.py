@@ -306,7 +306,7 @@ class Script:
         # Bits 16 to 33 are dropped.
         self.say(f"patch p {psw | some.getrandbits(18) << 30:016X}")
         self.patch_bytes(OPERANDS + 4 * some.randrange(60), self.operand())
-        starts = some.random() < 0.3
+        starts = some.random() < 0.45
         instruction = self.start_of_program() if starts else self.instruction()
         self.patch_operands(instruction)
         self.patch_inside(address, instruction)
