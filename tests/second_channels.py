@@ -10,7 +10,7 @@ from typing import NamedTuple
 from second_core import ADDRESSES, BLOCK, SIZE, Core
 from second_devices import CONTROL, INPUT, NOT_YET, NO_OPERATION, OUTPUT, REFUSED, UNIT_EXCEPTION
 from second_devices import Console, Printer, Punch, Reader, begun, done
-from second_tapes import Tape, image_of
+from second_tapes import Tape, shown_image
 
 READER, PUNCH, PRINTER, CONSOLE = 0x00C, 0x00D, 0x00E, 0x01F
 TAPES = (0x180, 0x181)
@@ -24,7 +24,6 @@ ENDED, UNIT_CHECK = 0x0C00, 0x0200
 ATTENTION, BUSY = 0x8000, 0x1000
 INCORRECT_LENGTH, PROGRAM_CHECK, PROTECTION_CHECK = 0x0040, 0x0020, 0x0010
 START, TEST, HALT, TEST_CHANNEL = 0x9C, 0x9D, 0x9E, 0x9F
-BYTES_OF_LINE = 32
 
 
 class Program(NamedTuple):
@@ -322,7 +321,4 @@ class Channels(Core):
         return f"{unit:03X} sense {device.sense.hex().upper()} {device.shown()}"
 
     def shown_image(self, unit):
-        image = image_of(self.device(unit).recorded)
-        starts = range(0, len(image), BYTES_OF_LINE)
-        lines = [image[at : at + BYTES_OF_LINE].hex().upper() for at in starts]
-        return [f"image {len(image)}", *lines]
+        return shown_image(self.device(unit).recorded)

@@ -7,7 +7,7 @@ from typing import NamedTuple
 from second_devices import CONTROL, INPUT, INTERVENTION, OUTPUT, REFUSED, REJECTED, UNIT_EXCEPTION
 
 LONGEST_BLOCK = 65_535
-SHOWN_OF_BLOCK = 32
+BYTES_OF_LINE = SHOWN_OF_BLOCK = 32
 # A tape is a list of blocks, which are bytes, and of this.
 MARK = None
 WRITE, WRITE_MARK, ERASE_GAP = 0x01, 0x1F, 0x17
@@ -70,6 +70,14 @@ def image_of(items):
         image += header(len(block), previous, TAPE_MARK if item is MARK else WHOLE) + block
         previous = len(block)
     return bytes(image)
+
+
+def shown_image(items):
+    """The lines that show the file of blocks and marks."""
+    image = image_of(items)
+    starts = range(0, len(image), BYTES_OF_LINE)
+    lines = [image[at : at + BYTES_OF_LINE].hex().upper() for at in starts]
+    return [f"image {len(image)}", *lines]
 
 
 def shown_item(item):
