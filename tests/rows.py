@@ -7,10 +7,10 @@
 A row is a script `tests/rows/CHAPTER/NAME` with its answers in `NAME.stdout`. Words of the command
 line stand in `NAME.args`, one a line. The deck of the card reader stands in `NAME.cards`: a line of
 hexadecimal digits for each card, whose other columns are blank. The files of the tapes stand in
-`NAME.tape0` and `NAME.tape1`: words of hexadecimal digits, and a word `DIGITSxN` for N times the bytes
-of its digits. In both a line that begins with `*` is a comment. The examples are rows too: their
-answers stand beside them in `.answers`, and their decks and tapes as files in `.deck`, `.tape0` and
-`.tape1`. With words, the rows that have one of them in their path.
+`NAME.tape0` and `NAME.tape1`: words of hexadecimal digits, and a word `DIGITSxN` for N times the
+bytes of its digits. In both a line that begins with `*` is a comment. The examples are rows too:
+their answers stand beside them in `.answers`, and their decks and tapes as files in `.deck`,
+`.tape0` and `.tape1`. With words, the rows that have one of them in their path.
 
 The answers have to be the same to the byte, with status 0 and nothing on standard error. Then the
 row is run a second time with as many `back` as changes stand at its end, and all that can be shown
@@ -93,7 +93,8 @@ BESIDE = (".stdout", ".args", *ROW_MEDIA)
 
 
 def media_beside(script, kinds):
-    files = {ending: script.parent / (script.name.removesuffix(".s360") + ending) for ending in kinds}
+    stem = script.name.removesuffix(".s360")
+    files = {ending: script.with_name(stem + ending) for ending in kinds}
     return {
         option: read(files[ending])
         for ending, (option, read) in kinds.items()

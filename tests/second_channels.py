@@ -8,7 +8,7 @@ Source: GA22-6821, "Input/Output Operations".
 from typing import NamedTuple
 
 from second_core import ADDRESSES, BLOCK, SIZE, Core
-from second_devices import CONTROL, INPUT, NOT_YET, NO_OPERATION, OUTPUT, REFUSED, UNIT_EXCEPTION
+from second_devices import INPUT, NO_OPERATION, NOT_YET, OUTPUT, REFUSED
 from second_devices import Console, Printer, Punch, Reader, begun, done
 from second_tapes import Tape, shown_image
 
@@ -19,7 +19,7 @@ CSW, CAW = 64, 72
 IDLE = 0
 # What a CCW follows.
 SIO, COMMAND_CHAIN, DATA_CHAIN = "sio", "command chain", "data chain"
-# Bits 32 to 47 of the CSW, with the unit exception of a device.
+# Bits 32 to 47 of the CSW, beside the unit exception of a device.
 ENDED, UNIT_CHECK = 0x0C00, 0x0200
 ATTENTION, BUSY = 0x8000, 0x1000
 INCORRECT_LENGTH, PROGRAM_CHECK, PROTECTION_CHECK = 0x0040, 0x0020, 0x0010

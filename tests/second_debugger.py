@@ -93,7 +93,9 @@ class Debugger:
 
     def key_of(self, address, key):
         at = int(address, 16)
-        return None if at >= self.machine.size else {self.machine.key_name(at // BLOCK): int(key, 16)}
+        if at >= self.machine.size:
+            return None
+        return {self.machine.key_name(at // BLOCK): int(key, 16)}
 
     def psw_of(self, doubleword):
         return {"p": int(doubleword, 16) & ~(0x3FFFF << 30)}

@@ -147,7 +147,9 @@ class Console(NamedTuple):
             return CONTROL, b""
         if command != 0x0A:
             return REFUSED, REJECTED
-        return (INPUT, self.entered[self.taken]) if self.taken < len(self.entered) else (NOT_YET, b"")
+        if self.taken == len(self.entered):
+            return NOT_YET, b""
+        return INPUT, self.entered[self.taken]
 
     def done(self, command, written):
         if command == 0x0A:

@@ -3,11 +3,12 @@
 
 Random words, PSWs, storage keys, operands, tables, instructions and channel programs are patched
 in and stepped or run over a random deck and random tapes, with breakpoints, and the channels, the
-timer and the operator's keys come in between. Each answer is compared: reports, refusals, the PSW, the registers,
-the pending conditions, the units with their media and last changes and the bytes that are shown,
-and these again after a step back. `second_opinion.py FIRST LAST` takes the seeds from the first to
-the last, and each of them tries 300 instructions. It needs the program as `rt ci` or `./run` has
-built it. It prints the first answer of a seed that is another, and how many seeds had none.
+timer and the operator's keys come in between. Each answer is compared: reports, refusals, the PSW,
+the registers, the pending conditions, the units with their media and last changes, the images of
+tapes and the bytes that are shown, and these again after a step back. `second_opinion.py FIRST
+LAST` takes the seeds from the first to the last, and each of them tries 300 instructions. It needs
+the program as `rt ci` or `./run` has built it. It prints the first answer of a seed that is
+another, and how many seeds had none.
 
 `second_machine.py` says what the comparison can find.
 """
@@ -25,7 +26,6 @@ from second_debugger import Debugger
 from second_devices import SIGNS
 from second_machine import STOPPED, TIMER
 from second_programs import CHAIN, address_word, chain, deck, image, tape
-from second_tapes import items_of
 
 TOP = pathlib.Path(__file__).resolve().parent.parent
 PROGRAM = TOP / "crates/s360dbg/out/s360dbg"
@@ -332,7 +332,7 @@ class Script:
 def command_line(script, folder):
     """The words for a script's media, which are put into files of a folder."""
     media = {"reader": b"".join(script.deck)}
-    media |= {f"tape{number}": image for number, image in enumerate(script.images)}
+    media |= {f"tape{number}": contents for number, contents in enumerate(script.images)}
     for option, contents in media.items():
         file = pathlib.Path(folder) / option
         file.write_bytes(contents)

@@ -1,4 +1,4 @@
-"""Random media and channel programs for `second_opinion.py`: CAWs and chains of CCWs from `CHAIN` on.
+"""Random media and channel programs for `second_opinion.py`: CAWs, and chains of CCWs from `CHAIN`.
 
 Most of the programs are right, or wrong at one edge.
 """

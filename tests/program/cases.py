@@ -18,7 +18,7 @@ from typing import NamedTuple
 
 TOP = pathlib.Path(__file__).resolve().parent.parent.parent
 sys.path.insert(0, str(TOP / "tests"))
-from second_tapes import FIRST, LAST, LONGEST_BLOCK, MARK, TAPE_MARK, WHOLE, TapeFault
+from second_tapes import FIRST, LAST, LONGEST_BLOCK, MARK, TAPE_MARK, TapeFault
 from second_tapes import header, image_of, items_of, shown_image, shown_item
 
 PROGRAM = TOP / "crates/s360dbg/out/s360dbg"
