@@ -166,6 +166,21 @@ DECKS = [
 BLANK_TAPES = b"""180 sense 000000000000 position 0 of 0 loaded
 181 sense 000000000000 position 0 of 0 loaded
 """
+# A mark is to be written on 180. Were the cost of that in proportion to the tape, so many of them
+# could not be written in the time that a case has.
+MARK_AT_LOAD_POINT = b"""patch p 0000000000000200
+patch s 48 00000400
+patch s 200 9C000180
+patch s 400 1F00000000000001
+step
+"""
+MARK_IS_STARTED = b"""1 changed 1 p
+2 changed 1 s00004A
+3 changed 3 s000200 s000202 s000203
+4 changed 2 s000400 s000407
+5 changed 2 p u180
+"""
+MANY = 10_000
 
 
 def loaded(count):
@@ -176,6 +191,7 @@ def faulty(what, name, fault):
     return Case(what, ["--tape0", name], b"standing\n", 1, b"", told(b"tape0: " + fault))
 
 
+MOST_MARKS = loaded(LONGEST_FILE // 6)
 TAPES = [
     Case("blank tapes where none is named", [], b"show d 180\nshow d 181\n", 0, BLANK_TAPES),
     Case("files of no bytes", ["--tape0", "empty.tape", "--tape1=empty.tape"],
@@ -201,8 +217,10 @@ TAPES = [
     faulty("whose file ends before it", "short-and-too-long.tape", b"short block at 65541"),
     Case("a file of the most longest blocks", ["--tape0", "blocks.tape"], b"show d 180\n", 0,
          loaded(1023)),
-    Case("a file of the most marks", ["--tape0", "marks.tape"], b"show d 180\n", 0,
-         loaded(11_184_810)),
+    Case("a file of the most marks, and writes that discard all of them and are taken back",
+         ["--tape0", "marks.tape"],
+         MARK_AT_LOAD_POINT + b"channel 180\nback\n" * MANY + b"show d 180\n", 0,
+         MARK_IS_STARTED + b"6 changed 2 u180 d180\nback 6 channel 180\n" * MANY + MOST_MARKS),
     faulty("a file of the greatest length is decoded", "longest.tape", b"part out of place at 0"),
     faulty("a file of a byte more is not", "longer.tape", b"file too long"),
     Case("a fault that standard error cannot tell of", ["--tape0", FOLDER], b"", 1, b"", None),
