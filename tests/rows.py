@@ -6,9 +6,11 @@
 
 A row is a script `tests/rows/CHAPTER/NAME` with its answers in `NAME.stdout`. Words of the command
 line stand in `NAME.args`, one a line. The deck of the card reader stands in `NAME.cards`: a line of
-hexadecimal digits for each card, whose other columns are blank; a line that begins with `*` is a
-comment. The examples are rows too: their answers stand beside them in `.answers`, and their decks as
-files in `.deck`. With words, the rows that have one of them in their path.
+hexadecimal digits for each card, whose other columns are blank. The files of the tapes stand in
+`NAME.tape0` and `NAME.tape1`: words of hexadecimal digits, and a word `DIGITSxN` for N times the
+bytes of its digits. In both a line that begins with `*` is a comment. The examples are rows too:
+their answers stand beside them in `.answers`, and their decks and tapes as files in `.deck`,
+`.tape0` and `.tape1`. With words, the rows that have one of them in their path.
 
 The answers have to be the same to the byte, with status 0 and nothing on standard error. Then the
 row is run a second time with as many `back` as changes stand at its end, and all that can be shown
@@ -34,12 +36,12 @@ PROGRAM = TOP / "crates/s360dbg/out/s360dbg"
 STORAGE = 65_536
 BLOCK = 2_048
 MOST_SHOWN = 256
-UNITS = ("00C", "00D", "00E", "01F")
+TAPES = ("180", "181")
+UNITS = ("00C", "00D", "00E", "01F", *TAPES)
 # So many of a unit's items are shown, and one more.
 ITEMS = 20
 CARD = 80
 BLANK = b"\x40"
-BESIDE = (".stdout", ".args", ".cards")
 SECONDS = 120
 
 
@@ -48,39 +50,70 @@ class Row(NamedTuple):
     script: bytes
     answers: bytes
     args: list[str]
-    deck: bytes | None
+    media: dict[str, bytes]  # files, by the options that name them
 
     def placed(self, folder):
-        """The row with its deck as a file of the folder, which its command line names."""
-        if self.deck is None:
-            return self
-        file = pathlib.Path(folder) / self.name.replace("/", "-")
-        file.write_bytes(self.deck)
-        return self._replace(args=["--reader", str(file), *self.args])
+        """The row with its media as files of the folder, which its command line names."""
+        words = []
+        for option, contents in self.media.items():
+            file = pathlib.Path(folder) / (self.name.replace("/", "-") + option)
+            file.write_bytes(contents)
+            words += [option, str(file)]
+        return self._replace(args=[*words, *self.args])
+
+
+def lines_of(file):
+    return [line for line in file.read_text().splitlines() if not line.startswith("*")]
 
 
 def deck_of(cards):
     """The deck of cards that are written as digits."""
-    lines = [line for line in cards.read_text().splitlines() if not line.startswith("*")]
-    return b"".join(bytes.fromhex(line).ljust(CARD, BLANK) for line in lines)
+    return b"".join(bytes.fromhex(line).ljust(CARD, BLANK) for line in lines_of(cards))
 
 
-def read_if_there(file, read):
-    return read(file) if file.exists() else None
+def image_of(tape):
+    """The file of a tape that is written as digits."""
+    words = " ".join(lines_of(tape)).split()
+    parts = (word.partition("x") for word in words)
+    return b"".join(bytes.fromhex(digits) * int(count or 1) for digits, _, count in parts)
+
+
+# What stands beside a row, and beside an example, with the option that names it and how it is read.
+ROW_MEDIA = {
+    ".cards": ("--reader", deck_of),
+    ".tape0": ("--tape0", image_of),
+    ".tape1": ("--tape1", image_of),
+}
+EXAMPLE_MEDIA = {
+    ".deck": ("--reader", pathlib.Path.read_bytes),
+    ".tape0": ("--tape0", pathlib.Path.read_bytes),
+    ".tape1": ("--tape1", pathlib.Path.read_bytes),
+}
+BESIDE = (".stdout", ".args", *ROW_MEDIA)
+
+
+def media_beside(script, kinds):
+    stem = script.name.removesuffix(".s360")
+    files = {ending: script.with_name(stem + ending) for ending in kinds}
+    return {
+        option: read(files[ending])
+        for ending, (option, read) in kinds.items()
+        if files[ending].exists()
+    }
 
 
 def rows():
     for script in sorted(ROWS.glob("*/*")):
         if script.suffix not in BESIDE:
-            answers, args, cards = (script.with_name(script.name + part) for part in BESIDE)
+            answers, args = (script.with_name(script.name + part) for part in (".stdout", ".args"))
             words = args.read_text().splitlines() if args.exists() else []
-            deck = read_if_there(cards, deck_of)
+            media = media_beside(script, ROW_MEDIA)
             name = str(script.relative_to(ROWS))
-            yield Row(name, script.read_bytes(), answers.read_bytes(), words, deck)
+            yield Row(name, script.read_bytes(), answers.read_bytes(), words, media)
     for script in sorted((TOP / "examples").glob("*.s360")):
         answers = script.with_suffix(".answers").read_bytes()
-        deck = read_if_there(script.with_suffix(".deck"), pathlib.Path.read_bytes)
-        yield Row(f"examples/{script.name}", script.read_bytes(), answers, [], deck)
+        media = media_beside(script, EXAMPLE_MEDIA)
+        yield Row(f"examples/{script.name}", script.read_bytes(), answers, [], media)
 
 
 def run(program, args, script, **how):
@@ -99,6 +132,7 @@ def show_lines(args):
     unit_lines = ("show u", "show d", "last u", "last d")
     yield from (f"{line} {unit}" for line in unit_lines for unit in UNITS)
     yield from (f"show m {unit} {item}" for unit in UNITS for item in range(1, ITEMS + 2))
+    yield from (f"show image {tape}" for tape in TAPES)
 
 
 def script_of(lines):
@@ -151,17 +185,17 @@ def proved(wanted):
 def unproved(wanted):
     """What is wrong with each row's answers, by one run of `rt try` over all of them."""
     data = []
-    with tempfile.TemporaryDirectory() as folder, tempfile.TemporaryDirectory() as decks:
+    with tempfile.TemporaryDirectory() as folder, tempfile.TemporaryDirectory() as media:
         for number, row in enumerate(wanted):
             script = pathlib.Path(folder) / f"{number:06}"
             script.write_bytes(row.script)
-            args = row.args
-            if row.deck is not None:
-                # The program finds a deck by its name alone, in the folder that it is run in.
-                _, deck, *args = row.placed(decks).args
-                name = pathlib.Path(deck).name
-                data += ["--data", f"{name}={deck}"]
-                args = ["--reader", name, *args]
+            # The program finds a file by its name alone, in the folder that it is run in.
+            args = row.placed(media).args
+            for at, option in enumerate(args):
+                if option in row.media:
+                    name = pathlib.Path(args[at + 1]).name
+                    data += ["--data", f"{name}={args[at + 1]}"]
+                    args[at + 1] = name
             if args:
                 script.with_suffix(".args").write_text("".join(f"{word}\n" for word in args))
         command = ["rt", "try", "--cases", folder, *data]

@@ -1,38 +1,29 @@
-"""The channels and the units of the second machine: reader 00C, punch 00D, printer 00E, console 01F.
+"""The channels and the units of the second machine.
 
-A unit's state is `IDLE`, a program or a CSW that waits, and its device is a value that a command
-makes another one of.
+A unit's state is `IDLE`, a program or a CSW that waits. `second_devices.py` and `second_tapes.py`
+have the devices. Channel 0 runs a program for each of its units, and channel 1 one at a time.
 
-Source: GA22-6821, "Input/Output Operations", and the component descriptions of 2540, 1403, 1052.
+Source: GA22-6821, "Input/Output Operations".
 """
-import string
 from typing import NamedTuple
 
 from second_core import ADDRESSES, BLOCK, SIZE, Core
+from second_devices import INPUT, NO_OPERATION, NOT_YET, OUTPUT, REFUSED
+from second_devices import Console, Printer, Punch, Reader, begun, done
+from second_tapes import Tape, shown_image
 
 READER, PUNCH, PRINTER, CONSOLE = 0x00C, 0x00D, 0x00E, 0x01F
-UNITS = (READER, PUNCH, PRINTER, CONSOLE)
+TAPES = (0x180, 0x181)
+UNITS = (READER, PUNCH, PRINTER, CONSOLE, *TAPES)
 CSW, CAW = 64, 72
-CARD = 80
-PRINT_LINE, TYPED_LINE = 132, 256
-LINES_OF_PAGE, LAST_LINES, PAGES = 66, 56, 1 << 32
 IDLE = 0
 # What a CCW follows.
-SIO, COMMAND_CHAIN, DATA_CHAIN = "sio", "command chain", "data chain"
-# What a command is to its device.
-INPUT, OUTPUT, CONTROL, REFUSED = "input", "output", "control", "refused"
-NOT_YET = "not yet"
-# Bits 32 to 47 of the CSW.
-ENDED, UNIT_EXCEPTION, UNIT_CHECK = 0x0C00, 0x0100, 0x0200
+SIO, LOAD, COMMAND_CHAIN, DATA_CHAIN = "sio", "load", "command chain", "data chain"
+# Bits 32 to 47 of the CSW, beside the unit exception of a device.
+ENDED, UNIT_CHECK = 0x0C00, 0x0200
 ATTENTION, BUSY = 0x8000, 0x1000
 INCORRECT_LENGTH, PROGRAM_CHECK, PROTECTION_CHECK = 0x0040, 0x0020, 0x0010
-# Sense.
-REJECTED, INTERVENTION = 0x80, 0x40
-NO_OPERATION, SENSE = 0x03, 0x04
 START, TEST, HALT, TEST_CHANNEL = 0x9C, 0x9D, 0x9E, 0x9F
-# The signs of EBCDIC bytes that are shown, and where a card lies.
-SIGNS = string.ascii_letters + string.digits + " .<(+|&!$*);-/,%_>?:#@'=\""
-READ_STACKERS, PUNCH_STACKERS = ("R1", "R2", "RP3"), ("P1", "P2", "RP3")
 
 
 class Program(NamedTuple):
@@ -105,162 +96,8 @@ class Ccw(NamedTuple):
         return not has_code or self.flags & 7 != 0 or self.count == 0
 
 
-def with_text(name, line):
-    """A name, and the signs of a line without the blanks at their end."""
-    signs = "".join(sign if sign in SIGNS else "." for sign in line.decode("cp037"))
-    return f"{name} {signs}".rstrip(" ")
-
-
-class Reader(NamedTuple):
-    sense: int = 0
-    cards: tuple = ()
-    stackers: tuple = ()
-    has_end: bool = False
-
-    def begun(self, command):
-        if command not in (0x02, 0x42, 0x82, 0xC2, 0x23, 0x63, 0xA3):
-            return REFUSED, REJECTED
-        kind = INPUT if command & 15 == 2 else CONTROL
-        if len(self.stackers) < len(self.cards):
-            return kind, self.cards[len(self.stackers)]
-        return (kind, b"") if self.has_end else (REFUSED, INTERVENTION)
-
-    def done(self, command, _):
-        if len(self.stackers) == len(self.cards):
-            return self, UNIT_EXCEPTION
-        feeds = () if command == 0xC2 else (command >> 6,)
-        return self._replace(stackers=self.stackers + feeds), 0
-
-    def shown(self):
-        end = "on" if self.has_end else "off"
-        return f"next {len(self.stackers)} of {len(self.cards)} eof {end}"
-
-    def items(self):
-        fed = [READ_STACKERS[stacker] for stacker in self.stackers]
-        places = fed + ["hopper"] * (len(self.cards) - len(fed))
-        return [with_text(place, card) for place, card in zip(places, self.cards)]
-
-
-class Punch(NamedTuple):
-    sense: int = 0
-    cards: tuple = ()
-
-    def begun(self, command):
-        return (OUTPUT, CARD) if command in (0x01, 0x41, 0x81) else (REFUSED, REJECTED)
-
-    def done(self, command, written):
-        return self._replace(cards=self.cards + ((command, written.ljust(CARD, b"\x40")),)), 0
-
-    def shown(self):
-        return f"cards {len(self.cards)}"
-
-    def items(self):
-        return [with_text(PUNCH_STACKERS[command >> 6], card) for command, card in self.cards]
-
-
-class Carriage(NamedTuple):
-    page: int = 1
-    line: int = 1
-
-    def spaced(self, lines):
-        """The carriage after spacing, and whether it came to the last lines of a page."""
-        line = self.line + lines
-        exception = UNIT_EXCEPTION if self.line < LAST_LINES <= line else 0
-        if line > LINES_OF_PAGE:
-            return self.next_page(line - LINES_OF_PAGE), exception
-        return self._replace(line=line), exception
-
-    def skipped(self, channel):
-        line = 5 * channel - 4
-        return (self._replace(line=line) if line > self.line else self.next_page(line)), 0
-
-    def next_page(self, line):
-        return Carriage(self.page % (PAGES - 1) + 1, line)
-
-    def moved(self, command):
-        """By what its code says before its lowest three bits."""
-        if command & 0x80:
-            return self.skipped(command >> 3 & 15)
-        return self.spaced(command >> 3)
-
-
-def moves(command):
-    """Whether the code of a printer's command has a motion."""
-    number = command >> 3 & 15
-    return 1 <= number <= 12 if command & 0x80 else number <= 3
-
-
-class Printer(NamedTuple):
-    sense: int = 0
-    records: tuple = ()
-    carriage: Carriage = Carriage()
-
-    def begun(self, command):
-        if command & 7 == 1 and moves(command):
-            return OUTPUT, PRINT_LINE
-        if command & 7 == 3 and moves(command):
-            return CONTROL, b""
-        return REFUSED, REJECTED
-
-    def done(self, command, written):
-        records = self.records
-        if command & 7 == 1:
-            records += ((self.carriage, written),)
-        carriage, exception = self.carriage.moved(command)
-        return self._replace(records=records, carriage=carriage), exception
-
-    def shown(self):
-        return f"page {self.carriage.page} line {self.carriage.line} records {len(self.records)}"
-
-    def items(self):
-        return [with_text(f"page {at.page} line {at.line}", line) for at, line in self.records]
-
-
-class Console(NamedTuple):
-    sense: int = 0
-    typed: tuple = ()
-    entered: tuple = ()
-    taken: int = 0
-
-    def begun(self, command):
-        if command in (0x01, 0x09):
-            return OUTPUT, TYPED_LINE
-        if command == 0x0B:
-            return CONTROL, b""
-        if command != 0x0A:
-            return REFUSED, REJECTED
-        return (INPUT, self.entered[self.taken]) if self.taken < len(self.entered) else (NOT_YET, b"")
-
-    def done(self, command, written):
-        if command == 0x0A:
-            return self._replace(taken=self.taken + 1), 0
-        names = {0x01: "type", 0x09: "return", 0x0B: "alarm"}
-        return self._replace(typed=self.typed + ((names[command], written),)), 0
-
-    def shown(self):
-        return f"typed {len(self.typed)} entered {len(self.entered)} taken {self.taken}"
-
-    def items(self):
-        return [with_text(name, line) for name, line in self.typed]
-
-
-def begun(device, command):
-    """The kind of a command, with the input's bytes, the output's limit or the sense."""
-    if command == NO_OPERATION:
-        return CONTROL, b""
-    if command == SENSE:
-        return INPUT, bytes([device.sense])
-    return device.begun(command)
-
-
-def done(device, command, written):
-    """The device after a command, and its unit exception."""
-    if command in (NO_OPERATION, SENSE):
-        return device, 0
-    kind, sense = device.begun(command)
-    if kind == REFUSED:
-        return device._replace(sense=sense), 0
-    return device._replace(sense=0).done(command, written)
+# Read 24 bytes to 0, with command chaining and suppressed length indication.
+LOADING_CCW = Ccw(0x02, 0, 0x60, 24)
 
 
 def state_name(unit):
@@ -280,9 +117,9 @@ def shown_state(state):
 
 
 class Channels(Core):
-    def __init__(self, deck=()):
-        super().__init__()
-        devices = (Reader(cards=tuple(deck)), Punch(), Printer(), Console())
+    def __init__(self, deck=(), tapes=(Tape(), Tape()), size=SIZE):
+        super().__init__(size)
+        devices = (Reader(cards=tuple(deck)), Punch(), Printer(), Console(), *tapes)
         for unit, device in zip(UNITS, devices):
             self.values[device_name(unit)] = device
             self.values[state_name(unit)] = Control()
@@ -321,6 +158,10 @@ class Channels(Core):
         for unit in UNITS:
             self.put(state_name(unit), Control())
 
+    def start_loading(self, unit):
+        self.reset_units()
+        self.put_unit(unit, Program(0, 0, LOAD))
+
     def press_end_of_file(self):
         self.put(device_name(READER), self.device(READER)._replace(has_end=True))
 
@@ -336,15 +177,27 @@ class Channels(Core):
     def input_output(self, code, address):
         channel, unit = address >> 8 & 7, address & 0x7FF
         if code == TEST_CHANNEL:
-            self.set_condition_code(0 if channel < 2 else 3)
+            self.set_condition_code(self.test_channel(channel))
         elif unit not in UNITS:
             self.set_condition_code(3)
         else:
             how = {START: self.start, TEST: self.test, HALT: self.halt}[code]
             self.set_condition_code(how(unit))
 
+    def active_beside(self, unit):
+        """The units that keep a channel from what is asked of a unit, itself one of them."""
+        shared = TAPES if unit in TAPES else (unit,)
+        return [other for other in shared if isinstance(self.unit(other), Program)]
+
+    def test_channel(self, channel):
+        if channel != 1:
+            return 0 if channel == 0 else 3
+        if self.active_beside(TAPES[0]):
+            return 2
+        return 1 if any(self.unit(unit) != IDLE for unit in TAPES) else 0
+
     def start(self, unit):
-        if self.unit(unit) != IDLE:
+        if self.unit(unit) != IDLE or self.active_beside(unit):
             return 2
         if self.control(unit).attention:
             self.put(state_name(unit), Control())
@@ -363,7 +216,7 @@ class Channels(Core):
         return 0
 
     def test(self, unit):
-        if isinstance(self.unit(unit), Program):
+        if self.active_beside(unit):
             return 2
         if not self.control(unit).condition:
             return 0
@@ -371,22 +224,26 @@ class Channels(Core):
         return 1
 
     def halt(self, unit):
-        state = self.unit(unit)
-        if not isinstance(state, Program):
-            return 0
-        self.put_unit(unit, Ended(state.key, state.at, ENDED, 0))
-        return self.store_status(0)
+        active = self.active_beside(unit)
+        for halted in active:
+            program = self.unit(halted)
+            self.put_unit(halted, Ended(program.key, program.at, ENDED, 0))
+        if active:
+            return 2 if unit in TAPES else self.store_status(0)
+        return 0
 
     # A channel event.
 
     def ccw_at(self, at):
-        if at % 8 or at + 8 > SIZE:
+        if at % 8 or at + 8 > self.size:
             return None
         word = self.number(at, 4)
         return Ccw(word >> 24, word % ADDRESSES, self.byte(at + 4), self.number(at + 6, 2))
 
     def next_ccw(self, program):
         """The CCW that is executed, None where it can't be, and the address of the last one."""
+        if program.after == LOAD:
+            return 0, LOADING_CCW
         at, ccw = program.at, self.ccw_at(program.at)
         if ccw and ccw.transfers and program.after != SIO:
             target = self.ccw_at(ccw.data)
@@ -444,7 +301,7 @@ class Channels(Core):
     def channel_check(self, key, kind, ccw, places):
         if kind == INPUT and ccw.skips:
             return 0
-        if any(place >= SIZE for place in places):
+        if any(place >= self.size for place in places):
             return PROGRAM_CHECK
         blocks = {place // BLOCK for place in places}
         if kind == INPUT and key and any(self.storage_key(block) != key for block in blocks):
@@ -471,4 +328,7 @@ class Channels(Core):
 
     def shown_device(self, unit):
         device = self.device(unit)
-        return f"{unit:03X} sense {device.sense:02X} {device.shown()}"
+        return f"{unit:03X} sense {device.sense.hex().upper()} {device.shown()}"
+
+    def shown_image(self, unit):
+        return shown_image(self.device(unit).recorded)

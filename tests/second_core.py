@@ -33,7 +33,8 @@ class Interruption(Exception):
 class Core:
     """The value of each place by its printed name, zero at first."""
 
-    def __init__(self):
+    def __init__(self, size=SIZE):
+        self.size = size
         self.values = {}
         self.noted = {}
 
@@ -105,7 +106,7 @@ class Core:
     def check(self, address, count, boundary, is_store):
         if address % boundary:
             raise Interruption(6)
-        if address + count > SIZE:
+        if address + count > self.size:
             raise Interruption(5)
         key = self.psw_field(52, 4)
         blocks = range(address // BLOCK, (address + count - 1) // BLOCK + 1)

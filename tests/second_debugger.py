@@ -4,9 +4,11 @@ What a change altered is kept by the names of its places, so a step back puts th
 """
 from typing import NamedTuple
 
-from second_channels import TYPED_LINE, UNITS, Program, device_name, state_name
+from second_channels import TAPES, UNITS, Program, device_name, state_name
 from second_core import BLOCK, SIZE
-from second_machine import OPERATING, STOPPED, Machine
+from second_devices import TYPED_LINE
+from second_machine import OPERATING, STOPPED, Loading, Machine
+from second_tapes import Tape
 
 MOST_BREAKPOINTS = 64
 NO_SUCH_UNIT = "refused 3 no such unit"
@@ -22,8 +24,8 @@ class Change(NamedTuple):
 
 
 class Debugger:
-    def __init__(self, deck=()):
-        self.machine = Machine(deck)
+    def __init__(self, deck=(), tapes=(Tape(), Tape()), size=SIZE):
+        self.machine = Machine(deck, tapes, size)
         self.changes = []
         self.breakpoints = set()
 
@@ -63,6 +65,12 @@ class Debugger:
     def answer_key(self, key):
         return self.report(f"key {key}", lambda: self.machine.press(key))
 
+    def answer_load(self, unit):
+        number = int(unit, 16)
+        if number not in UNITS:
+            return [NO_SUCH_UNIT]
+        return self.report(f"load {number:03X}", lambda: self.machine.load_from(number))
+
     def answer_enter(self, text):
         if len(text) > TYPED_LINE:
             return ["refused 4 line too long"]
@@ -82,7 +90,7 @@ class Debugger:
 
     def bytes_of(self, address, digits):
         at, run = int(address, 16), bytes.fromhex(digits)
-        if at + len(run) > SIZE:
+        if at + len(run) > self.machine.size:
             return None
         return {f"s{at + i:06X}": byte for i, byte in enumerate(run)}
 
@@ -91,7 +99,9 @@ class Debugger:
 
     def key_of(self, address, key):
         at = int(address, 16)
-        return None if at >= SIZE else {self.machine.key_name(at // BLOCK): int(key, 16)}
+        if at >= self.machine.size:
+            return None
+        return {self.machine.key_name(at // BLOCK): int(key, 16)}
 
     def psw_of(self, doubleword):
         return {"p": int(doubleword, 16) & ~(0x3FFFF << 30)}
@@ -167,8 +177,10 @@ class Debugger:
         return getattr(self, f"show_{kind}")(*words)
 
     def show_psw(self):
-        run = "stopped" if self.machine.value("run") == STOPPED else "operating"
-        return [f"psw {self.machine.value('p'):016X} {run}"]
+        run = self.machine.value("run")
+        names = {OPERATING: "operating", STOPPED: "stopped"}
+        name = f"loading {run.unit:03X}" if isinstance(run, Loading) else names[run]
+        return [f"psw {self.machine.value('p'):016X} {name}"]
 
     def show_regs(self):
         return [self.registers_from(first) for first in range(0, 16, 4)]
@@ -179,7 +191,7 @@ class Debugger:
 
     def show_s(self, address, count):
         at, end = int(address, 16), int(address, 16) + int(count)
-        if end > SIZE:
+        if end > self.machine.size:
             return ["refused 2 outside storage"]
         return [self.bytes_from(first, min(first + 16, end)) for first in range(at, end, 16)]
 
@@ -189,7 +201,7 @@ class Debugger:
 
     def show_k(self, address):
         at = int(address, 16)
-        if at >= SIZE:
+        if at >= self.machine.size:
             return ["refused 2 outside storage"]
         return [f"key {self.machine.storage_key(at // BLOCK):X}"]
 
@@ -210,3 +222,7 @@ class Debugger:
             return [NO_SUCH_UNIT]
         items = self.machine.device(number).items()
         return [items[int(count) - 1] if int(count) <= len(items) else "none"]
+
+    def show_image(self, unit):
+        number = int(unit, 16)
+        return self.machine.shown_image(number) if number in TAPES else [NO_SUCH_UNIT]

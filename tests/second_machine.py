@@ -7,15 +7,16 @@ Source: GA22-6821, "Fixed-Point Arithmetic", "Decimal Arithmetic", "Logical Oper
 "Branching", "Status Switching", "Interruptions" and "System Control Panel".
 """
 import operator
+from typing import NamedTuple
 
-from second_channels import Channels
-from second_core import ADDRESSES, BLOCK, DOUBLEWORD, SIZE, WORD, Interruption, signed
+from second_channels import ENDED, IDLE, Channels, Ended, Program
+from second_core import ADDRESSES, BLOCK, DOUBLEWORD, WORD, Interruption, signed
 
 # The addresses of the old and the new PSW.
 EXTERNAL, SUPERVISOR, PROGRAM = (24, 88), (32, 96), (40, 104)
 INPUT_OUTPUT = (56, 120)
 TIMER = 80
-# What `run` and `ext` are.
+# What `run` and `ext` are. A machine that loads has the unit with which it does so.
 OPERATING, STOPPED = 0, 1
 TIMER_PENDING, KEY_PENDING = 0x80, 0x40
 PRIVILEGED = (0x08, 0x09, 0x80, 0x82, 0x9C, 0x9D, 0x9E, 0x9F)
@@ -35,10 +36,14 @@ def exchanged(byte):
     return (byte & 15) << 4 | byte >> 4
 
 
+class Loading(NamedTuple):
+    unit: int
+
+
 class Machine(Channels):
     def step(self):
         """One CPU event."""
-        if self.value("run") == STOPPED:
+        if self.value("run") != OPERATING:
             return
         if self.value("ext") and self.psw_field(56, 1):
             self.interrupt(EXTERNAL, self.value("ext"), 0)
@@ -81,7 +86,7 @@ class Machine(Channels):
     # What happens from outside.
 
     def tick(self):
-        if self.value("run") == STOPPED:
+        if self.value("run") != OPERATING:
             return
         before = signed(self.number(TIMER, 4))
         after = signed(before - 256)
@@ -90,10 +95,10 @@ class Machine(Channels):
             self.put("ext", self.value("ext") | TIMER_PENDING)
 
     def press(self, key):
-        if key == "start":
-            self.put("run", OPERATING)
-        elif key == "stop":
-            self.put("run", STOPPED)
+        is_loading = isinstance(self.value("run"), Loading)
+        if key in ("start", "stop"):
+            if not is_loading:
+                self.put("run", OPERATING if key == "start" else STOPPED)
         elif key == "reset":
             self.put("run", STOPPED)
             self.put("ext", 0)
@@ -104,6 +109,23 @@ class Machine(Channels):
             self.press_request()
         else:
             self.put("ext", self.value("ext") | KEY_PENDING)
+
+    def load_from(self, unit):
+        """The load key: what the reset key does, and then a program as of `LOADING_CCW`."""
+        self.put("ext", 0)
+        self.start_loading(unit)
+        self.put("run", Loading(unit))
+
+    def channel(self, unit):
+        """A channel event, with the end of loading."""
+        is_loading = self.value("run") == Loading(unit) and isinstance(self.unit(unit), Program)
+        super().channel(unit)
+        end = self.unit(unit)
+        if is_loading and isinstance(end, Ended) and end.status == ENDED:
+            self.put_bytes(2, unit.to_bytes(2, "big"))
+            self.load_psw(self.number(0, 8))
+            self.put_unit(unit, IDLE)
+            self.put("run", OPERATING)
 
     # Instructions.
 
@@ -176,7 +198,7 @@ class Machine(Channels):
         block = (word & 0xFFFFFF) // BLOCK
         if word & 15:
             raise Interruption(6)
-        if block >= SIZE // BLOCK:
+        if block >= self.size // BLOCK:
             raise Interruption(5)
         if code == 0x08:
             self.put(self.key_name(block), self.register(r1) >> 4 & 15)
@@ -271,7 +293,7 @@ class Machine(Channels):
     def multiple(self, code, r1, r3, address):
         numbers = [(r1 + i) % 16 for i in range((r3 - r1) % 16 + 1)]
         self.check(address, 4 * len(numbers), 4, is_store=code == 0x90)
-        for at, number in zip(range(address, SIZE, 4), numbers):
+        for at, number in zip(range(address, self.size, 4), numbers):
             if code == 0x90:
                 self.store(at, self.register(number), 4, 4)
             else:

@@ -2,12 +2,13 @@
 """Compares the program with a second machine, written in another language.
 
 Random words, PSWs, storage keys, operands, tables, instructions and channel programs are patched
-in and stepped or run over a random deck, with breakpoints, and the channels, the timer and the
-operator's keys come in between. Each answer is compared: reports, refusals, the PSW, the registers,
-the pending conditions, the units with their media and last changes and the bytes that are shown,
-and these again after a step back. `second_opinion.py FIRST LAST` takes the seeds from the first to
-the last, and each of them tries 300 instructions. It needs the program as `rt ci` or `./run` has
-built it. It prints the first answer of a seed that is another, and how many seeds had none.
+in and stepped or run over a random deck and random tapes, with breakpoints, and the channels, the
+timer and the operator's keys come in between. Each answer is compared: reports, refusals, the PSW,
+the registers, the pending conditions, the units with their media and last changes, the images of
+tapes and the bytes that are shown, and these again after a step back. `second_opinion.py FIRST
+LAST` takes the seeds from the first to the last, and each of them tries 300 instructions. It needs
+the program as `rt ci` or `./run` has built it. It prints the first answer of a seed that is
+another, and how many seeds had none.
 
 `second_machine.py` says what the comparison can find.
 """
@@ -19,11 +20,12 @@ import sys
 import tempfile
 from concurrent.futures import ThreadPoolExecutor
 
-from second_channels import CAW, CSW, SIGNS, START, UNITS
+from second_channels import CAW, CSW, IDLE, READER, START, TAPES, UNITS, Ended, Program
 from second_core import ADDRESSES, BLOCK, SIZE, WORD, signed
 from second_debugger import Debugger
-from second_machine import STOPPED, TIMER
-from second_programs import CHAIN, address_word, chain, deck
+from second_devices import SIGNS
+from second_machine import STOPPED, TIMER, Loading
+from second_programs import CHAIN, address_word, chain, deck, image, initial_record, tape
 
 TOP = pathlib.Path(__file__).resolve().parent.parent
 PROGRAM = TOP / "crates/s360dbg/out/s360dbg"
@@ -36,8 +38,8 @@ FIXED_POINT += [*range(0x54, 0x60), *range(0x86, 0x91), 0x98]
 LOGICAL = [0x4E, 0x4F, *range(0x91, 0x98), *range(0xD1, 0xD8), 0xDC, 0xDD, 0xF1, 0xF2, 0xF3]
 STATUS = [0x04, 0x08, 0x09, 0x0A, 0x80, 0x82]
 INPUT_OUTPUT = [0x9C, 0x9D, 0x9D, 0x9E, 0x9E, 0x9F]
-# Units that are not configured, the last two of them of other channels.
-OTHER_UNITS = [0x00B, 0x00F, 0x10C, 0x71F]
+# Units that are not configured, the last two of them of channels that are not.
+OTHER_UNITS = [0x00B, 0x00F, 0x10C, 0x182, 0x280, 0x71F]
 EXECUTE = 0x44
 # Operands on the boundary of a doubleword.
 DOUBLEWORDS = (0x4E, 0x4F, 0x82)
@@ -63,7 +65,9 @@ class Script:
     def __init__(self, seed):
         self.random = random.Random(seed)
         self.deck = deck(self.random)
-        self.debugger = Debugger(self.deck)
+        self.tapes = [tape(self.random) for _ in TAPES]
+        self.images = [image(self.random, mounted.recorded) for mounted in self.tapes]
+        self.debugger = Debugger(self.deck, self.tapes)
         self.machine = self.debugger.machine
         self.lines = []
         self.answers = []
@@ -87,6 +91,8 @@ class Script:
                 self.say(f"{line} {unit:X}")
             items = len(self.machine.device(unit).items())
             self.say(f"show m {unit:X} {self.random.randint(1, items + 1)}")
+        if self.random.random() < 0.1:
+            self.say(f"show image {self.random.choice([*TAPES, *OTHER_UNITS]):X}")
 
     def show_bytes(self, run):
         self.say(f"show s {run[0]:X} {len(run)}")
@@ -104,7 +110,7 @@ class Script:
 
     def psw(self, address):
         some = self.random
-        masks = some.choice([0] * 6 + [1 << 63, 0x7F << 57]) | some.getrandbits(1) << 56
+        masks = some.choice([0] * 6 + [1 << 63, 1 << 62, 0x7F << 57]) | some.getrandbits(1) << 56
         key = some.choice([0] * 6 + [5]) << 52
         ascii_, wait = some.getrandbits(1) << 51, (some.random() < 0.02) << 49
         problem = (some.random() < 0.15) << 48
@@ -170,7 +176,7 @@ class Script:
         code = some.choice(some.choices(lists, [30, 30, 10, 16, 12, 2])[0])
         first = self.field()
         if code in INPUT_OUTPUT and some.random() < 0.9:
-            first = some.choice([*UNITS * 4, *OTHER_UNITS])
+            first = some.choice([*UNITS * 4, *OTHER_UNITS, *self.units_with(Ended) * 8])
         if code == EXECUTE and some.random() < 0.7:
             first = SUBJECTS + 2 * some.randrange(64)
         elif code in DOUBLEWORDS and some.random() < 0.7:
@@ -238,8 +244,22 @@ class Script:
             self.happen(f"key {some.choices(keys, [2, 1, 1, 4, 1, 4])[0]}")
         if some.random() < 0.1:
             self.happen(f"enter {self.line()}".rstrip())
-        if self.machine.value("run") == STOPPED and some.random() < 0.7:
+        if some.random() < 0.05:
+            self.load()
+        run = self.machine.value("run")
+        if run == STOPPED and some.random() < 0.7:
             self.happen("key start")
+        elif isinstance(run, Loading) and some.random() < 0.3:
+            self.happen(some.choice(["key reset", "key start", "key stop", "tick"]))
+
+    def load(self):
+        """Initial program loading, now and then by hand from what stands at 8."""
+        some = self.random
+        if some.random() < 0.3:
+            self.patch_bytes(0, initial_record(some)[: some.choice([8, 16, 24])])
+        unit = some.choice([*UNITS, *[READER, *TAPES] * 4, *OTHER_UNITS])
+        self.happen(f"load {unit:X}")
+        self.channels()
 
     def line(self):
         some = self.random
@@ -247,12 +267,15 @@ class Script:
         return "".join(some.choice(SIGNS) for _ in range(count))
 
     def channels(self):
-        """Channel events."""
+        """Channel events, most of them of a unit that is active."""
         some = self.random
         while some.random() < 0.75:
-            self.happen(f"channel {some.choice(UNITS):03X}")
+            self.happen(f"channel {some.choice([*UNITS, *self.units_with(Program) * 6]):03X}")
         if some.random() < 0.02:
             self.say(f"channel {some.choice(OTHER_UNITS):X}")
+
+    def units_with(self, state):
+        return [unit for unit in UNITS if isinstance(self.machine.unit(unit), state)]
 
     def breakpoints(self):
         some = self.random
@@ -272,10 +295,11 @@ class Script:
     def start_of_program(self):
         """SIO, with its CAW and CCWs."""
         some = self.random
-        unit = some.choice(UNITS)
+        idle = [unit for unit in UNITS if self.machine.unit(unit) == IDLE]
+        unit = some.choice([*UNITS, *TAPES, *idle * 4])
         self.patch_bytes(CAW, address_word(some))
         self.patch_bytes(CHAIN, chain(some, OPERANDS, unit))
-        return bytes([START, some.getrandbits(8), 0, unit])
+        return bytes([START, some.getrandbits(8), *unit.to_bytes(2, "big")])
 
     def case(self):
         some = self.random
@@ -296,12 +320,14 @@ class Script:
         # Bits 16 to 33 are dropped.
         self.say(f"patch p {psw | some.getrandbits(18) << 30:016X}")
         self.patch_bytes(OPERANDS + 4 * some.randrange(60), self.operand())
-        starts = some.random() < 0.3
+        starts = some.random() < 0.45
         instruction = self.start_of_program() if starts else self.instruction()
         self.patch_operands(instruction)
         self.patch_inside(address, instruction)
         self.channels()
         self.step()
+        if starts and some.random() < 0.7:
+            self.channels()
         if some.random() < 0.3:
             self.run_and_return()
 
@@ -317,13 +343,24 @@ class Script:
             self.show(run)
 
 
+def command_line(script, folder):
+    """The words for a script's media, which are put into files of a folder."""
+    media = {"reader": b"".join(script.deck)}
+    media |= {f"tape{number}": contents for number, contents in enumerate(script.images)}
+    for option, contents in media.items():
+        file = pathlib.Path(folder) / option
+        file.write_bytes(contents)
+        yield from (f"--{option}", file)
+    for number, mounted in enumerate(script.tapes):
+        if mounted.is_protected:
+            yield f"--protect{number}"
+
+
 def carried_out(script):
-    """What the program answers to a script over its deck."""
+    """What the program answers to a script over its media."""
     text = "".join(f"{line}\n" for line in script.lines).encode()
-    with tempfile.NamedTemporaryFile() as file:
-        file.write(b"".join(script.deck))
-        file.flush()
-        command = [PROGRAM, "--reader", file.name]
+    with tempfile.TemporaryDirectory() as folder:
+        command = [PROGRAM, *command_line(script, folder)]
         return subprocess.run(command, input=text, capture_output=True, timeout=120)
 
 

@@ -1,9 +1,11 @@
-"""Random decks and channel programs for `second_opinion.py`: CAWs and chains of CCWs from `CHAIN` on.
+"""Random media and channel programs for `second_opinion.py`: CAWs, and chains of CCWs from `CHAIN`.
 
 Most of the programs are right, or wrong at one edge.
 """
-from second_channels import CARD, CONSOLE, PRINTER, PUNCH, READER
+from second_channels import CONSOLE, PRINTER, PUNCH, READER, TAPES
 from second_core import BLOCK, SIZE
+from second_devices import CARD
+from second_tapes import FIRST, LAST, MARK, MIDDLE, TAPE_MARK, WHOLE, Tape, header
 
 CHAIN = 0x400
 MOST_WORDS = 6
@@ -13,6 +15,9 @@ COMMANDS = {
     PRINTER: [0x01, 0x09, 0x11, 0x19, 0x0B, 0x13, 0x1B, 0x89, 0xD9, 0xE1, 0x8B, 0xDB, 0xE3],
     CONSOLE: [0x01, 0x09, 0x0A, 0x0A, 0x0B],
 }
+# A tape is mostly read, and seldom unloaded, which nothing undoes.
+TAPE_COMMANDS = [0x01, 0x1F, 0x17, 0x07, 0x3F, 0x2F, *[0x02, 0x0C, 0x37, 0x27] * 2] * 4 + [0x0F]
+COMMANDS |= {unit: TAPE_COMMANDS for unit in TAPES}
 TRANSFERS = [0x08, 0x08, 0x08, 0xF8]
 FLAGS = [0x00, 0x20, 0x40, 0x60, 0x40, 0x60, 0x60, 0x80, 0x80, 0x80, 0xA0, 0xC0, 0xE0, 0x10, 0x90]
 FLAGS += [0x50, 0x08]
@@ -49,11 +54,57 @@ def chain(some, operands, unit):
     return b"".join(command_word(some, operands, unit) for _ in range(count))
 
 
+def initial_record(some):
+    """A record that loading begins with: a PSW and two CCWs, of which the first may end the program."""
+    count = some.choice([1, 80, 80, 400])
+    flags = some.choice([0x00, 0x20, 0x20, 0x60])
+    target = some.choice([0, 8, 0x200, 0x200])
+    psw = some.choice([0, some.getrandbits(32)]) << 32 | 0x200
+    words = psw, 0x02 << 56 | target << 32 | flags << 24 | count
+    first = b"".join(word.to_bytes(8, "big") for word in words)
+    return first + command_word(some, 0x600, READER)
+
+
 def deck(some):
-    """Cards of signs and of any bytes, with blanks at their end."""
-    return [card(some).ljust(CARD, b"\x40") for _ in range(some.choice([0, 1, 20, 200]))]
+    """Cards of signs and of any bytes, with blanks at their end. At times some can be loaded."""
+    cards = [card(some) for _ in range(some.choice([0, 1, 20, 200]))]
+    if some.random() < 0.7:
+        cards = [initial_record(some) if some.random() < 0.3 else record for record in cards]
+    return [record.ljust(CARD, b"\x40") for record in cards]
 
 
 def card(some):
     kinds = [bytes(range(0xC1, 0xCA)), bytes(range(0xF0, 0xFA)), bytes(range(256)), b"\x40"]
     return bytes(some.choice(some.choice(kinds)) for _ in range(some.randint(0, CARD)))
+
+
+def tape(some):
+    """Blocks, some of them long and some empty, and marks."""
+    count = some.choice([0, 1, 5, 40])
+    return Tape(recorded=tuple(item(some) for _ in range(count)), is_protected=some.random() < 0.2)
+
+
+def item(some):
+    if some.random() < 0.3:
+        return MARK
+    if some.random() < 0.3:
+        return initial_record(some)
+    return some.randbytes(some.choice([0, 1, 2, 39, 80, some.randrange(400)]))
+
+
+def image(some, items):
+    """A file of a tape, with blocks in parts, and with any numbers where none is checked."""
+    return b"".join(
+        header(len(part), some.getrandbits(16), flags, some.getrandbits(8)) + part
+        for item in items
+        for flags, part in parts(some, item)
+    )
+
+
+def parts(some, item):
+    if item is MARK:
+        return [(TAPE_MARK, b"")]
+    cuts = sorted(some.randint(0, len(item)) for _ in range(some.choice([0, 0, 1, 2, 3])))
+    ends = zip([0, *cuts], [*cuts, len(item)])
+    flags = [FIRST, *[MIDDLE] * (len(cuts) - 1), LAST] if cuts else [WHOLE]
+    return [(flag, item[start:end]) for flag, (start, end) in zip(flags, ends)]

@@ -2,6 +2,9 @@
 """Runs the program where no script can say what has to hold: a status, standard error, a stream
 that fails, files that are named on the command line, a terminal, a script of the greatest length.
 
+The first faults of tape files are those that `second_tapes.py` finds, which is written apart from
+the program.
+
 It needs the program as `rt ci` or `./run` has built it, and Python's standard library alone.
 """
 import os
@@ -14,12 +17,30 @@ import termios
 from typing import NamedTuple
 
 TOP = pathlib.Path(__file__).resolve().parent.parent.parent
+sys.path.insert(0, str(TOP / "tests"))
+from second_tapes import FIRST, LAST, LONGEST_BLOCK, MARK, TAPE_MARK, TapeFault
+from second_tapes import header, image_of, items_of, shown_image, shown_item
+
 PROGRAM = TOP / "crates/s360dbg/out/s360dbg"
 SECONDS = 120
 LONGEST_SCRIPT = 1_048_576
 LONGEST_FILE = 67_108_864
 CARD = 80
 END_OF_FILE = b"\x04"
+
+
+class Repeated(NamedTuple):
+    """The contents of a file: so many times the same."""
+
+    part: bytes
+    times: int
+
+
+# A block, a mark and a block; and a block in two parts.
+WHOLE_BLOCKS = image_of((b"\xc1\xc2\xc3", MARK, b"\xd1"))
+BLOCK_IN_PARTS = header(2, 0, FIRST) + b"\xc1\xc2" + header(1, 2, LAST) + b"\xc3"
+LONGEST = image_of((bytes(LONGEST_BLOCK),))
+LONGEST_FIRST = header(LONGEST_BLOCK, 0, FIRST) + bytes(LONGEST_BLOCK)
 
 # What lies where the program is run: contents, or a length of zeros.
 FILES = {
@@ -30,6 +51,17 @@ FILES = {
     "full.deck": LONGEST_FILE // CARD * CARD,
     "longest.deck": LONGEST_FILE,
     "longer.deck": LONGEST_FILE + 1,
+    "whole.tape": WHOLE_BLOCKS,
+    "parts.tape": BLOCK_IN_PARTS,
+    "empty.tape": b"",
+    "short.tape": bytes.fromhex("03000000A000C1C2C30100"),
+    "longest.tape": LONGEST_FILE,
+    "longer.tape": LONGEST_FILE + 1,
+    "blocks.tape": Repeated(LONGEST, LONGEST_FILE // len(LONGEST)),
+    "marks.tape": Repeated(header(0, 0, TAPE_MARK), LONGEST_FILE // 6),
+    "longest-block.tape": LONGEST_FIRST + header(0, 0, LAST),
+    "too-long.tape": LONGEST_FIRST + header(1, 0, LAST) + b"\xc1",
+    "short-and-too-long.tape": LONGEST_FIRST + header(2, 0, LAST) + b"\xc1",
 }
 FOLDER = "folder"
 
@@ -65,7 +97,8 @@ NO_DECK = b"00C sense 00 next 0 of 0 eof off\n"
 TWO_CARDS = b"00C sense 00 next 0 of 2 eof off\n"
 SIZE = told(b"storage size must be a multiple of 2048 bytes from 8192 to 1048576")
 HELP = Has((b"Usage: s360dbg [OPTIONS] [SCRIPT]\n", b"--storage <BYTES>", b"65536",
-            b"--reader <FILE>", b"80 bytes", b"[SCRIPT]", b"standard input", b"Example:\n"))
+            b"--reader <FILE>", b"80 bytes", b"--tape0 <FILE>", b"--tape1 <FILE>", b"--protect0",
+            b"--protect1", b"[SCRIPT]", b"standard input", b"Example:\n"))
 NUMBER = b"no decimal number below 4294967296\n"
 
 SCRIPTS = [
@@ -130,6 +163,144 @@ DECKS = [
          told(b"reader: file too long")),
     Case("a fault that standard error cannot tell of", ["--reader", FOLDER], b"", 1, b"", None),
 ]
+BLANK_TAPES = b"""180 sense 000000000000 position 0 of 0 loaded
+181 sense 000000000000 position 0 of 0 loaded
+"""
+# A mark is to be written on 180. Were the cost of that in proportion to the tape, so many of them
+# could not be written in the time that a case has.
+MARK_AT_LOAD_POINT = b"""patch p 0000000000000200
+patch s 48 00000400
+patch s 200 9C000180
+patch s 400 1F00000000000001
+step
+"""
+MARK_IS_STARTED = b"""1 changed 1 p
+2 changed 1 s00004A
+3 changed 3 s000200 s000202 s000203
+4 changed 2 s000400 s000407
+5 changed 2 p u180
+"""
+MANY = 10_000
+
+
+def loaded(count):
+    return f"180 sense 000000000000 position 0 of {count} loaded\n".encode()
+
+
+def faulty(what, name, fault):
+    return Case(what, ["--tape0", name], b"standing\n", 1, b"", told(b"tape0: " + fault))
+
+
+MOST_MARKS = loaded(LONGEST_FILE // 6)
+TAPES = [
+    Case("blank tapes where none is named", [], b"show d 180\nshow d 181\n", 0, BLANK_TAPES),
+    Case("files of no bytes", ["--tape0", "empty.tape", "--tape1=empty.tape"],
+         b"show d 180\nshow d 181\n", 0, BLANK_TAPES),
+    Case("each tape has its file", ["--tape1", "parts.tape", "--tape0", "whole.tape"],
+         b"show m 180 1\nshow m 180 2\nshow m 180 3\nshow m 181 1\nshow m 181 2\n", 0,
+         b"block 3 C1C2C3\nmark\nblock 1 D1\nblock 3 C1C2C3\nnone\n"),
+    Case("both tapes from one file", ["--tape0", "parts.tape", "--tape1", "parts.tape"],
+         b"show m 180 1\nshow m 181 1\n", 0, b"block 3 C1C2C3\n" * 2),
+    Case("protected, with a deck and a script in a file",
+         ["--protect0", "--tape0", "whole.tape", "--reader", "two.deck", "--protect1",
+          "standing.s360"], b"", 0, STANDING),
+    faulty("two bytes of a header", "short.tape", b"short header at 9"),
+    Case("the same of the other tape", ["--tape1", "short.tape"], b"", 1, b"",
+         told(b"tape1: short header at 9")),
+    faulty("a tape that does not open", "absent.tape", b"cannot read"),
+    faulty("a folder in place of a tape", FOLDER, b"cannot read"),
+    Case("and of the other tape", ["--tape1", FOLDER], b"", 1, b"", told(b"tape1: cannot read")),
+    Case("a block of the greatest length", ["--tape0", "longest-block.tape"],
+         b"show d 180\nshow m 180 1\n", 0,
+         loaded(1) + b"block 65535 " + b"00" * 32 + b"\n"),
+    faulty("a block of a byte more", "too-long.tape", b"block too long at 65541"),
+    faulty("whose file ends before it", "short-and-too-long.tape", b"short block at 65541"),
+    Case("a file of the most longest blocks", ["--tape0", "blocks.tape"], b"show d 180\n", 0,
+         loaded(1023)),
+    Case("a file of the most marks, and writes that discard all of them and are taken back",
+         ["--tape0", "marks.tape"],
+         MARK_AT_LOAD_POINT + b"channel 180\nback\n" * MANY + b"show d 180\n", 0,
+         MARK_IS_STARTED + b"6 changed 2 u180 d180\nback 6 channel 180\n" * MANY + MOST_MARKS),
+    faulty("a file of the greatest length is decoded", "longest.tape", b"part out of place at 0"),
+    faulty("a file of a byte more is not", "longer.tape", b"file too long"),
+    Case("a fault that standard error cannot tell of", ["--tape0", FOLDER], b"", 1, b"", None),
+]
+# The first bytes of the file of whole blocks, and other files, with their first faults.
+FIRST_FAULTS = {
+    **dict.fromkeys(range(1, 6), b"short header at 0"),
+    **dict.fromkeys(range(6, 9), b"short block at 0"),
+    **dict.fromkeys(range(10, 15), b"short header at 9"),
+    **dict.fromkeys(range(16, 21), b"short header at 15"),
+    21: b"short block at 15",
+}
+OTHER_FAULTS = {
+    "020000008000C1C2": b"part out of place at 8",
+    "000000006000": b"bad flags at 0",
+    "010000004000": b"bad flags at 0",
+    "01000000400000": b"bad flags at 0",
+    # at one header: flags, then place, then bytes that are left
+    "050000006000": b"bad flags at 0",
+    "050000002000": b"part out of place at 0",
+    "050000000000": b"part out of place at 0",
+    "05000000A000C1": b"short block at 0",
+    # inside of a block
+    "010000008000C10100": b"short header at 7",
+    "010000008000C1000000006000": b"bad flags at 7",
+    "010000008000C1010000004000": b"bad flags at 7",
+    "010000008000C1000000004000": b"part out of place at 7",
+    "010000008000C105000000A000": b"part out of place at 7",
+    "010000008000C1050000008000": b"part out of place at 7",
+    "010000008000C1050000002000": b"short block at 7",
+    "010000008000C1000000000000": b"part out of place at 13",
+    # after a block and after a mark
+    "010000008000C1000000002000000000000000": b"part out of place at 13",
+    "000000004000000000002000": b"part out of place at 6",
+    # the first of two faulty headers
+    "000000002000000000006000": b"part out of place at 0",
+}
+
+
+def name_of(image):
+    return f"{image.hex().upper()}.tape"
+
+
+def changed(image):
+    """The files that have another byte in one place."""
+    for at in range(len(image)):
+        for byte in (0x00, 0x20, 0x40, 0x80, 0xA0, 0xFF):
+            yield image[:at] + bytes([byte]) + image[at + 1 :]
+
+
+def computed(option, unit, image):
+    """What has to be answered of a file: its first fault, or its items."""
+    args = [f"--{option}", name_of(image)]
+    try:
+        items = items_of(image)
+    except TapeFault as fault:
+        return Case(f"the tape file {image.hex()}", args, b"standing\n", 1, b"",
+                    told(f"{option}: {fault}".encode()))
+    shown = [*shown_image(items), *map(shown_item, items), "none"]
+    numbers = range(1, len(items) + 2)
+    script = "".join([f"show image {unit}\n", *(f"show m {unit} {n}\n" for n in numbers)])
+    answers = "".join(f"{line}\n" for line in shown)
+    return Case(f"the tape file {image.hex()}", args, script.encode(), 0, answers.encode())
+
+
+def tape_files():
+    """Each file of which a fault is told here or computed, and its case."""
+    for length, fault in FIRST_FAULTS.items():
+        image = WHOLE_BLOCKS[:length]
+        yield image, faulty(f"the first {length} bytes of a tape", name_of(image), fault)
+    for digits, fault in OTHER_FAULTS.items():
+        yield bytes.fromhex(digits), faulty(f"no tape {digits}", f"{digits}.tape", fault)
+    for whole, option, unit in ((WHOLE_BLOCKS, "tape0", 180), (BLOCK_IN_PARTS, "tape1", 181)):
+        prefixes = [whole[:length] for length in range(len(whole) + 1)]
+        for image in dict.fromkeys([*prefixes, *changed(whole)]):
+            yield image, computed(option, unit, image)
+
+
+TAPE_FILES = list(tape_files())
+FILES |= {name_of(image): image for image, _ in TAPE_FILES}
 ORDER = [
     Case("the command line before a deck", ["--reader", "absent.deck", "--storage", "abc"], b"", 2,
          b"", usage(NUMBER)),
@@ -139,6 +310,12 @@ ORDER = [
          SIZE),
     Case("a deck before the script", ["--reader", "absent.deck", "absent.s360"], b"", 1, b"",
          told(b"reader: cannot read")),
+    Case("a deck before the tapes", ["--tape0", "absent.tape", "--reader", "short.deck"], b"", 1,
+         b"", told(b"reader: short card at 160")),
+    Case("a tape before the other", ["--tape1", "absent.tape", "--tape0", "short.tape"], b"", 1,
+         b"", told(b"tape0: short header at 9")),
+    Case("the other before the storage size", ["--storage", "9000", "--tape1", "short.tape"], b"",
+         1, b"", told(b"tape1: short header at 9")),
 ]
 COMMAND_LINES = [
     Case("help", ["--help"], b"standing\n", 0, HELP),
@@ -151,13 +328,33 @@ COMMAND_LINES = [
     Case("an unknown option that standard error cannot tell of", ["--quick"], b"", 2, b"", None),
     Case("an option twice", ["--reader", "two.deck", "--reader", "two.deck"], b"", 2, b"",
          usage(b"cannot be used multiple times")),
+    Case("a tape twice", ["--tape0", "whole.tape", "--tape0", "whole.tape"], b"", 2, b"",
+         usage(b"cannot be used multiple times")),
+    Case("protection twice", ["--protect1", "--protect1"], b"", 2, b"",
+         usage(b"cannot be used multiple times")),
+    Case("protection with a value", ["--protect0=yes"], b"", 2, b"",
+         Has((b"error: ", b"'--protect0'"))),
+    Case("a third tape", ["--tape2", "whole.tape"], b"", 2, b"", usage(b"'--tape2'")),
     Case("an option with no value", ["--reader"], b"", 2, b"", Has((b"error: ", b"'--reader <FILE>'"))),
     Case("two scripts", ["standing.s360", "standing.s360"], b"", 2, b"",
          usage(b"unexpected argument 'standing.s360'")),
     Case("a word that is no UTF-8", [b"\xff"], b"", 2, b"",
          told(b"a word of the command line is not UTF-8")),
 ]
-CASES = [*SCRIPTS, *STORAGE, *DECKS, *ORDER, *COMMAND_LINES]
+CASES = [*SCRIPTS, *STORAGE, *DECKS, *TAPES, *ORDER, *COMMAND_LINES]
+CASES += [case for _, case in TAPE_FILES]
+# A tape that the program writes: a block, a mark and a block of the greatest length.
+WRITING = b"""patch p 0000000000000200
+patch s 48 00000400
+patch s 200 9C000180
+patch s 600 C1C2C3
+patch s 400 0100060040000003
+patch s 408 1F00000060000001
+patch s 410 010006000000FFFF
+run 4
+"""
+WRITTEN = (b"\xc1\xc2\xc3", MARK, b"\xc1\xc2\xc3" + bytes(LONGEST_BLOCK - 3))
+SHOWING = b"show image 180\nshow m 180 1\nshow m 180 2\nshow m 180 3\nshow m 180 4\n"
 
 
 def make_files(folder):
@@ -166,6 +363,8 @@ def make_files(folder):
         with open(folder / name, "wb") as file:
             if isinstance(contents, int):
                 file.truncate(contents)
+            elif isinstance(contents, Repeated):
+                file.write(contents.part * contents.times)
             else:
                 file.write(contents)
     (folder / FOLDER).mkdir()
@@ -193,6 +392,24 @@ def fault_of(case, folder):
     return None if all(right) else (done.returncode, done.stdout, done.stderr)
 
 
+def fault_of_read_back(folder):
+    """What is wrong with a tape that is written, and read back from the bytes that are shown."""
+    lines = [*shown_image(WRITTEN), *map(shown_item, WRITTEN), "none"]
+    wanted = "".join(f"{line}\n" for line in lines).encode()
+    how = {"capture_output": True, "timeout": SECONDS, "cwd": folder}
+    writes = [PROGRAM, "--storage", "131072"]
+    done = subprocess.run(writes, input=WRITING + SHOWING, **how)
+    _, _, shown = done.stdout.partition(b"run 4 done\n")
+    if shown == wanted:
+        digits = shown.decode().splitlines()[1 : len(shown_image(WRITTEN))]
+        (folder / "written.tape").write_bytes(bytes.fromhex("".join(digits)))
+        reads = [PROGRAM, "--tape0", "written.tape"]
+        done = subprocess.run(reads, input=SHOWING, **how)
+        shown = done.stdout
+    right = shown == wanted and done.returncode == 0
+    return None if right else (done.returncode, done.stdout, done.stderr)
+
+
 def fault_at_a_terminal(folder):
     """What is wrong with a script that is typed: a person is told once what is waited for."""
     terminal, typed = pty.openpty()
@@ -218,6 +435,7 @@ def main():
         make_files(folder)
         faults = [(case.what, fault_of(case, folder)) for case in CASES]
         faults.append(("a script that is typed at a terminal", fault_at_a_terminal(folder)))
+        faults.append(("a tape that is written and read back", fault_of_read_back(folder)))
     failed = [(what, fault) for what, fault in faults if fault]
     for what, fault in failed:
         print(f"{what}: {fault!r:.400}")

@@ -84,8 +84,8 @@ fn tape_of_a_block(alloc: Global) -> Result<Tape, BenchFault> {
     Ok(tape_from(alloc, &file, true)?)
 }
 
-/// The bytes of storage that the command word alters.
-fn altering_cells(alloc: Global, storage: &Storage, tape: &Tape) -> Result<Vec<Cell>, AllocError> {
+/// What the command word stores.
+fn planned(alloc: Global, storage: &Storage, tape: &Tape) -> Result<Plan, AllocError> {
     let program = Program {
         key: ProtectionKey::new(0),
         address: WORD_AT,
@@ -93,6 +93,12 @@ fn altering_cells(alloc: Global, storage: &Storage, tape: &Tape) -> Result<Vec<C
     };
     let mut plan = Plan::new(alloc);
     let _step = channel_plan(alloc, storage, &program, tape, &mut plan)?;
+    Ok(plan)
+}
+
+/// The bytes of storage that the command word alters.
+fn altering_cells(alloc: Global, storage: &Storage, tape: &Tape) -> Result<Vec<Cell>, AllocError> {
+    let plan = planned(alloc, storage, tape)?;
     let mut cells = Vec::with_capacity(alloc, plan.len() as usize)?;
     for i in 0..plan.len() {
         let cell = plan.cell(i);

@@ -1,10 +1,11 @@
 //! What is measured of a session: time and memory of events that are run forward and taken back.
 use crate::bench_fault::BenchFault;
 use crate::measured::{Measured, Moved, a_second};
-use crate::workload::{START, Workload};
+use crate::workload::{Filling, START, Workload};
 use s360_device::{COLUMNS, Deck, deck_from};
 use s360_journal::Session;
 use s360_machine::{Bytes, Event, Machine, Patch};
+use s360_tape::Tape;
 use s360_word::{RegisterNumber, Word};
 use std::alloc::Global;
 use std::fs;
@@ -26,10 +27,21 @@ pub(crate) fn measure<R: Clock + Files>(
     size: u32,
 ) -> Result<Measured, BenchFault> {
     let mut session = ready_session(alloc, workload, workload.cards(events), size)?;
+    measure_session(rt, alloc, &mut session, workload, events)
+}
+
+/// Runs so many events of the loop in a session that is about to run it, and takes them all back.
+fn measure_session<R: Clock + Files>(
+    rt: &R,
+    alloc: Global,
+    session: &mut Session,
+    workload: Workload,
+    events: u32,
+) -> Result<Measured, BenchFault> {
     let before = resident_bytes(rt, alloc);
     let begun = Instant::now(rt)?;
     for _ in 0..events {
-        session.forward(workload.event())?;
+        forward(session, workload.event())?;
     }
     let forward_time = begun.elapsed(rt)?;
     let after = resident_bytes(rt, alloc);
@@ -54,31 +66,64 @@ fn ready_session(
     cards: u32,
     size: u32,
 ) -> Result<Session, BenchFault> {
-    let machine = Machine::new(alloc, size, deck_of(alloc, cards)?)?;
-    let mut session = Session::new(alloc, machine, LIMIT);
-    set_bytes(&mut session, alloc, START, workload.program())?;
-    for &(at, filling) in workload.areas() {
-        set_bytes(&mut session, alloc, at, &filling.bytes())?;
-    }
-    for &(at, run) in workload.runs() {
-        set_bytes(&mut session, alloc, at, run)?;
-    }
-    session.forward(Event::Patch(Patch::Psw(u64::from(START))))?;
-    set_register(&mut session, 2, 3)?;
-    set_register(&mut session, 3, Word::MAX)?;
-    if workload.is_started() {
-        session.forward(Event::Cpu)?;
-    }
+    let mut session = new_session(alloc, cards, size)?;
+    make_ready(&mut session, alloc, workload)?;
     Ok(session)
+}
+
+/// Patches the loop and its data, and starts what it is to start.
+fn make_ready(session: &mut Session, alloc: Global, workload: Workload) -> Result<(), BenchFault> {
+    set_bytes(session, alloc, START, workload.program())?;
+    set_areas(session, alloc, workload.areas())?;
+    set_runs(session, alloc, workload.runs())?;
+    forward(session, Event::Patch(Patch::Psw(u64::from(START))))?;
+    set_register(session, 2, 3)?;
+    set_register(session, 3, Word::MAX)?;
+    if workload.is_started() {
+        forward(session, Event::Cpu)?;
+    }
+    Ok(())
+}
+
+/// A session over a new machine of so many bytes, with so many cards in its reader.
+fn new_session(alloc: Global, cards: u32, size: u32) -> Result<Session, BenchFault> {
+    let deck = deck_of(alloc, cards)?;
+    let machine = Machine::new(alloc, size, deck, Tape::blank(alloc), Tape::blank(alloc))?;
+    Ok(Session::new(alloc, machine, LIMIT))
 }
 
 /// A deck of so many cards, each of which differs in all its columns from the one before.
 fn deck_of(alloc: Global, cards: u32) -> Result<Deck, BenchFault> {
     let mut file = Vec::new(alloc);
     for i in 0..cards {
-        file.extend_from_slice(&[(i % 256) as u8; COLUMNS])?;
+        let card = vec![in alloc; (i % 256) as u8; COLUMNS]?;
+        file.extend_from_slice(&card)?;
     }
     Ok(deck_from(alloc, &file)?)
+}
+
+fn set_areas(
+    session: &mut Session,
+    alloc: Global,
+    areas: &[(u32, Filling)],
+) -> Result<(), BenchFault> {
+    for &(at, filling) in areas {
+        set_bytes(session, alloc, at, &filling.bytes())?;
+    }
+    Ok(())
+}
+
+fn set_runs(session: &mut Session, alloc: Global, runs: &[(u32, &[u8])]) -> Result<(), BenchFault> {
+    for &(at, run) in runs {
+        set_bytes(session, alloc, at, run)?;
+    }
+    Ok(())
+}
+
+/// Runs an event, whatever it alters.
+fn forward(session: &mut Session, event: Event) -> Result<(), BenchFault> {
+    session.forward(event)?;
+    Ok(())
 }
 
 fn set_bytes(
@@ -88,14 +133,12 @@ fn set_bytes(
     bytes: &[u8],
 ) -> Result<(), BenchFault> {
     let bytes = Bytes::new(Vec::from_slice(alloc, bytes)?);
-    session.forward(Event::Patch(Patch::Bytes { at, bytes }))?;
-    Ok(())
+    forward(session, Event::Patch(Patch::Bytes { at, bytes }))
 }
 
 fn set_register(session: &mut Session, number: u8, word: Word) -> Result<(), BenchFault> {
     let register = RegisterNumber::new(number % 16);
-    session.forward(Event::Patch(Patch::Register(register, word)))?;
-    Ok(())
+    forward(session, Event::Patch(Patch::Register(register, word)))
 }
 
 /// The bytes that each event took, by what was resident before and after.

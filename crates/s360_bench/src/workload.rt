@@ -112,6 +112,84 @@ struct Row {
     operands: Option<Operands>,
 }
 
+static FIXED_ROW: Row = Row {
+    name: "fixed",
+    turn: Turn::Instruction,
+    program: &ADD_AND_STORE,
+    areas: &[],
+    runs: &[],
+    operands: None,
+};
+
+static MOVE_ROW: Row = Row {
+    name: "mvc",
+    turn: Turn::Instruction,
+    program: &MOVE_TWICE,
+    areas: &[
+        (0x500, Filling::Rising(0x00)),
+        (0x600, Filling::Rising(0x01)),
+    ],
+    runs: &[],
+    operands: Some(Operands(2, 256)),
+};
+
+static EXCLUSIVE_OR_ROW: Row = Row {
+    name: "xc",
+    turn: Turn::Instruction,
+    program: &EXCLUSIVE_OR,
+    areas: &[(0x500, Filling::Same(0xFF))],
+    runs: &[],
+    operands: Some(Operands(1, 256)),
+};
+
+static TRANSLATE_ROW: Row = Row {
+    name: "tr",
+    turn: Turn::Instruction,
+    program: &TRANSLATE,
+    areas: &[(0x500, Filling::Rising(0x01))],
+    runs: &[],
+    operands: Some(Operands(1, 256)),
+};
+
+static PACK_ROW: Row = Row {
+    name: "pack",
+    turn: Turn::Instruction,
+    program: &PACK_TWICE,
+    areas: &[(0x500, Filling::Same(0xF1)), (0x600, Filling::Same(0xF2))],
+    runs: &[],
+    operands: Some(Operands(2, 16)),
+};
+
+static COMPARE_LOGICAL_ROW: Row = Row {
+    name: "clc",
+    turn: Turn::Instruction,
+    program: &COMPARE,
+    areas: &[
+        (0x400, Filling::Rising(0x00)),
+        (0x500, Filling::Rising(0x00)),
+    ],
+    runs: &[],
+    operands: Some(Operands(1, 256)),
+};
+
+static SUPERVISOR_CALL_ROW: Row = Row {
+    name: "svc",
+    turn: Turn::Instruction,
+    program: &CALL,
+    areas: &[],
+    runs: &[(0x60, &CALL_NEW_PSW), (0x300, &CALL_RETURN)],
+    operands: None,
+};
+
+static CARDS_ROW: Row = Row {
+    name: "cards",
+    turn: Turn::Card,
+    program: &START_READER,
+    areas: &[],
+    runs: &[(0x48, &CHANNEL_ADDRESS), (0x400, &READ_CARDS)],
+    operands: None,
+};
+
 /// A loop.
 #[derive(Clone, Copy, Debug, PartialEq, Eq)]
 pub(crate) enum Workload {
@@ -195,78 +273,16 @@ impl Workload {
         Some(self.row().operands?.bytes_within(events))
     }
 
-    fn row(self) -> Row {
+    fn row(self) -> &'static Row {
         match self {
-            Workload::Fixed => Row {
-                name: "fixed",
-                turn: Turn::Instruction,
-                program: &ADD_AND_STORE,
-                areas: &[],
-                runs: &[],
-                operands: None,
-            },
-            Workload::Move => Row {
-                name: "mvc",
-                turn: Turn::Instruction,
-                program: &MOVE_TWICE,
-                areas: &[
-                    (0x500, Filling::Rising(0x00)),
-                    (0x600, Filling::Rising(0x01)),
-                ],
-                runs: &[],
-                operands: Some(Operands(2, 256)),
-            },
-            Workload::ExclusiveOr => Row {
-                name: "xc",
-                turn: Turn::Instruction,
-                program: &EXCLUSIVE_OR,
-                areas: &[(0x500, Filling::Same(0xFF))],
-                runs: &[],
-                operands: Some(Operands(1, 256)),
-            },
-            Workload::Translate => Row {
-                name: "tr",
-                turn: Turn::Instruction,
-                program: &TRANSLATE,
-                areas: &[(0x500, Filling::Rising(0x01))],
-                runs: &[],
-                operands: Some(Operands(1, 256)),
-            },
-            Workload::Pack => Row {
-                name: "pack",
-                turn: Turn::Instruction,
-                program: &PACK_TWICE,
-                areas: &[(0x500, Filling::Same(0xF1)), (0x600, Filling::Same(0xF2))],
-                runs: &[],
-                operands: Some(Operands(2, 16)),
-            },
-            Workload::CompareLogical => Row {
-                name: "clc",
-                turn: Turn::Instruction,
-                program: &COMPARE,
-                areas: &[
-                    (0x400, Filling::Rising(0x00)),
-                    (0x500, Filling::Rising(0x00)),
-                ],
-                runs: &[],
-                operands: Some(Operands(1, 256)),
-            },
-            Workload::SupervisorCall => Row {
-                name: "svc",
-                turn: Turn::Instruction,
-                program: &CALL,
-                areas: &[],
-                runs: &[(0x60, &CALL_NEW_PSW), (0x300, &CALL_RETURN)],
-                operands: None,
-            },
-            Workload::Cards => Row {
-                name: "cards",
-                turn: Turn::Card,
-                program: &START_READER,
-                areas: &[],
-                runs: &[(0x48, &CHANNEL_ADDRESS), (0x400, &READ_CARDS)],
-                operands: None,
-            },
+            Workload::Fixed => &FIXED_ROW,
+            Workload::Move => &MOVE_ROW,
+            Workload::ExclusiveOr => &EXCLUSIVE_OR_ROW,
+            Workload::Translate => &TRANSLATE_ROW,
+            Workload::Pack => &PACK_ROW,
+            Workload::CompareLogical => &COMPARE_LOGICAL_ROW,
+            Workload::SupervisorCall => &SUPERVISOR_CALL_ROW,
+            Workload::Cards => &CARDS_ROW,
         }
     }
 }

@@ -10,7 +10,7 @@ use Rattle.s360_channel.specs.declared.csw.UnitStatus.{UnitStatus}
 use Rattle.s360_channel.specs.declared.csw.ChannelStatus.{ChannelStatus}
 use Rattle.s360_channel.specs.declared.program.Program.{Program}
 use Rattle.s360_channel.specs.declared.program.Progress.{Progress}
-use Rattle.s360_channel.specs.declared.program.Progress.TheVariants.{First, CommandChained, InputChained, OutputChained}
+use Rattle.s360_channel.specs.declared.program.Progress.TheVariants.{First, Loading, CommandChained, InputChained, OutputChained}
 use Rattle.s360_channel.specs.declared.unit_control.UnitControl.{UnitControl}
 use Rattle.s360_channel.specs.declared.unit_state.UnitState.{UnitState}
 use Rattle.s360_channel.specs.declared.unit_state.UnitState.TheVariants.{Idle, Active, Waiting}
@@ -62,6 +62,7 @@ same_csw-Decides c d = Decides-iff
 
 pub same_progress-Decides : (p q : Progress) → Decides (same_progress p q) (p ≡ q)
 same_progress-Decides First First = (λ e. refl, λ e. refl)
+same_progress-Decides Loading Loading = (λ e. refl, λ e. refl)
 same_progress-Decides CommandChained CommandChained = (λ e. refl, λ e. refl)
 same_progress-Decides (InputChained command moved) (InputChained other count) = Decides-iff
     (same_progress (InputChained command moved) (InputChained other count))

@@ -8,7 +8,7 @@ use Rattle.s360_channel.specs.declared.csw.UnitStatus.{UnitStatus}
 use Rattle.s360_channel.specs.declared.csw.ChannelStatus.{ChannelStatus}
 use Rattle.s360_channel.specs.declared.program.Program.{Program}
 use Rattle.s360_channel.specs.declared.program.Progress.{Progress}
-use Rattle.s360_channel.specs.declared.program.Progress.TheVariants.{First, CommandChained, InputChained, OutputChained}
+use Rattle.s360_channel.specs.declared.program.Progress.TheVariants.{First, Loading, CommandChained, InputChained, OutputChained}
 use Rattle.s360_channel.specs.declared.unit_control.UnitControl.{UnitControl}
 use Rattle.s360_channel.specs.declared.unit_state.UnitState.{UnitState}
 use Rattle.s360_channel.specs.declared.unit_state.UnitState.TheVariants.{Idle, Active, Waiting}
@@ -41,6 +41,7 @@ same_csw c d =
 
 abbrev pub same_progress : Progress → Progress → Bool
 same_progress First First = true
+same_progress Loading Loading = true
 same_progress CommandChained CommandChained = true
 same_progress (InputChained command moved) (InputChained other count) = nat_eq command other && nat_eq moved count
 same_progress (OutputChained command gathered) (OutputChained other bytes) = nat_eq command other && bytes_eq gathered bytes

@@ -5,7 +5,7 @@ use Rattle.s360_model.specs.Storage.{Storage, doubleword_at, is_inside}
 use Rattle.s360_channel.specs.declared.ccw.Ccw.{Ccw}
 use Rattle.s360_channel.specs.declared.program.Program.{Program}
 use Rattle.s360_channel.specs.declared.program.Progress.{Progress}
-use Rattle.s360_channel.specs.declared.program.Progress.TheVariants.{First, InputChained, OutputChained}
+use Rattle.s360_channel.specs.declared.program.Progress.TheVariants.{First, Loading, InputChained, OutputChained}
 use Rattle.s360_channel.specs.declared.fetching.Fetched.{Fetched}
 use Rattle.s360_channel.specs.declared.fetching.Fetched.TheVariants.{Broken, Whole}
 use Rattle.s360_channel.specs.Words.{ccw_of, is_doubleword_address, is_transfer}
@@ -18,7 +18,21 @@ ccw_at s address = if is_doubleword_address address && is_inside s address 8 the
 abbrev pub program_at : ℕ → ℕ → Program
 program_at key address = record { key = key; address = address; progress = First }
 
--- it has executed no word yet
+-- initial program loading begins with a program of key 0, and with a word as if it stood at address 0: read 24 bytes
+-- to address 0, chained to the command at 8, with a length that is not told (GA22-6821, "System Control Panel", initial
+-- program loading)
+abbrev pub loading_program : Program
+loading_program = record { key = 0; address = 0; progress = Loading }
+
+abbrev pub loading_word : ℕ
+loading_word = 0x0200_0000_6000_0018
+
+-- it has executed no word yet, and its first is that of loading
+abbrev pub is_loading : Progress → Bool
+is_loading Loading = true
+is_loading other = false
+
+-- it has executed no word yet, and its first stands in storage
 abbrev pub is_first : Progress → Bool
 is_first First = true
 is_first other = false
@@ -57,4 +71,4 @@ next_ccw_with s progress address (Some c) =
     else executed_at (goes_on_with_record progress) address (Some c)
 
 abbrev pub next_ccw : Storage → Program → Fetched
-next_ccw s p = next_ccw_with s p.progress p.address (ccw_at s p.address)
+next_ccw s p = if is_loading p.progress then Whole 0 (ccw_of loading_word) else next_ccw_with s p.progress p.address (ccw_at s p.address)

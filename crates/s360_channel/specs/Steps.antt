@@ -1,5 +1,5 @@
 -- What the plan of a channel event says of its execution.
-use Rattle.std.specs.Prelude.{◌≡◌, ℕ, Option, Some, None, List}
+use Rattle.std.specs.Prelude.{◌≡◌, ◌≤◌, ℕ, Option, Some, None, List, length}
 use Rattle.s360_model.specs.Core.{Core}
 use Rattle.s360_model.specs.Storage.{Storage}
 use Rattle.s360_store.specs.declared.place.Cell.{Cell}
@@ -48,8 +48,10 @@ KeepsDevice IsAfter device e = IsAfter device e.command e.output device
 abbrev pub StoresRun : Storage → List Cell → Option Run → Type 0
 StoresRun s plan run = (m : Core) → m.storage ≡ s → IsPlanOf m plan (core_with_run run m)
 
--- the plan puts what the execution stores into any core that has this storage, and the step is the execution's
+-- the plan puts what the execution stores into any core that has this storage, in no more cells than a count has
+-- bytes, and the step is the execution's
 pub record PlansExecution {C : Type 0} (s : Storage) (p : Program) (plan : List Cell) (e : Execution) (Becomes : Ending → C → Type 0) (Stays : Ending → Type 0) (step : ChannelStep C) : Type 0 where
   pub stores : StoresRun s plan e.stores
+  pub few : length plan ≤ 65535
   pub state : state_after_step p step ≡ e.state
   pub change : IsDeviceChange Becomes Stays e.ending (change_of_step step)

@@ -1,12 +1,16 @@
 //! The channel command word with which a program goes on. Source: GA22-6821, "Input/Output
-//! Operations", channel command word and transfer in channel.
+//! Operations", channel command word and transfer in channel, and "System Control Panel", initial
+//! program loading.
 ghost use Rattle.std.specs.Prelude.{◌≡◌, ◌<◌, ◌≤◌, ◌^◌, ◌+◌, length, IfSome};
 ghost use Rattle.s360_channel.specs.Programs.{ccw_at, executed_at, next_ccw, goes_on_with_record};
-ghost use Rattle.s360_channel.specs.Programs.{is_executable, is_first, transferred_to};
+ghost use Rattle.s360_channel.specs.Programs.{is_executable, is_first, is_loading, transferred_to};
 
 use crate::ccw::Ccw;
 use crate::program::{Program, Progress};
 use s360_store::Storage;
+
+/// The channel command word with which loading begins.
+const LOADING_WORD: u64 = 0x0200_0000_6000_0018;
 
 /// What a channel finds where a program goes on.
 #[derive(Clone, Copy, Debug, PartialEq, Eq)]
@@ -35,12 +39,19 @@ impl Progress {
         matches!(self, Progress::First)
     }
 
+    /// Whether the next word is that with which loading begins.
+    fn is_loading(&self) -> bool
+        ensures { result ≡ is_loading self.now }
+    {
+        matches!(self, Progress::Loading)
+    }
+
     /// Whether the next word goes on with the same record.
     fn goes_on_with_record(&self) -> bool
         ensures { result ≡ goes_on_with_record self.now }
     {
         match self {
-            Progress::First | Progress::CommandChained => false,
+            Progress::First | Progress::Loading | Progress::CommandChained => false,
             Progress::InputChained { .. } | Progress::OutputChained { .. } => true,
         }
     }
@@ -79,6 +90,9 @@ fn transferred_to(storage: &Storage, same_record: bool, address: u32, transfer: 
 pub(crate) fn next_ccw(storage: &Storage, program: &Program) -> Fetched
     ensures { result ≡ next_ccw storage.now program.now }
 {
+    if program.progress.is_loading() {
+        return Fetched::Whole(0, Ccw::from_u64(LOADING_WORD));
+    }
     let same_record = program.progress.goes_on_with_record();
     match ccw_at(storage, program.address) {
         Some(ccw) if ccw.is_transfer() && !program.progress.is_first() => {

@@ -21,7 +21,7 @@ impl Progress {
             Progress::InputChained { command, .. } | Progress::OutputChained { command, .. } => {
                 *command
             }
-            Progress::First | Progress::CommandChained => ccw.command,
+            Progress::First | Progress::Loading | Progress::CommandChained => ccw.command,
         }
     }
 

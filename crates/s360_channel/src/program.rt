@@ -1,6 +1,8 @@
 //! A channel program: what a channel keeps of it from one command word to the next. Source:
-//! GA22-6821, "Input/Output Operations", execution of input/output operations.
+//! GA22-6821, "Input/Output Operations", execution of input/output operations, and "System Control Panel",
+//! initial program loading.
 ghost use Rattle.std.specs.Prelude.{◌≡◌, IfOk};
+ghost use Rattle.s360_channel.specs.Programs.{loading_program};
 
 use s360_store::Bytes;
 use s360_word::ProtectionKey;
@@ -11,6 +13,8 @@ use std::alloc::{AllocError, Global};
 pub enum Progress {
     /// It comes first.
     First,
+    /// It comes first in initial program loading: a word that stands nowhere, as if it stood at address 0.
+    Loading,
     /// It is chained to a command that has ended, and is the next command.
     CommandChained,
     /// It is chained to data: the input of this command goes on, of which so many bytes were moved.
@@ -27,6 +31,7 @@ impl Progress {
     {
         Ok(match self {
             Progress::First => Progress::First,
+            Progress::Loading => Progress::Loading,
             Progress::CommandChained => Progress::CommandChained,
             Progress::InputChained { command, moved } => Progress::InputChained {
                 command: *command,
@@ -55,6 +60,18 @@ pub struct Program {
 }
 
 impl Program {
+    /// The program that initial program loading begins with. Its key is 0. Its first word reads 24 bytes to
+    /// address 0, is chained to the command word at 8, and takes a record of any length. It takes no memory.
+    pub fn loading() -> Program
+        ensures { result ≡ loading_program }
+    {
+        Program {
+            key: ProtectionKey::new(0),
+            address: 0,
+            progress: Progress::Loading,
+        }
+    }
+
     /// The protection key of its stores.
     pub fn key(&self) -> ProtectionKey
         ensures { result ≡ self.now.key }

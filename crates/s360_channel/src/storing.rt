@@ -21,7 +21,8 @@ pub(crate) fn put_run(
     requires empty { plan.old ≡ [] }
     requires short { length bytes.now ≤ 65535 }
     requires clear { access_of storage.now key Store (length bytes.now) lowest ≡ Clear }
-    ensures { OnOk result (StoresRun storage.now plan.new (run_of lowest bytes.now)) }
+    ensures stores { OnOk result (StoresRun storage.now plan.new (run_of lowest bytes.now)) }
+    ensures few { OnOk result (length plan.new ≤ 65535) }
 {
     // Its clauses have how great the storage is.
     let _ = storage.size();

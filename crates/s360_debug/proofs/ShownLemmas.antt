@@ -1,11 +1,12 @@
 -- Lines of bytes, one byte and one line more at the end.
-use Rattle.std.proofs.Common.{◌≡◌, ◌<◌, ◌≤◌, ◌+◌, ◌-◌, ◌/◌, ◌%◌, ◌^◌, ◌++◌, ℕ, List, [], ◌∷◌, ap, sym, ◌∙◌, refl, drop, get_or, length, map, append_assoc, arith, codes}
-use Rattle.std.proofs.lemmas.List.{append-nil, take_more, get_or-drop, length-drop}
+use Rattle.std.proofs.Common.{◌≡◌, ◌<◌, ◌≤◌, ◌+◌, ◌-◌, ◌/◌, ◌%◌, ◌^◌, ◌++◌, ℕ, List, [], ◌∷◌, ap, sym, ◌∙◌, refl, drop, take, get_or, length, map, min, nat_eq, false, append_assoc, arith, codes}
+use Rattle.std.proofs.lemmas.List.{append-nil, take_min, take_more, get_or-drop, length-drop}
 use Rattle.std.proofs.lemmas.List.Folds.{flat_map-map}
 use Rattle.std.proofs.lemmas.List.FromFn.{map-range_with_len_more}
 use Rattle.std.proofs.lemmas.Grind.{flat_map-append}
 use Rattle.std.specs.List.{flat_map, range_with_len, slice_range}
 use Rattle.s360_model.specs.Text.{hex_text, hex_bytes}
+use Rattle.s360_debug.specs.ShownItems.{block_begin}
 use Rattle.s360_debug.specs.ShownUnits.{csw_words}
 
 hex_bytes-push : (bytes : List ℕ) (byte : ℕ) → hex_bytes (bytes ++ byte ∷ []) ≡ hex_bytes bytes ++ hex_text 2 byte
@@ -28,6 +29,30 @@ pub hex_bytes-more : (bytes : List ℕ) (first end : ℕ) → first ≤ end → 
     → hex_bytes (slice_range bytes first (end + 1)) ≡ hex_bytes (slice_range bytes first end) ++ hex_text 2 (get_or bytes end 0)
 hex_bytes-more bytes first end order inside =
     ap hex_bytes (slice_range-more bytes first end order inside) ∙ hex_bytes-push (slice_range bytes first end) (get_or bytes end 0)
+
+hex_bytes-taken : (bytes : List ℕ) (i : ℕ) → i < length bytes → hex_bytes (take (i + 1) bytes) ≡ hex_bytes (take i bytes) ++ hex_text 2 (get_or bytes i 0)
+hex_bytes-taken bytes i inside = ap hex_bytes (take_more bytes i 0 inside) ∙ hex_bytes-push (take i bytes) (get_or bytes i 0)
+
+-- and after a text
+pub digits-pushed : (bytes old text new : List ℕ) (i byte : ℕ) → text ≡ old ++ hex_bytes (take i bytes) → i < length bytes → byte ≡ get_or bytes i 0
+    → new ≡ text ++ hex_text 2 byte → new ≡ old ++ hex_bytes (take (i + 1) bytes)
+digits-pushed bytes old text new i byte h inside e k =
+    k
+    ∙ ap (λ (t : List ℕ). t ++ hex_text 2 byte) h
+    ∙ ap (λ (b : ℕ). (old ++ hex_bytes (take i bytes)) ++ hex_text 2 b) e
+    ∙ append_assoc old (hex_bytes (take i bytes)) (hex_text 2 (get_or bytes i 0))
+    ∙ ap (λ (t : List ℕ). old ++ t) (sym (hex_bytes-taken bytes i inside))
+
+-- the first bytes of a block that has any
+pub begin-pushed : (old text new bytes : List ℕ) (count : ℕ) → false ≡ nat_eq (length bytes) 0 → count ≡ min 32 (length bytes) → text ≡ old ++ codes " "
+    → new ≡ text ++ hex_bytes (take count bytes) → new ≡ old ++ block_begin bytes
+begin-pushed old text new [] count some e h k = cc
+begin-pushed old text new (byte ∷ bytes) count some e h k =
+    k
+    ∙ ap (λ (t : List ℕ). t ++ hex_bytes (take count (byte ∷ bytes))) h
+    ∙ ap (λ (n : ℕ). (old ++ codes " ") ++ hex_bytes (take n (byte ∷ bytes))) e
+    ∙ ap (λ (shown : List ℕ). (old ++ codes " ") ++ hex_bytes shown) (take_min 32 (byte ∷ bytes))
+    ∙ append_assoc old (codes " ") (hex_bytes (take 32 (byte ∷ bytes)))
 
 -- one line more
 pub lines-more : (line : ℕ → List ℕ) (n : ℕ) → flat_map line (range_with_len 0 (n + 1)) ≡ flat_map line (range_with_len 0 n) ++ line n

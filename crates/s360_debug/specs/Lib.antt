@@ -4,6 +4,7 @@ pub mod Names
 pub mod ShownUnits
 pub mod Blanks
 pub mod ShownItems
+pub mod ShownImages
 pub mod Shown
 pub mod Debugger
 pub mod Offers

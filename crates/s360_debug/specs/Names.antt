@@ -10,7 +10,7 @@ use Rattle.s360_machine.specs.declared.event.Patch.{Patch}
 use Rattle.s360_machine.specs.declared.event.Patch.TheVariants.{Bytes, Register as register, StorageKey, Psw as psw}
 use Rattle.s360_machine.specs.declared.external.ExternalConditions.{ExternalConditions}
 use Rattle.s360_machine.specs.declared.operator.Key.{Key as OperatorKey}
-use Rattle.s360_machine.specs.declared.operator.Key.TheVariants.{Start, Stop, Reset, Interrupt, EndOfFile, Request, Enter}
+use Rattle.s360_machine.specs.declared.operator.Key.TheVariants.{Start, Stop, Reset, Interrupt, EndOfFile, Request, Enter, Load}
 use Rattle.s360_machine.specs.declared.refusal.Refusal.{Refusal}
 use Rattle.s360_machine.specs.declared.refusal.Refusal.TheVariants.{Memory, OutsideStorage, NoSuchUnit, LineTooLong, PatchTooLong, JournalFull}
 use Rattle.s360_machine.specs.declared.run_state.RunState.{RunState}
@@ -36,6 +36,7 @@ key_name Interrupt = codes "key interrupt"
 key_name EndOfFile = codes "key eof"
 key_name Request = codes "key request"
 key_name (Enter line) = codes "enter"
+key_name (Load unit) = codes "load " ++ hex_text 3 unit.0
 
 abbrev pub patch_name : Patch → List ℕ
 patch_name (Bytes at bytes) = codes "patch s"

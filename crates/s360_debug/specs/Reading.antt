@@ -8,13 +8,14 @@ use Rattle.std.specs.Result.{result_ok}
 use Rattle.hex.specs.Hex.{decode_of}
 use Rattle.s360_model.specs.Storage.{block_size}
 use Rattle.s360_store.specs.declared.place.Place.TheVariants.{Psw, Register, Byte, Key as key_place, Run as run_place, External, UnitState, UnitMedia}
+use Rattle.s360_word.specs.declared.unit.Unit.{Unit as UnitAddress}
 use Rattle.s360_print.specs.Signs.{ebcdic_of}
 use Rattle.s360_machine.specs.declared.event.Patch.TheVariants.{Bytes as bytes_patch, Register as register_patch, StorageKey as storage_key_patch, Psw as psw_patch}
 use Rattle.s360_machine.specs.declared.operator.Key.{Key as OperatorKey}
-use Rattle.s360_machine.specs.declared.operator.Key.TheVariants.{Start, Stop, Reset, Interrupt, EndOfFile, Request, Enter}
+use Rattle.s360_machine.specs.declared.operator.Key.TheVariants.{Start, Stop, Reset, Interrupt, EndOfFile, Request, Enter, Load}
 use Rattle.s360_debug.specs.declared.command.Command.{Command}
 use Rattle.s360_debug.specs.declared.command.Command.TheVariants.{Step, Channel, Tick, Key, Patch, Back, Standing, Last, Show, Break, Clear, Until, Run}
-use Rattle.s360_debug.specs.declared.command.Shown.TheVariants.{Registers, Psw as psw, Storage, StorageKey, External as external, UnitState as unit_state, Device as device, Item as item}
+use Rattle.s360_debug.specs.declared.command.Shown.TheVariants.{Registers, Psw as psw, Storage, StorageKey, External as external, UnitState as unit_state, Device as device, Item as item, Image as image}
 use Rattle.s360_debug.specs.declared.command.LineFault.{LineFault}
 use Rattle.s360_debug.specs.declared.command.LineFault.TheVariants.{LineTooLong, Unknown, Argument, Memory}
 use Rattle.s360_debug.specs.Words.{text_behind, words_of}
@@ -50,6 +51,14 @@ argument place value (word ∷ words) = ok_or (value word) (Argument place)
 -- a number of at most so many hexadecimal digits
 abbrev pub number_argument : ℕ → ℕ → List (List ℕ) → Result ℕ LineFault
 number_argument place most words = argument place (hex_number most) words
+
+-- the address of a unit
+abbrev pub as_unit : Result ℕ LineFault → Result UnitAddress LineFault
+as_unit (Ok n) = Ok (record { 0 = n })
+as_unit (Err f) = Err f
+
+abbrev pub unit_argument : ℕ → List (List ℕ) → Result UnitAddress LineFault
+unit_argument place words = as_unit (number_argument place 3 words)
 
 -- bytes of two digits each, at least one byte
 abbrev pub bytes_in : List ℕ → Option (List ℕ)
@@ -108,7 +117,7 @@ key_of word =
 
 -- `channel U`, after its first word
 abbrev pub channel_reading : List (List ℕ) → Reading
-channel_reading words = and_then (number_argument 1 3 words) (λ n. finished 2 (Channel (record { 0 = n })) (drop 1 words))
+channel_reading words = and_then (unit_argument 1 words) (λ unit. finished 2 (Channel unit) (drop 1 words))
 
 -- `break A` and `clear A`, after their first word
 abbrev pub break_reading : List (List ℕ) → Reading
@@ -133,6 +142,10 @@ ebcdic_text text = if list_all (λ sign. is_some (ebcdic_of sign)) text then Som
 abbrev pub enter_reading : List ℕ → Reading
 enter_reading text = and_then (ok_or (ebcdic_text text) (Argument 1)) (λ bytes. Ok (Key (Enter bytes)))
 
+-- `load U`, after its first word
+abbrev pub load_reading : List (List ℕ) → Reading
+load_reading words = and_then (unit_argument 1 words) (λ unit. finished 2 (Key (Load unit)) (drop 1 words))
+
 -- `last s A`, `last r R` and `last k A`, after their first two words
 abbrev pub last_byte : List (List ℕ) → Reading
 last_byte words = and_then (number_argument 2 6 words) (λ at. finished 3 (Last (Byte at)) (drop 1 words))
@@ -145,10 +158,10 @@ last_key words = and_then (number_argument 2 6 words) (λ at. finished 3 (Last (
 
 -- `last u U` and `last d U`, after their first two words
 abbrev pub last_state : List (List ℕ) → Reading
-last_state words = and_then (number_argument 2 3 words) (λ n. finished 3 (Last (UnitState (record { 0 = n }))) (drop 1 words))
+last_state words = and_then (unit_argument 2 words) (λ unit. finished 3 (Last (UnitState unit)) (drop 1 words))
 
 abbrev pub last_media : List (List ℕ) → Reading
-last_media words = and_then (number_argument 2 3 words) (λ n. finished 3 (Last (UnitMedia (record { 0 = n }))) (drop 1 words))
+last_media words = and_then (unit_argument 2 words) (λ unit. finished 3 (Last (UnitMedia unit)) (drop 1 words))
 
 -- `last` with a kind
 abbrev pub last_reading : List (List ℕ) → Reading
@@ -177,17 +190,21 @@ show_key words = and_then (number_argument 2 6 words) (λ at. finished 3 (Show (
 
 -- `show u U` and `show d U`, after their first two words
 abbrev pub show_unit : List (List ℕ) → Reading
-show_unit words = and_then (number_argument 2 3 words) (λ n. finished 3 (Show (unit_state (record { 0 = n }))) (drop 1 words))
+show_unit words = and_then (unit_argument 2 words) (λ unit. finished 3 (Show (unit_state unit)) (drop 1 words))
 
 abbrev pub show_device : List (List ℕ) → Reading
-show_device words = and_then (number_argument 2 3 words) (λ n. finished 3 (Show (device (record { 0 = n }))) (drop 1 words))
+show_device words = and_then (unit_argument 2 words) (λ unit. finished 3 (Show (device unit)) (drop 1 words))
 
 -- `show m U N`, after its first two words
 abbrev pub show_item : List (List ℕ) → Reading
 show_item words =
-    and_then (number_argument 2 3 words) (λ n.
+    and_then (unit_argument 2 words) (λ unit.
     and_then (argument 3 (count_of most_count) (drop 1 words)) (λ number.
-    finished 4 (Show (item (record { 0 = n }) number)) (drop 2 words)))
+    finished 4 (Show (item unit number)) (drop 2 words)))
+
+-- `show image U`, after its first two words
+abbrev pub show_image : List (List ℕ) → Reading
+show_image words = and_then (unit_argument 2 words) (λ unit. finished 3 (Show (image unit)) (drop 1 words))
 
 -- `show` with a kind
 abbrev pub show_reading : List (List ℕ) → Reading
@@ -201,7 +218,8 @@ show_reading (kind ∷ words) =
     else (if is_word kind (codes "u") then show_unit words
     else (if is_word kind (codes "d") then show_device words
     else (if is_word kind (codes "m") then show_item words
-    else Err (Argument 1))))))))
+    else (if is_word kind (codes "image") then show_image words
+    else Err (Argument 1)))))))))
 
 -- a row for each first word; the text is what follows it in the line
 abbrev pub reading_of_words : List ℕ → List (List ℕ) → Reading
@@ -212,6 +230,7 @@ reading_of_words text (name ∷ words) =
     else (if is_word name (codes "tick") then finished 1 Tick words
     else (if is_word name (codes "key") then key_reading words
     else (if is_word name (codes "enter") then enter_reading text
+    else (if is_word name (codes "load") then load_reading words
     else (if is_word name (codes "back") then finished 1 Back words
     else (if is_word name (codes "standing") then finished 1 Standing words
     else (if is_word name (codes "patch") then patch_reading words
@@ -221,7 +240,7 @@ reading_of_words text (name ∷ words) =
     else (if is_word name (codes "clear") then clear_reading words
     else (if is_word name (codes "until") then finished 1 Until words
     else (if is_word name (codes "run") then run_reading words
-    else Err Unknown)))))))))))))
+    else Err Unknown))))))))))))))
 
 -- a line that is too long comes first
 abbrev pub reading_of : List ℕ → Reading

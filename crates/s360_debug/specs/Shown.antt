@@ -9,8 +9,9 @@ use Rattle.s360_machine.specs.declared.refusal.Refusal.TheVariants.{OutsideStora
 use Rattle.s360_machine.specs.declared.external.ExternalConditions.{ExternalConditions}
 use Rattle.s360_machine.specs.Machine.{Machine}
 use Rattle.s360_debug.specs.declared.command.Shown.{Shown}
-use Rattle.s360_debug.specs.declared.command.Shown.TheVariants.{Registers, Psw, Storage, StorageKey, External, UnitState, Device, Item}
+use Rattle.s360_debug.specs.declared.command.Shown.TheVariants.{Registers, Psw, Storage, StorageKey, External, UnitState, Device, Item, Image}
 use Rattle.s360_debug.specs.Names.{external_name, refused_text, run_state_name}
+use Rattle.s360_debug.specs.ShownImages.{image_text}
 use Rattle.s360_debug.specs.ShownItems.{item_text}
 use Rattle.s360_debug.specs.ShownUnits.{device_text, unit_text}
 
@@ -66,3 +67,4 @@ shown_text m External = external_text m.control.external
 shown_text m (UnitState unit) = unit_text m unit
 shown_text m (Device unit) = device_text m unit
 shown_text m (Item unit number) = item_text m unit number
+shown_text m (Image unit) = image_text m unit

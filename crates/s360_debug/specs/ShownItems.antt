@@ -1,7 +1,7 @@
 -- What is shown of an item of a unit's media (own profile). Each line is ended by one line feed.
-use Rattle.std.specs.Prelude.{ℕ, Option, Some, None, List, ◌++◌, codes, map}
+use Rattle.std.specs.Prelude.{ℕ, Option, Some, None, List, [], ◌∷◌, ◌++◌, codes, length, map, take}
 use Rattle.std.specs.Option.{option_map_or, unwrap_or}
-use Rattle.s360_model.specs.Text.{decimal}
+use Rattle.s360_model.specs.Text.{decimal, hex_bytes}
 use Rattle.s360_word.specs.declared.unit.Unit.{Unit}
 use Rattle.s360_device.specs.declared.card.PunchStacker.{PunchStacker}
 use Rattle.s360_device.specs.declared.card.PunchStacker.TheVariants.{P1, P2, Rp3 as punch_rp3}
@@ -16,8 +16,11 @@ use Rattle.s360_print.specs.declared.typed_line.TypedItem.TheVariants.{Text, Ret
 use Rattle.s360_print.specs.Console.{Console}
 use Rattle.s360_print.specs.Printer.{Printer}
 use Rattle.s360_print.specs.Signs.{ascii_of}
+use Rattle.s360_tape.specs.declared.item.Item.{Item}
+use Rattle.s360_tape.specs.declared.item.Item.TheVariants.{Block, Mark}
+use Rattle.s360_tape.specs.Tape.{Tape}
 use Rattle.s360_machine.specs.declared.configured_unit.ConfiguredUnit.{ConfiguredUnit}
-use Rattle.s360_machine.specs.declared.configured_unit.ConfiguredUnit.TheVariants.{Reader as reader_unit, Punch as punch_unit, Printer as printer_unit, Console as console_unit}
+use Rattle.s360_machine.specs.declared.configured_unit.ConfiguredUnit.TheVariants.{Reader as reader_unit, Punch as punch_unit, Printer as printer_unit, Console as console_unit, Tape0, Tape1}
 use Rattle.s360_machine.specs.declared.refusal.Refusal.TheVariants.{NoSuchUnit}
 use Rattle.s360_machine.specs.Machine.{Machine}
 use Rattle.s360_machine.specs.Units.{unit_at}
@@ -77,12 +80,28 @@ printed_record p number = option_map_or record_line (item_in p.media.records num
 abbrev pub typed_item : Console → ℕ → List ℕ
 typed_item c number = option_map_or typed_line (item_in c.media.typed number) no_item
 
+-- the first bytes of a block, if it has any
+abbrev pub block_begin : List ℕ → List ℕ
+block_begin [] = []
+block_begin (byte ∷ bytes) = codes " " ++ hex_bytes (take 32 (byte ∷ bytes))
+
+-- a block, with the number of its bytes, or a mark
+abbrev pub tape_item_line : Item → List ℕ
+tape_item_line (Block bytes) = codes "block " ++ decimal (length bytes) ++ block_begin bytes ++ codes "\n"
+tape_item_line Mark = codes "mark" ++ codes "\n"
+
+-- a block or mark of a tape, by its number
+abbrev pub tape_item : Tape → ℕ → List ℕ
+tape_item t number = option_map_or tape_item_line (item_in t.media.items number) no_item
+
 -- an item of a unit's media, if the machine has the unit
 abbrev pub item_of_unit : Machine → Option ConfiguredUnit → ℕ → List ℕ
 item_of_unit m (Some reader_unit) number = deck_card m.media.reader number
 item_of_unit m (Some punch_unit) number = punched_card m.media.punch number
 item_of_unit m (Some printer_unit) number = printed_record m.media.printer number
 item_of_unit m (Some console_unit) number = typed_item m.media.console number
+item_of_unit m (Some Tape0) number = tape_item m.media.tape0 number
+item_of_unit m (Some Tape1) number = tape_item m.media.tape1 number
 item_of_unit m None number = refused_text NoSuchUnit
 
 abbrev pub item_text : Machine → Unit → ℕ → List ℕ

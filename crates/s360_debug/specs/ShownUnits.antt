@@ -1,17 +1,18 @@
 -- What is shown of the units and their devices (own profile). Each line is ended by one line feed.
 use Rattle.std.specs.Prelude.{ℕ, ◌+◌, ◌*◌, ◌/◌, ◌%◌, ◌^◌, Bool, if◌then◌else◌, Option, Some, None, List, [], ◌++◌, codes, length, slice_index}
-use Rattle.s360_model.specs.Text.{decimal, hex_text}
+use Rattle.s360_model.specs.Text.{decimal, hex_bytes, hex_text}
 use Rattle.s360_word.specs.declared.unit.Unit.{Unit}
 use Rattle.s360_device.specs.Punch.{Punch}
 use Rattle.s360_device.specs.Reader.{Reader}
 use Rattle.s360_print.specs.Console.{Console}
 use Rattle.s360_print.specs.Printer.{Printer}
+use Rattle.s360_tape.specs.Tape.{Tape}
 use Rattle.s360_channel.specs.declared.program.Program.{Program}
 use Rattle.s360_channel.specs.declared.unit_state.UnitState.{UnitState}
 use Rattle.s360_channel.specs.declared.unit_state.UnitState.TheVariants.{Idle, Active, Waiting}
 use Rattle.s360_channel.specs.Words.{csw_doubleword}
 use Rattle.s360_machine.specs.declared.configured_unit.ConfiguredUnit.{ConfiguredUnit}
-use Rattle.s360_machine.specs.declared.configured_unit.ConfiguredUnit.TheVariants.{Reader as reader_unit, Punch as punch_unit, Printer as printer_unit, Console as console_unit}
+use Rattle.s360_machine.specs.declared.configured_unit.ConfiguredUnit.TheVariants.{Reader as reader_unit, Punch as punch_unit, Printer as printer_unit, Console as console_unit, Tape0, Tape1}
 use Rattle.s360_machine.specs.declared.refusal.Refusal.TheVariants.{NoSuchUnit}
 use Rattle.s360_machine.specs.Machine.{Machine}
 use Rattle.s360_machine.specs.Units.{attention_at, state_at, unit_at}
@@ -44,7 +45,7 @@ text_of_state unit (Some state) attention = unit_line unit state attention
 abbrev pub unit_text : Machine → Unit → List ℕ
 unit_text m unit = text_of_state unit (state_at m.units unit) (attention_at m.units unit)
 
--- the first sense byte, which is all that these devices have
+-- the first sense byte, which is all that the devices of channel 0 have
 abbrev pub sense_text : List ℕ → List ℕ
 sense_text sense = codes " sense " ++ hex_text 2 (slice_index sense 0)
 
@@ -73,13 +74,24 @@ console_line c =
     codes "01F" ++ sense_text c.sense ++ codes " typed " ++ decimal (length c.media.typed) ++ codes " entered " ++ decimal (length c.media.entered)
     ++ codes " taken " ++ decimal c.media.taken ++ codes "\n"
 
+-- the sense bytes, the position among the blocks and marks, and whether the tape is loaded
+abbrev pub loaded_text : Bool → List ℕ
+loaded_text unloaded = if unloaded then codes " unloaded" else codes " loaded"
+
+abbrev pub tape_line : Unit → Tape → List ℕ
+tape_line unit t =
+    hex_text 3 unit.0 ++ codes " sense " ++ hex_bytes t.sense ++ codes " position " ++ decimal t.media.position ++ codes " of " ++ decimal (length t.media.items)
+    ++ loaded_text t.media.unloaded ++ codes "\n"
+
 -- a unit's device, if the machine has it
-abbrev pub text_of_device : Machine → Option ConfiguredUnit → List ℕ
-text_of_device m (Some reader_unit) = reader_line m.media.reader
-text_of_device m (Some punch_unit) = punch_line m.media.punch
-text_of_device m (Some printer_unit) = printer_line m.media.printer
-text_of_device m (Some console_unit) = console_line m.media.console
-text_of_device m None = refused_text NoSuchUnit
+abbrev pub text_of_device : Machine → Unit → Option ConfiguredUnit → List ℕ
+text_of_device m unit (Some reader_unit) = reader_line m.media.reader
+text_of_device m unit (Some punch_unit) = punch_line m.media.punch
+text_of_device m unit (Some printer_unit) = printer_line m.media.printer
+text_of_device m unit (Some console_unit) = console_line m.media.console
+text_of_device m unit (Some Tape0) = tape_line unit m.media.tape0
+text_of_device m unit (Some Tape1) = tape_line unit m.media.tape1
+text_of_device m unit None = refused_text NoSuchUnit
 
 abbrev pub device_text : Machine → Unit → List ℕ
-device_text m unit = text_of_device m (unit_at unit.0)
+device_text m unit = text_of_device m unit (unit_at unit.0)

@@ -18,7 +18,7 @@ pub enum Command {
     Channel(Unit),
     /// `tick`: the timer counts down.
     Tick,
-    /// `key`: the operator presses a key.
+    /// `key`, `enter` and `load U`: the operator presses a key.
     Key(Key),
     /// `patch`: a part of the machine is given a value from outside.
     Patch(Patch),
@@ -82,6 +82,8 @@ pub enum Shown {
     Device(Unit),
     /// `show m U N`: an item of a unit's media, by its number from 1.
     Item { unit: Unit, number: u32 },
+    /// `show image U`: the file of a unit's tape.
+    Image(Unit),
 }
 
 /// Why a line is no command, in the order in which it is found.

@@ -5,8 +5,10 @@ ghost use Rattle.s360_debug.specs.Reading.{Reads, reading_of, patch_reading};
 ghost use Rattle.s360_debug.specs.Reading.{storage_patch, word_patch, key_patch, doubleword_patch};
 ghost use Rattle.s360_debug.specs.Reading.{break_reading, clear_reading, run_reading};
 ghost use Rattle.s360_debug.specs.Reading.{channel_reading, key_of, key_reading, enter_reading};
+ghost use Rattle.s360_debug.specs.Reading.{load_reading};
 ghost use Rattle.s360_debug.specs.Reading.{last_reading, show_reading, show_storage, show_item};
-ghost use Rattle.s360_debug.specs.Reading.{argument, number_argument, bytes_in, is_word, finished};
+ghost use Rattle.s360_debug.specs.Reading.{argument, number_argument, unit_argument};
+ghost use Rattle.s360_debug.specs.Reading.{bytes_in, is_word, finished};
 ghost use Rattle.s360_debug.specs.Reading.{AtEnd};
 ghost use Rattle.s360_debug.specs.Digits.{doubleword_of, count_of};
 
@@ -56,6 +58,8 @@ pub fn read_command(alloc: Global, line: &[u8]) -> Result<Command, LineFault>
         read_key(words)
     } else if is(name, "enter") {
         read_enter(alloc, text_behind(line))
+    } else if is(name, "load") {
+        read_load(words)
     } else if is(name, "back") {
         finish(words, 1, Command::Back)
     } else if is(name, "standing") {
@@ -90,8 +94,8 @@ fn is(word: &[u8], name: &str) -> bool
 fn read_channel(mut words: Words<'_>) -> Result<Command, LineFault>
     ensures { result ≡ channel_reading words.entry }
 {
-    let unit = next_number(&mut words, 1, 3)?;
-    finish(words, 2, Command::Channel(Unit::new(unit as u16)))
+    let unit = next_unit(&mut words, 1)?;
+    finish(words, 2, Command::Channel(unit))
 }
 
 /// `break A`
@@ -159,6 +163,14 @@ fn read_enter(alloc: Global, text: &[u8]) -> Result<Command, LineFault>
     }
     let bytes = ebcdic_in(alloc, text)?;
     Ok(Command::Key(Key::Enter(Bytes::new(bytes))))
+}
+
+/// `load U`
+fn read_load(mut words: Words<'_>) -> Result<Command, LineFault>
+    ensures { result ≡ load_reading words.entry }
+{
+    let unit = next_unit(&mut words, 1)?;
+    finish(words, 2, Command::Key(Key::Load(unit)))
 }
 
 /// `patch`, by its kind.
@@ -243,19 +255,11 @@ fn read_last(mut words: Words<'_>) -> Result<Command, LineFault>
     } else if is(kind, "ext") {
         finish(words, 2, Command::Last(Place::External))
     } else if is(kind, "u") {
-        let unit = next_number(&mut words, 2, 3)?;
-        finish(
-            words,
-            3,
-            Command::Last(Place::UnitState(Unit::new(unit as u16))),
-        )
+        let unit = next_unit(&mut words, 2)?;
+        finish(words, 3, Command::Last(Place::UnitState(unit)))
     } else if is(kind, "d") {
-        let unit = next_number(&mut words, 2, 3)?;
-        finish(
-            words,
-            3,
-            Command::Last(Place::UnitMedia(Unit::new(unit as u16))),
-        )
+        let unit = next_unit(&mut words, 2)?;
+        finish(words, 3, Command::Last(Place::UnitMedia(unit)))
     } else {
         Err(LineFault::Argument(1))
     }
@@ -278,21 +282,16 @@ fn read_show(mut words: Words<'_>) -> Result<Command, LineFault>
     } else if is(kind, "ext") {
         finish(words, 2, Command::Show(Shown::External))
     } else if is(kind, "u") {
-        let unit = next_number(&mut words, 2, 3)?;
-        finish(
-            words,
-            3,
-            Command::Show(Shown::UnitState(Unit::new(unit as u16))),
-        )
+        let unit = next_unit(&mut words, 2)?;
+        finish(words, 3, Command::Show(Shown::UnitState(unit)))
     } else if is(kind, "d") {
-        let unit = next_number(&mut words, 2, 3)?;
-        finish(
-            words,
-            3,
-            Command::Show(Shown::Device(Unit::new(unit as u16))),
-        )
+        let unit = next_unit(&mut words, 2)?;
+        finish(words, 3, Command::Show(Shown::Device(unit)))
     } else if is(kind, "m") {
         read_show_item(words)
+    } else if is(kind, "image") {
+        let unit = next_unit(&mut words, 2)?;
+        finish(words, 3, Command::Show(Shown::Image(unit)))
     } else {
         Err(LineFault::Argument(1))
     }
@@ -311,9 +310,8 @@ fn read_show_storage(mut words: Words<'_>) -> Result<Command, LineFault>
 fn read_show_item(mut words: Words<'_>) -> Result<Command, LineFault>
     ensures { result ≡ show_item words.entry }
 {
-    let unit = next_number(&mut words, 2, 3)?;
+    let unit = next_unit(&mut words, 2)?;
     let number = next_count(&mut words, 3, MOST_COUNT)?;
-    let unit = Unit::new(unit as u16);
     finish(words, 4, Command::Show(Shown::Item { unit, number }))
 }
 
@@ -347,6 +345,15 @@ fn next_number(words: &mut Words<'_>, place: u8, most: usize) -> Result<u32, Lin
         return Err(LineFault::Argument(place));
     };
     Ok(number as u32)
+}
+
+/// The next word as the address of a unit, in at most three hexadecimal digits.
+fn next_unit(words: &mut Words<'_>, place: u8) -> Result<Unit, LineFault>
+    ensures unit { result ≡ unit_argument place words.old }
+    ensures rest { words.new ≡ drop 1 words.old }
+{
+    let address = next_number(words, place, 3)?;
+    Ok(Unit::new(address as u16))
 }
 
 /// The next word as a doubleword of sixteen hexadecimal digits.

@@ -14,6 +14,7 @@ mod open_line;
 mod run;
 mod running;
 mod show;
+mod show_image;
 mod show_items;
 mod show_units;
 mod text;

@@ -39,18 +39,19 @@ pub(crate) fn push_numbered(
     text.push_hex(number, width)
 }
 
-/// The name of a key that the operator presses.
-fn name_of_key(key: &Key) -> &'static str
-    ensures { result.now ≡ key_name key.now }
+/// Adds the name of a key.
+fn push_key(text: &mut Text, key: &Key) -> Result<(), AllocError>
+    ensures { OnOk result (text.new ≡ text.old ++ key_name key.now) }
 {
     match key {
-        Key::Start => "key start",
-        Key::Stop => "key stop",
-        Key::Reset => "key reset",
-        Key::Interrupt => "key interrupt",
-        Key::EndOfFile => "key eof",
-        Key::Request => "key request",
-        Key::Enter(_) => "enter",
+        Key::Start => text.push_text("key start"),
+        Key::Stop => text.push_text("key stop"),
+        Key::Reset => text.push_text("key reset"),
+        Key::Interrupt => text.push_text("key interrupt"),
+        Key::EndOfFile => text.push_text("key eof"),
+        Key::Request => text.push_text("key request"),
+        Key::Enter(_) => text.push_text("enter"),
+        Key::Load(unit) => push_numbered(text, "load ", u64::from(unit.0), 3),
     }
 }
 
@@ -74,7 +75,7 @@ pub(crate) fn push_event(text: &mut Text, event: &Event) -> Result<(), AllocErro
         Event::Cpu => text.push_text("cpu"),
         Event::Channel(unit) => push_numbered(text, "channel ", u64::from(unit.0), 3),
         Event::Tick => text.push_text("tick"),
-        Event::Key(key) => text.push_text(name_of_key(key)),
+        Event::Key(key) => push_key(text, key),
         Event::Patch(patch) => text.push_text(name_of_patch(patch)),
     }
 }

@@ -7,6 +7,7 @@ ghost use Rattle.s360_debug.specs.Shown.{external_text, key_line, key_text};
 
 use crate::command::Shown;
 use crate::names::{name_of_external, push_run_state, refusal_text};
+use crate::show_image::image_of;
 use crate::show_items::item_of;
 use crate::show_units::{device_of, unit_of};
 use crate::text::Text;
@@ -36,6 +37,7 @@ pub(crate) fn text_of_shown(
         Shown::UnitState(unit) => unit_of(alloc, machine, unit),
         Shown::Device(unit) => device_of(alloc, machine, unit),
         Shown::Item { unit, number } => item_of(alloc, machine, unit, number),
+        Shown::Image(unit) => image_of(alloc, machine, unit),
     }
 }
 

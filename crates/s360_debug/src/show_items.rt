@@ -5,15 +5,21 @@ ghost use Rattle.s360_machine.specs.Machine.{seen};
 ghost use Rattle.s360_debug.specs.ShownItems.{deck_card, item_line, item_text, no_item};
 ghost use Rattle.s360_debug.specs.ShownItems.{holder_name, printed_record, punched_card};
 ghost use Rattle.s360_debug.specs.ShownItems.{record_line, sign_of, stacker_name, typed_item};
-ghost use Rattle.s360_debug.specs.ShownItems.{typed_line};
+ghost use Rattle.s360_debug.specs.ShownItems.{block_begin, tape_item, tape_item_line, typed_line};
+ghost use Rattle.s360_tape.specs.WholeTape.{seen as seen_tape};
 
 use crate::names::refusal_text;
+use crate::show_units::push_digits;
 use crate::text::Text;
 use s360_device::{Punch, PunchStacker, ReadStacker, Reader};
 use s360_machine::{ConfiguredUnit, Machine, Refusal};
 use s360_print::{Console, Printer, Record, TypedItem, ebcdic_to_ascii};
+use s360_tape::{Item, Tape};
 use s360_word::Unit;
 use std::alloc::{AllocError, Global};
+
+/// So many bytes of a block are shown.
+const BLOCK_BEGIN: usize = 32;
 
 /// The item of this number of a unit's media; or the refusal where the machine does not have the unit.
 pub(crate) fn item_of(
@@ -29,6 +35,10 @@ pub(crate) fn item_of(
         Some(ConfiguredUnit::Punch) => card_of_punch(alloc, machine.punch(), number),
         Some(ConfiguredUnit::Printer) => line_of_printer(alloc, machine.printer(), number),
         Some(ConfiguredUnit::Console) => item_of_console(alloc, machine.console(), number),
+        Some(ConfiguredUnit::Tape0 | ConfiguredUnit::Tape1) => match machine.tape(unit) {
+            Some(tape) => item_of_tape(alloc, tape, number),
+            None => refusal_text(alloc, Refusal::NoSuchUnit),
+        },
         None => refusal_text(alloc, Refusal::NoSuchUnit),
     }
 }
@@ -72,6 +82,44 @@ fn item_of_console(alloc: Global, console: &Console, number: u32) -> Result<Text
         Some(item) => line_of_typed(alloc, item),
         None => line_of_none(alloc),
     }
+}
+
+/// A block or mark of a tape.
+fn item_of_tape(alloc: Global, tape: &Tape, number: u32) -> Result<Text, AllocError>
+    ensures { IfOk result (λ text. text ≡ tape_item (seen_tape tape.now.tape) number) }
+{
+    match tape.item(number as usize) {
+        Some(item) => line_of_tape_item(alloc, item),
+        None => line_of_none(alloc),
+    }
+}
+
+/// The line of a block or mark.
+fn line_of_tape_item(alloc: Global, item: &Item) -> Result<Text, AllocError>
+    ensures { IfOk result (λ text. text ≡ tape_item_line item.now) }
+{
+    let Item::Block(block) = item else {
+        return line_of_word(alloc, "mark");
+    };
+    let bytes = block.as_slice();
+    let mut text = Text::new(alloc);
+    text.push_text("block ")?;
+    text.push_decimal(bytes.len() as u64)?;
+    push_begin(&mut text, bytes)?;
+    text.push_text("\n")?;
+    Ok(text)
+}
+
+/// Adds the first bytes of a block after a blank, if it has any.
+fn push_begin(text: &mut Text, bytes: &[u8]) -> Result<(), AllocError>
+    ensures { OnOk result (text.new ≡ text.old ++ block_begin bytes.now) }
+{
+    if bytes.is_empty() {
+        return Ok(());
+    }
+    text.push_text(" ")?;
+    push_digits(text, &bytes[..BLOCK_BEGIN.min(bytes.len())])?;
+    Ok(())
 }
 
 /// The line of a line that was printed.

@@ -3,7 +3,9 @@ ghost use Rattle.std.specs.Prelude.{◌≡◌, ◌++◌, IfOk, OnOk, length};
 ghost use Rattle.s360_machine.specs.Machine.{seen};
 ghost use Rattle.s360_debug.specs.ShownUnits.{console_line, csw_words, device_text, printer_line};
 ghost use Rattle.s360_debug.specs.ShownUnits.{program_word, punch_line, reader_line, sense_text};
-ghost use Rattle.s360_debug.specs.ShownUnits.{state_name, unit_line, unit_text};
+ghost use Rattle.s360_debug.specs.ShownUnits.{state_name, tape_line, unit_line, unit_text};
+ghost use Rattle.s360_model.specs.Text.{hex_bytes};
+ghost use Rattle.s360_tape.specs.WholeTape.{seen as seen_tape};
 
 use crate::names::{push_numbered, refusal_text};
 use crate::text::Text;
@@ -11,6 +13,7 @@ use s360_channel::{Program, UnitState};
 use s360_device::{Device, Punch, Reader};
 use s360_machine::{ConfiguredUnit, Machine, Refusal};
 use s360_print::{Console, Printer};
+use s360_tape::Tape;
 use s360_word::{Unit, Word};
 use std::alloc::{AllocError, Global};
 
@@ -87,6 +90,10 @@ pub(crate) fn device_of(alloc: Global, machine: &Machine, unit: Unit) -> Result<
         Some(ConfiguredUnit::Punch) => line_of_punch(alloc, machine.punch()),
         Some(ConfiguredUnit::Printer) => line_of_printer(alloc, machine.printer()),
         Some(ConfiguredUnit::Console) => line_of_console(alloc, machine.console()),
+        Some(ConfiguredUnit::Tape0 | ConfiguredUnit::Tape1) => match machine.tape(unit) {
+            Some(tape) => line_of_tape(alloc, unit, tape),
+            None => refusal_text(alloc, Refusal::NoSuchUnit),
+        },
         None => refusal_text(alloc, Refusal::NoSuchUnit),
     }
 }
@@ -161,4 +168,35 @@ fn line_of_console(alloc: Global, console: &Console) -> Result<Text, AllocError>
     text.push_decimal(console.taken() as u64)?;
     text.push_text("\n")?;
     Ok(text)
+}
+
+/// The line of a magnetic tape.
+fn line_of_tape(alloc: Global, unit: Unit, tape: &Tape) -> Result<Text, AllocError>
+    ensures { IfOk result (λ text. text ≡ tape_line unit (seen_tape tape.now.tape)) }
+{
+    let mut text = Text::new(alloc);
+    text.push_hex(u64::from(unit.address()), 3)?;
+    text.push_text(" sense ")?;
+    push_digits(&mut text, &tape.sense())?;
+    text.push_text(" position ")?;
+    text.push_decimal(tape.position() as u64)?;
+    text.push_text(" of ")?;
+    text.push_decimal(tape.items() as u64)?;
+    text.push_text(if tape.unloaded() {
+        " unloaded"
+    } else {
+        " loaded"
+    })?;
+    text.push_text("\n")?;
+    Ok(text)
+}
+
+/// Adds bytes as two digits each.
+pub(crate) fn push_digits(text: &mut Text, bytes: &[u8]) -> Result<(), AllocError>
+    ensures { OnOk result (text.new ≡ text.old ++ hex_bytes bytes.now) }
+{
+    for byte in bytes {
+        text.push_hex(u64::from(*byte), 2)?;
+    }
+    Ok(())
 }

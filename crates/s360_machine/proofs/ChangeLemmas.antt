@@ -16,5 +16,5 @@ IsChangeTo-parts w cs xs us ms n h k u m = record {
   can = (h.cells, k.once, m.can);
   makes = rw (h.makes, k.makes, u.makes, m.makes) refl;
   lists = rw (h.lists, k.lists, u.lists, m.lists) refl;
-  back = λ s. (omega (arith, m.reader_back), omega (arith, m.punch_back), omega (arith, m.printer_back), omega (arith, m.console_back));
+  back = λ s. (omega (arith, m.reader_back), omega (arith, m.punch_back), omega (arith, m.printer_back), omega (arith, m.console_back), omega (arith, m.tape0_back), omega (arith, m.tape1_back));
 }

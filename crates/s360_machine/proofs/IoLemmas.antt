@@ -20,6 +20,12 @@ use Rattle.s360_print.specs.Differences.{same_console, same_printer}
 use Rattle.s360_print.specs.Printer.{Printer}
 use Rattle.s360_print.specs.PrinterChanges.{CanSwapPrinter, printer_after_swap, printer_change_after_swap}
 use Rattle.s360_print.proofs.DifferenceLemmas.{same_console-Decides, same_printer-Decides}
+use Rattle.s360_tape.specs.declared.tape_change.TapeChange.{TapeChange}
+use Rattle.s360_tape.specs.Differences.{same_tape}
+use Rattle.s360_tape.specs.Slots.{slots_put}
+use Rattle.s360_tape.specs.Tape.{Tape}
+use Rattle.s360_tape.specs.WholeTape.{WholeTape, CanSwapTape, seen as seen_tape, tape_after_swap, tape_change_after_swap}
+use Rattle.s360_tape.proofs.DifferenceLemmas.{same_tape-Decides}
 use Rattle.s360_channel.specs.declared.unit_control.UnitControl.{UnitControl}
 use Rattle.s360_channel.specs.Differences.{same_unit}
 use Rattle.s360_channel.proofs.DifferenceLemmas.{same_unit-Decides}
@@ -28,11 +34,11 @@ use Rattle.s360_machine.specs.declared.media.MediaChanges.{MediaChanges}
 use Rattle.s360_machine.specs.declared.units.UnitChanges.{UnitChanges}
 use Rattle.s360_machine.specs.declared.units.Units.{Units}
 use Rattle.s360_machine.specs.declared.configured_unit.ConfiguredUnit.{ConfiguredUnit}
-use Rattle.s360_machine.specs.declared.configured_unit.ConfiguredUnit.TheVariants.{Reader as reader_unit, Punch as punch_unit, Printer as printer_unit, Console as console_unit}
+use Rattle.s360_machine.specs.declared.configured_unit.ConfiguredUnit.TheVariants.{Reader as reader_unit, Punch as punch_unit, Printer as printer_unit, Console as console_unit, Tape0, Tape1}
 use Rattle.s360_machine.specs.IoChanges.{CanIfAny, after_if_any, back_if_any, need_if_any, place_if_any, the_other}
 use Rattle.s360_machine.specs.IoChanges.{media_after_swap, no_media_changes, no_unit_changes, unit_change_of, units_after_swap}
 use Rattle.s360_machine.specs.Units.{control_of, with_control_of}
-use Rattle.s360_machine.specs.Machine.{Media}
+use Rattle.s360_machine.specs.Machine.{Media, WholeMedia, seen_media}
 use Rattle.s360_machine.specs.Planned.{IsMediaChangeTo, IsUnitsChangeTo, unless_same}
 
 -- a change that may be there makes one thing of another, and is there just where the two differ
@@ -68,23 +74,28 @@ altered-is u v x h = rw h (altered-by u v (same_unit u v) refl)
 pub IsUnitsChangeTo-from : (us vs : Units) (x : UnitChanges)
     → IsUnitChange us.reader vs.reader x.reader → IsUnitChange us.punch vs.punch x.punch
     → IsUnitChange us.printer vs.printer x.printer → IsUnitChange us.console vs.console x.console
+    → IsUnitChange us.tape0 vs.tape0 x.tape0 → IsUnitChange us.tape1 vs.tape1 x.tape1
     → IsUnitsChangeTo us x vs
-IsUnitsChangeTo-from us vs x r p t c = record {
+IsUnitsChangeTo-from us vs x r p t c d e = record {
   makes =
       ap (λ (k : UnitControl). record (units_after_swap us x) { reader = k }) r.makes
       ∙ ap (λ (k : UnitControl). record (units_after_swap us x) { reader = vs.reader; punch = k }) p.makes
-      ∙ ap (λ (k : UnitControl). record vs { printer = k; console = after_if_any the_other us.console x.console }) t.makes
-      ∙ ap (λ (k : UnitControl). record vs { console = k }) c.makes;
-  lists = rw (r.lists, p.lists, t.lists, c.lists) refl;
+      ∙ ap (λ (k : UnitControl). record (units_after_swap us x) { reader = vs.reader; punch = vs.punch; printer = k }) t.makes
+      ∙ ap (λ (k : UnitControl). record vs { console = k; tape0 = (units_after_swap us x).tape0; tape1 = (units_after_swap us x).tape1 }) c.makes
+      ∙ ap (λ (k : UnitControl). record vs { tape0 = k; tape1 = (units_after_swap us x).tape1 }) d.makes
+      ∙ ap (λ (k : UnitControl). record vs { tape1 = k }) e.makes;
+  lists = rw (r.lists, p.lists, t.lists, c.lists, d.lists, e.lists) refl;
 }
 
 -- all units but one stay
 pub IsUnitsChangeTo-one : (us : Units) (unit : ConfiguredUnit) (v : UnitControl) (x : Option UnitControl)
     → IsUnitChange (control_of us unit) v x → IsUnitsChangeTo us (unit_change_of unit x) (with_control_of us unit v)
-IsUnitsChangeTo-one us reader_unit v x h = IsUnitsChangeTo-from us (record us { reader = v }) _ h (unit-stays us.punch) (unit-stays us.printer) (unit-stays us.console)
-IsUnitsChangeTo-one us punch_unit v x h = IsUnitsChangeTo-from us (record us { punch = v }) _ (unit-stays us.reader) h (unit-stays us.printer) (unit-stays us.console)
-IsUnitsChangeTo-one us printer_unit v x h = IsUnitsChangeTo-from us (record us { printer = v }) _ (unit-stays us.reader) (unit-stays us.punch) h (unit-stays us.console)
-IsUnitsChangeTo-one us console_unit v x h = IsUnitsChangeTo-from us (record us { console = v }) _ (unit-stays us.reader) (unit-stays us.punch) (unit-stays us.printer) h
+IsUnitsChangeTo-one us reader_unit v x h = IsUnitsChangeTo-from us (record us { reader = v }) _ h (unit-stays us.punch) (unit-stays us.printer) (unit-stays us.console) (unit-stays us.tape0) (unit-stays us.tape1)
+IsUnitsChangeTo-one us punch_unit v x h = IsUnitsChangeTo-from us (record us { punch = v }) _ (unit-stays us.reader) h (unit-stays us.printer) (unit-stays us.console) (unit-stays us.tape0) (unit-stays us.tape1)
+IsUnitsChangeTo-one us printer_unit v x h = IsUnitsChangeTo-from us (record us { printer = v }) _ (unit-stays us.reader) (unit-stays us.punch) h (unit-stays us.console) (unit-stays us.tape0) (unit-stays us.tape1)
+IsUnitsChangeTo-one us console_unit v x h = IsUnitsChangeTo-from us (record us { console = v }) _ (unit-stays us.reader) (unit-stays us.punch) (unit-stays us.printer) h (unit-stays us.tape0) (unit-stays us.tape1)
+IsUnitsChangeTo-one us Tape0 v x h = IsUnitsChangeTo-from us (record us { tape0 = v }) _ (unit-stays us.reader) (unit-stays us.punch) (unit-stays us.printer) (unit-stays us.console) h (unit-stays us.tape1)
+IsUnitsChangeTo-one us Tape1 v x h = IsUnitsChangeTo-from us (record us { tape1 = v }) _ (unit-stays us.reader) (unit-stays us.punch) (unit-stays us.printer) (unit-stays us.console) (unit-stays us.tape0) h
 
 pub units-stay : (us : Units) → IsUnitsChangeTo us no_unit_changes us
 units-stay us = IsUnitsChangeTo-one us reader_unit us.reader None (unit-stays us.reader)
@@ -153,43 +164,69 @@ pub console-becomes : (c d : Console) (x : ConsoleChange) → CanSwapConsole c x
     → IsConsoleChange c d (Some x)
 console-becomes c d x h e b n = device-becomes CanSwapConsole console_after_swap console_change_after_swap _ same_console same_console-Decides c d x h e b n
 
-pub IsMediaChangeTo-from : (m n : Media) (x : MediaChanges)
+-- a tape: what is seen of it becomes another
+pub record IsTapeChange (t : WholeTape) (u : Tape) (x : Option TapeChange) : Type 0 where
+  pub can : CanIfAny CanSwapTape t x
+  pub makes : seen_tape (after_if_any tape_after_swap t x) ≡ u
+  pub lists : (p : Place) → place_if_any x p ≡ unless_same (same_tape (seen_tape t) u) p
+  pub no_room : need_if_any (λ (c : TapeChange). slots_put c.slot) (back_if_any tape_change_after_swap t x) ≡ 0
+
+pub tape-stays : (t : WholeTape) → IsTapeChange t (seen_tape t) None
+tape-stays t = record { can = tt; makes = refl; lists = λ p. rw ((same_tape-Decides (seen_tape t) (seen_tape t)).1 refl) refl; no_room = refl }
+
+pub tape-becomes : (t : WholeTape) (u : Tape) (x : TapeChange) → CanSwapTape t x → seen_tape (tape_after_swap t x) ≡ u → slots_put (tape_change_after_swap t x).slot ≡ 0
+    → (seen_tape t ≡ u → ⊥) → IsTapeChange t u (Some x)
+tape-becomes t u x h is b n = record {
+  can = h;
+  makes = is;
+  lists = λ p. rw (different (same_tape (seen_tape t) u) (seen_tape t) u (same_tape-Decides (seen_tape t) u) n) refl;
+  no_room = b;
+}
+
+pub IsMediaChangeTo-from : (m : WholeMedia) (n : Media) (x : MediaChanges)
     → IsReaderChange m.reader n.reader x.reader → IsPunchChange m.punch n.punch x.punch
     → IsPrinterChange m.printer n.printer x.printer → IsConsoleChange m.console n.console x.console
+    → IsTapeChange m.tape0 n.tape0 x.tape0 → IsTapeChange m.tape1 n.tape1 x.tape1
     → IsMediaChangeTo m x n
-IsMediaChangeTo-from m n x r p t c = record {
-  can = (r.can, p.can, t.can, c.can);
+IsMediaChangeTo-from m n x r p t c d e = let s : Media = seen_media (media_after_swap m x) in record {
+  can = (r.can, p.can, t.can, c.can, d.can, e.can);
   makes =
-      ap (λ (k : Reader). record (media_after_swap m x) { reader = k }) r.part.makes
-      ∙ ap (λ (k : Punch). record (media_after_swap m x) { reader = n.reader; punch = k }) p.part.makes
-      ∙ ap (λ (k : Printer). record n { printer = k; console = after_if_any console_after_swap m.console x.console }) t.part.makes
-      ∙ ap (λ (k : Console). record n { console = k }) c.part.makes;
-  lists = rw (r.part.lists, p.part.lists, t.part.lists, c.part.lists) refl;
+      ap (λ (k : Reader). record s { reader = k }) r.part.makes
+      ∙ ap (λ (k : Punch). record s { reader = n.reader; punch = k }) p.part.makes
+      ∙ ap (λ (k : Printer). record s { reader = n.reader; punch = n.punch; printer = k }) t.part.makes
+      ∙ ap (λ (k : Console). record n { console = k; tape0 = s.tape0; tape1 = s.tape1 }) c.part.makes
+      ∙ ap (λ (k : Tape). record n { tape0 = k; tape1 = s.tape1 }) d.makes
+      ∙ ap (λ (k : Tape). record n { tape1 = k }) e.makes;
+  lists = rw (r.part.lists, p.part.lists, t.part.lists, c.part.lists, d.lists, e.lists) refl;
   reader_back = r.no_room;
   punch_back = p.no_room;
   printer_back = t.no_room;
   console_back = c.no_room;
+  tape0_back = d.no_room;
+  tape1_back = e.no_room;
 }
 
-pub media-stay : (m : Media) → IsMediaChangeTo m no_media_changes m
-media-stay m = IsMediaChangeTo-from m m no_media_changes (reader-stays m.reader) (punch-stays m.punch) (printer-stays m.printer) (console-stays m.console)
+pub media-stay : (m : WholeMedia) → IsMediaChangeTo m no_media_changes (seen_media m)
+media-stay m = IsMediaChangeTo-from m (seen_media m) no_media_changes (reader-stays m.reader) (punch-stays m.punch) (printer-stays m.printer) (console-stays m.console) (tape-stays m.tape0) (tape-stays m.tape1)
 
 -- the end-of-file key
-pub end-key-stays : (m : Media) → m.reader.media.end_of_file ≡ true → IsMediaChangeTo m no_media_changes (record m { reader = with_end_key m.reader })
+pub end-key-stays : (m : WholeMedia) → m.reader.media.end_of_file ≡ true → IsMediaChangeTo m no_media_changes (record (seen_media m) { reader = with_end_key m.reader })
 end-key-stays m h = rw (← h) (media-stay m)
 
 not-pressed : (r : Reader) → r.media.end_of_file ≡ false → r ≡ with_end_key r → ⊥
 not-pressed r h e = let k : r.media.end_of_file ≡ true = ap (λ (s : Reader). s.media.end_of_file) e in absurd (cc)
 
-pub end-key-pressed : (m : Media) (x : ReaderChange) → m.reader.media.end_of_file ≡ false → CanSwapReader m.reader x → reader_after_swap m.reader x ≡ with_end_key m.reader
+pub end-key-pressed : (m : WholeMedia) (x : ReaderChange) → m.reader.media.end_of_file ≡ false → CanSwapReader m.reader x → reader_after_swap m.reader x ≡ with_end_key m.reader
     → items_put (reader_change_after_swap m.reader x).motion ≡ 0
-    → IsMediaChangeTo m (record no_media_changes { reader = Some x }) (record m { reader = with_end_key m.reader })
+    → IsMediaChangeTo m (record no_media_changes { reader = Some x }) (record (seen_media m) { reader = with_end_key m.reader })
 end-key-pressed m x h can e back =
-    IsMediaChangeTo-from m (record m { reader = with_end_key m.reader }) (record no_media_changes { reader = Some x })
+    IsMediaChangeTo-from m (record (seen_media m) { reader = with_end_key m.reader }) (record no_media_changes { reader = Some x })
     (reader-becomes m.reader (with_end_key m.reader) x can e back (not-pressed m.reader h))
     (punch-stays m.punch)
     (printer-stays m.printer)
     (console-stays m.console)
+    (tape-stays m.tape0)
+    (tape-stays m.tape1)
 
 -- a line that is entered
 not-entered : (c : Console) (line : List ℕ) → c ≡ with_line c line → ⊥
@@ -198,12 +235,14 @@ not-entered c line e =
     in let l : length (c.media.entered ++ line ∷ []) ≡ length c.media.entered + 1 = length-append c.media.entered (line ∷ [])
     in absurd (omega (arith, k, l))
 
-pub line-entered : (m : Media) (line : List ℕ) (x : ConsoleChange) → CanSwapConsole m.console x → console_after_swap m.console x ≡ with_line m.console line
+pub line-entered : (m : WholeMedia) (line : List ℕ) (x : ConsoleChange) → CanSwapConsole m.console x → console_after_swap m.console x ≡ with_line m.console line
     → console_needs (console_change_after_swap m.console x) ≡ 0
-    → IsMediaChangeTo m (record no_media_changes { console = Some x }) (record m { console = with_line m.console line })
+    → IsMediaChangeTo m (record no_media_changes { console = Some x }) (record (seen_media m) { console = with_line m.console line })
 line-entered m line x can e back =
-    IsMediaChangeTo-from m (record m { console = with_line m.console line }) (record no_media_changes { console = Some x })
+    IsMediaChangeTo-from m (record (seen_media m) { console = with_line m.console line }) (record no_media_changes { console = Some x })
     (reader-stays m.reader)
     (punch-stays m.punch)
     (printer-stays m.printer)
     (console-becomes m.console (with_line m.console line) x can e back (not-entered m.console line))
+    (tape-stays m.tape0)
+    (tape-stays m.tape1)

@@ -7,12 +7,15 @@ use Rattle.s360_device.specs.Punch.{new_punch}
 use Rattle.s360_device.specs.Reader.{new_reader}
 use Rattle.s360_print.specs.Console.{new_console}
 use Rattle.s360_print.specs.Printer.{new_printer}
+use Rattle.s360_tape.specs.Tape.{new_tape}
+use Rattle.s360_machine.specs.declared.configured_unit.ConfiguredUnit.TheVariants.{Reader}
 use Rattle.s360_machine.specs.declared.external.ExternalConditions.{ExternalConditions}
-use Rattle.s360_machine.specs.declared.operator.Key.TheVariants.{Start, Stop, Reset, Interrupt}
+use Rattle.s360_machine.specs.declared.operator.Key.TheVariants.{Start, Stop, Reset, Interrupt, Load}
 use Rattle.s360_machine.specs.declared.run_state.RunState.{RunState}
-use Rattle.s360_machine.specs.declared.run_state.RunState.TheVariants.{Operating, Stopped}
+use Rattle.s360_machine.specs.declared.run_state.RunState.TheVariants.{Operating, Stopped, Loading}
 use Rattle.s360_machine.specs.Cpu.{after_cpu}
 use Rattle.s360_machine.specs.Interruptions.{after_interruption}
+use Rattle.s360_machine.specs.Loading.{after_load, core_after_loading, loading_unit}
 use Rattle.s360_machine.specs.Machine.{Machine, no_external}
 use Rattle.s360_machine.specs.Operator.{after_key}
 use Rattle.s360_machine.specs.Timer.{after_tick, runs_out, timer_after_tick}
@@ -36,7 +39,14 @@ known psw r1 r2 bytes run_state external = record {
   };
   control = record { run_state = run_state; external = external };
   units = idle_units;
-  media = record { reader = new_reader []; punch = new_punch; printer = new_printer; console = new_console };
+  media = record {
+    reader = new_reader [];
+    punch = new_punch;
+    printer = new_printer;
+    console = new_console;
+    tape0 = new_tape [] false;
+    tape1 = new_tape [] false;
+  };
 }
 
 -- AR that overflows with its mask one is completed, and then interrupts with code 8
@@ -134,3 +144,22 @@ reset = refl
 
 interrupt : after_key (known 0x200 0 0 [] Stopped no_external) Interrupt ≡ known 0x200 0 0 [] Stopped (record { timer = false; key = true })
 interrupt = refl
+
+load : after_key (known 0x200 7 0 [] Operating both) (Load (record { 0 = 0x00C }))
+    ≡ record (known 0x200 7 0 [] (Loading (record { 0 = 0x00C })) no_external) { units = record idle_units { reader = loading_unit } }
+load = refl
+
+-- the end of loading from the card reader, whose record has put a PSW with an interruption code at 0
+abbrev after_cards : Machine
+after_cards = after_load Reader (known 0x300 0 0 (0x00 ∷ 0x04 ∷ 0xFF ∷ 0xFF ∷ 0xC0 ∷ 0x00 ∷ 0x02 ∷ 0x00 ∷ []) (Loading (record { 0 = 0x00C })) no_external)
+
+address_of_the_unit_is_stored : doubleword_at after_cards.core.storage.bytes 0 ≡ 0x0004_000C_C000_0200
+unfolding core_after_loading
+address_of_the_unit_is_stored = refl
+
+psw_is_loaded : after_cards.core.psw ≡ 0x0004_0000_0000_0200
+unfolding core_after_loading
+psw_is_loaded = refl
+
+machine_operates_after_loading : after_cards.control.run_state ≡ Operating
+machine_operates_after_loading = refl

@@ -1,3 +1,4 @@
+pub mod PlaceLemmas
 pub mod ControlLemmas
 pub mod SwapLemmas
 pub mod ChangeLemmas
@@ -5,4 +6,6 @@ pub mod IoLemmas
 pub mod StepLemmas
 pub mod CswLemmas
 pub mod InterruptionLemmas
+pub mod LoadingLemmas
 mod KnownEvents
+mod KnownTapes

@@ -1,5 +1,5 @@
 -- A channel event of a unit, and what was planned of the machine beside the core.
-use Rattle.std.proofs.Common.{◌≡◌, ℕ, true, List, [], refl, ap, subst}
+use Rattle.std.proofs.Common.{◌≡◌, ℕ, true, List, [], refl, ap, subst, arith}
 use Rattle.std.specs.Prelude.{Option, Some, None}
 use Rattle.s360_model.specs.Core.{Core}
 use Rattle.s360_model.specs.Storage.{Storage}
@@ -18,6 +18,10 @@ use Rattle.s360_print.specs.Console.{Console, ConsoleWithRoom, console_table}
 use Rattle.s360_print.specs.ConsoleChanges.{CanSwapConsole, console_after_swap, console_change_after_swap, console_needs}
 use Rattle.s360_print.specs.Printer.{Printer, PrinterWithRoom, printer_table}
 use Rattle.s360_print.specs.PrinterChanges.{CanSwapPrinter, printer_after_swap, printer_change_after_swap}
+use Rattle.s360_tape.specs.declared.tape_change.TapeChange.{TapeChange}
+use Rattle.s360_tape.specs.Slots.{slots_put}
+use Rattle.s360_tape.specs.Tape.{Tape, tape_table}
+use Rattle.s360_tape.specs.WholeTape.{CanSwapTape, TapeWithRoom, seen as seen_tape, tape_after_swap, tape_change_after_swap}
 use Rattle.s360_store.specs.declared.place.Cell.{Cell}
 use Rattle.s360_store.specs.Plans.{IsPlanOf}
 use Rattle.s360_channel.specs.declared.engine.ChannelStep.{ChannelStep}
@@ -36,23 +40,23 @@ use Rattle.s360_machine.specs.declared.media.MediaChanges.{MediaChanges}
 use Rattle.s360_machine.specs.declared.units.UnitChanges.{UnitChanges}
 use Rattle.s360_machine.specs.declared.units.Units.{Units}
 use Rattle.s360_machine.specs.ChannelEvents.{ExecutesProgram, IsAlterationOf, StepsTo, after_ending, execution_with, view_of}
-use Rattle.s360_machine.specs.declared.configured_unit.ConfiguredUnit.TheVariants.{Reader as reader_unit, Punch as punch_unit, Printer as printer_unit, Console as console_unit}
-use Rattle.s360_machine.specs.ChannelEvents.{after_console_event, after_printer_event, after_punch_event, after_reader_event}
-use Rattle.s360_machine.specs.ChannelEvents.{console_execution, printer_execution, punch_execution, reader_execution}
+use Rattle.s360_machine.specs.declared.configured_unit.ConfiguredUnit.TheVariants.{Reader as reader_unit, Punch as punch_unit, Printer as printer_unit, Console as console_unit, Tape0, Tape1}
+use Rattle.s360_machine.specs.ChannelEvents.{after_console_event, after_printer_event, after_punch_event, after_reader_event, after_tape0_event, after_tape1_event}
+use Rattle.s360_machine.specs.ChannelEvents.{console_execution, printer_execution, punch_execution, reader_execution, tape0_execution, tape1_execution}
 use Rattle.s360_machine.specs.IoChanges.{no_media_changes, unit_change_of}
-use Rattle.s360_machine.specs.Machine.{Control, Machine, Media}
+use Rattle.s360_machine.specs.Machine.{Control, Machine, Whole, WholeMedia, seen}
 use Rattle.s360_machine.specs.Planned.{IsMediaChangeTo, IsPlanOfMachine, IsUnitsChangeTo, PlansIo}
-use Rattle.s360_machine.proofs.IoLemmas.{IsConsoleChange, IsMediaChangeTo-from, IsPrinterChange, IsPunchChange, IsReaderChange, IsUnitsChangeTo-one}
-use Rattle.s360_machine.proofs.IoLemmas.{altered-is, console-becomes, console-stays, printer-becomes, printer-stays, punch-becomes, punch-stays, reader-becomes, reader-stays}
+use Rattle.s360_machine.proofs.IoLemmas.{IsConsoleChange, IsMediaChangeTo-from, IsPrinterChange, IsPunchChange, IsReaderChange, IsTapeChange, IsUnitsChangeTo-one}
+use Rattle.s360_machine.proofs.IoLemmas.{altered-is, console-becomes, console-stays, printer-becomes, printer-stays, punch-becomes, punch-stays, reader-becomes, reader-stays, tape-becomes, tape-stays}
 
--- a machine of its parts
-abbrev pub machine_with : Core → Control → Units → Media → Machine
-machine_with core control us media = record { core = core; control = control; units = us; media = media }
+-- a whole of its parts
+abbrev pub whole_with : Core → Control → Units → WholeMedia → Whole
+whole_with core control us media = record { core = core; control = control; units = us; media = media }
 
-pub IsPlanOfMachine-from : (m n : Machine) (plan : List Cell) (planned : PlannedEvent) (us : UnitChanges) (ms : MediaChanges)
-    → IsPlanOf m.core plan n.core → PlansIo planned n.control us ms → IsUnitsChangeTo m.units us n.units → IsMediaChangeTo m.media ms n.media
-    → IsPlanOfMachine m plan planned n
-IsPlanOfMachine-from m n plan planned us ms core io u x = record {
+pub IsPlanOfMachine-from : (w : Whole) (n : Machine) (plan : List Cell) (planned : PlannedEvent) (us : UnitChanges) (ms : MediaChanges)
+    → IsPlanOf w.core plan n.core → PlansIo planned n.control us ms → IsUnitsChangeTo w.units us n.units → IsMediaChangeTo w.media ms n.media
+    → IsPlanOfMachine w plan planned n
+IsPlanOfMachine-from w n plan planned us ms core io u x = record {
   core = core;
   control = io.control;
   units = rw io.units u;
@@ -80,6 +84,7 @@ ExecutesProgram-none s u d Becomes Stays h =
     let e : execution_with d s u.state ≡ record { stores = None; state = u.state; ending = None } = execution-of-none d s u.state h
     in record {
       stores = rw e (λ m k. record { cells = tt; makes = refl });
+      few = omega arith;
       control = rw e (unaltered u u refl);
       change = rw e tt;
     }
@@ -92,6 +97,7 @@ ExecutesProgram-step s u p plan d Becomes Stays step unit_step a h k e =
     let x : execution_with d s u.state ≡ channel_execution d s p = ap (λ state. execution_with d s state) a
     in record {
       stores = rw x h.stores;
+      few = h.few;
       control = rw x (rw h.state at (k p a));
       change = rw (x, e) h.change;
     }
@@ -149,51 +155,88 @@ console-change d None (Some x) h = absurd h
 console-change d (Some e) None h = subst (λ (r : Console). IsConsoleChange d.console r None) h (console-stays d.console)
 console-change d (Some e) (Some x) h = console-becomes d.console (after_command console_table d.console (command_of e.command) e.output) x h.can h.row h.back h.alters
 
+abbrev TapeEnds : TapeWithRoom → ℕ → List ℕ → TapeWithRoom → Type 0
+TapeEnds r code bytes s = seen_tape s.tape ≡ after_command tape_table (seen_tape r.tape) (command_of code) bytes
+
+abbrev AltersTape : TapeWithRoom → Ending → TapeChange → Type 0
+AltersTape d = AltersDevice (λ r x. CanSwapTape r.tape x) (λ r x. record r { tape = tape_after_swap r.tape x }) (λ r x. tape_change_after_swap r.tape x) (λ x. slots_put x.slot) (λ r. record r { room = 0 }) TapeEnds d
+
+tape-change : (d : TapeWithRoom) (ending : Option Ending) (x : Option TapeChange) → IsDeviceChange (AltersTape d) (KeepsDevice TapeEnds d) ending x
+    → IsTapeChange d.tape (after_ending tape_table (seen_tape d.tape) ending) x
+tape-change d None None h = tape-stays d.tape
+tape-change d None (Some x) h = absurd h
+tape-change d (Some e) None h = subst (λ (t : Tape). IsTapeChange d.tape t None) h (tape-stays d.tape)
+tape-change d (Some e) (Some x) h = tape-becomes d.tape (after_command tape_table (seen_tape d.tape) (command_of e.command) e.output) x h.can h.row h.back h.alters
+
 -- a channel event of each unit
-pub reader-event : (core : Core) (control : Control) (us : Units) (media : Media) (room : ℕ) (plan : List Cell) (planned : PlannedEvent) (step : UnitStep ReaderChange)
+pub reader-event : (core : Core) (control : Control) (us : Units) (media : WholeMedia) (room : ℕ) (plan : List Cell) (planned : PlannedEvent) (step : UnitStep ReaderChange)
     → ExecutesProgram core.storage us.reader plan (view_of reader_table media.reader) (AltersReader (record { reader = media.reader; room = room })) (KeepsDevice ReaderEnds (record { reader = media.reader; room = room })) step
     → PlansIo planned control (unit_change_of reader_unit step.control) (record no_media_changes { reader = step.change })
-    → IsPlanOfMachine (machine_with core control us media) plan planned (after_reader_event (machine_with core control us media))
+    → IsPlanOfMachine (whole_with core control us media) plan planned (after_reader_event (seen (whole_with core control us media)))
 reader-event core control us media room plan planned step run io =
-    let m : Machine = machine_with core control us media
-    in let n : Machine = after_reader_event m
+    let w : Whole = whole_with core control us media
+    in let n : Machine = after_reader_event (seen w)
     in let units : IsUnitsChangeTo us (unit_change_of reader_unit step.control) n.units
     = IsUnitsChangeTo-one us reader_unit n.units.reader step.control (altered-is us.reader n.units.reader step.control run.control)
-    in let change : IsReaderChange media.reader n.media.reader step.change = reader-change (record { reader = media.reader; room = room }) (reader_execution m).ending step.change run.change
-    in IsPlanOfMachine-from m n plan planned _ _ (run.stores core refl) io units (IsMediaChangeTo-from media n.media _ change (punch-stays media.punch) (printer-stays media.printer) (console-stays media.console))
+    in let change : IsReaderChange media.reader n.media.reader step.change = reader-change (record { reader = media.reader; room = room }) (reader_execution (seen w)).ending step.change run.change
+    in IsPlanOfMachine-from w n plan planned _ _ (run.stores core refl) io units (IsMediaChangeTo-from media n.media _ change (punch-stays media.punch) (printer-stays media.printer) (console-stays media.console) (tape-stays media.tape0) (tape-stays media.tape1))
 
-pub punch-event : (core : Core) (control : Control) (us : Units) (media : Media) (room : ℕ) (plan : List Cell) (planned : PlannedEvent) (step : UnitStep PunchChange)
+pub punch-event : (core : Core) (control : Control) (us : Units) (media : WholeMedia) (room : ℕ) (plan : List Cell) (planned : PlannedEvent) (step : UnitStep PunchChange)
     → ExecutesProgram core.storage us.punch plan (view_of punch_table media.punch) (AltersPunch (record { punch = media.punch; room = room })) (KeepsDevice PunchEnds (record { punch = media.punch; room = room })) step
     → PlansIo planned control (unit_change_of punch_unit step.control) (record no_media_changes { punch = step.change })
-    → IsPlanOfMachine (machine_with core control us media) plan planned (after_punch_event (machine_with core control us media))
+    → IsPlanOfMachine (whole_with core control us media) plan planned (after_punch_event (seen (whole_with core control us media)))
 punch-event core control us media room plan planned step run io =
-    let m : Machine = machine_with core control us media
-    in let n : Machine = after_punch_event m
+    let w : Whole = whole_with core control us media
+    in let n : Machine = after_punch_event (seen w)
     in let units : IsUnitsChangeTo us (unit_change_of punch_unit step.control) n.units
     = IsUnitsChangeTo-one us punch_unit n.units.punch step.control (altered-is us.punch n.units.punch step.control run.control)
-    in let change : IsPunchChange media.punch n.media.punch step.change = punch-change (record { punch = media.punch; room = room }) (punch_execution m).ending step.change run.change
-    in IsPlanOfMachine-from m n plan planned _ _ (run.stores core refl) io units (IsMediaChangeTo-from media n.media _ (reader-stays media.reader) change (printer-stays media.printer) (console-stays media.console))
+    in let change : IsPunchChange media.punch n.media.punch step.change = punch-change (record { punch = media.punch; room = room }) (punch_execution (seen w)).ending step.change run.change
+    in IsPlanOfMachine-from w n plan planned _ _ (run.stores core refl) io units (IsMediaChangeTo-from media n.media _ (reader-stays media.reader) change (printer-stays media.printer) (console-stays media.console) (tape-stays media.tape0) (tape-stays media.tape1))
 
-pub printer-event : (core : Core) (control : Control) (us : Units) (media : Media) (room : ℕ) (plan : List Cell) (planned : PlannedEvent) (step : UnitStep PrinterChange)
+pub printer-event : (core : Core) (control : Control) (us : Units) (media : WholeMedia) (room : ℕ) (plan : List Cell) (planned : PlannedEvent) (step : UnitStep PrinterChange)
     → ExecutesProgram core.storage us.printer plan (view_of printer_table media.printer) (AltersPrinter (record { printer = media.printer; room = room })) (KeepsDevice PrinterEnds (record { printer = media.printer; room = room })) step
     → PlansIo planned control (unit_change_of printer_unit step.control) (record no_media_changes { printer = step.change })
-    → IsPlanOfMachine (machine_with core control us media) plan planned (after_printer_event (machine_with core control us media))
+    → IsPlanOfMachine (whole_with core control us media) plan planned (after_printer_event (seen (whole_with core control us media)))
 printer-event core control us media room plan planned step run io =
-    let m : Machine = machine_with core control us media
-    in let n : Machine = after_printer_event m
+    let w : Whole = whole_with core control us media
+    in let n : Machine = after_printer_event (seen w)
     in let units : IsUnitsChangeTo us (unit_change_of printer_unit step.control) n.units
     = IsUnitsChangeTo-one us printer_unit n.units.printer step.control (altered-is us.printer n.units.printer step.control run.control)
-    in let change : IsPrinterChange media.printer n.media.printer step.change = printer-change (record { printer = media.printer; room = room }) (printer_execution m).ending step.change run.change
-    in IsPlanOfMachine-from m n plan planned _ _ (run.stores core refl) io units (IsMediaChangeTo-from media n.media _ (reader-stays media.reader) (punch-stays media.punch) change (console-stays media.console))
+    in let change : IsPrinterChange media.printer n.media.printer step.change = printer-change (record { printer = media.printer; room = room }) (printer_execution (seen w)).ending step.change run.change
+    in IsPlanOfMachine-from w n plan planned _ _ (run.stores core refl) io units (IsMediaChangeTo-from media n.media _ (reader-stays media.reader) (punch-stays media.punch) change (console-stays media.console) (tape-stays media.tape0) (tape-stays media.tape1))
 
-pub console-event : (core : Core) (control : Control) (us : Units) (media : Media) (room : ℕ) (plan : List Cell) (planned : PlannedEvent) (step : UnitStep ConsoleChange)
+pub console-event : (core : Core) (control : Control) (us : Units) (media : WholeMedia) (room : ℕ) (plan : List Cell) (planned : PlannedEvent) (step : UnitStep ConsoleChange)
     → ExecutesProgram core.storage us.console plan (view_of console_table media.console) (AltersConsole (record { console = media.console; room = room })) (KeepsDevice ConsoleEnds (record { console = media.console; room = room })) step
     → PlansIo planned control (unit_change_of console_unit step.control) (record no_media_changes { console = step.change })
-    → IsPlanOfMachine (machine_with core control us media) plan planned (after_console_event (machine_with core control us media))
+    → IsPlanOfMachine (whole_with core control us media) plan planned (after_console_event (seen (whole_with core control us media)))
 console-event core control us media room plan planned step run io =
-    let m : Machine = machine_with core control us media
-    in let n : Machine = after_console_event m
+    let w : Whole = whole_with core control us media
+    in let n : Machine = after_console_event (seen w)
     in let units : IsUnitsChangeTo us (unit_change_of console_unit step.control) n.units
     = IsUnitsChangeTo-one us console_unit n.units.console step.control (altered-is us.console n.units.console step.control run.control)
-    in let change : IsConsoleChange media.console n.media.console step.change = console-change (record { console = media.console; room = room }) (console_execution m).ending step.change run.change
-    in IsPlanOfMachine-from m n plan planned _ _ (run.stores core refl) io units (IsMediaChangeTo-from media n.media _ (reader-stays media.reader) (punch-stays media.punch) (printer-stays media.printer) change)
+    in let change : IsConsoleChange media.console n.media.console step.change = console-change (record { console = media.console; room = room }) (console_execution (seen w)).ending step.change run.change
+    in IsPlanOfMachine-from w n plan planned _ _ (run.stores core refl) io units (IsMediaChangeTo-from media n.media _ (reader-stays media.reader) (punch-stays media.punch) (printer-stays media.printer) change (tape-stays media.tape0) (tape-stays media.tape1))
+
+pub tape0-event : (core : Core) (control : Control) (us : Units) (media : WholeMedia) (room : ℕ) (plan : List Cell) (planned : PlannedEvent) (step : UnitStep TapeChange)
+    → ExecutesProgram core.storage us.tape0 plan (view_of tape_table (seen_tape media.tape0)) (AltersTape (record { tape = media.tape0; room = room })) (KeepsDevice TapeEnds (record { tape = media.tape0; room = room })) step
+    → PlansIo planned control (unit_change_of Tape0 step.control) (record no_media_changes { tape0 = step.change })
+    → IsPlanOfMachine (whole_with core control us media) plan planned (after_tape0_event (seen (whole_with core control us media)))
+tape0-event core control us media room plan planned step run io =
+    let w : Whole = whole_with core control us media
+    in let n : Machine = after_tape0_event (seen w)
+    in let units : IsUnitsChangeTo us (unit_change_of Tape0 step.control) n.units
+    = IsUnitsChangeTo-one us Tape0 n.units.tape0 step.control (altered-is us.tape0 n.units.tape0 step.control run.control)
+    in let change : IsTapeChange media.tape0 n.media.tape0 step.change = tape-change (record { tape = media.tape0; room = room }) (tape0_execution (seen w)).ending step.change run.change
+    in IsPlanOfMachine-from w n plan planned _ _ (run.stores core refl) io units (IsMediaChangeTo-from media n.media _ (reader-stays media.reader) (punch-stays media.punch) (printer-stays media.printer) (console-stays media.console) change (tape-stays media.tape1))
+
+pub tape1-event : (core : Core) (control : Control) (us : Units) (media : WholeMedia) (room : ℕ) (plan : List Cell) (planned : PlannedEvent) (step : UnitStep TapeChange)
+    → ExecutesProgram core.storage us.tape1 plan (view_of tape_table (seen_tape media.tape1)) (AltersTape (record { tape = media.tape1; room = room })) (KeepsDevice TapeEnds (record { tape = media.tape1; room = room })) step
+    → PlansIo planned control (unit_change_of Tape1 step.control) (record no_media_changes { tape1 = step.change })
+    → IsPlanOfMachine (whole_with core control us media) plan planned (after_tape1_event (seen (whole_with core control us media)))
+tape1-event core control us media room plan planned step run io =
+    let w : Whole = whole_with core control us media
+    in let n : Machine = after_tape1_event (seen w)
+    in let units : IsUnitsChangeTo us (unit_change_of Tape1 step.control) n.units
+    = IsUnitsChangeTo-one us Tape1 n.units.tape1 step.control (altered-is us.tape1 n.units.tape1 step.control run.control)
+    in let change : IsTapeChange media.tape1 n.media.tape1 step.change = tape-change (record { tape = media.tape1; room = room }) (tape1_execution (seen w)).ending step.change run.change
+    in IsPlanOfMachine-from w n plan planned _ _ (run.stores core refl) io units (IsMediaChangeTo-from media n.media _ (reader-stays media.reader) (punch-stays media.punch) (printer-stays media.printer) (console-stays media.console) (tape-stays media.tape0) change)

@@ -11,7 +11,7 @@ use Rattle.s360_machine.specs.declared.units.UnitChanges.{UnitChanges}
 use Rattle.s360_machine.specs.ControlCells.{places_of_control, HasEachControlOnce}
 use Rattle.s360_machine.specs.ControlCells.{control_after_exchange, control_cells_after_exchange}
 use Rattle.s360_machine.specs.IoChanges.{CanSwapMedia, media_after_swap, media_changes_after_swap}
-use Rattle.s360_machine.specs.IoChanges.{cards_of_punch, cards_of_reader, lines_of_console, lines_of_printer}
+use Rattle.s360_machine.specs.IoChanges.{cards_of_punch, cards_of_reader, lines_of_console, lines_of_printer, slots_of_tape0, slots_of_tape1}
 use Rattle.s360_machine.specs.IoChanges.{places_of_media, places_of_units, units_after_swap, unit_changes_after_swap}
 use Rattle.s360_machine.specs.Machine.{Whole, Spare}
 
@@ -40,6 +40,8 @@ HasRoom s x =
     × (cards_of_punch x.media ≤ s.punch)
     × (lines_of_printer x.media ≤ s.printer)
     × (lines_of_console x.media ≤ s.console)
+    × (slots_of_tape0 x.media ≤ s.tape0)
+    × (slots_of_tape1 x.media ≤ s.tape1)
 
 -- the exchange wants no room
 abbrev pub NeedsNoRoom : Change → Type 0

@@ -1,6 +1,6 @@
 -- A channel event of a unit: one channel command word of the program that it executes (GA22-6821, "Input/Output
 -- Operations", execution of input/output operations).
-use Rattle.std.specs.Prelude.{◌≡◌, Option, Some, None, List, if◌then◌else◌}
+use Rattle.std.specs.Prelude.{◌≡◌, ◌≤◌, Option, Some, None, List, length, if◌then◌else◌}
 use Rattle.std.specs.Option.{option_map_or}
 use Rattle.s360_model.specs.Storage.{Storage}
 use Rattle.s360_word.specs.declared.unit.Unit.{Unit}
@@ -10,6 +10,7 @@ use Rattle.s360_device.specs.Reader.{reader_table}
 use Rattle.s360_device.specs.Rows.{DeviceWith, Table, after_command, begin_of, exception_of, input_of}
 use Rattle.s360_print.specs.Console.{console_table}
 use Rattle.s360_print.specs.Printer.{printer_table}
+use Rattle.s360_tape.specs.Tape.{tape_table}
 use Rattle.s360_store.specs.declared.place.Cell.{Cell}
 use Rattle.s360_channel.specs.declared.unit_control.UnitControl.{UnitControl}
 use Rattle.s360_channel.specs.declared.unit_state.UnitState.{UnitState}
@@ -21,7 +22,8 @@ use Rattle.s360_channel.specs.declared.program.Program.{Program}
 use Rattle.s360_channel.specs.Differences.{same_unit}
 use Rattle.s360_machine.specs.declared.channel_event.UnitStep.{UnitStep}
 use Rattle.s360_machine.specs.declared.configured_unit.ConfiguredUnit.{ConfiguredUnit}
-use Rattle.s360_machine.specs.declared.configured_unit.ConfiguredUnit.TheVariants.{Reader, Punch, Printer, Console}
+use Rattle.s360_machine.specs.declared.configured_unit.ConfiguredUnit.TheVariants.{Reader, Punch, Printer, Console, Tape0, Tape1}
+use Rattle.s360_machine.specs.Loading.{after_loading}
 use Rattle.s360_machine.specs.Machine.{Machine}
 use Rattle.s360_machine.specs.Units.{unit_at}
 
@@ -59,6 +61,12 @@ printer_execution m = execution_of printer_table m.media.printer m.core.storage 
 abbrev pub console_execution : Machine → Execution
 console_execution m = execution_of console_table m.media.console m.core.storage m.units.console.state
 
+abbrev pub tape0_execution : Machine → Execution
+tape0_execution m = execution_of tape_table m.media.tape0 m.core.storage m.units.tape0.state
+
+abbrev pub tape1_execution : Machine → Execution
+tape1_execution m = execution_of tape_table m.media.tape1 m.core.storage m.units.tape1.state
+
 -- the machine after a channel event of each unit
 abbrev pub after_reader_event : Machine → Machine
 after_reader_event m = record m {
@@ -88,15 +96,31 @@ after_console_event m = record m {
   media = record m.media { console = after_ending console_table m.media.console (console_execution m).ending };
 }
 
+abbrev pub after_tape0_event : Machine → Machine
+after_tape0_event m = record m {
+  core = core_with_run (tape0_execution m).stores m.core;
+  units = record m.units { tape0 = record m.units.tape0 { state = (tape0_execution m).state } };
+  media = record m.media { tape0 = after_ending tape_table m.media.tape0 (tape0_execution m).ending };
+}
+
+abbrev pub after_tape1_event : Machine → Machine
+after_tape1_event m = record m {
+  core = core_with_run (tape1_execution m).stores m.core;
+  units = record m.units { tape1 = record m.units.tape1 { state = (tape1_execution m).state } };
+  media = record m.media { tape1 = after_ending tape_table m.media.tape1 (tape1_execution m).ending };
+}
+
 abbrev pub after_channel : ConfiguredUnit → Machine → Machine
 after_channel Reader m = after_reader_event m
 after_channel Punch m = after_punch_event m
 after_channel Printer m = after_printer_event m
 after_channel Console m = after_console_event m
+after_channel Tape0 m = after_tape0_event m
+after_channel Tape1 m = after_tape1_event m
 
 -- the machine after a channel event, by the address of the unit
 abbrev pub after_channel_event : Unit → Machine → Machine
-after_channel_event unit m = option_map_or (λ u. after_channel u m) (unit_at unit.0) m
+after_channel_event unit m = option_map_or (λ u. after_loading u m (after_channel u m)) (unit_at unit.0) m
 
 -- what a unit becomes, where that is not what it is
 abbrev pub IsAlterationOf : UnitControl → UnitControl → Option UnitControl → Type 0
@@ -106,9 +130,10 @@ IsAlterationOf u v x = x ≡ (if same_unit u v then None else Some v)
 abbrev pub StepsTo : {C : Type 0} → UnitControl → ChannelStep C → Option UnitControl → Type 0
 StepsTo u step x = (p : Program) → u.state ≡ Active p → IsAlterationOf u (record u { state = state_after_step p step }) x
 
--- a step executes what the state of the unit asks for: its plan stores that, and it has the other state of the unit
+-- a step executes what the state of the unit asks for: its plan stores that, in few cells, and it has the other state of the unit
 -- and the change of the device, where they do not stay as they are
 pub record ExecutesProgram {C : Type 0} (s : Storage) (u : UnitControl) (plan : List Cell) (d : DeviceView) (Becomes : Ending → C → Type 0) (Stays : Ending → Type 0) (step : UnitStep C) : Type 0 where
   pub stores : StoresRun s plan (execution_with d s u.state).stores
+  pub few : length plan ≤ 65535
   pub control : IsAlterationOf u (record u { state = (execution_with d s u.state).state }) step.control
   pub change : IsDeviceChange Becomes Stays (execution_with d s u.state).ending step.change

@@ -1,9 +1,9 @@
 -- What the CPU does with the channels: the input/output instructions, and the input/output interruption (GA22-6821,
 -- "Input/Output Operations").
-use Rattle.std.specs.Prelude.{ℕ, ◌/◌, false, ◌&&◌, nat_eq, if◌then◌else◌, Option, Some, None, List}
+use Rattle.std.specs.Prelude.{ℕ, ◌/◌, Bool, false, ◌&&◌, ◌||◌, nat_eq, if◌then◌else◌, Option, Some, None, is_some, unwrap_or, List}
 use Rattle.std.specs.Int.{bytes_high_first}
 use Rattle.std.specs.List.{find}
-use Rattle.std.specs.Option.{option_map_or}
+use Rattle.std.specs.Option.{option_map, option_map_or}
 use Rattle.s360_model.specs.Core.{Core, core_with_bytes, core_with_psw}
 use Rattle.s360_model.specs.Psw.{channel_mask_of, with_condition_code, with_instruction_address}
 use Rattle.s360_model.specs.Storage.{Storage}
@@ -14,6 +14,7 @@ use Rattle.s360_psw.specs.declared.class.Class.TheVariants.{InputOutput}
 use Rattle.s360_psw.specs.declared.instruction_length.InstructionLength.TheVariants.{NotAvailable}
 use Rattle.s360_fixed.specs.declared.ended.IoOperation.{IoOperation}
 use Rattle.s360_fixed.specs.declared.ended.IoOperation.TheVariants.{Start, Test, Halt, TestChannel}
+use Rattle.s360_channel.specs.declared.io_instructions.ChannelKind.{ChannelKind}
 use Rattle.s360_channel.specs.declared.io_instructions.ChannelKind.TheVariants.{Multiplexer, Selector}
 use Rattle.s360_channel.specs.declared.io_instructions.CswStore.{CswStore}
 use Rattle.s360_channel.specs.declared.io_instructions.CswStore.TheVariants.{Nothing, Status, Csw as whole}
@@ -21,9 +22,10 @@ use Rattle.s360_channel.specs.declared.io_instructions.IoResult.{IoResult}
 use Rattle.s360_channel.specs.declared.unit_control.Condition.{Condition}
 use Rattle.s360_channel.specs.declared.unit_control.UnitControl.{UnitControl}
 use Rattle.s360_channel.specs.IoInstructions.{condition_alone, csw_location, halt_io, not_operational, start_io, test_channel_condition, test_io}
-use Rattle.s360_channel.specs.Units.{condition_of, is_pending}
+use Rattle.s360_channel.specs.Units.{condition_of, is_active, is_pending, is_waiting}
 use Rattle.s360_channel.specs.Words.{csw_doubleword, status_halfword}
 use Rattle.s360_machine.specs.declared.configured_unit.ConfiguredUnit.{ConfiguredUnit}
+use Rattle.s360_machine.specs.declared.configured_unit.ConfiguredUnit.TheVariants.{Tape0, Tape1}
 use Rattle.s360_machine.specs.declared.units.Units.{Units}
 use Rattle.s360_machine.specs.Interruptions.{after_interruption}
 use Rattle.s360_machine.specs.Machine.{Machine}
@@ -39,27 +41,52 @@ core_with_csw Nothing m = m
 core_with_csw (Status unit channel) m = core_with_bytes status_location (bytes_high_first 2 (status_halfword unit channel)) m
 core_with_csw (whole csw) m = core_with_bytes csw_location (bytes_high_first 8 (csw_doubleword csw)) m
 
--- TEST CHANNEL by the number of the channel: no unit of channel 1 is there yet, so that it is available; other
--- channels are not there
-abbrev pub tested_channel : ℕ → IoResult
-tested_channel channel =
-    if nat_eq channel 0 then condition_alone (test_channel_condition Multiplexer false false)
-    else (if nat_eq channel 1 then condition_alone (test_channel_condition Selector false false) else not_operational)
+-- channel 0 executes the programs of its units side by side, channel 1 one program at a time (own profile)
+abbrev pub kind_of : ConfiguredUnit → ChannelKind
+kind_of Tape0 = Selector
+kind_of Tape1 = Selector
+kind_of u = Multiplexer
 
--- the other instructions, of a unit that is there: the programs of channel 0 are executed side by side
-abbrev pub result_for_unit : IoOperation → Storage → UnitControl → IoResult
-result_for_unit Start s u = start_io s false u
-result_for_unit Test s u = test_io false u
-result_for_unit Halt s u = halt_io Multiplexer u
-result_for_unit TestChannel s u = not_operational
+-- the other tape, where a unit is a tape and the other is active
+abbrev pub active_beside : Units → ConfiguredUnit → Option ConfiguredUnit
+active_beside us Tape0 = if is_active us.tape1.state then Some Tape1 else None
+active_beside us Tape1 = if is_active us.tape0.state then Some Tape0 else None
+active_beside us u = None
+
+-- the channel of a unit executes another program, and one at a time
+abbrev pub is_occupied : Units → ConfiguredUnit → Bool
+is_occupied us u = is_some (active_beside us u)
+
+-- the unit whose program HALT I/O ends: itself where it is active, or else the other tape where that one is
+abbrev pub halted_unit : Units → ConfiguredUnit → ConfiguredUnit
+halted_unit us u = if is_active (control_of us u).state then u else unwrap_or (active_beside us u) u
+
+-- TEST CHANNEL by the number of the channel: other channels are not there
+abbrev pub tested_channel : Units → ℕ → IoResult
+tested_channel us channel =
+    if nat_eq channel 0 then condition_alone (test_channel_condition Multiplexer false false)
+    else if nat_eq channel 1 then condition_alone (test_channel_condition Selector (is_active us.tape0.state || is_active us.tape1.state) (is_waiting us.tape0.state || is_waiting us.tape1.state))
+    else not_operational
+
+-- the other instructions, of a unit that is there
+abbrev pub result_for_unit : IoOperation → Storage → Units → ConfiguredUnit → IoResult
+result_for_unit Start s us u = start_io s (is_occupied us u) (control_of us u)
+result_for_unit Test s us u = test_io (is_occupied us u) (control_of us u)
+result_for_unit Halt s us u = halt_io (kind_of u) (control_of us (halted_unit us u))
+result_for_unit TestChannel s us u = not_operational
 
 abbrev pub result_at : IoOperation → Storage → Units → Option ConfiguredUnit → IoResult
 result_at operation s us None = not_operational
-result_at operation s us (Some u) = result_for_unit operation s (control_of us u)
+result_at operation s us (Some u) = result_for_unit operation s us u
 
 abbrev pub io_result : IoOperation → Unit → Machine → IoResult
-io_result TestChannel unit m = tested_channel (unit.0 / 0x100)
+io_result TestChannel unit m = tested_channel m.units (unit.0 / 0x100)
 io_result operation unit m = result_at operation m.core.storage m.units (unit_at unit.0)
+
+-- the unit of which the result tells what it becomes
+abbrev pub unit_of_result : IoOperation → Units → Option ConfiguredUnit → Option ConfiguredUnit
+unit_of_result Halt us u = option_map (halted_unit us) u
+unit_of_result operation us u = u
 
 -- the units with another state of one, where there are both
 abbrev pub units_with : Units → Option ConfiguredUnit → Option UnitControl → Units
@@ -73,7 +100,7 @@ core_after_io r next_address m = core_with_csw r.stores (core_with_psw (with_con
 abbrev pub after_io : IoOperation → Unit → ℕ → Machine → Machine
 after_io operation unit next_address m = record m {
   core = core_after_io (io_result operation unit m) next_address m.core;
-  units = units_with m.units (unit_at unit.0) (io_result operation unit m).unit;
+  units = units_with m.units (unit_of_result operation m.units (unit_at unit.0)) (io_result operation unit m).unit;
 }
 
 -- the unit that interrupts: the lowest with a condition whose channel the PSW lets interrupt (own profile)

@@ -5,6 +5,7 @@ pub mod RunStates
 pub mod ControlCells
 pub mod Interruptions
 pub mod Timer
+pub mod Loading
 pub mod Operator
 pub mod InputOutput
 pub mod ChannelEvents

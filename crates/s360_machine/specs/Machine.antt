@@ -5,6 +5,8 @@ use Rattle.s360_device.specs.Punch.{Punch, new_punch}
 use Rattle.s360_device.specs.Reader.{Reader, new_reader}
 use Rattle.s360_print.specs.Console.{Console, new_console}
 use Rattle.s360_print.specs.Printer.{Printer, new_printer}
+use Rattle.s360_tape.specs.Tape.{Tape}
+use Rattle.s360_tape.specs.WholeTape.{WholeTape, seen as seen_tape}
 use Rattle.s360_machine.specs.declared.external.ExternalConditions.{ExternalConditions}
 use Rattle.s360_machine.specs.declared.run_state.RunState.{RunState}
 use Rattle.s360_machine.specs.declared.run_state.RunState.TheVariants.{Operating}
@@ -26,6 +28,8 @@ pub record Media : Type 0 where
   pub punch : Punch
   pub printer : Printer
   pub console : Console
+  pub tape0 : Tape
+  pub tape1 : Tape
 
 -- what the written rules speak of
 pub record Machine : Type 0 where
@@ -34,39 +38,68 @@ pub record Machine : Type 0 where
   pub units : Units
   pub media : Media
 
--- the whole of it: the machine, and what devices keep out of sight so that a change can be taken back. Those
--- that stand today keep nothing out of sight
+-- the whole devices: the tapes keep what they discarded out of sight, so that a change can be taken back
+pub record WholeMedia : Type 0 where
+  pub reader : Reader
+  pub punch : Punch
+  pub printer : Printer
+  pub console : Console
+  pub tape0 : WholeTape
+  pub tape1 : WholeTape
+
+-- what is seen of them
+abbrev pub seen_media : WholeMedia → Media
+seen_media m = record {
+  reader = m.reader;
+  punch = m.punch;
+  printer = m.printer;
+  console = m.console;
+  tape0 = seen_tape m.tape0;
+  tape1 = seen_tape m.tape1;
+}
+
+-- the whole of the machine, with what its devices keep out of sight
 pub record Whole : Type 0 where
   pub core : Core
   pub control : Control
   pub units : Units
-  pub media : Media
+  pub media : WholeMedia
 
 -- the machine that is seen of a whole
 abbrev pub seen : Whole → Machine
-seen w = record { core = w.core; control = w.control; units = w.units; media = w.media }
+seen w = record { core = w.core; control = w.control; units = w.units; media = seen_media w.media }
 
 -- room that was made for what will be put there; it is no part of the whole, and no law speaks of it: the cards
--- that can be fed, those that can be punched, the lines that can be printed, and those of the console
+-- that can be fed, those that can be punched, the lines that can be printed, those of the console, and the slots of each
+-- tape
 pub record Spare : Type 0 where
   pub reader : ℕ
   pub punch : ℕ
   pub printer : ℕ
   pub console : ℕ
+  pub tape0 : ℕ
+  pub tape1 : ℕ
 
 -- a whole with room beside it
 pub record WithRoom : Type 0 where
   pub whole : Whole
   pub spare : Spare
 
--- a new machine operates, with PSW, registers, storage and keys zero, no condition pending, every unit idle, and a
--- deck in the card reader (own profile)
-abbrev pub new_machine : ℕ → List (List ℕ) → Machine
-new_machine size deck = record {
+-- a new machine operates, with PSW, registers, storage and keys zero, no condition pending, every unit idle, a deck in
+-- the card reader, and tapes on 180 and 181 (own profile)
+abbrev pub new_machine : ℕ → List (List ℕ) → Tape → Tape → Machine
+new_machine size deck tape0 tape1 = record {
   core = zero_core size;
   control = record { run_state = Operating; external = no_external };
   units = idle_units;
-  media = record { reader = new_reader deck; punch = new_punch; printer = new_printer; console = new_console };
+  media = record {
+    reader = new_reader deck;
+    punch = new_punch;
+    printer = new_printer;
+    console = new_console;
+    tape0 = tape0;
+    tape1 = tape1;
+  };
 }
 
 -- bytes of storage

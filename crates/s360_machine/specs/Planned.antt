@@ -7,21 +7,22 @@ use Rattle.s360_store.specs.Plans.{IsPlanOf}
 use Rattle.s360_store.specs.Differences.{core_differences}
 use Rattle.s360_device.specs.Differences.{same_punch, same_reader}
 use Rattle.s360_print.specs.Differences.{same_console, same_printer}
+use Rattle.s360_tape.specs.Differences.{same_tape}
 use Rattle.s360_channel.specs.Differences.{same_unit}
 use Rattle.s360_machine.specs.ControlCells.{ControlCell}
 use Rattle.s360_machine.specs.declared.external.ExternalConditions.{ExternalConditions}
 use Rattle.s360_machine.specs.declared.run_state.RunState.{RunState}
 use Rattle.s360_machine.specs.declared.run_state.RunState.TheVariants.{Operating, Stopped, Loading}
-use Rattle.s360_machine.specs.declared.configured_unit.ConfiguredUnit.TheVariants.{Reader, Punch, Printer, Console}
+use Rattle.s360_machine.specs.declared.configured_unit.ConfiguredUnit.TheVariants.{Reader, Punch, Printer, Console, Tape0, Tape1}
 use Rattle.s360_machine.specs.declared.machine.PlannedEvent.{PlannedEvent}
 use Rattle.s360_machine.specs.declared.media.MediaChanges.{MediaChanges}
 use Rattle.s360_machine.specs.declared.units.UnitChanges.{UnitChanges}
 use Rattle.s360_machine.specs.declared.units.Units.{Units}
-use Rattle.s360_machine.specs.Machine.{Machine, Media, Whole, Control, seen}
+use Rattle.s360_machine.specs.Machine.{Machine, Media, Whole, WholeMedia, Control, seen, seen_media}
 use Rattle.s360_machine.specs.ControlCells.{HasEachControlOnce, control_after_exchange, places_of_control}
 use Rattle.s360_machine.specs.Change.{Change, CanSwap, NeedsNoRoom, after_swap, change_after_swap, places_of_change}
 use Rattle.s360_machine.specs.IoChanges.{CanSwapMedia, media_after_swap, media_changes_after_swap}
-use Rattle.s360_machine.specs.IoChanges.{cards_of_punch, cards_of_reader, lines_of_console, lines_of_printer}
+use Rattle.s360_machine.specs.IoChanges.{cards_of_punch, cards_of_reader, lines_of_console, lines_of_printer, slots_of_tape0, slots_of_tape1}
 use Rattle.s360_machine.specs.IoChanges.{media_changes_of, places_of_media, places_of_units, unit_changes_of, units_after_swap}
 use Rattle.s360_machine.specs.Units.{media_place, state_place}
 
@@ -51,6 +52,8 @@ unit_differences us vs =
     ++ unless_same (same_unit us.punch vs.punch) (state_place Punch)
     ++ unless_same (same_unit us.printer vs.printer) (state_place Printer)
     ++ unless_same (same_unit us.console vs.console) (state_place Console)
+    ++ unless_same (same_unit us.tape0 vs.tape0) (state_place Tape0)
+    ++ unless_same (same_unit us.tape1 vs.tape1) (state_place Tape1)
 
 abbrev pub media_differences : Media → Media → List Place
 media_differences m n =
@@ -58,6 +61,8 @@ media_differences m n =
     ++ unless_same (same_punch m.punch n.punch) (media_place Punch)
     ++ unless_same (same_printer m.printer n.printer) (media_place Printer)
     ++ unless_same (same_console m.console n.console) (media_place Console)
+    ++ unless_same (same_tape m.tape0 n.tape0) (media_place Tape0)
+    ++ unless_same (same_tape m.tape1 n.tape1) (media_place Tape1)
 
 -- the places beside the core at which two machines differ, in their order
 abbrev pub differences_beside_core : Machine → Machine → List Place
@@ -79,23 +84,25 @@ pub record IsUnitsChangeTo (us : Units) (x : UnitChanges) (vs : Units) : Type 0 
   pub makes : units_after_swap us x ≡ vs
   pub lists : places_of_units x ≡ unit_differences us vs
 
--- the changes make the second media of the first, are just those of the devices that differ, and want no room to be
--- taken back
-pub record IsMediaChangeTo (m : Media) (x : MediaChanges) (n : Media) : Type 0 where
+-- the changes make devices of which the media are seen, are just those of the devices that differ as they are seen, and
+-- want no room to be taken back
+pub record IsMediaChangeTo (m : WholeMedia) (x : MediaChanges) (n : Media) : Type 0 where
   pub can : CanSwapMedia m x
-  pub makes : media_after_swap m x ≡ n
-  pub lists : places_of_media x ≡ media_differences m n
+  pub makes : seen_media (media_after_swap m x) ≡ n
+  pub lists : places_of_media x ≡ media_differences (seen_media m) n
   pub reader_back : cards_of_reader (media_changes_after_swap m x) ≡ 0
   pub punch_back : cards_of_punch (media_changes_after_swap m x) ≡ 0
   pub printer_back : lines_of_printer (media_changes_after_swap m x) ≡ 0
   pub console_back : lines_of_console (media_changes_after_swap m x) ≡ 0
+  pub tape0_back : slots_of_tape0 (media_changes_after_swap m x) ≡ 0
+  pub tape1_back : slots_of_tape1 (media_changes_after_swap m x) ≡ 0
 
--- a plan makes the core of a machine, and what was planned beside it the other parts
-pub record IsPlanOfMachine (m : Machine) (plan : List Cell) (planned : PlannedEvent) (n : Machine) : Type 0 where
-  pub core : IsPlanOf m.core plan n.core
+-- a plan makes the core of a machine out of that of a whole, and what was planned beside it the other parts
+pub record IsPlanOfMachine (w : Whole) (plan : List Cell) (planned : PlannedEvent) (n : Machine) : Type 0 where
+  pub core : IsPlanOf w.core plan n.core
   pub control : planned.control ≡ n.control
-  pub units : IsUnitsChangeTo m.units (unit_changes_of planned.io) n.units
-  pub media : IsMediaChangeTo m.media (media_changes_of planned.io) n.media
+  pub units : IsUnitsChangeTo w.units (unit_changes_of planned.io) n.units
+  pub media : IsMediaChangeTo w.media (media_changes_of planned.io) n.media
 
 -- what was planned has this control part, and alters this of the units
 pub record PlansIo (planned : PlannedEvent) (c : Control) (us : UnitChanges) (ms : MediaChanges) : Type 0 where
@@ -107,7 +114,7 @@ pub record PlansIo (planned : PlannedEvent) (c : Control) (us : UnitChanges) (ms
 pub record LeavesUnits (w : Whole) (c : Control) (planned : PlannedEvent) : Type 0 where
   pub control : planned.control ≡ c
   pub units : IsUnitsChangeTo w.units (unit_changes_of planned.io) w.units
-  pub media : IsMediaChangeTo w.media (media_changes_of planned.io) w.media
+  pub media : IsMediaChangeTo w.media (media_changes_of planned.io) (seen_media w.media)
 
 -- the change makes a whole of which the machine is seen, lists the places at which the machines differ, and wants no
 -- room to be taken back

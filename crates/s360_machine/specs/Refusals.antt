@@ -5,7 +5,7 @@ use Rattle.s360_machine.specs.declared.event.Event.TheVariants.{Channel, Key, Pa
 use Rattle.s360_machine.specs.declared.event.Patch.{Patch}
 use Rattle.s360_machine.specs.declared.event.Patch.TheVariants.{Bytes, Register, StorageKey, Psw}
 use Rattle.s360_machine.specs.declared.operator.Key.{Key as OperatorKey}
-use Rattle.s360_machine.specs.declared.operator.Key.TheVariants.{Enter}
+use Rattle.s360_machine.specs.declared.operator.Key.TheVariants.{Enter, Load}
 use Rattle.s360_machine.specs.declared.refusal.Refusal.{Refusal}
 use Rattle.s360_machine.specs.declared.refusal.Refusal.TheVariants.{Memory, OutsideStorage, NoSuchUnit, LineTooLong, PatchTooLong, JournalFull}
 use Rattle.s360_print.specs.TypedLines.{line_limit}
@@ -27,9 +27,10 @@ refusal_of_patch size (Register n word) = None
 refusal_of_patch size (StorageKey at storage_key) = if nat_lt at size then None else Some OutsideStorage
 refusal_of_patch size (Psw psw) = None
 
--- a line that is entered has at most 256 bytes
+-- a line that is entered has at most 256 bytes, and the machine loads from a unit that it has
 abbrev pub refusal_of_key : OperatorKey → Option Refusal
 refusal_of_key (Enter line) = if nat_lt line_limit (length line) then Some LineTooLong else None
+refusal_of_key (Load unit) = if is_none (unit_at unit.0) then Some NoSuchUnit else None
 refusal_of_key other = None
 
 abbrev pub refusal_of : ℕ → Event → Option Refusal

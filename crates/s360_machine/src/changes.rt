@@ -21,7 +21,7 @@ use std::marker::Model;
 pub(crate) const WITHIN: usize = 2;
 
 /// So many places there are beside those of the core.
-const BESIDE: usize = 10;
+const BESIDE: usize = 14;
 
 /// The places that an event alters, in their order, each with the value that stands there while the
 /// change is not made, or no longer: those of the core, then those of the control part, and then those
@@ -49,7 +49,7 @@ impl Model for Changes {
 
 /// Adds a place where there is a change of it.
 fn push_if(places: &mut ArrayVec<Place, BESIDE>, altered: bool, place: Place)
-    requires room { length places.old.items < 10 }
+    requires room { length places.old.items < 14 }
     ensures places { places.new.items ≡ places.old.items ++ (if altered then place ∷ [] else []) }
     ensures few { length places.new.items ≤ length places.old.items + 1 }
 {
@@ -60,9 +60,9 @@ fn push_if(places: &mut ArrayVec<Place, BESIDE>, altered: bool, place: Place)
 
 /// Adds the places of the units that do not stay as they are.
 fn push_units(places: &mut ArrayVec<Place, BESIDE>, units: &UnitChanges)
-    requires room { length places.old.items ≤ 6 }
+    requires room { length places.old.items ≤ 8 }
     ensures places { places.new.items ≡ places.old.items ++ places_of_units units.now }
-    ensures few { length places.new.items ≤ length places.old.items + 4 }
+    ensures few { length places.new.items ≤ length places.old.items + 6 }
 {
     push_if(
         places,
@@ -84,11 +84,21 @@ fn push_units(places: &mut ArrayVec<Place, BESIDE>, units: &UnitChanges)
         units.console.is_some(),
         Place::UnitState(ConfiguredUnit::Console.unit()),
     );
+    push_if(
+        places,
+        units.tape0.is_some(),
+        Place::UnitState(ConfiguredUnit::Tape0.unit()),
+    );
+    push_if(
+        places,
+        units.tape1.is_some(),
+        Place::UnitState(ConfiguredUnit::Tape1.unit()),
+    );
 }
 
 /// Adds the places of the devices that do not stay as they are.
 fn push_media(places: &mut ArrayVec<Place, BESIDE>, media: &MediaChanges)
-    requires room { length places.old.items ≤ 6 }
+    requires room { length places.old.items ≤ 8 }
     ensures { places.new.items ≡ places.old.items ++ places_of_media media.now }
 {
     push_if(
@@ -110,6 +120,16 @@ fn push_media(places: &mut ArrayVec<Place, BESIDE>, media: &MediaChanges)
         places,
         media.console.is_some(),
         Place::UnitMedia(ConfiguredUnit::Console.unit()),
+    );
+    push_if(
+        places,
+        media.tape0.is_some(),
+        Place::UnitMedia(ConfiguredUnit::Tape0.unit()),
+    );
+    push_if(
+        places,
+        media.tape1.is_some(),
+        Place::UnitMedia(ConfiguredUnit::Tape1.unit()),
     );
 }
 

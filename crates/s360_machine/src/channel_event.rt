@@ -1,10 +1,11 @@
 //! Channel events. Source: GA22-6821, "Input/Output Operations", execution of input/output operations.
-ghost use Rattle.std.specs.Prelude.{◌≡◌, [], IfOk};
+ghost use Rattle.std.specs.Prelude.{◌≡◌, ◌≤◌, [], IfOk, OnOk, length};
 ghost use Rattle.s360_channel.specs.Steps.{AltersDevice, KeepsDevice, change_of_step};
 ghost use Rattle.s360_machine.specs.ChannelEvents.{ExecutesProgram, StepsTo};
-ghost use Rattle.s360_machine.specs.ChannelEvents.{after_channel_event};
+ghost use Rattle.s360_machine.specs.ChannelEvents.{after_channel, after_channel_event};
 ghost use Rattle.s360_machine.specs.ChannelEvents.{after_console_event, after_printer_event};
 ghost use Rattle.s360_machine.specs.ChannelEvents.{after_punch_event, after_reader_event};
+ghost use Rattle.s360_machine.specs.ChannelEvents.{after_tape0_event, after_tape1_event};
 ghost use Rattle.s360_machine.specs.Machine.{seen};
 ghost use Rattle.s360_machine.specs.Planned.{IsPlanOfMachine};
 
@@ -74,7 +75,8 @@ impl Machine {
     /// Plans a channel event of the card reader.
     fn plan_reader(&self, plan: &mut Plan) -> Result<PlannedEvent, AllocError>
         requires empty { plan.old ≡ [] }
-        ensures { IfOk result (λ planned. IsPlanOfMachine (seen self.now.whole) plan.new planned (after_reader_event (seen self.now.whole))) }
+        ensures plan { IfOk result (λ planned. IsPlanOfMachine self.now.whole plan.new planned (after_reader_event (seen self.now.whole))) }
+        ensures few { OnOk result (length plan.new ≤ 65535) }
     {
         let (storage, unit) = (self.core.storage(), &self.units.reader);
         let step = plan_step(self.alloc, storage, unit, &self.devices.reader, plan)?;
@@ -90,7 +92,8 @@ impl Machine {
     /// Plans a channel event of the card punch.
     fn plan_punch(&self, plan: &mut Plan) -> Result<PlannedEvent, AllocError>
         requires empty { plan.old ≡ [] }
-        ensures { IfOk result (λ planned. IsPlanOfMachine (seen self.now.whole) plan.new planned (after_punch_event (seen self.now.whole))) }
+        ensures plan { IfOk result (λ planned. IsPlanOfMachine self.now.whole plan.new planned (after_punch_event (seen self.now.whole))) }
+        ensures few { OnOk result (length plan.new ≤ 65535) }
     {
         let (storage, unit) = (self.core.storage(), &self.units.punch);
         let step = plan_step(self.alloc, storage, unit, &self.devices.punch, plan)?;
@@ -106,7 +109,8 @@ impl Machine {
     /// Plans a channel event of the printer.
     fn plan_printer(&self, plan: &mut Plan) -> Result<PlannedEvent, AllocError>
         requires empty { plan.old ≡ [] }
-        ensures { IfOk result (λ planned. IsPlanOfMachine (seen self.now.whole) plan.new planned (after_printer_event (seen self.now.whole))) }
+        ensures plan { IfOk result (λ planned. IsPlanOfMachine self.now.whole plan.new planned (after_printer_event (seen self.now.whole))) }
+        ensures few { OnOk result (length plan.new ≤ 65535) }
     {
         let (storage, unit) = (self.core.storage(), &self.units.printer);
         let step = plan_step(self.alloc, storage, unit, &self.devices.printer, plan)?;
@@ -122,7 +126,8 @@ impl Machine {
     /// Plans a channel event of the console.
     fn plan_console(&self, plan: &mut Plan) -> Result<PlannedEvent, AllocError>
         requires empty { plan.old ≡ [] }
-        ensures { IfOk result (λ planned. IsPlanOfMachine (seen self.now.whole) plan.new planned (after_console_event (seen self.now.whole))) }
+        ensures plan { IfOk result (λ planned. IsPlanOfMachine self.now.whole plan.new planned (after_console_event (seen self.now.whole))) }
+        ensures few { OnOk result (length plan.new ≤ 65535) }
     {
         let (storage, unit) = (self.core.storage(), &self.units.console);
         let step = plan_step(self.alloc, storage, unit, &self.devices.console, plan)?;
@@ -135,21 +140,74 @@ impl Machine {
         Ok(planned)
     }
 
-    /// Plans a channel event of a unit.
+    /// Plans a channel event of the first magnetic tape.
+    fn plan_tape0(&self, plan: &mut Plan) -> Result<PlannedEvent, AllocError>
+        requires empty { plan.old ≡ [] }
+        ensures plan { IfOk result (λ planned. IsPlanOfMachine self.now.whole plan.new planned (after_tape0_event (seen self.now.whole))) }
+        ensures few { OnOk result (length plan.new ≤ 65535) }
+    {
+        let (storage, unit) = (self.core.storage(), &self.units.tape0);
+        let step = plan_step(self.alloc, storage, unit, &self.devices.tape0, plan)?;
+        let units = UnitChanges::of(ConfiguredUnit::Tape0, step.control);
+        let media = MediaChanges {
+            tape0: step.change,
+            ..MediaChanges::none()
+        };
+        let planned = self.planned_with(self.control, units, media)?;
+        Ok(planned)
+    }
+
+    /// Plans a channel event of the second magnetic tape.
+    fn plan_tape1(&self, plan: &mut Plan) -> Result<PlannedEvent, AllocError>
+        requires empty { plan.old ≡ [] }
+        ensures plan { IfOk result (λ planned. IsPlanOfMachine self.now.whole plan.new planned (after_tape1_event (seen self.now.whole))) }
+        ensures few { OnOk result (length plan.new ≤ 65535) }
+    {
+        let (storage, unit) = (self.core.storage(), &self.units.tape1);
+        let step = plan_step(self.alloc, storage, unit, &self.devices.tape1, plan)?;
+        let units = UnitChanges::of(ConfiguredUnit::Tape1, step.control);
+        let media = MediaChanges {
+            tape1: step.change,
+            ..MediaChanges::none()
+        };
+        let planned = self.planned_with(self.control, units, media)?;
+        Ok(planned)
+    }
+
+    /// Plans what the channel makes of a unit.
+    fn plan_execution(
+        &self,
+        unit: ConfiguredUnit,
+        plan: &mut Plan,
+    ) -> Result<PlannedEvent, AllocError>
+        requires empty { plan.old ≡ [] }
+        ensures plan { IfOk result (λ planned. IsPlanOfMachine self.now.whole plan.new planned (after_channel unit (seen self.now.whole))) }
+        ensures few { OnOk result (length plan.new ≤ 65535) }
+    {
+        match unit {
+            ConfiguredUnit::Reader => self.plan_reader(plan),
+            ConfiguredUnit::Punch => self.plan_punch(plan),
+            ConfiguredUnit::Printer => self.plan_printer(plan),
+            ConfiguredUnit::Console => self.plan_console(plan),
+            ConfiguredUnit::Tape0 => self.plan_tape0(plan),
+            ConfiguredUnit::Tape1 => self.plan_tape1(plan),
+        }
+    }
+
+    /// Plans a channel event of a unit, which may end initial program loading.
     pub(crate) fn plan_channel(
         &self,
         unit: Unit,
         plan: &mut Plan,
     ) -> Result<PlannedEvent, AllocError>
         requires empty { plan.old ≡ [] }
-        ensures { IfOk result (λ planned. IsPlanOfMachine (seen self.now.whole) plan.new planned (after_channel_event unit (seen self.now.whole))) }
+        ensures { IfOk result (λ planned. IsPlanOfMachine self.now.whole plan.new planned (after_channel_event unit (seen self.now.whole))) }
     {
-        match ConfiguredUnit::at(unit) {
-            Some(ConfiguredUnit::Reader) => self.plan_reader(plan),
-            Some(ConfiguredUnit::Punch) => self.plan_punch(plan),
-            Some(ConfiguredUnit::Printer) => self.plan_printer(plan),
-            Some(ConfiguredUnit::Console) => self.plan_console(plan),
-            None => Ok(self.planned(self.control)),
-        }
+        let Some(unit) = ConfiguredUnit::at(unit) else {
+            return Ok(self.planned(self.control));
+        };
+        let planned = self.plan_execution(unit, plan)?;
+        let done = self.plan_loading(unit, planned, plan)?;
+        Ok(done)
     }
 }

@@ -1,8 +1,10 @@
 //! The units that the machine has. Source: GA22-6821, "Input/Output Operations", unit address; which
 //! units there are, and their addresses, is the own profile.
 ghost use Rattle.std.specs.Prelude.{◌≡◌, ◌<◌};
+ghost use Rattle.s360_machine.specs.InputOutput.{kind_of};
 ghost use Rattle.s360_machine.specs.Units.{address_of_unit, channel_of, unit_at};
 
+use s360_channel::ChannelKind;
 use s360_word::Unit;
 
 /// A unit of the machine.
@@ -16,15 +18,21 @@ pub enum ConfiguredUnit {
     Printer,
     /// The console, a 1052, 01F.
     Console,
+    /// The first magnetic tape, a 2400, 180.
+    Tape0,
+    /// The second magnetic tape, 181.
+    Tape1,
 }
 
 impl ConfiguredUnit {
     /// All of them, in the order of their addresses.
-    pub const ALL: [ConfiguredUnit; 4] = [
+    pub const ALL: [ConfiguredUnit; 6] = [
         ConfiguredUnit::Reader,
         ConfiguredUnit::Punch,
         ConfiguredUnit::Printer,
         ConfiguredUnit::Console,
+        ConfiguredUnit::Tape0,
+        ConfiguredUnit::Tape1,
     ];
 
     /// The unit at an address, if the machine has it.
@@ -36,6 +44,8 @@ impl ConfiguredUnit {
             0x00D => Some(ConfiguredUnit::Punch),
             0x00E => Some(ConfiguredUnit::Printer),
             0x01F => Some(ConfiguredUnit::Console),
+            0x180 => Some(ConfiguredUnit::Tape0),
+            0x181 => Some(ConfiguredUnit::Tape1),
             _ => None,
         }
     }
@@ -49,6 +59,8 @@ impl ConfiguredUnit {
             ConfiguredUnit::Punch => Unit::new(0x00D),
             ConfiguredUnit::Printer => Unit::new(0x00E),
             ConfiguredUnit::Console => Unit::new(0x01F),
+            ConfiguredUnit::Tape0 => Unit::new(0x180),
+            ConfiguredUnit::Tape1 => Unit::new(0x181),
         }
     }
 
@@ -62,6 +74,20 @@ impl ConfiguredUnit {
             | ConfiguredUnit::Punch
             | ConfiguredUnit::Printer
             | ConfiguredUnit::Console => 0,
+            ConfiguredUnit::Tape0 | ConfiguredUnit::Tape1 => 1,
+        }
+    }
+
+    /// How its channel serves its units.
+    pub(crate) fn kind(self) -> ChannelKind
+        ensures { result ≡ kind_of self }
+    {
+        match self {
+            ConfiguredUnit::Reader
+            | ConfiguredUnit::Punch
+            | ConfiguredUnit::Printer
+            | ConfiguredUnit::Console => ChannelKind::Multiplexer,
+            ConfiguredUnit::Tape0 | ConfiguredUnit::Tape1 => ChannelKind::Selector,
         }
     }
 }

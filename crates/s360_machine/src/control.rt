@@ -88,6 +88,16 @@ impl Control {
         }
     }
 
+    /// The control part of the machine that operates.
+    pub(crate) fn operating(&self) -> Control
+        ensures { result ≡ record self.now { run_state = Operating } }
+    {
+        Control {
+            run_state: RunState::Operating,
+            ..*self
+        }
+    }
+
     /// The control part after a tick of a timer that held this word.
     pub(crate) fn after_tick(&self, word: Word) -> Control
         ensures { result ≡ control_after_tick word self.now }
@@ -127,6 +137,10 @@ impl Control {
                     ..self.external
                 },
                 ..*self
+            },
+            Key::Load(unit) => Control {
+                run_state: RunState::Loading(*unit),
+                external: ExternalConditions::none(),
             },
             Key::EndOfFile | Key::Request | Key::Enter(_) => *self,
         }

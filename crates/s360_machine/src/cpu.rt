@@ -57,7 +57,7 @@ impl Machine {
     /// Plans a CPU event.
     pub(crate) fn plan_cpu(&self, plan: &mut Plan) -> Result<PlannedEvent, AllocError>
         requires empty { plan.old ≡ [] }
-        ensures { IfOk result (λ planned. IsPlanOfMachine (seen self.now.whole) plan.new planned (after_cpu (seen self.now.whole))) }
+        ensures { IfOk result (λ planned. IsPlanOfMachine self.now.whole plan.new planned (after_cpu (seen self.now.whole))) }
     {
         match self.cpu_case() {
             CpuCase::Interrupted(Class::External) => self.plan_external(plan),
@@ -72,7 +72,7 @@ impl Machine {
     /// Plans an external interruption, in which all pending conditions go.
     fn plan_external(&self, plan: &mut Plan) -> Result<PlannedEvent, AllocError>
         requires empty { plan.old ≡ [] }
-        ensures { IfOk result (λ planned. IsPlanOfMachine (seen self.now.whole) plan.new planned (after_external (seen self.now.whole))) }
+        ensures { IfOk result (λ planned. IsPlanOfMachine self.now.whole plan.new planned (after_external (seen self.now.whole))) }
     {
         let code = self.control.external().code();
         let length = InstructionLength::NotAvailable;
@@ -84,7 +84,7 @@ impl Machine {
     /// Plans an instruction, with the program or the supervisor call interruption that it causes.
     fn plan_instruction(&self, plan: &mut Plan) -> Result<PlannedEvent, AllocError>
         requires empty { plan.old ≡ [] }
-        ensures { IfOk result (λ planned. IsPlanOfMachine (seen self.now.whole) plan.new planned (after_instruction (seen self.now.whole))) }
+        ensures { IfOk result (λ planned. IsPlanOfMachine self.now.whole plan.new planned (after_instruction (seen self.now.whole))) }
     {
         let planned = self.core.plan_instruction(plan)?;
         let (class, code) = match planned.ended {

@@ -13,9 +13,9 @@ ghost use Rattle.s360_machine.specs.InputOutput.{PlansCsw};
 use crate::configured_unit::ConfiguredUnit;
 use crate::core_state::Core;
 use crate::machine::{Machine, PlannedEvent};
+use crate::units::Units;
 use s360_channel::{
-    ChannelKind, Condition, CswStore, IoResult, UnitControl, halt, start, status_halfword, test,
-    test_channel,
+    ChannelKind, Condition, CswStore, IoResult, halt, start, status_halfword, test, test_channel,
 };
 use s360_fixed::IoOperation;
 use s360_psw::{Class, InstructionLength};
@@ -29,26 +29,36 @@ const CSW: u32 = 64;
 /// The address of its bits 32 to 47.
 const STATUS: u32 = 68;
 
-/// TEST CHANNEL by the number of the channel. No unit of channel 1 is there yet.
-fn tested_channel(channel: u16) -> IoResult
-    ensures { result ≡ tested_channel channel }
+/// TEST CHANNEL by the number of the channel.
+fn tested_channel(units: &Units, channel: u16) -> IoResult
+    ensures { result ≡ tested_channel units.now channel }
 {
-    let kind = match channel {
-        0 => ChannelKind::Multiplexer,
-        1 => ChannelKind::Selector,
+    let condition = match channel {
+        0 => test_channel(ChannelKind::Multiplexer, false, false),
+        1 => {
+            let (first, second) = (&units.tape0.state, &units.tape1.state);
+            let occupied = first.is_active() || second.is_active();
+            let waiting = first.is_waiting() || second.is_waiting();
+            test_channel(ChannelKind::Selector, occupied, waiting)
+        }
         _ => return IoResult::not_operational(),
     };
-    IoResult::condition_alone(test_channel(kind, false, false))
+    IoResult::condition_alone(condition)
 }
 
 /// Another input/output instruction of a unit that is there.
-fn result_for_unit(operation: IoOperation, storage: &Storage, unit: &UnitControl) -> IoResult
-    ensures { result ≡ result_for_unit operation storage.now unit.now }
+fn result_for_unit(
+    operation: IoOperation,
+    storage: &Storage,
+    units: &Units,
+    unit: ConfiguredUnit,
+) -> IoResult
+    ensures { result ≡ result_for_unit operation storage.now units.now unit }
 {
     match operation {
-        IoOperation::Start => start(storage, false, unit),
-        IoOperation::Test => test(false, unit),
-        IoOperation::Halt => halt(ChannelKind::Multiplexer, unit),
+        IoOperation::Start => start(storage, units.is_occupied(unit), units.control(unit)),
+        IoOperation::Test => test(units.is_occupied(unit), units.control(unit)),
+        IoOperation::Halt => halt(unit.kind(), units.control(units.halted(unit))),
         IoOperation::TestChannel => IoResult::not_operational(),
     }
 }
@@ -89,12 +99,10 @@ impl Machine {
         ensures { result ≡ io_result operation unit (seen self.now.whole) }
     {
         if operation == IoOperation::TestChannel {
-            return tested_channel(unit.address() / 0x100);
+            return tested_channel(&self.units, unit.address() / 0x100);
         }
         match ConfiguredUnit::at(unit) {
-            Some(unit) => {
-                result_for_unit(operation, self.core.storage(), self.units.control(unit))
-            }
+            Some(unit) => result_for_unit(operation, self.core.storage(), &self.units, unit),
             None => IoResult::not_operational(),
         }
     }
@@ -108,11 +116,12 @@ impl Machine {
         plan: &mut Plan,
     ) -> Result<PlannedEvent, AllocError>
         requires empty { plan.old ≡ [] }
-        ensures { IfOk result (λ planned. IsPlanOfMachine (seen self.now.whole) plan.new planned (after_io operation unit next_address (seen self.now.whole))) }
+        ensures { IfOk result (λ planned. IsPlanOfMachine self.now.whole plan.new planned (after_io operation unit next_address (seen self.now.whole))) }
     {
         let done = self.io_result(operation, unit);
         self.core.plan_io(&done, next_address, plan)?;
-        let units = self.units.changes_with(ConfiguredUnit::at(unit), done.unit);
+        let unit = self.units.of_result(operation, ConfiguredUnit::at(unit));
+        let units = self.units.changes_with(unit, done.unit);
         let planned = self.planned_with(self.control, units, self.devices.unchanged())?;
         Ok(planned)
     }
@@ -121,7 +130,7 @@ impl Machine {
     /// interrupt is taken.
     pub(crate) fn plan_input_output(&self, plan: &mut Plan) -> Result<PlannedEvent, AllocError>
         requires empty { plan.old ≡ [] }
-        ensures { IfOk result (λ planned. IsPlanOfMachine (seen self.now.whole) plan.new planned (after_input_output (seen self.now.whole))) }
+        ensures { IfOk result (λ planned. IsPlanOfMachine self.now.whole plan.new planned (after_input_output (seen self.now.whole))) }
     {
         let Some(unit) = self.units.interrupting_unit(self.core.psw()) else {
             return Ok(self.planned(self.control));
@@ -140,7 +149,7 @@ impl Machine {
         plan: &mut Plan,
     ) -> Result<PlannedEvent, AllocError>
         requires empty { plan.old ≡ [] }
-        ensures { IfOk result (λ planned. IsPlanOfMachine (seen self.now.whole) plan.new planned (after_taking unit condition (seen self.now.whole))) }
+        ensures { IfOk result (λ planned. IsPlanOfMachine self.now.whole plan.new planned (after_taking unit condition (seen self.now.whole))) }
     {
         let Condition { csw, unit: next } = condition;
         self.core.plan_csw(&CswStore::Csw(csw), plan)?;

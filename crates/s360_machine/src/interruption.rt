@@ -37,7 +37,7 @@ impl Core {
     }
 
     /// The doubleword at an address as a plan leaves it.
-    fn planned_double(&self, plan: &Plan, address: u32) -> u64
+    pub(crate) fn planned_double(&self, plan: &Plan, address: u32) -> u64
         requires cells { AreCellsOf self.now plan.now }
         requires inside { HasBytes address 8 self.now }
         requires low { address + 8 ≤ 128 }

@@ -3,6 +3,7 @@ ghost use Rattle.std.specs.Prelude.{◌≡◌, ◌≤◌, IfOk};
 ghost use Rattle.s360_machine.specs.IoChanges.{CanSwapMedia, MakesIoChange, cards_of_punch};
 ghost use Rattle.s360_machine.specs.IoChanges.{cards_of_reader, media_after_swap};
 ghost use Rattle.s360_machine.specs.IoChanges.{lines_of_console, lines_of_printer};
+ghost use Rattle.s360_machine.specs.IoChanges.{slots_of_tape0, slots_of_tape1};
 ghost use Rattle.s360_machine.specs.IoChanges.{media_changes_after_swap, media_changes_of};
 ghost use Rattle.s360_machine.specs.IoChanges.{unit_changes_after_swap, unit_changes_of};
 ghost use Rattle.s360_machine.specs.IoChanges.{units_after_swap};
@@ -27,6 +28,8 @@ pub(crate) fn exchange_io(io: &mut Option<Box<IoChange>>, units: &mut Units, dev
     requires punch { cards_of_punch (media_changes_of io.old) ≤ devices.old.punch.room }
     requires printer { lines_of_printer (media_changes_of io.old) ≤ devices.old.printer.room }
     requires console { lines_of_console (media_changes_of io.old) ≤ devices.old.console.room }
+    requires tape0 { slots_of_tape0 (media_changes_of io.old) ≤ devices.old.tape0.room }
+    requires tape1 { slots_of_tape1 (media_changes_of io.old) ≤ devices.old.tape1.room }
     ensures units { units.new ≡ units_after_swap units.old (unit_changes_of io.old) }
     ensures unit_changes { unit_changes_of io.new ≡ unit_changes_after_swap units.old (unit_changes_of io.old) }
     ensures media { media_of devices.new ≡ media_after_swap (media_of devices.old) (media_changes_of io.old) }

@@ -17,6 +17,7 @@ mod external;
 mod input_output;
 mod interruption;
 mod io_change;
+mod loading;
 mod machine;
 mod media;
 mod operator;

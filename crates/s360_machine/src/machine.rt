@@ -1,7 +1,7 @@
 //! The machine: its state, and the events that change it.
 ghost use Rattle.std.specs.Prelude.{◌≡◌, [], slice_index, None, Err, OnOk, IfOk, IsOkUnless};
 ghost use Rattle.std.specs.Prelude.{MatchOption};
-ghost use Rattle.std.specs.Option.{option_copied};
+ghost use Rattle.std.specs.Option.{option_copied, option_map};
 ghost use Rattle.std.specs.Bool.{MatchBool};
 ghost use Rattle.s360_model.specs.Storage.{is_storage_size};
 ghost use Rattle.s360_store.specs.declared.fault.StoreFault.TheVariants.{Size, Memory as no_memory};
@@ -10,7 +10,9 @@ ghost use Rattle.s360_machine.specs.Change.{CanSwap, after_swap, change_after_sw
 ghost use Rattle.s360_machine.specs.Change.{HasRoom, NeedsNoRoom};
 ghost use Rattle.s360_machine.specs.Step.{after, after_patch};
 ghost use Rattle.s360_machine.specs.Timer.{after_tick};
-ghost use Rattle.s360_machine.specs.Units.{attention_at, state_at};
+ghost use Rattle.s360_tape.specs.WholeTape.{TapeWithRoom, seen as seen_tape};
+ghost use Rattle.s360_machine.specs.Media.{tape_of};
+ghost use Rattle.s360_machine.specs.Units.{attention_at, state_at, unit_at};
 ghost use Rattle.s360_machine.specs.Refusals.{refusal_of, refusal_of_key, refusal_of_patch};
 ghost use Rattle.s360_store.specs.Plans.{IsPlanOf};
 ghost use Rattle.s360_machine.specs.Operator.{after_key};
@@ -34,6 +36,7 @@ use s360_device::{Deck, Punch, Reader};
 use s360_print::{Console, LINE_LIMIT, Printer};
 use s360_psw::Psw;
 use s360_store::{Plan, Storage, StoreFault};
+use s360_tape::Tape;
 use s360_word::{RegisterNumber, Unit, Word};
 use std::alloc::{AllocError, Global};
 use std::marker::Model;
@@ -68,14 +71,20 @@ impl Model for Machine {
 
     ghost use Rattle.s360_machine.specs.Media.{media_of};
 
-    ghost view = { λ m. record { whole = record { core = m.core; control = m.control; units = m.units; media = media_of m.devices }; spare = record { reader = m.devices.reader.room; punch = m.devices.punch.room; printer = m.devices.printer.room; console = m.devices.console.room } } };
+    ghost view = { λ m. record { whole = record { core = m.core; control = m.control; units = m.units; media = media_of m.devices }; spare = record { reader = m.devices.reader.room; punch = m.devices.punch.room; printer = m.devices.printer.room; console = m.devices.console.room; tape0 = m.devices.tape0.room; tape1 = m.devices.tape1.room } } };
 }
 
 impl Machine {
-    /// A new machine with so many bytes of storage, and a deck in its card reader. It operates, every
-    /// unit is idle, and all else is zero.
-    pub fn new(alloc: Global, size: u32, deck: Deck) -> Result<Machine, StoreFault>
-        ensures new { IfOk result (λ m. seen m.whole ≡ new_machine size deck) }
+    /// A new machine with so many bytes of storage, a deck in its card reader, and tapes on 180 and
+    /// 181. It operates, every unit is idle, and all else is zero.
+    pub fn new(
+        alloc: Global,
+        size: u32,
+        deck: Deck,
+        tape0: Tape,
+        tape1: Tape,
+    ) -> Result<Machine, StoreFault>
+        ensures new { IfOk result (λ m. seen m.whole ≡ new_machine size deck (seen_tape tape0.tape) (seen_tape tape1.tape)) }
         ensures refused { MatchBool (is_storage_size size) (IsOkUnless result no_memory) (result ≡ Err Size) }
     {
         let core = Core::new(alloc, size)?;
@@ -88,6 +97,8 @@ impl Machine {
                 punch: Punch::new(alloc),
                 printer: Printer::new(alloc),
                 console: Console::new(alloc),
+                tape0,
+                tape1,
             },
             alloc,
         })
@@ -174,6 +185,17 @@ impl Machine {
         &self.devices.console
     }
 
+    /// The tape of a unit, if the machine has one there.
+    pub fn tape(&self, unit: Unit) -> Option<&Tape>
+        ensures { option_map (λ (t : TapeWithRoom). t.tape) (option_copied result) ≡ tape_of self.now.whole.media (unit_at unit.0) }
+    {
+        match ConfiguredUnit::at(unit)? {
+            ConfiguredUnit::Tape0 => Some(&self.devices.tape0),
+            ConfiguredUnit::Tape1 => Some(&self.devices.tape1),
+            _ => None,
+        }
+    }
+
     /// Why an event is refused whatever the machine's state, by the event and the storage size
     /// alone.
     pub fn refusal(&self, event: &Event) -> Option<Refusal>
@@ -195,6 +217,9 @@ impl Machine {
                 Some(Refusal::OutsideStorage)
             }
             Event::Channel(unit) if ConfiguredUnit::at(*unit).is_none() => Some(
+                Refusal::NoSuchUnit,
+            ),
+            Event::Key(Key::Load(unit)) if ConfiguredUnit::at(*unit).is_none() => Some(
                 Refusal::NoSuchUnit,
             ),
             Event::Key(Key::Enter(line)) if line.as_slice().len() > LINE_LIMIT => Some(
@@ -249,7 +274,7 @@ impl Machine {
     fn plan_event(&self, event: &Event, plan: &mut Plan) -> Result<PlannedEvent, AllocError>
         requires empty { plan.old ≡ [] }
         requires accepted { refusal_of (storage_size (seen self.now.whole)) event.now ≡ None }
-        ensures { IfOk result (λ planned. IsPlanOfMachine (seen self.now.whole) plan.new planned (after (seen self.now.whole) event.now)) }
+        ensures { IfOk result (λ planned. IsPlanOfMachine self.now.whole plan.new planned (after (seen self.now.whole) event.now)) }
     {
         match event {
             Event::Cpu => self.plan_cpu(plan),
@@ -266,7 +291,7 @@ impl Machine {
     /// Plans a tick of the timer.
     fn plan_tick(&self, plan: &mut Plan) -> Result<PlannedEvent, AllocError>
         requires empty { plan.old ≡ [] }
-        ensures { IfOk result (λ planned. IsPlanOfMachine (seen self.now.whole) plan.new planned (after_tick (seen self.now.whole))) }
+        ensures { IfOk result (λ planned. IsPlanOfMachine self.now.whole plan.new planned (after_tick (seen self.now.whole))) }
     {
         if !self.control.run_state().is_operating() {
             return Ok(self.planned(self.control));
@@ -278,7 +303,7 @@ impl Machine {
     /// Plans that a key is pressed.
     fn plan_key(&self, key: &Key) -> Result<PlannedEvent, AllocError>
         requires accepted { refusal_of_key key.now ≡ None }
-        ensures { IfOk result (λ planned. IsPlanOfMachine (seen self.now.whole) [] planned (after_key (seen self.now.whole) key.now)) }
+        ensures { IfOk result (λ planned. IsPlanOfMachine self.now.whole [] planned (after_key (seen self.now.whole) key.now)) }
     {
         let control = self.control.after_key(key);
         let units = self.units.changes_of_key(self.alloc, key)?;

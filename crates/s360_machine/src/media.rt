@@ -5,11 +5,13 @@ ghost use Rattle.s360_machine.specs.IoChanges.{CanIfAny, CanSwapMedia, after_if_
 ghost use Rattle.s360_machine.specs.IoChanges.{cards_of_punch, cards_of_reader, need_if_any};
 ghost use Rattle.s360_machine.specs.IoChanges.{media_after_swap, media_changes_after_swap};
 ghost use Rattle.s360_machine.specs.IoChanges.{lines_of_console, lines_of_printer};
+ghost use Rattle.s360_machine.specs.IoChanges.{slots_of_tape0, slots_of_tape1};
 ghost use Rattle.s360_machine.specs.IoChanges.{no_media_changes};
 ghost use Rattle.s360_machine.specs.Refusals.{refusal_of_key};
 ghost use Rattle.s360_print.specs.TypedLines.{line_limit};
 ghost use Rattle.std.specs.Prelude.{None};
 ghost use Rattle.std.specs.Bool.{MatchBool};
+ghost use Rattle.s360_machine.specs.Machine.{seen_media};
 ghost use Rattle.s360_machine.specs.Media.{media_of};
 ghost use Rattle.s360_machine.specs.Operator.{media_after_key};
 ghost use Rattle.s360_machine.specs.Planned.{IsMediaChangeTo};
@@ -18,6 +20,7 @@ ghost use Rattle.s360_machine.specs.declared.operator.Key.TheVariants.{EndOfFile
 use crate::operator::Key;
 use s360_device::{Device, Punch, PunchChange, Reader, ReaderChange};
 use s360_print::{Console, ConsoleChange, Printer, PrinterChange};
+use s360_tape::{Tape, TapeChange};
 use std::alloc::AllocError;
 
 /// The devices.
@@ -27,6 +30,8 @@ pub(crate) struct Devices {
     pub(crate) punch: Punch,
     pub(crate) printer: Printer,
     pub(crate) console: Console,
+    pub(crate) tape0: Tape,
+    pub(crate) tape1: Tape,
 }
 
 /// What is exchanged with the devices that do not stay as they are.
@@ -36,6 +41,8 @@ pub(crate) struct MediaChanges {
     pub(crate) punch: Option<PunchChange>,
     pub(crate) printer: Option<PrinterChange>,
     pub(crate) console: Option<ConsoleChange>,
+    pub(crate) tape0: Option<TapeChange>,
+    pub(crate) tape1: Option<TapeChange>,
 }
 
 impl MediaChanges {
@@ -48,17 +55,21 @@ impl MediaChanges {
             punch: None,
             printer: None,
             console: None,
+            tape0: None,
+            tape1: None,
         }
     }
 
     /// Whether there is none.
     pub(crate) fn is_none(&self) -> bool
-        ensures { MatchBool result (self.now ≡ no_media_changes) Unit }
+        ensures { MatchBool result (self.now ≡ no_media_changes) (self.now ≡ no_media_changes → ⊥) }
     {
         self.reader.is_none()
             && self.punch.is_none()
             && self.printer.is_none()
             && self.console.is_none()
+            && self.tape0.is_none()
+            && self.tape1.is_none()
     }
 }
 
@@ -89,7 +100,7 @@ impl Devices {
     /// What leaves them as they are.
     pub(crate) fn unchanged(&self) -> MediaChanges
         ensures changes { result ≡ no_media_changes }
-        ensures same { IsMediaChangeTo (media_of self.now) result (media_of self.now) }
+        ensures same { IsMediaChangeTo (media_of self.now) result (seen_media (media_of self.now)) }
     {
         MediaChanges::none()
     }
@@ -97,21 +108,20 @@ impl Devices {
     /// What a key of the operator makes of them, if its own sake does not refuse it.
     pub(crate) fn changes_of_key(&self, key: &Key) -> Result<MediaChanges, AllocError>
         requires accepted { refusal_of_key key.now ≡ None }
-        ensures { IfOk result (λ changes. IsMediaChangeTo (media_of self.now) changes (media_after_key key.now (media_of self.now))) }
+        ensures { IfOk result (λ changes. IsMediaChangeTo (media_of self.now) changes (media_after_key key.now (seen_media (media_of self.now)))) }
     {
         match key {
             Key::EndOfFile => Ok(self.changes_of_end_key()),
             Key::Enter(line) => self.changes_of_line(line.as_slice()),
-            Key::Start | Key::Stop | Key::Reset | Key::Interrupt | Key::Request => {
-                Ok(self.unchanged())
-            }
+            Key::Start | Key::Stop | Key::Reset | Key::Interrupt | Key::Request | Key::Load(_) =>
+                Ok(self.unchanged()),
         }
     }
 
     /// What a line that is entered does.
     fn changes_of_line(&self, line: &[u8]) -> Result<MediaChanges, AllocError>
         requires fits { length line.now ≤ line_limit }
-        ensures { IfOk result (λ changes. IsMediaChangeTo (media_of self.now) changes (media_after_key (Enter line.now) (media_of self.now))) }
+        ensures { IfOk result (λ changes. IsMediaChangeTo (media_of self.now) changes (media_after_key (Enter line.now) (seen_media (media_of self.now)))) }
     {
         let console = self.console.plan_line(line)?;
         Ok(MediaChanges {
@@ -122,7 +132,7 @@ impl Devices {
 
     /// What the end-of-file key does, which stays pressed.
     fn changes_of_end_key(&self) -> MediaChanges
-        ensures { IsMediaChangeTo (media_of self.now) result (media_after_key EndOfFile (media_of self.now)) }
+        ensures { IsMediaChangeTo (media_of self.now) result (media_after_key EndOfFile (seen_media (media_of self.now))) }
     {
         if self.reader.end_of_file() {
             return self.unchanged();
@@ -140,11 +150,15 @@ impl Devices {
         ensures punch { OnOk result (cards_of_punch changes.now ≤ self.new.punch.room) }
         ensures printer { OnOk result (lines_of_printer changes.now ≤ self.new.printer.room) }
         ensures console { OnOk result (lines_of_console changes.now ≤ self.new.console.room) }
+        ensures tape0 { OnOk result (slots_of_tape0 changes.now ≤ self.new.tape0.room) }
+        ensures tape1 { OnOk result (slots_of_tape1 changes.now ≤ self.new.tape1.room) }
     {
         make_room(&mut self.reader, &changes.reader)?;
         make_room(&mut self.punch, &changes.punch)?;
         make_room(&mut self.printer, &changes.printer)?;
         make_room(&mut self.console, &changes.console)?;
+        make_room(&mut self.tape0, &changes.tape0)?;
+        make_room(&mut self.tape1, &changes.tape1)?;
         Ok(())
     }
 
@@ -155,6 +169,8 @@ impl Devices {
         requires punch { cards_of_punch changes.old ≤ self.old.punch.room }
         requires printer { lines_of_printer changes.old ≤ self.old.printer.room }
         requires console { lines_of_console changes.old ≤ self.old.console.room }
+        requires tape0 { slots_of_tape0 changes.old ≤ self.old.tape0.room }
+        requires tape1 { slots_of_tape1 changes.old ≤ self.old.tape1.room }
         ensures media { media_of self.new ≡ media_after_swap (media_of self.old) changes.old }
         ensures changes { changes.new ≡ media_changes_after_swap (media_of self.old) changes.old }
     {
@@ -162,5 +178,7 @@ impl Devices {
         exchange(&mut self.punch, &mut changes.punch);
         exchange(&mut self.printer, &mut changes.printer);
         exchange(&mut self.console, &mut changes.console);
+        exchange(&mut self.tape0, &mut changes.tape0);
+        exchange(&mut self.tape1, &mut changes.tape1);
     }
 }

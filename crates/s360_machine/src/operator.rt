@@ -2,6 +2,7 @@
 //! of the 1052.
 
 use s360_store::Bytes;
+use s360_word::Unit;
 
 /// A key that the operator presses.
 #[derive(Debug, PartialEq, Eq, Drop)]
@@ -21,4 +22,7 @@ pub enum Key {
     Request,
     /// The operator enters a line at the console: at most 256 bytes, in EBCDIC.
     Enter(Bytes),
+    /// The load key with this unit selected: what the reset key does, and then initial program loading
+    /// from the unit.
+    Load(Unit),
 }

@@ -6,6 +6,7 @@ use s360_machine::{Changes, Event, Machine, Refusal, RunState};
 use s360_print::{Console, Printer};
 use s360_psw::Psw;
 use s360_store::{Storage, StoreFault};
+use s360_tape::Tape;
 use s360_word::{RegisterNumber, Unit, Word};
 use std::alloc::{AllocError, Global};
 
@@ -14,12 +15,19 @@ fn word(machine: &Machine, number: u8) -> Word {
 }
 
 /// The units that a machine has.
-const UNITS: [Unit; 4] = [Unit(0x00C), Unit(0x00D), Unit(0x00E), Unit(0x01F)];
+const UNITS: [Unit; 6] = [
+    Unit(0x00C),
+    Unit(0x00D),
+    Unit(0x00E),
+    Unit(0x01F),
+    Unit(0x180),
+    Unit(0x181),
+];
 
 /// A machine of so many bytes, with no card in its reader.
 pub(crate) fn machine_of(alloc: Global, size: u32) -> Result<Machine, StoreFault> {
     let deck = deck_from(alloc, &[]).map_err(|_| StoreFault::Memory)?;
-    Machine::new(alloc, size, deck)
+    Machine::new(alloc, size, deck, Tape::blank(alloc), Tape::blank(alloc))
 }
 
 /// Whether the units of two machines stand alike, and have done alike.
@@ -35,6 +43,8 @@ fn have_like_units(first: &Machine, second: &Machine) -> bool {
         && are_like_punches(first.punch(), second.punch())
         && are_like_printers(first.printer(), second.printer())
         && are_like_consoles(first.console(), second.console())
+        && are_like_tapes(first.tape(Unit(0x180)), second.tape(Unit(0x180)))
+        && are_like_tapes(first.tape(Unit(0x181)), second.tape(Unit(0x181)))
 }
 
 /// Whether two card readers have fed as many cards, and stand alike.
@@ -61,6 +71,17 @@ fn are_like_consoles(one: &Console, other: &Console) -> bool {
     one.typed_count() == other.typed_count()
         && one.entered_count() == other.entered_count()
         && one.taken() == other.taken()
+        && one.sense() == other.sense()
+}
+
+/// Whether two tapes have as many blocks and marks, and stand alike.
+fn are_like_tapes(one: Option<&Tape>, other: Option<&Tape>) -> bool {
+    let (Some(one), Some(other)) = (one, other) else {
+        return one.is_none() && other.is_none();
+    };
+    one.items() == other.items()
+        && one.position() == other.position()
+        && one.unloaded() == other.unloaded()
         && one.sense() == other.sense()
 }
 

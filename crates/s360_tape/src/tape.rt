@@ -4,7 +4,7 @@
 //! and those after it stay where they are, out of sight, so that what takes the write back needs no
 //! memory. A command takes time in proportion to its block, and never to the tape, but for the two
 //! that space over a file.
-ghost use Rattle.std.specs.Prelude.{◌≡◌, ◌≤◌, true, false, length};
+ghost use Rattle.std.specs.Prelude.{◌≡◌, ◌≤◌, [], true, false, length};
 ghost use Rattle.std.specs.Bool.{MatchBool};
 ghost use Rattle.std.specs.Option.{option_copied};
 ghost use Rattle.s360_device.specs.Items.{item_in};
@@ -22,7 +22,7 @@ use crate::item::Item;
 use crate::slot_change::SlotChange;
 use crate::tape_change::TapeChange;
 use s360_device::{Begin, COMMAND_REJECT, CommandCode, Device, Motion, NO_SENSE, Planned};
-use std::alloc::AllocError;
+use std::alloc::{AllocError, Global};
 use std::marker::Model;
 use std::mem;
 
@@ -61,6 +61,13 @@ impl Tape {
             protected,
             unloaded: false,
         }
+    }
+
+    /// A blank tape, which is not protected. It takes no memory.
+    pub fn blank(alloc: Global) -> Tape
+        ensures { seen result.tape ≡ new_tape [] false }
+    {
+        Tape::new(Vec::new(alloc), false)
     }
 
     /// The items that can be seen.

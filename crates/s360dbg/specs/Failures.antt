@@ -6,11 +6,13 @@ use Rattle.s360_device.specs.declared.fault.DeckFault.{DeckFault}
 use Rattle.s360_device.specs.declared.fault.DeckFault.TheVariants as deck
 use Rattle.s360_store.specs.declared.fault.StoreFault.{StoreFault}
 use Rattle.s360_store.specs.declared.fault.StoreFault.TheVariants as storage
+use Rattle.s360_tape.specs.declared.fault.TapeFault.{TapeFault}
+use Rattle.s360_tape.specs.declared.fault.TapeFault.TheVariants as tape
 use Rattle.s360dbg.specs.declared.images.ReadFault.{ReadFault}
 use Rattle.s360dbg.specs.declared.images.ReadFault.TheVariants as read
 use Rattle.s360dbg.specs.declared.failure.Part as part
 use Rattle.s360dbg.specs.declared.failure.Part.TheVariants.{Reader, Script}
-use Rattle.s360dbg.specs.declared.failure.Fault.TheVariants.{CannotRead, FileTooLong, ShortCard, ReadFailed, ScriptTooLong, WriteFailed}
+use Rattle.s360dbg.specs.declared.failure.Fault.TheVariants.{CannotRead, FileTooLong, ShortCard, ShortHeader, BadFlags, PartOutOfPlace, ShortBlock, BlockTooLong, ReadFailed, ScriptTooLong, WriteFailed}
 use Rattle.s360dbg.specs.declared.failure.Failure.{Failure}
 use Rattle.s360dbg.specs.declared.failure.Failure.TheVariants.{StorageSize, Memory, Part}
 
@@ -24,6 +26,15 @@ abbrev pub failure_of_deck : DeckFault → Failure
 failure_of_deck (deck.ShortCard at) = Part Reader (ShortCard at)
 failure_of_deck deck.Memory = Memory
 
+-- of the file of a part, as that of a tape
+abbrev pub failure_of_tape : part.Part → TapeFault → Failure
+failure_of_tape p (tape.ShortHeader at) = Part p (ShortHeader at)
+failure_of_tape p (tape.BadFlags at) = Part p (BadFlags at)
+failure_of_tape p (tape.PartOutOfPlace at) = Part p (PartOutOfPlace at)
+failure_of_tape p (tape.ShortBlock at) = Part p (ShortBlock at)
+failure_of_tape p (tape.BlockTooLong at) = Part p (BlockTooLong at)
+failure_of_tape p tape.Memory = Memory
+
 abbrev pub failure_of_storage : StoreFault → Failure
 failure_of_storage storage.Size = StorageSize
 failure_of_storage storage.Memory = Memory
@@ -34,12 +45,15 @@ failure_of_script script.TooLong = Part Script ScriptTooLong
 failure_of_script script.Write = Part Script WriteFailed
 failure_of_script script.Memory = Memory
 
--- the failures that reading the file of a part, the reader's deck, and carrying out a script end with
+-- the failures that reading the file of a part, the reader's deck, a tape, and carrying out a script end with
 abbrev pub IsFailureOf : part.Part → Failure → Type 0
 IsFailureOf p failure = (fault : ReadFault) × (failure ≡ failure_of_read p fault)
 
 abbrev pub IsDeckFailure : Failure → Type 0
 IsDeckFailure failure = IsFailureOf Reader failure ⊎ ((fault : DeckFault) × (failure ≡ failure_of_deck fault))
+
+abbrev pub IsTapeFailure : part.Part → Failure → Type 0
+IsTapeFailure p failure = IsFailureOf p failure ⊎ ((fault : TapeFault) × (failure ≡ failure_of_tape p fault))
 
 abbrev pub IsScriptFailure : Failure → Type 0
 IsScriptFailure failure = (fault : ScriptFault) × (failure ≡ failure_of_script fault)

@@ -1,7 +1,8 @@
 //! Why the program did not do all that it was asked for.
 ghost use Rattle.std.specs.Prelude.{◌≡◌};
 ghost use Rattle.s360dbg.specs.Ending.{part_name, fault_name, offset_digits, ending_status};
-ghost use Rattle.s360dbg.specs.Failures.{failure_of_storage, failure_of_deck, failure_of_script, failure_of_read};
+ghost use Rattle.s360dbg.specs.Failures.{failure_of_storage, failure_of_deck, failure_of_tape};
+ghost use Rattle.s360dbg.specs.Failures.{failure_of_script, failure_of_read};
 ghost use Rattle.s360dbg.specs.declared.failure.Failure.TheVariants.{Memory};
 
 use crate::images::ReadFault;
@@ -9,6 +10,7 @@ use itoa::Buffer;
 use s360_debug::ScriptFault;
 use s360_device::DeckFault;
 use s360_store::StoreFault;
+use s360_tape::TapeFault;
 use std::alloc::AllocError;
 
 /// What a fault is of.
@@ -16,19 +18,35 @@ use std::alloc::AllocError;
 pub(crate) enum Part {
     /// The file of the card reader's deck.
     Reader,
+    /// The file of the tape of unit 180.
+    Tape0,
+    /// The file of the tape of unit 181.
+    Tape1,
     /// The script and its answers.
     Script,
 }
 
-/// What went wrong with a part.
+/// What went wrong with a part. Offsets are bytes from the start of the file; those of a tape's file
+/// are of the header at which the fault was found.
 #[derive(Clone, Copy, Debug, PartialEq, Eq)]
 pub(crate) enum Fault {
     /// The file did not open, or reading it failed.
     CannotRead,
     /// The file has more than 67,108,864 bytes.
     FileTooLong,
-    /// The card that starts here, in bytes from the start of the file, has less than 80.
+    /// The card that starts here has less than 80 bytes.
     ShortCard(usize),
+    /// Less than six bytes are left for a header.
+    ShortHeader(usize),
+    /// There are no such flags, or a mark has bytes.
+    BadFlags(usize),
+    /// A part of a block, a whole block or a mark does not follow what is before it, or the file ends
+    /// inside a block.
+    PartOutOfPlace(usize),
+    /// Less bytes are left than the part has.
+    ShortBlock(usize),
+    /// The block has more than 65,535 bytes with this part.
+    BlockTooLong(usize),
     /// A read of the script failed after it was opened.
     ReadFailed,
     /// The script has more than 1,048,576 bytes.
@@ -58,6 +76,8 @@ impl Part {
     {
         match self {
             Part::Reader => "reader",
+            Part::Tape0 => "tape0",
+            Part::Tape1 => "tape1",
             Part::Script => "script",
         }
     }
@@ -72,6 +92,20 @@ impl Part {
             ReadFault::Memory => Failure::Memory,
         }
     }
+
+    /// What a fault of a tape's file is where the file is of this part.
+    pub(crate) fn tape_failure(self, fault: TapeFault) -> Failure
+        ensures { result ≡ failure_of_tape self fault }
+    {
+        match fault {
+            TapeFault::ShortHeader(at) => Failure::Part(self, Fault::ShortHeader(at)),
+            TapeFault::BadFlags(at) => Failure::Part(self, Fault::BadFlags(at)),
+            TapeFault::PartOutOfPlace(at) => Failure::Part(self, Fault::PartOutOfPlace(at)),
+            TapeFault::ShortBlock(at) => Failure::Part(self, Fault::ShortBlock(at)),
+            TapeFault::BlockTooLong(at) => Failure::Part(self, Fault::BlockTooLong(at)),
+            TapeFault::Memory => Failure::Memory,
+        }
+    }
 }
 
 impl Fault {
@@ -83,6 +117,11 @@ impl Fault {
             Fault::CannotRead => "cannot read",
             Fault::FileTooLong => "file too long",
             Fault::ShortCard(_) => "short card at ",
+            Fault::ShortHeader(_) => "short header at ",
+            Fault::BadFlags(_) => "bad flags at ",
+            Fault::PartOutOfPlace(_) => "part out of place at ",
+            Fault::ShortBlock(_) => "short block at ",
+            Fault::BlockTooLong(_) => "block too long at ",
             Fault::ReadFailed => "read failed",
             Fault::ScriptTooLong => "script too long",
             Fault::WriteFailed => "write failed",
@@ -94,7 +133,12 @@ impl Fault {
         ensures { result.now ≡ offset_digits self }
     {
         match self {
-            Fault::ShortCard(at) => digits.format(at),
+            Fault::ShortCard(at)
+            | Fault::ShortHeader(at)
+            | Fault::BadFlags(at)
+            | Fault::PartOutOfPlace(at)
+            | Fault::ShortBlock(at)
+            | Fault::BlockTooLong(at) => digits.format(at),
             _ => "",
         }
     }

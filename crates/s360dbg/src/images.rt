@@ -1,4 +1,4 @@
-//! The files that decks are read from. docs/IMAGES.md has their formats.
+//! The files that decks and tapes are read from. docs/IMAGES.md has their formats.
 ghost use Rattle.std.specs.Prelude.{◌≡◌, ◌≤◌, ◌<◌, length, IfOk, IfSome, Err};
 ghost use Rattle.s360dbg.specs.declared.images.ReadFault.TheVariants.{TooLong, Memory};
 

@@ -1,21 +1,26 @@
 //! What the program does once its command line is read. Faults are found in the order of the steps.
-ghost use Rattle.std.specs.Prelude.{◌≡◌, ◌≤◌, true, false, length, IfErr, IfSome, OnOk, Err};
+ghost use Rattle.std.specs.Prelude.{◌≡◌, ◌≤◌, [], true, false, length, None};
+ghost use Rattle.std.specs.Prelude.{IfOk, IfErr, IfSome, OnOk, Err};
 ghost use Rattle.s360_model.specs.Storage.{is_storage_size};
+ghost use Rattle.s360_tape.specs.Tape.{new_tape};
+ghost use Rattle.s360_tape.specs.WholeTape.{seen};
 ghost use Rattle.s360_debug.specs.Debugger.{new_debugger};
 ghost use Rattle.s360_debug.specs.Lines.{lines_of};
 ghost use Rattle.s360_debug.specs.Script.{state_after_lines};
-ghost use Rattle.s360dbg.specs.Failures.{IsFailureOf, IsDeckFailure, IsScriptFailure};
+ghost use Rattle.s360dbg.specs.Failures.{IsFailureOf, IsDeckFailure, IsTapeFailure};
+ghost use Rattle.s360dbg.specs.Failures.{IsScriptFailure};
 ghost use Rattle.s360dbg.specs.declared.failure.Part.TheVariants.{Reader};
 ghost use Rattle.s360dbg.specs.declared.failure.Fault.TheVariants.{CannotRead};
 ghost use Rattle.s360dbg.specs.declared.failure.Failure.TheVariants.{Part as failure_of_part, StorageSize};
 
-use crate::arguments::Options;
+use crate::arguments::{Options, TapeOptions};
 use crate::failure::{Failure, Fault, Part};
 use crate::images::{LONGEST_FILE, read_whole};
 use s360_debug::{ScriptFault, run_script};
 use s360_device::{Deck, deck_from};
 use s360_journal::Session;
 use s360_machine::Machine;
+use s360_tape::{Tape, tape_from};
 use std::alloc::Global;
 use std::fs::{self, File};
 use std::io::{self, BufWriter, Input, IsTerminal, Read, Write};
@@ -35,7 +40,9 @@ pub(crate) fn run(rt: &HostRuntime, options: Options<'_>) -> Result<(), Failure>
 {
     let alloc = rt.alloc();
     let deck = read_deck(rt, alloc, options.reader)?;
-    let machine = Machine::new(alloc, options.storage, deck)?;
+    let tape0 = read_tape(rt, alloc, Part::Tape0, options.tape0)?;
+    let tape1 = read_tape(rt, alloc, Part::Tape1, options.tape1)?;
+    let machine = Machine::new(alloc, options.storage, deck, tape0, tape1)?;
     let mut session = Session::new(alloc, machine, LIMIT);
     match options.script {
         Some(name) => {
@@ -53,17 +60,41 @@ pub(crate) fn run(rt: &HostRuntime, options: Options<'_>) -> Result<(), Failure>
 fn read_deck(rt: &HostRuntime, alloc: Global, name: Option<&str>) -> Result<Deck, Failure>
     ensures { IfErr result (λ failure. IsDeckFailure failure) }
 {
-    let file = match name {
-        Some(name) => read_image(rt, alloc, Part::Reader, name)?,
-        None => Vec::new(alloc),
-    };
+    let file = read_image(rt, alloc, Part::Reader, name)?;
     Ok(deck_from(alloc, &file)?)
 }
 
-/// The bytes of a file of a part.
-fn read_image(rt: &HostRuntime, alloc: Global, part: Part, name: &str) -> Result<Vec<u8>, Failure>
-    ensures { IfErr result (IsFailureOf part) }
+/// The tape in a file, or a blank one where none is named. `part` is what a fault of it is of.
+fn read_tape(
+    rt: &HostRuntime,
+    alloc: Global,
+    part: Part,
+    options: TapeOptions<'_>,
+) -> Result<Tape, Failure>
+    ensures fresh { IfOk result (λ t. seen t.tape ≡ new_tape (seen t.tape).media.items options.entry.protected) }
+    ensures blank { options.entry.file ≡ None → IfOk result (λ t. (seen t.tape).media.items ≡ []) }
+    ensures failure { IfErr result (IsTapeFailure part) }
 {
+    let file = read_image(rt, alloc, part, options.file)?;
+    match tape_from(alloc, &file, options.protected) {
+        Ok(tape) => Ok(tape),
+        Err(fault) => Err(part.tape_failure(fault)),
+    }
+}
+
+/// The bytes of a file of a part, or none where no file is named.
+fn read_image(
+    rt: &HostRuntime,
+    alloc: Global,
+    part: Part,
+    name: Option<&str>,
+) -> Result<Vec<u8>, Failure>
+    ensures unnamed { name.entry ≡ None → IfOk result (λ bytes. bytes.items ≡ []) }
+    ensures failure { IfErr result (IsFailureOf part) }
+{
+    let Some(name) = name else {
+        return Ok(Vec::new(alloc));
+    };
     let mut file = open(rt, part, name)?;
     match read_whole(alloc, &mut file, LONGEST_FILE) {
         Ok(bytes) => Ok(bytes),

@@ -14,3 +14,6 @@ returns-in_ok-text-in-Ok-clause-text c =
 
 pub returns-in-Err-clause-text : goal.returns-in-Err-clause-text
 returns-in-Err-clause-text c = search (tests, rules)
+
+pub returns-in-Err-clause-state : goal.returns-in-Err-clause-state
+returns-in-Err-clause-state c = search (tests, rules)

@@ -1,5 +1,5 @@
 use Rattle.std.proofs.Common.{◌∙◌, codes, map}
-use Rattle.s360dbg.proofs.CommandLineLemmas.{first_value-given, no_fault-given, passes-given, IfErr-passed_on}
+use Rattle.s360dbg.proofs.CommandLineLemmas.{first_value-given, flag-given, fits_flags-protect0, fits_flags-protect1, no_fault-given, passes-given, IfErr-passed_on}
 use Rattle.s360dbg.proofs.command_line.options.Goals as goal
 
 pub returns-clause-reader : goal.returns-clause-reader
@@ -7,9 +7,27 @@ returns-clause-reader g c =
     c.get_str-2.ensures
     ∙ first_value-given c.in_ok-command_line.field-0 (map g.S.AsStr.text c.args.words.now) c.in_ok-matches.matches (codes "reader") c.in_ok-command_line.ensures c.in_ok-matches.ensures.matches
 
+pub returns-clause-tape0 : goal.returns-clause-tape0
+returns-clause-tape0 g c = record {
+  file = c.get_str-3.ensures
+      ∙ first_value-given c.in_ok-command_line.field-0 (map g.S.AsStr.text c.args.words.now) c.in_ok-matches.matches (codes "tape0") c.in_ok-command_line.ensures c.in_ok-matches.ensures.matches;
+  protected =
+      flag-given c.in_ok-command_line.field-0 (map g.S.AsStr.text c.args.words.now) c.in_ok-matches.matches (codes "protect0") c.get_flag.result c.in_ok-command_line.ensures c.in_ok-matches.ensures.matches
+      fits_flags-protect0 c.get_flag.ensures.none c.get_flag.ensures.value c.get_flag.ensures.other;
+}
+
+pub returns-clause-tape1 : goal.returns-clause-tape1
+returns-clause-tape1 g c = record {
+  file = c.get_str-4.ensures
+      ∙ first_value-given c.in_ok-command_line.field-0 (map g.S.AsStr.text c.args.words.now) c.in_ok-matches.matches (codes "tape1") c.in_ok-command_line.ensures c.in_ok-matches.ensures.matches;
+  protected =
+      flag-given c.in_ok-command_line.field-0 (map g.S.AsStr.text c.args.words.now) c.in_ok-matches.matches (codes "protect1") c.get_flag-2.result c.in_ok-command_line.ensures c.in_ok-matches.ensures.matches
+      fits_flags-protect1 c.get_flag-2.ensures.none c.get_flag-2.ensures.value c.get_flag-2.ensures.other;
+}
+
 pub returns-clause-script : goal.returns-clause-script
 returns-clause-script g c =
-    c.get_str-3.ensures
+    c.get_str-5.ensures
     ∙ first_value-given c.in_ok-command_line.field-0 (map g.S.AsStr.text c.args.words.now) c.in_ok-matches.matches (codes "script") c.in_ok-command_line.ensures c.in_ok-matches.ensures.matches
 
 pub returns-clause-storage : goal.returns-clause-storage

@@ -36,13 +36,30 @@ change_is c =
     let cells = rw c.as_mut_slice.ensures.value at c.exchange.ensures.cells
     in rw (cells, c.exchange-2.ensures.cells, c.exchange_io.ensures.unit_changes, c.exchange_io.ensures.media_changes) refl
 
+whole_is : (c : After-exchange_io) → whole_after c ≡ after_swap (whole_before c) (change_before c)
+whole_is c =
+    let core = rw c.as_mut_slice.ensures.value at c.exchange.ensures.core
+    in rw (core, c.exchange-2.ensures.control, c.exchange_io.ensures.units, c.exchange_io.ensures.media) refl
+
 exchanged : (c : After-exchange_io) → IsSwap (whole_before c) (change_before c) (whole_after c) (change_after c)
 exchanged c =
     let can : CanSwap (whole_before c) (change_before c)
     = subst (λ (y : Change). CanSwap (whole_before c) y) (sym c.changes.view_is) (subst (λ (n : WithRoom). CanSwap n.whole c.args.changes.now) (sym c.self.view_is) c.requires.can)
-    in let core = rw c.as_mut_slice.ensures.value at c.exchange.ensures.core
-    in let whole : whole_after c ≡ after_swap (whole_before c) (change_before c) = rw (core, c.exchange-2.ensures.control, c.exchange_io.ensures.units, c.exchange_io.ensures.media) refl
-    in IsSwap-from (whole_before c) (change_before c) (whole_after c) (change_after c) can whole (change_is c) c.exchange.ensures.fit
+    in IsSwap-from (whole_before c) (change_before c) (whole_after c) (change_after c) can (whole_is c) (change_is c) c.exchange.ensures.fit
+
+pub returns-clause-machine : goal.returns-clause-machine
+returns-clause-machine c =
+    whole_is c
+    ∙ ap (λ (m : WithRoom). after_swap m.whole (change_before c)) c.self.view_is
+    ∙ ap (λ (y : Change). after_swap c.args.self.now.whole y) c.changes.view_is
+
+pub returns-clause-changes : goal.returns-clause-changes
+returns-clause-changes c =
+    let count : length c.exchange.new.cells ≡ length c.changes.inside.cells.items = cc
+    in rw (take_at c.exchange.new.cells (drop (length c.exchange.new.cells) c.changes.inside.cells.items) (length c.changes.inside.cells.items) count)
+    (change_is c
+    ∙ ap (λ (m : WithRoom). change_after_swap m.whole (change_before c)) c.self.view_is
+    ∙ ap (λ (y : Change). change_after_swap c.args.self.now.whole y) c.changes.view_is)
 
 pub returns-clause-again : goal.returns-clause-again
 returns-clause-again c =

@@ -1,0 +1,14 @@
+use Rattle.std.proofs.Common.{◌≡◌, ◌∙◌, sym}
+use Rattle.std.specs.Prelude.{Some}
+use Rattle.s360_machine.specs.ChannelEvents.{after_channel}
+use Rattle.s360_machine.specs.Machine.{Machine, seen}
+use Rattle.s360_machine.specs.Units.{control_of, unit_at}
+use Rattle.s360_machine.proofs.LoadingLemmas.{after_channel-units}
+use Rattle.s360_machine.proofs.machine.Machine.plan_channel.Goals as goal
+
+pub returns : goal.returns
+returns c =
+    let m : Machine = seen c.args.self.now.whole
+    in let n : Machine = after_channel c.in-Some.unit m
+    in let found : unit_at c.args.unit.0 ≡ Some c.in-Some.unit = sym c.at.ensures ∙ c.in-Some.is
+    in rw found (c.in_ok-done.ensures n (control_of n.units c.in-Some.unit).state (after_channel-units c.in-Some.unit m) c.in_ok-planned.ensures.plan)
