@@ -5,6 +5,7 @@ use crate::machine::{are_same, machine_of};
 use crate::rows::{Subject, Words, assert_rows};
 use s360_debug::{ScriptFault, answer, read_command, run_script};
 use s360_journal::{Breaks, Session};
+use s360_machine::Machine;
 use std::alloc::Global;
 use std::io::{self, Read, Write};
 use std::process::Abort;
@@ -32,12 +33,54 @@ const CARRIED_OUT: [usize; 9] = [1, 2, 3, 4, 5, 5, 5, 5, 6];
 /// More reads of one byte than a number of eight bits counts.
 const COMMENT: usize = 400;
 
-/// A session where at most so many changes may stand.
-fn session(alloc: Global, limit: u32) -> Option<Session>
-    requires { limit ≤ 10000000 }
-{
-    let machine = machine_of(alloc, 65_536).ok()?;
-    Some(Session::new(alloc, machine, limit))
+/// A machine of the size that there is where none is named.
+fn machine(alloc: Global) -> Option<Machine> {
+    machine_of(alloc, 65_536).ok()
+}
+
+/// A session that scripts are carried out in. A session that is answered as it is, or is at hand where
+/// a function may end early, takes minutes to prove.
+#[derive(Drop)]
+struct Scripted {
+    session: Session,
+}
+
+impl Scripted {
+    /// A session where at most so many changes may stand.
+    fn new(alloc: Global, limit: u32) -> Option<Scripted>
+        requires { limit ≤ 10000000 }
+    {
+        let session = Session::new(alloc, machine(alloc)?, limit);
+        Some(Scripted { session })
+    }
+
+    /// What carrying a script out answers. The callers' proofs have no need of all that it promises.
+    fn carry_out<R: Read, W: Write>(
+        &mut self,
+        alloc: Global,
+        reader: &mut R,
+        writer: &mut W,
+    ) -> Result<u32, ScriptFault> {
+        run_script(alloc, &mut self.session, reader, writer)
+    }
+
+    /// The answer to a line.
+    fn text_of_line(&mut self, alloc: Global, breaks: &mut Breaks, line: &str) -> Option<String> {
+        let command = read_command(alloc, line.as_bytes()).ok()?;
+        let text = answer(alloc, &mut self.session, breaks, command).ok()?;
+        quoted(alloc, text.as_bytes())
+    }
+
+    /// How many changes stand.
+    fn standing(&self) -> u32 {
+        self.session.standing()
+    }
+
+    /// Whether as many changes stand as in another, and the machines are the same.
+    fn stands_as(&self, other: &Scripted) -> bool {
+        self.standing() == other.standing()
+            && are_same(self.session.machine(), other.session.machine())
+    }
 }
 
 /// A reader that gives one byte a call, and fails after so many.
@@ -91,67 +134,92 @@ impl Write for SlowWriter {
     }
 }
 
-/// What carrying a script out answers. The callers' proofs have no need of all that it promises.
-fn carry_out<R: Read, W: Write>(
-    alloc: Global,
-    session: &mut Session,
-    reader: &mut R,
-    writer: &mut W,
-) -> Result<u32, ScriptFault> {
-    run_script(alloc, session, reader, writer)
-}
-
 /// What a script leaves.
 #[derive(Drop)]
 struct Left {
     outcome: Result<u32, ScriptFault>,
     written: Vec<u8>,
-    session: Session,
+    scripted: Scripted,
 }
 
 impl Left {
-    /// Of a script over a reader that gives so many bytes before it fails, and a writer that takes so
-    /// many before it does.
-    fn of(alloc: Global, script: &[u8], calls: usize, room: usize) -> Option<Left> {
-        let mut session = session(alloc, 10)?;
+    /// Of a script in a session where at most so many changes may stand, over a reader that gives so
+    /// many bytes before it fails, and a writer that takes so many before it does.
+    fn of(alloc: Global, limit: u32, script: &[u8], calls: usize, room: usize) -> Option<Left>
+        requires { limit ≤ 10000000 }
+    {
+        let taken = Vec::with_capacity(alloc, ROOM).ok()?;
+        let mut scripted = Scripted::new(alloc, limit)?;
         let left = script;
         let mut reader = SlowReader { left, calls };
-        let taken = Vec::with_capacity(alloc, ROOM).ok()?;
         let mut writer = SlowWriter { taken, room };
-        let outcome = carry_out(alloc, &mut session, &mut reader, &mut writer);
-        if outcome == Err(ScriptFault::Memory) {
-            return None;
-        }
+        let outcome = scripted.carry_out(alloc, &mut reader, &mut writer);
         let written = writer.taken;
         Some(Left {
             outcome,
             written,
-            session,
+            scripted,
         })
     }
 
+    /// Whether memory was wanting.
+    fn wants_memory(&self) -> bool {
+        self.outcome == Err(ScriptFault::Memory)
+    }
+
     /// Its outcome, the number of bytes written, whether they are a first part of the answers, and how
-    /// many changes stand.
+    /// many changes stand, unless memory was wanting.
     fn text(&self, alloc: Global) -> Option<String> {
+        if self.wants_memory() {
+            return None;
+        }
         let first = ADD_ANSWERS.as_bytes().starts_with(&self.written);
-        let (count, standing) = (self.written.len(), self.session.standing());
+        let (count, standing) = (self.written.len(), self.scripted.standing());
         let outcome = self.outcome;
         format!(in alloc; "{outcome:?} {count:X} {first} {standing}").ok()
     }
 
-    /// Whether as many changes stand as in another, and the machines are the same.
-    fn stands_as(&self, other: &Left) -> bool {
-        self.session.standing() == other.session.standing()
-            && are_same(self.session.machine(), other.session.machine())
+    /// The answers of a script that was carried out.
+    fn answers(&self, alloc: Global) -> Option<String> {
+        if self.outcome.is_err() {
+            return None;
+        }
+        quoted(alloc, &self.written)
+    }
+
+    /// What is wrong where the writer took so many bytes and then failed, where a script with the
+    /// lines that were carried out leaves another.
+    fn fault(&self, alloc: Global, room: usize, wanted: &Left) -> Option<String> {
+        if wanted.wants_memory() {
+            return None;
+        }
+        let written = ADD_ANSWERS.as_bytes().get(..room) == Some(&*self.written);
+        let stands = self.scripted.stands_as(&wanted.scripted);
+        if self.outcome == Err(ScriptFault::Write) && written && stands {
+            return Some(String::new(alloc));
+        }
+        self.text(alloc)
     }
 }
 
-/// What a script leaves behind a long comment.
-fn behind_a_comment(alloc: Global) -> Option<Left> {
+/// The text of what a script leaves.
+fn text_left(alloc: Global, script: &[u8], calls: usize) -> Option<String> {
+    let left = Left::of(alloc, 10, script, calls, ROOM)?;
+    left.text(alloc)
+}
+
+/// The script behind a long comment.
+fn behind_a_comment(alloc: Global) -> Option<Vec<u8>> {
     let mut script = vec![in alloc; b'*'; COMMENT].ok()?;
     script.push(b'\n').ok()?;
     script.extend_from_slice(ADD.as_bytes()).ok()?;
-    Left::of(alloc, &script, script.len() + 1, ROOM)
+    Some(script)
+}
+
+/// The text of what the script leaves behind a long comment.
+fn text_behind_a_comment(alloc: Global) -> Option<String> {
+    let script = behind_a_comment(alloc)?;
+    text_left(alloc, &script, script.len() + 1)
 }
 
 /// Bytes that are a text, within quotes.
@@ -161,71 +229,59 @@ fn quoted(alloc: Global, bytes: &[u8]) -> Option<String> {
 }
 
 /// The answers to a script in a session where one change may stand.
-fn answers_at_the_limit(alloc: Global, script: &str) -> Option<String> {
-    let mut session = session(alloc, 1)?;
-    let mut written = Vec::with_capacity(alloc, ROOM).ok()?;
-    carry_out(alloc, &mut session, &mut script.as_bytes(), &mut written).ok()?;
-    quoted(alloc, &written)
+fn answers_at_the_limit(alloc: Global, script: &[u8]) -> Option<String> {
+    let left = Left::of(alloc, 1, script, script.len() + 1, ROOM)?;
+    left.answers(alloc)
 }
 
 /// A session where ten changes may stand, and no breakpoint.
 #[derive(Drop)]
 struct Lines {
-    session: Session,
+    scripted: Scripted,
     breaks: Breaks,
-}
-
-impl Lines {
-    /// The answer to a line.
-    fn text_of_line(&mut self, alloc: Global, line: &str) -> Option<String> {
-        let command = read_command(alloc, line.as_bytes()).ok()?;
-        let text = answer(alloc, &mut self.session, &mut self.breaks, command).ok()?;
-        quoted(alloc, text.as_bytes())
-    }
 }
 
 impl Subject for Lines {
     fn new(alloc: Global) -> Option<Lines> {
-        let session = session(alloc, 10)?;
         let breaks = Breaks::new();
-        Some(Lines { session, breaks })
+        let scripted = Scripted::new(alloc, 10)?;
+        Some(Lines { scripted, breaks })
     }
 
     fn answer(&mut self, alloc: Global, words: &mut Words<'_>) -> Option<String> {
         let script = ADD.as_bytes();
         match words.next_word() {
-            "line" => self.text_of_line(alloc, words.behind_the_first()),
-            "limit" => answers_at_the_limit(alloc, "tick\ntick\nrun 5\nstanding\n"),
-            "whole" => Left::of(alloc, script, script.len() + 1, ROOM)?.text(alloc),
-            "cut" => Left::of(alloc, script, script.len(), ROOM)?.text(alloc),
-            "long" => behind_a_comment(alloc)?.text(alloc),
+            "line" => {
+                let line = words.behind_the_first();
+                self.scripted.text_of_line(alloc, &mut self.breaks, line)
+            }
+            "limit" => answers_at_the_limit(alloc, b"tick\ntick\nrun 5\nstanding\n"),
+            "whole" => text_left(alloc, script, script.len() + 1),
+            "cut" => text_left(alloc, script, script.len()),
+            "long" => text_behind_a_comment(alloc),
             _ => None,
         }
     }
 }
 
 /// The first lines of the script that are carried out where its writer fails after so many bytes.
-fn carried_out(room: usize) -> usize {
-    let written = ADD_ANSWERS.as_bytes().iter().take(room);
-    let line_feeds = written.filter(|byte| **byte == b'\n').count();
-    let lines = CARRIED_OUT.get(line_feeds).copied().unwrap_or_default();
-    ADD.lines().take(lines).fold(
-        0,
-        |length: usize, line| length.saturating_add(line.len() + 1),
-    )
+fn carried_out(room: usize) -> Option<usize> {
+    let (written, _) = ADD_ANSWERS.split_at_checked(room)?;
+    let line_feeds = written.split('\n').count().saturating_sub(1);
+    let lines = CARRIED_OUT.get(line_feeds).copied()?;
+    let length = ADD.lines().take(lines).fold(0, |length: usize, line| {
+        length.saturating_add(line.len() + 1)
+    });
+    Some(length)
 }
 
 /// What is wrong where a script fails at a writer that takes so many bytes: it has taken them and no
 /// more, and the session stands as after the line whose answer was cut.
 fn fault_of_write(alloc: Global, room: usize) -> Option<String> {
-    let found = Left::of(alloc, ADD.as_bytes(), ADD.len() + 1, room)?;
-    let (first, _) = ADD.as_bytes().split_at_checked(carried_out(room))?;
-    let wanted = Left::of(alloc, first, first.len() + 1, ROOM)?;
-    let written = ADD_ANSWERS.as_bytes().get(..room) == Some(&*found.written);
-    if found.outcome == Err(ScriptFault::Write) && written && found.stands_as(&wanted) {
-        return Some(String::new(alloc));
-    }
-    found.text(alloc)
+    let (first, _) = ADD.as_bytes().split_at_checked(carried_out(room)?)?;
+    let found = Left::of(alloc, 10, ADD.as_bytes(), ADD.len() + 1, room)?;
+    let wanted = Left::of(alloc, 10, first, first.len() + 1, ROOM)?;
+    found.fault(alloc, room, &wanted)
 }
 
 /// Asserts that nothing is wrong with a writer that takes so many bytes.

@@ -4,7 +4,7 @@ ghost use Rattle.std.specs.Prelude.{◌≤◌};
 use crate::calls::{call, calls, event, long_patch, text_of_answer, text_of_report};
 use crate::machine::machine_of;
 use crate::rows::{Subject, Words, assert_rows};
-use s360_journal::{Answer, Places, Session, run_calls};
+use s360_journal::{Answer, Call, Outcome, Places, Session, run_calls};
 use s360_machine::{Machine, Refusal};
 use s360_psw::InstructionLength;
 use s360_store::Place;
@@ -92,6 +92,16 @@ impl Running {
     fn perform(&mut self, alloc: Global, line: &str) -> Option<String> {
         let answer = self.session.perform(call(alloc, line)?);
         text_of_answer(alloc, &answer)
+    }
+
+    /// What a list of calls is answered.
+    fn perform_all(&mut self, calls: Vec<Call>) -> Option<Vec<Answer>> {
+        self.session.perform_all(calls).ok()
+    }
+
+    /// The texts of answers, and what is left of the machine.
+    fn text_of_end(self, alloc: Global, answers: &[Answer]) -> Option<String> {
+        text_of_end(alloc, answers, &self.session.into_machine())
     }
 
     /// The last changes of places that the machine lacks.
@@ -261,12 +271,18 @@ journal full
 /// Lists of places.
 const LISTS: [&[Place]; 3] = [&[], &[Place::Psw], &[Place::Register(1), Place::Byte(0)]];
 
+/// Writes the text of an answer on a line of its own.
+fn push_answer(alloc: Global, text: &mut String, answer: &Answer) -> Option<()> {
+    let answer = text_of_answer(alloc, answer)?;
+    text.push_str(&answer).ok()?;
+    text.push('\n').ok()
+}
+
 /// The texts of answers, one a line.
 fn text_of_answers(alloc: Global, answers: &[Answer]) -> Option<String> {
     let mut text = String::new(alloc);
     for answer in answers {
-        let answer = text_of_answer(alloc, answer)?;
-        writeln!(text, "{answer}").ok()?;
+        push_answer(alloc, &mut text, answer)?;
     }
     Some(text)
 }
@@ -274,24 +290,29 @@ fn text_of_answers(alloc: Global, answers: &[Answer]) -> Option<String> {
 /// The texts of answers, and what is left of the machine.
 fn text_of_end(alloc: Global, answers: &[Answer], machine: &Machine) -> Option<String> {
     let mut text = text_of_answers(alloc, answers)?;
-    writeln!(text, "{:X}", machine.register(RegisterNumber::new(1))).ok()?;
+    let first = machine.register(RegisterNumber::new(1));
+    writeln!(text, "{first:X}").ok()?;
     Some(text)
+}
+
+/// What a list of calls as a whole gives.
+fn outcome_of(alloc: Global, calls: Vec<Call>) -> Option<Outcome> {
+    run_calls(alloc, machine(alloc)?, 3, calls).ok()
 }
 
 /// The answers to a list of calls as a whole, and what is left of the machine.
 fn run(alloc: Global) -> Option<String> {
     let calls = calls(alloc, EACH_KIND)?;
-    let machine = machine(alloc)?;
-    let outcome = run_calls(alloc, machine, 3, calls).ok()?;
+    let outcome = outcome_of(alloc, calls)?;
     text_of_end(alloc, &outcome.answers, &outcome.machine)
 }
 
 /// The answers to the same in a session, and what is left of its machine.
 fn perform(alloc: Global) -> Option<String> {
     let calls = calls(alloc, EACH_KIND)?;
-    let mut session = Session::new(alloc, machine(alloc)?, 3);
-    let answers = session.perform_all(calls).ok()?;
-    text_of_end(alloc, &answers, &session.into_machine())
+    let mut running = Running::with_limit(alloc, 3)?;
+    let answers = running.perform_all(calls)?;
+    running.text_of_end(alloc, &answers)
 }
 
 /// Whether the places of a change are the same as a list.
