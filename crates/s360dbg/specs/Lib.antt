@@ -1,3 +1,4 @@
+pub mod Beginning
 pub mod CommandLine
 pub mod Ending
 pub mod Failures

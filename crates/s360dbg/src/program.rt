@@ -2,8 +2,10 @@
 ghost use Rattle.std.specs.Prelude.{◌≡◌, ◌≤◌, [], true, false, length, None};
 ghost use Rattle.std.specs.Prelude.{IfOk, IfErr, IfSome, OnOk, Err};
 ghost use Rattle.s360_model.specs.Storage.{is_storage_size};
-ghost use Rattle.s360_tape.specs.Tape.{new_tape};
-ghost use Rattle.s360_tape.specs.WholeTape.{seen};
+ghost use Rattle.s360_model.specs.Cards.{IsDeckFile};
+ghost use Rattle.s360_machine.specs.Machine.{seen};
+ghost use Rattle.s360_tape.specs.WholeTape.{seen as seen_tape};
+ghost use Rattle.s360dbg.specs.Beginning.{IsBeginning, IsTapeFor};
 ghost use Rattle.s360_debug.specs.Debugger.{new_debugger};
 ghost use Rattle.s360_debug.specs.Lines.{lines_of};
 ghost use Rattle.s360_debug.specs.Script.{state_after_lines};
@@ -39,10 +41,7 @@ pub(crate) fn run(rt: &HostRuntime, options: Options<'_>) -> Result<(), Failure>
     ensures no_size { result ≡ Err StorageSize → is_storage_size options.entry.storage ≡ false }
 {
     let alloc = rt.alloc();
-    let deck = read_deck(rt, alloc, options.reader)?;
-    let tape0 = read_tape(rt, alloc, Part::Tape0, options.tape0)?;
-    let tape1 = read_tape(rt, alloc, Part::Tape1, options.tape1)?;
-    let machine = Machine::new(alloc, options.storage, deck, tape0, tape1)?;
+    let machine = set_up(rt, alloc, options)?;
     let mut session = Session::new(alloc, machine, LIMIT);
     match options.script {
         Some(name) => {
@@ -56,9 +55,22 @@ pub(crate) fn run(rt: &HostRuntime, options: Options<'_>) -> Result<(), Failure>
     }
 }
 
+/// The machine that the options ask for.
+fn set_up(rt: &HostRuntime, alloc: Global, options: Options<'_>) -> Result<Machine, Failure>
+    ensures beginning { IfOk result (λ m. IsBeginning options.entry (seen m.whole)) }
+    ensures size { OnOk result (is_storage_size options.entry.storage ≡ true) }
+    ensures no_size { result ≡ Err StorageSize → is_storage_size options.entry.storage ≡ false }
+{
+    let deck = read_deck(rt, alloc, options.reader)?;
+    let tape0 = read_tape(rt, alloc, Part::Tape0, options.tape0)?;
+    let tape1 = read_tape(rt, alloc, Part::Tape1, options.tape1)?;
+    Ok(Machine::new(alloc, options.storage, deck, tape0, tape1)?)
+}
+
 /// The deck in a file, or one with no card where none is named.
 fn read_deck(rt: &HostRuntime, alloc: Global, name: Option<&str>) -> Result<Deck, Failure>
-    ensures { IfErr result (λ failure. IsDeckFailure failure) }
+    ensures unnamed { name.entry ≡ None → IfOk result (λ deck. IsDeckFile [] deck) }
+    ensures failure { IfErr result (λ failure. IsDeckFailure failure) }
 {
     let file = read_image(rt, alloc, Part::Reader, name)?;
     Ok(deck_from(alloc, &file)?)
@@ -71,8 +83,7 @@ fn read_tape(
     part: Part,
     options: TapeOptions<'_>,
 ) -> Result<Tape, Failure>
-    ensures fresh { IfOk result (λ t. seen t.tape ≡ new_tape (seen t.tape).media.items options.entry.protected) }
-    ensures blank { options.entry.file ≡ None → IfOk result (λ t. (seen t.tape).media.items ≡ []) }
+    ensures tape { IfOk result (λ t. IsTapeFor options.entry (seen_tape t.tape)) }
     ensures failure { IfErr result (IsTapeFailure part) }
 {
     let file = read_image(rt, alloc, part, options.file)?;
