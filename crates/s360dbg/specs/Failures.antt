@@ -11,7 +11,7 @@ use Rattle.s360_tape.specs.declared.fault.TapeFault.TheVariants as tape
 use Rattle.s360dbg.specs.declared.images.ReadFault.{ReadFault}
 use Rattle.s360dbg.specs.declared.images.ReadFault.TheVariants as read
 use Rattle.s360dbg.specs.declared.failure.Part as part
-use Rattle.s360dbg.specs.declared.failure.Part.TheVariants.{Reader, Script}
+use Rattle.s360dbg.specs.declared.failure.Part.TheVariants.{Reader, Tape0, Tape1, Script}
 use Rattle.s360dbg.specs.declared.failure.Fault.TheVariants.{CannotRead, FileTooLong, ShortCard, ShortHeader, BadFlags, PartOutOfPlace, ShortBlock, BlockTooLong, ReadFailed, ScriptTooLong, WriteFailed}
 use Rattle.s360dbg.specs.declared.failure.Failure.{Failure}
 use Rattle.s360dbg.specs.declared.failure.Failure.TheVariants.{StorageSize, Memory, Part}
@@ -57,3 +57,10 @@ IsTapeFailure p failure = IsFailureOf p failure ⊎ ((fault : TapeFault) × (fai
 
 abbrev pub IsScriptFailure : Failure → Type 0
 IsScriptFailure failure = (fault : ScriptFault) × (failure ≡ failure_of_script fault)
+
+abbrev pub IsStorageFailure : Failure → Type 0
+IsStorageFailure failure = (fault : StoreFault) × (failure ≡ failure_of_storage fault)
+
+-- the failures that setting the machine up ends with
+abbrev pub IsSetUpFailure : Failure → Type 0
+IsSetUpFailure failure = IsDeckFailure failure ⊎ (IsTapeFailure Tape0 failure ⊎ (IsTapeFailure Tape1 failure ⊎ IsStorageFailure failure))

@@ -10,7 +10,7 @@ ghost use Rattle.s360_debug.specs.Debugger.{new_debugger};
 ghost use Rattle.s360_debug.specs.Lines.{lines_of};
 ghost use Rattle.s360_debug.specs.Script.{state_after_lines};
 ghost use Rattle.s360dbg.specs.Failures.{IsFailureOf, IsDeckFailure, IsTapeFailure};
-ghost use Rattle.s360dbg.specs.Failures.{IsScriptFailure};
+ghost use Rattle.s360dbg.specs.Failures.{IsScriptFailure, IsSetUpFailure};
 ghost use Rattle.s360dbg.specs.declared.failure.Part.TheVariants.{Reader};
 ghost use Rattle.s360dbg.specs.declared.failure.Fault.TheVariants.{CannotRead};
 ghost use Rattle.s360dbg.specs.declared.failure.Failure.TheVariants.{Part as failure_of_part, StorageSize};
@@ -58,6 +58,7 @@ pub(crate) fn run(rt: &HostRuntime, options: Options<'_>) -> Result<(), Failure>
 /// The machine that the options ask for.
 fn set_up(rt: &HostRuntime, alloc: Global, options: Options<'_>) -> Result<Machine, Failure>
     ensures beginning { IfOk result (λ m. IsBeginning options.entry (seen m.whole)) }
+    ensures failure { IfErr result IsSetUpFailure }
     ensures size { OnOk result (is_storage_size options.entry.storage ≡ true) }
     ensures no_size { result ≡ Err StorageSize → is_storage_size options.entry.storage ≡ false }
 {
