@@ -135,6 +135,7 @@ STORAGE = [
     Case("the greatest size", ["--storage", "1048576"], b"show s FFFFF 1\n", 0, b"0FFFFF 00\n"),
     Case("no multiple of 2,048", ["--storage", "9000"], b"", 2, b"", SIZE),
     Case("too small", ["--storage", "6144"], b"", 2, b"", SIZE),
+    Case("both", ["--storage", "5000"], b"", 2, b"", SIZE),
     Case("too great", ["--storage", "1050624"], b"", 2, b"", SIZE),
     Case("the greatest number", ["--storage", "4294967295"], b"", 2, b"", SIZE),
     Case("a number of more bits", ["--storage", "4294967296"], b"", 2, b"", usage(NUMBER)),
@@ -343,18 +344,40 @@ COMMAND_LINES = [
 ]
 CASES = [*SCRIPTS, *STORAGE, *DECKS, *TAPES, *ORDER, *COMMAND_LINES]
 CASES += [case for _, case in TAPE_FILES]
-# A tape that the program writes: a block, a mark and a block of the greatest length.
-WRITING = b"""patch p 0000000000000200
+class Writing(NamedTuple):
+    """Channel programs that write a tape, and what is on it then."""
+
+    script: bytes
+    answers: bytes  # the last of them
+    items: tuple
+
+
+START = b"""patch p 0000000000000200
 patch s 48 00000400
 patch s 200 9C000180
-patch s 600 C1C2C3
+"""
+WRITINGS = {
+    "a block, a mark and a block of the greatest length": Writing(
+        START
+        + b"""patch s 600 C1C2C3
 patch s 400 0100060040000003
 patch s 408 1F00000060000001
 patch s 410 010006000000FFFF
 run 4
-"""
-WRITTEN = (b"\xc1\xc2\xc3", MARK, b"\xc1\xc2\xc3" + bytes(LONGEST_BLOCK - 3))
-SHOWING = b"show image 180\nshow m 180 1\nshow m 180 2\nshow m 180 3\nshow m 180 4\n"
+""",
+        b"run 4 done\n",
+        (b"\xc1\xc2\xc3", MARK, b"\xc1\xc2\xc3" + bytes(LONGEST_BLOCK - 3)),
+    ),
+    "one block of the greatest length": Writing(
+        START
+        + b"""patch s 400 010006000000FFFF
+run 2
+show u 180
+""",
+        b"run 2 done\n180 waiting 00000408 0C000000\n",
+        (bytes(LONGEST_BLOCK),),
+    ),
+}
 
 
 def make_files(folder):
@@ -392,19 +415,21 @@ def fault_of(case, folder):
     return None if all(right) else (done.returncode, done.stdout, done.stderr)
 
 
-def fault_of_read_back(folder):
+def fault_of_read_back(writing, folder):
     """What is wrong with a tape that is written, and read back from the bytes that are shown."""
-    lines = [*shown_image(WRITTEN), *map(shown_item, WRITTEN), "none"]
+    lines = [*shown_image(writing.items), *map(shown_item, writing.items), "none"]
     wanted = "".join(f"{line}\n" for line in lines).encode()
+    numbers = range(1, len(writing.items) + 2)
+    showing = "".join(["show image 180\n", *(f"show m 180 {n}\n" for n in numbers)]).encode()
     how = {"capture_output": True, "timeout": SECONDS, "cwd": folder}
     writes = [PROGRAM, "--storage", "131072"]
-    done = subprocess.run(writes, input=WRITING + SHOWING, **how)
-    _, _, shown = done.stdout.partition(b"run 4 done\n")
+    done = subprocess.run(writes, input=writing.script + showing, **how)
+    _, _, shown = done.stdout.partition(writing.answers)
     if shown == wanted:
-        digits = shown.decode().splitlines()[1 : len(shown_image(WRITTEN))]
+        digits = shown.decode().splitlines()[1 : len(shown_image(writing.items))]
         (folder / "written.tape").write_bytes(bytes.fromhex("".join(digits)))
         reads = [PROGRAM, "--tape0", "written.tape"]
-        done = subprocess.run(reads, input=SHOWING, **how)
+        done = subprocess.run(reads, input=showing, **how)
         shown = done.stdout
     right = shown == wanted and done.returncode == 0
     return None if right else (done.returncode, done.stdout, done.stderr)
@@ -435,7 +460,9 @@ def main():
         make_files(folder)
         faults = [(case.what, fault_of(case, folder)) for case in CASES]
         faults.append(("a script that is typed at a terminal", fault_at_a_terminal(folder)))
-        faults.append(("a tape that is written and read back", fault_of_read_back(folder)))
+        for what, writing in WRITINGS.items():
+            fault = fault_of_read_back(writing, folder)
+            faults.append((f"a tape that is written and read back: {what}", fault))
     failed = [(what, fault) for what, fault in faults if fault]
     for what, fault in failed:
         print(f"{what}: {fault!r:.400}")
