@@ -11,12 +11,12 @@ use Rattle.s360_debug.proofs.StandingLemmas.{StandsPartly-unmoved}
 
 pub ok_reading : (r : Reading) (c : Command) → Reads r (Ok c) → r ≡ Ok c
 ok_reading (Ok d) c (inl h) = sym h
-ok_reading (Ok d) c (inr h) = cc
+ok_reading (Ok d) c (inr h) = cc h.1
 ok_reading (Err f) c h = cc
 
 fault_reading : (r : Reading) (f : LineFault) → f ≢ Memory → Reads r (Err f) → r ≡ Err f
 fault_reading (Ok d) f n (inl h) = cc
-fault_reading (Ok d) f n (inr h) = absurd (n cc)
+fault_reading (Ok d) f n (inr h) = absurd (n (cc h.1))
 fault_reading (Err g) f n h = sym h
 
 -- what stands may be as it was

@@ -1,6 +1,6 @@
 -- The reading of a line as a command (own profile). Words are judged from left to right, and the first
 -- that is wrong, missing or too many is named by its number, the first word of the line being 0.
-use Rattle.std.specs.Prelude.{◌≡◌, ◌⊎◌, ◌/◌, ℕ, Bool, nat_eq, nat_lt, if◌then◌else◌, Option, None, Some, Result, Ok, Err, List, [], ◌∷◌, codes, drop, length}
+use Rattle.std.specs.Prelude.{◌≡◌, ◌⊎◌, ◌/◌, ℕ, Bool, nat_eq, nat_lt, if◌then◌else◌, Option, None, Some, Result, Ok, Err, List, [], ◌∷◌, codes, drop, length, ⊤}
 use Rattle.std.specs.Cmp.Lexicographic.{pointwise}
 use Rattle.std.specs.List.{filter_map, list_all}
 use Rattle.std.specs.Option.{is_some, ok_or}
@@ -246,10 +246,16 @@ reading_of_words text (name ∷ words) =
 abbrev pub reading_of : List ℕ → Reading
 reading_of line = if nat_lt longest_line (length line) then Err LineTooLong else reading_of_words (text_behind line) (words_of line)
 
--- what may answer a reading: the fault whatever memory there is; the command, or want of memory
+-- the command holds bytes of its line, which want memory: a text that is entered, or bytes of storage
+abbrev pub TakesMemory : Command → Type 0
+TakesMemory (Key (Enter bytes)) = ⊤
+TakesMemory (Patch (bytes_patch at bytes)) = ⊤
+TakesMemory c = ⊥
+
+-- what may answer a reading: the fault whatever memory there is; the command, or want of memory where it takes some
 abbrev pub Reads : Reading → Reading → Type 0
 Reads (Err f) result = result ≡ Err f
-Reads (Ok c) result = (result ≡ Ok c) ⊎ (result ≡ Err Memory)
+Reads (Ok c) result = (result ≡ Ok c) ⊎ (TakesMemory c × (result ≡ Err Memory))
 
 -- a word that is left is refused by its number
 abbrev pub AtEnd : ℕ → List (List ℕ) → Result (Unit {0}) LineFault → Type 0

@@ -9,7 +9,7 @@ use s360_word::Unit;
 use std::alloc::AllocError;
 use thiserror::Error;
 
-/// A command with its arguments: a variant for each first word.
+/// A command with its arguments: a variant for each first word, but one for the three that press a key.
 #[derive(Debug, Drop)]
 pub enum Command {
     /// `step`: one CPU event.
@@ -78,7 +78,7 @@ pub enum Shown {
     External,
     /// `show u U`: what the channel does for a unit.
     UnitState(Unit),
-    /// `show d U`: the sense byte of a unit's device, and its media in numbers.
+    /// `show d U`: the sense byte of a unit's device, or all six of a tape, and its media in numbers.
     Device(Unit),
     /// `show m U N`: an item of a unit's media, by its number from 1.
     Item { unit: Unit, number: u32 },

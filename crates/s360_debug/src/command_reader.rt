@@ -1,7 +1,7 @@
-//! Reads a line as a command. Each first word has its row in `read_command`, and a word that has
+//! Reads a line as a command. Each first word has its row in `read_named`, and a word that has
 //! kinds a function of its own.
-ghost use Rattle.std.specs.Prelude.{◌≡◌, ◌≤◌, ◌<◌, ◌^◌, IfOk, IfSome, drop, take, length, MatchOption, Some, None};
-ghost use Rattle.s360_debug.specs.Reading.{Reads, reading_of, patch_reading};
+ghost use Rattle.std.specs.Prelude.{◌≡◌, ◌≤◌, ◌<◌, ◌^◌, ◌∷◌, IfOk, IfSome, drop, take, length, MatchOption, Some, None};
+ghost use Rattle.s360_debug.specs.Reading.{Reads, reading_of, reading_of_words, patch_reading};
 ghost use Rattle.s360_debug.specs.Reading.{storage_patch, word_patch, key_patch, doubleword_patch};
 ghost use Rattle.s360_debug.specs.Reading.{break_reading, clear_reading, run_reading};
 ghost use Rattle.s360_debug.specs.Reading.{channel_reading, key_of, key_reading, enter_reading};
@@ -36,8 +36,8 @@ const MOST_SHOWN: u32 = 256;
 /// The greatest count of events, and number of an item.
 const MOST_COUNT: u32 = 10_000_000;
 
-/// The command of a line, without its line end. A fault is answered whatever memory there is. A line of
-/// blanks alone is `Unknown`.
+/// The command of a line, without its line end. A fault is answered whatever memory there is, and only a
+/// line that enters a text or patches storage wants memory. A line of blanks alone is `Unknown`.
 pub fn read_command(alloc: Global, line: &[u8]) -> Result<Command, LineFault>
     ensures { Reads (reading_of line.now) result }
 {
@@ -45,9 +45,21 @@ pub fn read_command(alloc: Global, line: &[u8]) -> Result<Command, LineFault>
         return Err(LineFault::LineTooLong);
     }
     let mut words = Words::new(line);
-    let Some(name) = words.next_word() else {
-        return Err(LineFault::Unknown);
-    };
+    match words.next_word() {
+        Some(name) => read_named(alloc, name, words, text_behind(line)),
+        None => Err(LineFault::Unknown),
+    }
+}
+
+/// The command of a line with this first word, after which it has these words, or this text.
+fn read_named(
+    alloc: Global,
+    name: &[u8],
+    words: Words<'_>,
+    text: &[u8],
+) -> Result<Command, LineFault>
+    ensures { Reads (reading_of_words text.now (name.now ∷ words.entry)) result }
+{
     if is(name, "step") {
         finish(words, 1, Command::Step)
     } else if is(name, "channel") {
@@ -57,7 +69,7 @@ pub fn read_command(alloc: Global, line: &[u8]) -> Result<Command, LineFault>
     } else if is(name, "key") {
         read_key(words)
     } else if is(name, "enter") {
-        read_enter(alloc, text_behind(line))
+        read_enter(alloc, text)
     } else if is(name, "load") {
         read_load(words)
     } else if is(name, "back") {

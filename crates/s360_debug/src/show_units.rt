@@ -80,8 +80,8 @@ fn push_words(text: &mut Text, doubleword: u64) -> Result<(), AllocError>
     Ok(())
 }
 
-/// The sense byte of a unit's device, and its media in numbers; or the refusal where the machine does
-/// not have the unit.
+/// The sense byte of a unit's device, or all six of a tape, and its media in numbers; or the refusal where
+/// the machine does not have the unit.
 pub(crate) fn device_of(alloc: Global, machine: &Machine, unit: Unit) -> Result<Text, AllocError>
     ensures { IfOk result (λ text. text ≡ device_text (seen machine.now.whole) unit) }
 {
@@ -98,7 +98,7 @@ pub(crate) fn device_of(alloc: Global, machine: &Machine, unit: Unit) -> Result<
     }
 }
 
-/// Adds the first of the sense bytes.
+/// Adds the first of the sense bytes, the one that a device other than a tape has.
 fn push_sense(text: &mut Text, sense: &[u8; 6]) -> Result<(), AllocError>
     ensures { OnOk result (text.new ≡ text.old ++ sense_text sense.now) }
 {

@@ -206,8 +206,27 @@ IsMediaChangeTo-from m n x r p t c d e = let s : Media = seen_media (media_after
   tape1_back = e.no_room;
 }
 
+-- one device alone becomes another
+pub IsMediaChangeTo-reader : (m : WholeMedia) (d : Reader) (x : Option ReaderChange) → IsReaderChange m.reader d x → IsMediaChangeTo m (record no_media_changes { reader = x }) (record (seen_media m) { reader = d })
+IsMediaChangeTo-reader m d x h = IsMediaChangeTo-from m (record (seen_media m) { reader = d }) (record no_media_changes { reader = x }) h (punch-stays m.punch) (printer-stays m.printer) (console-stays m.console) (tape-stays m.tape0) (tape-stays m.tape1)
+
+pub IsMediaChangeTo-punch : (m : WholeMedia) (d : Punch) (x : Option PunchChange) → IsPunchChange m.punch d x → IsMediaChangeTo m (record no_media_changes { punch = x }) (record (seen_media m) { punch = d })
+IsMediaChangeTo-punch m d x h = IsMediaChangeTo-from m (record (seen_media m) { punch = d }) (record no_media_changes { punch = x }) (reader-stays m.reader) h (printer-stays m.printer) (console-stays m.console) (tape-stays m.tape0) (tape-stays m.tape1)
+
+pub IsMediaChangeTo-printer : (m : WholeMedia) (d : Printer) (x : Option PrinterChange) → IsPrinterChange m.printer d x → IsMediaChangeTo m (record no_media_changes { printer = x }) (record (seen_media m) { printer = d })
+IsMediaChangeTo-printer m d x h = IsMediaChangeTo-from m (record (seen_media m) { printer = d }) (record no_media_changes { printer = x }) (reader-stays m.reader) (punch-stays m.punch) h (console-stays m.console) (tape-stays m.tape0) (tape-stays m.tape1)
+
+pub IsMediaChangeTo-console : (m : WholeMedia) (d : Console) (x : Option ConsoleChange) → IsConsoleChange m.console d x → IsMediaChangeTo m (record no_media_changes { console = x }) (record (seen_media m) { console = d })
+IsMediaChangeTo-console m d x h = IsMediaChangeTo-from m (record (seen_media m) { console = d }) (record no_media_changes { console = x }) (reader-stays m.reader) (punch-stays m.punch) (printer-stays m.printer) h (tape-stays m.tape0) (tape-stays m.tape1)
+
+pub IsMediaChangeTo-tape0 : (m : WholeMedia) (d : Tape) (x : Option TapeChange) → IsTapeChange m.tape0 d x → IsMediaChangeTo m (record no_media_changes { tape0 = x }) (record (seen_media m) { tape0 = d })
+IsMediaChangeTo-tape0 m d x h = IsMediaChangeTo-from m (record (seen_media m) { tape0 = d }) (record no_media_changes { tape0 = x }) (reader-stays m.reader) (punch-stays m.punch) (printer-stays m.printer) (console-stays m.console) h (tape-stays m.tape1)
+
+pub IsMediaChangeTo-tape1 : (m : WholeMedia) (d : Tape) (x : Option TapeChange) → IsTapeChange m.tape1 d x → IsMediaChangeTo m (record no_media_changes { tape1 = x }) (record (seen_media m) { tape1 = d })
+IsMediaChangeTo-tape1 m d x h = IsMediaChangeTo-from m (record (seen_media m) { tape1 = d }) (record no_media_changes { tape1 = x }) (reader-stays m.reader) (punch-stays m.punch) (printer-stays m.printer) (console-stays m.console) (tape-stays m.tape0) h
+
 pub media-stay : (m : WholeMedia) → IsMediaChangeTo m no_media_changes (seen_media m)
-media-stay m = IsMediaChangeTo-from m (seen_media m) no_media_changes (reader-stays m.reader) (punch-stays m.punch) (printer-stays m.printer) (console-stays m.console) (tape-stays m.tape0) (tape-stays m.tape1)
+media-stay m = IsMediaChangeTo-reader m m.reader None (reader-stays m.reader)
 
 -- the end-of-file key
 pub end-key-stays : (m : WholeMedia) → m.reader.media.end_of_file ≡ true → IsMediaChangeTo m no_media_changes (record (seen_media m) { reader = with_end_key m.reader })
@@ -219,14 +238,7 @@ not-pressed r h e = let k : r.media.end_of_file ≡ true = ap (λ (s : Reader). 
 pub end-key-pressed : (m : WholeMedia) (x : ReaderChange) → m.reader.media.end_of_file ≡ false → CanSwapReader m.reader x → reader_after_swap m.reader x ≡ with_end_key m.reader
     → items_put (reader_change_after_swap m.reader x).motion ≡ 0
     → IsMediaChangeTo m (record no_media_changes { reader = Some x }) (record (seen_media m) { reader = with_end_key m.reader })
-end-key-pressed m x h can e back =
-    IsMediaChangeTo-from m (record (seen_media m) { reader = with_end_key m.reader }) (record no_media_changes { reader = Some x })
-    (reader-becomes m.reader (with_end_key m.reader) x can e back (not-pressed m.reader h))
-    (punch-stays m.punch)
-    (printer-stays m.printer)
-    (console-stays m.console)
-    (tape-stays m.tape0)
-    (tape-stays m.tape1)
+end-key-pressed m x h can e back = IsMediaChangeTo-reader m (with_end_key m.reader) (Some x) (reader-becomes m.reader (with_end_key m.reader) x can e back (not-pressed m.reader h))
 
 -- a line that is entered
 not-entered : (c : Console) (line : List ℕ) → c ≡ with_line c line → ⊥
@@ -238,11 +250,4 @@ not-entered c line e =
 pub line-entered : (m : WholeMedia) (line : List ℕ) (x : ConsoleChange) → CanSwapConsole m.console x → console_after_swap m.console x ≡ with_line m.console line
     → console_needs (console_change_after_swap m.console x) ≡ 0
     → IsMediaChangeTo m (record no_media_changes { console = Some x }) (record (seen_media m) { console = with_line m.console line })
-line-entered m line x can e back =
-    IsMediaChangeTo-from m (record (seen_media m) { console = with_line m.console line }) (record no_media_changes { console = Some x })
-    (reader-stays m.reader)
-    (punch-stays m.punch)
-    (printer-stays m.printer)
-    (console-becomes m.console (with_line m.console line) x can e back (not-entered m.console line))
-    (tape-stays m.tape0)
-    (tape-stays m.tape1)
+line-entered m line x can e back = IsMediaChangeTo-console m (with_line m.console line) (Some x) (console-becomes m.console (with_line m.console line) x can e back (not-entered m.console line))

@@ -1,6 +1,7 @@
--- What an event alters: values for places, which are exchanged with what stands there. The same exchange
--- done again takes the event back. Cells have the places of the core, control cells those of the control part, and
--- the other changes those of the units, so that a change alone tells which places it alters.
+-- What an event alters: values for places, which are exchanged with what stands there. The same
+-- exchange done again takes the event back. Cells have the places of the core, control cells those
+-- of the control part, and the other changes those of the units, so that a change alone tells which
+-- places it alters.
 use Rattle.std.specs.Prelude.{◌++◌, ◌≤◌, List}
 use Rattle.s360_store.specs.declared.place.Place.{Place}
 use Rattle.s360_store.specs.declared.place.Cell.{Cell}

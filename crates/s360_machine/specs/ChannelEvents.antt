@@ -1,5 +1,5 @@
--- A channel event of a unit: one channel command word of the program that it executes (GA22-6821, "Input/Output
--- Operations", execution of input/output operations).
+-- A channel event of a unit: one channel command word of the program that it executes (GA22-6821,
+-- "Input/Output Operations", execution of input/output operations).
 use Rattle.std.specs.Prelude.{◌≡◌, ◌≤◌, Option, Some, None, List, length, if◌then◌else◌}
 use Rattle.std.specs.Option.{option_map_or}
 use Rattle.s360_model.specs.Storage.{Storage}
@@ -24,8 +24,8 @@ use Rattle.s360_machine.specs.declared.channel_event.UnitStep.{UnitStep}
 use Rattle.s360_machine.specs.declared.configured_unit.ConfiguredUnit.{ConfiguredUnit}
 use Rattle.s360_machine.specs.declared.configured_unit.ConfiguredUnit.TheVariants.{Reader, Punch, Printer, Console, Tape0, Tape1}
 use Rattle.s360_machine.specs.Loading.{after_loading}
-use Rattle.s360_machine.specs.Machine.{Machine}
-use Rattle.s360_machine.specs.Units.{unit_at}
+use Rattle.s360_machine.specs.Machine.{Machine, Media}
+use Rattle.s360_machine.specs.Units.{control_of, unit_at, with_control_of}
 
 -- a device as its channel sees it, by its table
 abbrev pub view_of : {M : Type 0} → Table M → DeviceWith M → DeviceView
@@ -67,56 +67,23 @@ tape0_execution m = execution_of tape_table m.media.tape0 m.core.storage m.units
 abbrev pub tape1_execution : Machine → Execution
 tape1_execution m = execution_of tape_table m.media.tape1 m.core.storage m.units.tape1.state
 
--- the machine after a channel event of each unit
-abbrev pub after_reader_event : Machine → Machine
-after_reader_event m = record m {
-  core = core_with_run (reader_execution m).stores m.core;
-  units = record m.units { reader = record m.units.reader { state = (reader_execution m).state } };
-  media = record m.media { reader = after_ending reader_table m.media.reader (reader_execution m).ending };
+-- the machine after what a unit executes: what it stores, the unit in the state afterwards, and
+-- these media
+abbrev pub after_execution : Execution → ConfiguredUnit → Media → Machine → Machine
+after_execution e u media m = record m {
+  core = core_with_run e.stores m.core;
+  units = with_control_of m.units u (record (control_of m.units u) { state = e.state });
+  media = media;
 }
 
-abbrev pub after_punch_event : Machine → Machine
-after_punch_event m = record m {
-  core = core_with_run (punch_execution m).stores m.core;
-  units = record m.units { punch = record m.units.punch { state = (punch_execution m).state } };
-  media = record m.media { punch = after_ending punch_table m.media.punch (punch_execution m).ending };
-}
-
-abbrev pub after_printer_event : Machine → Machine
-after_printer_event m = record m {
-  core = core_with_run (printer_execution m).stores m.core;
-  units = record m.units { printer = record m.units.printer { state = (printer_execution m).state } };
-  media = record m.media { printer = after_ending printer_table m.media.printer (printer_execution m).ending };
-}
-
-abbrev pub after_console_event : Machine → Machine
-after_console_event m = record m {
-  core = core_with_run (console_execution m).stores m.core;
-  units = record m.units { console = record m.units.console { state = (console_execution m).state } };
-  media = record m.media { console = after_ending console_table m.media.console (console_execution m).ending };
-}
-
-abbrev pub after_tape0_event : Machine → Machine
-after_tape0_event m = record m {
-  core = core_with_run (tape0_execution m).stores m.core;
-  units = record m.units { tape0 = record m.units.tape0 { state = (tape0_execution m).state } };
-  media = record m.media { tape0 = after_ending tape_table m.media.tape0 (tape0_execution m).ending };
-}
-
-abbrev pub after_tape1_event : Machine → Machine
-after_tape1_event m = record m {
-  core = core_with_run (tape1_execution m).stores m.core;
-  units = record m.units { tape1 = record m.units.tape1 { state = (tape1_execution m).state } };
-  media = record m.media { tape1 = after_ending tape_table m.media.tape1 (tape1_execution m).ending };
-}
-
+-- the machine after a channel event of each unit, of whose media its own alone may be altered
 abbrev pub after_channel : ConfiguredUnit → Machine → Machine
-after_channel Reader m = after_reader_event m
-after_channel Punch m = after_punch_event m
-after_channel Printer m = after_printer_event m
-after_channel Console m = after_console_event m
-after_channel Tape0 m = after_tape0_event m
-after_channel Tape1 m = after_tape1_event m
+after_channel Reader m = after_execution (reader_execution m) Reader (record m.media { reader = after_ending reader_table m.media.reader (reader_execution m).ending }) m
+after_channel Punch m = after_execution (punch_execution m) Punch (record m.media { punch = after_ending punch_table m.media.punch (punch_execution m).ending }) m
+after_channel Printer m = after_execution (printer_execution m) Printer (record m.media { printer = after_ending printer_table m.media.printer (printer_execution m).ending }) m
+after_channel Console m = after_execution (console_execution m) Console (record m.media { console = after_ending console_table m.media.console (console_execution m).ending }) m
+after_channel Tape0 m = after_execution (tape0_execution m) Tape0 (record m.media { tape0 = after_ending tape_table m.media.tape0 (tape0_execution m).ending }) m
+after_channel Tape1 m = after_execution (tape1_execution m) Tape1 (record m.media { tape1 = after_ending tape_table m.media.tape1 (tape1_execution m).ending }) m
 
 -- the machine after a channel event, by the address of the unit
 abbrev pub after_channel_event : Unit → Machine → Machine
@@ -130,8 +97,8 @@ IsAlterationOf u v x = x ≡ (if same_unit u v then None else Some v)
 abbrev pub StepsTo : {C : Type 0} → UnitControl → ChannelStep C → Option UnitControl → Type 0
 StepsTo u step x = (p : Program) → u.state ≡ Active p → IsAlterationOf u (record u { state = state_after_step p step }) x
 
--- a step executes what the state of the unit asks for: its plan stores that, in few cells, and it has the other state of the unit
--- and the change of the device, where they do not stay as they are
+-- a step executes what the state of the unit asks for: its plan stores that, in few cells, and it
+-- has the other state of the unit and the change of the device, where they do not stay as they are
 pub record ExecutesProgram {C : Type 0} (s : Storage) (u : UnitControl) (plan : List Cell) (d : DeviceView) (Becomes : Ending → C → Type 0) (Stays : Ending → Type 0) (step : UnitStep C) : Type 0 where
   pub stores : StoresRun s plan (execution_with d s u.state).stores
   pub few : length plan ≤ 65535

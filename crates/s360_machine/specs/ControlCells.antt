@@ -1,5 +1,6 @@
--- The places of the control part: a control cell is one of them with a value of it. Control cells are
--- exchanged with the control part one after another: it gets their values, and they get what stood there.
+-- The places of the control part: a control cell is one of them with a value of it. Control cells
+-- are exchanged with the control part one after another: it gets their values, and they get what
+-- stood there.
 use Rattle.std.specs.Prelude.{◌≢◌, Bool, true, false, List, [], ◌∷◌, map}
 use Rattle.s360_store.specs.declared.place.Place.{Place}
 use Rattle.s360_store.specs.declared.place.Place.TheVariants.{Run, External}

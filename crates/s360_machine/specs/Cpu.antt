@@ -1,4 +1,5 @@
--- One CPU event (GA22-6821, "Interruptions", "Status Switching" and "System Structure", program execution).
+-- One CPU event (GA22-6821, "Interruptions", "Status Switching" and "System Structure", program
+-- execution).
 use Rattle.std.specs.Prelude.{ℕ, Bool, true, false, Option, Some, None}
 use Rattle.std.specs.Option.{option_map}
 use Rattle.s360_model.specs.Core.{Core, core_with_psw}
@@ -35,8 +36,8 @@ pending_of c us = record {
   channel1 = pending_unit us 1;
 }
 
--- the first case that holds: the machine is stopped or loads; an interruption is pending and its mask is one;
--- the CPU waits; it executes an instruction
+-- the first case that holds: the machine is stopped or loads; an interruption is pending and its
+-- mask is one; the CPU waits; it executes an instruction
 abbrev pub first_case : Bool → Option Class → Bool → CpuCase
 first_case false next waits = Halted
 first_case true (Some class) waits = Interrupted class
@@ -57,7 +58,8 @@ after_external m = record m {
 abbrev pub with_next_address : ℕ → Core → Core
 with_next_address address m = core_with_psw (with_instruction_address m.psw address) m
 
--- the core after an instruction, with the program or the supervisor call interruption that it causes
+-- the core after an instruction, with the program or the supervisor call interruption that it
+-- causes
 abbrev pub core_after_ended : Ended → Instruction → Core
 core_after_ended Done i = i.outcome.core
 core_after_ended (Program code) i = after_interruption program (number_of_code code) i.instruction_length (with_next_address i.next_address i.outcome.core)

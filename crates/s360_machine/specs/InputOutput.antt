@@ -1,5 +1,5 @@
--- What the CPU does with the channels: the input/output instructions, and the input/output interruption (GA22-6821,
--- "Input/Output Operations").
+-- What the CPU does with the channels: the input/output instructions, and the input/output
+-- interruption (GA22-6821, "Input/Output Operations").
 use Rattle.std.specs.Prelude.{ℕ, ◌/◌, Bool, false, ◌&&◌, ◌||◌, nat_eq, if◌then◌else◌, Option, Some, None, is_some, unwrap_or, List}
 use Rattle.std.specs.Int.{bytes_high_first}
 use Rattle.std.specs.List.{find}
@@ -41,7 +41,8 @@ core_with_csw Nothing m = m
 core_with_csw (Status unit channel) m = core_with_bytes status_location (bytes_high_first 2 (status_halfword unit channel)) m
 core_with_csw (whole csw) m = core_with_bytes csw_location (bytes_high_first 8 (csw_doubleword csw)) m
 
--- channel 0 executes the programs of its units side by side, channel 1 one program at a time (own profile)
+-- channel 0 executes the programs of its units side by side, channel 1 one program at a time (own
+-- profile)
 abbrev pub kind_of : ConfiguredUnit → ChannelKind
 kind_of Tape0 = Selector
 kind_of Tape1 = Selector
@@ -57,7 +58,8 @@ active_beside us u = None
 abbrev pub is_occupied : Units → ConfiguredUnit → Bool
 is_occupied us u = is_some (active_beside us u)
 
--- the unit whose program HALT I/O ends: itself where it is active, or else the other tape where that one is
+-- the unit whose program HALT I/O ends: itself where it is active, or else the other tape where
+-- that one is
 abbrev pub halted_unit : Units → ConfiguredUnit → ConfiguredUnit
 halted_unit us u = if is_active (control_of us u).state then u else unwrap_or (active_beside us u) u
 
@@ -103,12 +105,13 @@ after_io operation unit next_address m = record m {
   units = units_with m.units (unit_of_result operation m.units (unit_at unit.0)) (io_result operation unit m).unit;
 }
 
--- the unit that interrupts: the lowest with a condition whose channel the PSW lets interrupt (own profile)
+-- the unit that interrupts: the lowest with a condition whose channel the PSW lets interrupt (own
+-- profile)
 abbrev pub interrupting_unit : ℕ → Units → Option ConfiguredUnit
 interrupting_unit psw us = find (λ u. channel_mask_of psw (channel_of u) && is_pending (control_of us u)) configured_units
 
--- its status word is stored, then the interruption happens with the unit's address as its code, of no instruction (own
--- profile), and the condition is taken
+-- its status word is stored, then the interruption happens with the unit's address as its code, of
+-- no instruction (own profile), and the condition is taken
 abbrev pub after_taking : ConfiguredUnit → Condition → Machine → Machine
 after_taking u c m = record m {
   core = after_interruption InputOutput (address_of_unit u) NotAvailable (core_with_csw (whole c.csw) m.core);
@@ -121,6 +124,7 @@ after_interrupting m u = option_map_or (λ c. after_taking u c m) (condition_of 
 abbrev pub after_input_output : Machine → Machine
 after_input_output m = option_map_or (after_interrupting m) (interrupting_unit m.core.psw m.units) m
 
--- a plan that makes a core makes, with what is put into it, the core with what is stored of the channel status word
+-- a plan that makes a core makes, with what is put into it, the core with what is stored of the
+-- channel status word
 abbrev pub PlansCsw : Core → List Cell → List Cell → CswStore → Type 0
 PlansCsw m old new stores = (n : Core) → IsPlanOf m old n → IsPlanOf m new (core_with_csw stores n)

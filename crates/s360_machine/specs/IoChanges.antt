@@ -1,5 +1,5 @@
--- What an event alters of the units: another state of a unit on its channel, and a change of its device. Each is
--- exchanged with what stands there, and the same exchange done again takes it back.
+-- What an event alters of the units: another state of a unit on its channel, and a change of its
+-- device. Each is exchanged with what stands there, and the same exchange done again takes it back.
 use Rattle.std.specs.Prelude.{◌≡◌, ℕ, ◌++◌, Option, Some, None, List, [], ◌∷◌, Box, box_value}
 use Rattle.s360_device.specs.declared.reader_change.ReaderChange.{ReaderChange}
 use Rattle.s360_device.specs.declared.punch_change.PunchChange.{PunchChange}
@@ -24,7 +24,8 @@ use Rattle.s360_machine.specs.declared.units.Units.{Units}
 use Rattle.s360_machine.specs.Machine.{WholeMedia}
 use Rattle.s360_machine.specs.Units.{media_place, state_place}
 
--- A change that may be there, by an exchange of one that is: whether it can be made, and what both are afterwards
+-- A change that may be there, by an exchange of one that is: whether it can be made, and what both
+-- are afterwards
 abbrev pub CanIfAny : {D C : Type 0} → (D → C → Type 0) → D → Option C → Type 0
 CanIfAny Can d None = Unit {0}
 CanIfAny Can d (Some x) = Can d x

@@ -20,12 +20,14 @@ use Rattle.s360_machine.specs.Units.{address_of_unit, control_of, idle_units, wi
 abbrev pub loading_unit : UnitControl
 loading_unit = record { state = Active loading_program; attention = false }
 
--- after a reset every unit is idle, without attention, but the one from which the machine loads then
+-- after a reset every unit is idle, without attention, but the one from which the machine loads
+-- then
 abbrev pub units_after_reset : Option ConfiguredUnit → Units
 units_after_reset None = idle_units
 units_after_reset (Some u) = with_control_of idle_units u loading_unit
 
--- the machine loads from a unit, and the program of that unit has ended with channel end and device end alone
+-- the machine loads from a unit, and the program of that unit has ended with channel end and device
+-- end alone
 abbrev pub has_loaded : RunState → ConfiguredUnit → UnitState → UnitState → Bool
 has_loaded (Loading unit) u (Active p) (Waiting csw) = nat_eq unit.0 (address_of_unit u) && nat_eq (status_halfword csw.unit csw.channel) 0x0C00
 has_loaded r u s t = false
@@ -46,7 +48,7 @@ after_load u m = record m {
   units = with_control_of m.units u (record (control_of m.units u) { state = Idle });
 }
 
--- the machine after a channel event of a unit, by that before it and what the channel makes of it: the event in which
--- the program ends ends loading too (own profile)
+-- the machine after a channel event of a unit, by that before it and what the channel makes of it:
+-- the event in which the program ends ends loading too (own profile)
 abbrev pub after_loading : ConfiguredUnit → Machine → Machine → Machine
 after_loading u m n = if has_loaded m.control.run_state u (control_of m.units u).state (control_of n.units u).state then after_load u n else n

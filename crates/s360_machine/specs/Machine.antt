@@ -38,7 +38,8 @@ pub record Machine : Type 0 where
   pub units : Units
   pub media : Media
 
--- the whole devices: the tapes keep what they discarded out of sight, so that a change can be taken back
+-- the whole devices: the tapes keep what they discarded out of sight, so that a change can be taken
+-- back
 pub record WholeMedia : Type 0 where
   pub reader : Reader
   pub punch : Punch
@@ -69,9 +70,9 @@ pub record Whole : Type 0 where
 abbrev pub seen : Whole → Machine
 seen w = record { core = w.core; control = w.control; units = w.units; media = seen_media w.media }
 
--- room that was made for what will be put there; it is no part of the whole, and no law speaks of it: the cards
--- that can be fed, those that can be punched, the lines that can be printed, those of the console, and the slots of each
--- tape
+-- room that was made for what will be put there; it is no part of the whole, and no law speaks of
+-- it: the cards that can be fed, those that can be punched, the lines that can be printed, those of
+-- the console, and the slots of each tape
 pub record Spare : Type 0 where
   pub reader : ℕ
   pub punch : ℕ
@@ -85,8 +86,8 @@ pub record WithRoom : Type 0 where
   pub whole : Whole
   pub spare : Spare
 
--- a new machine operates, with PSW, registers, storage and keys zero, no condition pending, every unit idle, a deck in
--- the card reader, and tapes on 180 and 181 (own profile)
+-- a new machine operates, with PSW, registers, storage and keys zero, no condition pending, every
+-- unit idle, a deck in the card reader, and tapes on 180 and 181 (own profile)
 abbrev pub new_machine : ℕ → List (List ℕ) → Tape → Tape → Machine
 new_machine size deck tape0 tape1 = record {
   core = zero_core size;

@@ -20,9 +20,10 @@ abbrev pub after_stop : RunState → RunState
 after_stop Operating = Stopped
 after_stop other = other
 
--- the reset key stops the machine, and no external condition is pending any more; the PSW, the registers,
--- storage and the storage keys stay (own profile). The load key does so too, and the machine loads from its unit. The
--- interrupt key makes its condition pending. The other keys are those of units
+-- the reset key stops the machine, and no external condition is pending any more; the PSW, the
+-- registers, storage and the storage keys stay (own profile). The load key does so too, and the
+-- machine loads from its unit. The interrupt key makes its condition pending. The other keys are
+-- those of units
 abbrev pub control_after_key : Key → Control → Control
 control_after_key Start c = record c { run_state = after_start c.run_state }
 control_after_key Stop c = record c { run_state = after_stop c.run_state }
@@ -31,8 +32,8 @@ control_after_key (Load unit) c = record c { run_state = Loading unit; external 
 control_after_key Interrupt c = record c { external = record c.external { key = true } }
 control_after_key other c = c
 
--- the reset key makes every unit idle, without attention; sense bytes and media stay (own profile). So does the load
--- key, but for its unit. The request key makes the console ask for attention
+-- the reset key makes every unit idle, without attention; sense bytes and media stay (own profile).
+-- So does the load key, but for its unit. The request key makes the console ask for attention
 abbrev pub units_after_key : Key → Units → Units
 units_after_key Reset us = units_after_reset None
 units_after_key (Load unit) us = units_after_reset (unit_at unit.0)

@@ -72,8 +72,8 @@ differences_beside_core m n = control_differences m.control n.control ++ (unit_d
 abbrev pub differences : Machine → Machine → List Place
 differences m n = core_differences m.core n.core ++ differences_beside_core m n
 
--- the control cells make the second control part of the first, and have just the places at which the two
--- differ
+-- the control cells make the second control part of the first, and have just the places at which
+-- the two differ
 pub record IsControlChangeTo (c : Control) (xs : List ControlCell) (d : Control) : Type 0 where
   pub once : HasEachControlOnce xs
   pub makes : control_after_exchange c xs ≡ d
@@ -84,8 +84,8 @@ pub record IsUnitsChangeTo (us : Units) (x : UnitChanges) (vs : Units) : Type 0 
   pub makes : units_after_swap us x ≡ vs
   pub lists : places_of_units x ≡ unit_differences us vs
 
--- the changes make devices of which the media are seen, are just those of the devices that differ as they are seen, and
--- want no room to be taken back
+-- the changes make devices of which the media are seen, are just those of the devices that differ
+-- as they are seen, and want no room to be taken back
 pub record IsMediaChangeTo (m : WholeMedia) (x : MediaChanges) (n : Media) : Type 0 where
   pub can : CanSwapMedia m x
   pub makes : seen_media (media_after_swap m x) ≡ n
@@ -97,7 +97,8 @@ pub record IsMediaChangeTo (m : WholeMedia) (x : MediaChanges) (n : Media) : Typ
   pub tape0_back : slots_of_tape0 (media_changes_after_swap m x) ≡ 0
   pub tape1_back : slots_of_tape1 (media_changes_after_swap m x) ≡ 0
 
--- a plan makes the core of a machine out of that of a whole, and what was planned beside it the other parts
+-- a plan makes the core of a machine out of that of a whole, and what was planned beside it the
+-- other parts
 pub record IsPlanOfMachine (w : Whole) (plan : List Cell) (planned : PlannedEvent) (n : Machine) : Type 0 where
   pub core : IsPlanOf w.core plan n.core
   pub control : planned.control ≡ n.control
@@ -116,8 +117,8 @@ pub record LeavesUnits (w : Whole) (c : Control) (planned : PlannedEvent) : Type
   pub units : IsUnitsChangeTo w.units (unit_changes_of planned.io) w.units
   pub media : IsMediaChangeTo w.media (media_changes_of planned.io) (seen_media w.media)
 
--- the change makes a whole of which the machine is seen, lists the places at which the machines differ, and wants no
--- room to be taken back
+-- the change makes a whole of which the machine is seen, lists the places at which the machines
+-- differ, and wants no room to be taken back
 pub record IsChangeTo (w : Whole) (x : Change) (n : Machine) : Type 0 where
   pub can : CanSwap w x
   pub makes : seen (after_swap w x) ≡ n

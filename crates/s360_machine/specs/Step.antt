@@ -15,8 +15,8 @@ use Rattle.s360_machine.specs.Operator.{after_key}
 use Rattle.s360_machine.specs.Refusals.{refusal_of}
 use Rattle.s360_machine.specs.Timer.{after_tick}
 
--- a patch ignores protection and raises no condition; a PSW keeps no interruption code and no length, and a
--- storage key is that of the address's block
+-- a patch ignores protection and raises no condition; a PSW keeps no interruption code and no
+-- length, and a storage key is that of the address's block
 abbrev pub after_patch : Machine → Patch → Machine
 after_patch m (Bytes at bytes) = record m { core = core_with_bytes at bytes m.core }
 after_patch m (Register n word) = record m { core = core_with_word n word m.core }

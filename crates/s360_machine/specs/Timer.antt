@@ -1,4 +1,5 @@
--- The timer: the signed word at decimal 80, which counts down (GA22-6821, "System Structure", interval timer).
+-- The timer: the signed word at decimal 80, which counts down (GA22-6821, "System Structure",
+-- interval timer).
 use Rattle.std.specs.Prelude.{ℕ, Bool, not, ◌&&◌, if◌then◌else◌, true, pos, int_lt}
 use Rattle.std.specs.Int.{bytes_high_first}
 use Rattle.s360_model.specs.Arithmetic.{signed_difference, word_of}

@@ -1,5 +1,5 @@
--- The units of the machine: the card reader 00C, the card punch 00D, the printer 00E and the console 01F on channel 0,
--- and the magnetic tapes 180 and 181 on channel 1 (own profile).
+-- The units of the machine: the card reader 00C, the card punch 00D, the printer 00E and the
+-- console 01F on channel 0, and the magnetic tapes 180 and 181 on channel 1 (own profile).
 use Rattle.std.specs.Prelude.{ℕ, ◌/◌, Bool, false, ◌&&◌, nat_eq, Option, List, [], ◌∷◌}
 use Rattle.std.specs.Option.{option_map, option_map_or}
 use Rattle.std.specs.List.{find}
@@ -68,7 +68,8 @@ with_control_of us Console u = record us { console = u }
 with_control_of us Tape0 u = record us { tape0 = u }
 with_control_of us Tape1 u = record us { tape1 = u }
 
--- by an address: what the channel does for the unit, if there is one, and whether it asks for attention
+-- by an address: what the channel does for the unit, if there is one, and whether it asks for
+-- attention
 abbrev pub state_at : Units → UnitAddress → Option UnitState
 state_at us address = option_map (λ u. (control_of us u).state) (unit_at address.0)
 

@@ -24,8 +24,8 @@ pub(crate) const WITHIN: usize = 2;
 const BESIDE: usize = 14;
 
 /// The places that an event alters, in their order, each with the value that stands there while the
-/// change is not made, or no longer: those of the core, then those of the control part, and then those
-/// of the units.
+/// change is not made, or no longer: those of the core, then those of the control part, and then
+/// those of the units.
 #[derive(Debug, Drop)]
 pub struct Changes {
     pub(crate) cells: SmallVec<Cell, WITHIN>,

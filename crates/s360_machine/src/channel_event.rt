@@ -1,13 +1,12 @@
-//! Channel events. Source: GA22-6821, "Input/Output Operations", execution of input/output operations.
+//! Channel events. Source: GA22-6821, "Input/Output Operations", execution of input/output
+//! operations.
 ghost use Rattle.std.specs.Prelude.{◌≡◌, ◌≤◌, [], IfOk, OnOk, length};
 ghost use Rattle.s360_channel.specs.Steps.{AltersDevice, KeepsDevice, change_of_step};
 ghost use Rattle.s360_machine.specs.ChannelEvents.{ExecutesProgram, StepsTo};
 ghost use Rattle.s360_machine.specs.ChannelEvents.{after_channel, after_channel_event};
-ghost use Rattle.s360_machine.specs.ChannelEvents.{after_console_event, after_printer_event};
-ghost use Rattle.s360_machine.specs.ChannelEvents.{after_punch_event, after_reader_event};
-ghost use Rattle.s360_machine.specs.ChannelEvents.{after_tape0_event, after_tape1_event};
+ghost use Rattle.s360_machine.specs.IoChanges.{unit_change_of};
 ghost use Rattle.s360_machine.specs.Machine.{seen};
-ghost use Rattle.s360_machine.specs.Planned.{IsPlanOfMachine};
+ghost use Rattle.s360_machine.specs.Planned.{IsPlanOfMachine, PlansIo};
 
 use crate::configured_unit::ConfiguredUnit;
 use crate::machine::{Machine, PlannedEvent};
@@ -72,106 +71,16 @@ fn plan_step<D: Device>(
 }
 
 impl Machine {
-    /// Plans a channel event of the card reader.
-    fn plan_reader(&self, plan: &mut Plan) -> Result<PlannedEvent, AllocError>
-        requires empty { plan.old ≡ [] }
-        ensures plan { IfOk result (λ planned. IsPlanOfMachine self.now.whole plan.new planned (after_reader_event (seen self.now.whole))) }
-        ensures few { OnOk result (length plan.new ≤ 65535) }
+    /// What is planned where a channel event makes this of a unit and of the media.
+    fn planned_step(
+        &self,
+        unit: ConfiguredUnit,
+        control: Option<UnitControl>,
+        media: MediaChanges,
+    ) -> Result<PlannedEvent, AllocError>
+        ensures { IfOk result (λ planned. PlansIo planned self.now.whole.control (unit_change_of unit control) media) }
     {
-        let (storage, unit) = (self.core.storage(), &self.units.reader);
-        let step = plan_step(self.alloc, storage, unit, &self.devices.reader, plan)?;
-        let units = UnitChanges::of(ConfiguredUnit::Reader, step.control);
-        let media = MediaChanges {
-            reader: step.change,
-            ..MediaChanges::none()
-        };
-        let planned = self.planned_with(self.control, units, media)?;
-        Ok(planned)
-    }
-
-    /// Plans a channel event of the card punch.
-    fn plan_punch(&self, plan: &mut Plan) -> Result<PlannedEvent, AllocError>
-        requires empty { plan.old ≡ [] }
-        ensures plan { IfOk result (λ planned. IsPlanOfMachine self.now.whole plan.new planned (after_punch_event (seen self.now.whole))) }
-        ensures few { OnOk result (length plan.new ≤ 65535) }
-    {
-        let (storage, unit) = (self.core.storage(), &self.units.punch);
-        let step = plan_step(self.alloc, storage, unit, &self.devices.punch, plan)?;
-        let units = UnitChanges::of(ConfiguredUnit::Punch, step.control);
-        let media = MediaChanges {
-            punch: step.change,
-            ..MediaChanges::none()
-        };
-        let planned = self.planned_with(self.control, units, media)?;
-        Ok(planned)
-    }
-
-    /// Plans a channel event of the printer.
-    fn plan_printer(&self, plan: &mut Plan) -> Result<PlannedEvent, AllocError>
-        requires empty { plan.old ≡ [] }
-        ensures plan { IfOk result (λ planned. IsPlanOfMachine self.now.whole plan.new planned (after_printer_event (seen self.now.whole))) }
-        ensures few { OnOk result (length plan.new ≤ 65535) }
-    {
-        let (storage, unit) = (self.core.storage(), &self.units.printer);
-        let step = plan_step(self.alloc, storage, unit, &self.devices.printer, plan)?;
-        let units = UnitChanges::of(ConfiguredUnit::Printer, step.control);
-        let media = MediaChanges {
-            printer: step.change,
-            ..MediaChanges::none()
-        };
-        let planned = self.planned_with(self.control, units, media)?;
-        Ok(planned)
-    }
-
-    /// Plans a channel event of the console.
-    fn plan_console(&self, plan: &mut Plan) -> Result<PlannedEvent, AllocError>
-        requires empty { plan.old ≡ [] }
-        ensures plan { IfOk result (λ planned. IsPlanOfMachine self.now.whole plan.new planned (after_console_event (seen self.now.whole))) }
-        ensures few { OnOk result (length plan.new ≤ 65535) }
-    {
-        let (storage, unit) = (self.core.storage(), &self.units.console);
-        let step = plan_step(self.alloc, storage, unit, &self.devices.console, plan)?;
-        let units = UnitChanges::of(ConfiguredUnit::Console, step.control);
-        let media = MediaChanges {
-            console: step.change,
-            ..MediaChanges::none()
-        };
-        let planned = self.planned_with(self.control, units, media)?;
-        Ok(planned)
-    }
-
-    /// Plans a channel event of the first magnetic tape.
-    fn plan_tape0(&self, plan: &mut Plan) -> Result<PlannedEvent, AllocError>
-        requires empty { plan.old ≡ [] }
-        ensures plan { IfOk result (λ planned. IsPlanOfMachine self.now.whole plan.new planned (after_tape0_event (seen self.now.whole))) }
-        ensures few { OnOk result (length plan.new ≤ 65535) }
-    {
-        let (storage, unit) = (self.core.storage(), &self.units.tape0);
-        let step = plan_step(self.alloc, storage, unit, &self.devices.tape0, plan)?;
-        let units = UnitChanges::of(ConfiguredUnit::Tape0, step.control);
-        let media = MediaChanges {
-            tape0: step.change,
-            ..MediaChanges::none()
-        };
-        let planned = self.planned_with(self.control, units, media)?;
-        Ok(planned)
-    }
-
-    /// Plans a channel event of the second magnetic tape.
-    fn plan_tape1(&self, plan: &mut Plan) -> Result<PlannedEvent, AllocError>
-        requires empty { plan.old ≡ [] }
-        ensures plan { IfOk result (λ planned. IsPlanOfMachine self.now.whole plan.new planned (after_tape1_event (seen self.now.whole))) }
-        ensures few { OnOk result (length plan.new ≤ 65535) }
-    {
-        let (storage, unit) = (self.core.storage(), &self.units.tape1);
-        let step = plan_step(self.alloc, storage, unit, &self.devices.tape1, plan)?;
-        let units = UnitChanges::of(ConfiguredUnit::Tape1, step.control);
-        let media = MediaChanges {
-            tape1: step.change,
-            ..MediaChanges::none()
-        };
-        let planned = self.planned_with(self.control, units, media)?;
-        Ok(planned)
+        self.planned_with(self.control, UnitChanges::of(unit, control), media)
     }
 
     /// Plans what the channel makes of a unit.
@@ -184,13 +93,32 @@ impl Machine {
         ensures plan { IfOk result (λ planned. IsPlanOfMachine self.now.whole plan.new planned (after_channel unit (seen self.now.whole))) }
         ensures few { OnOk result (length plan.new ≤ 65535) }
     {
+        let (storage, control) = (self.core.storage(), self.units.control(unit));
         match unit {
-            ConfiguredUnit::Reader => self.plan_reader(plan),
-            ConfiguredUnit::Punch => self.plan_punch(plan),
-            ConfiguredUnit::Printer => self.plan_printer(plan),
-            ConfiguredUnit::Console => self.plan_console(plan),
-            ConfiguredUnit::Tape0 => self.plan_tape0(plan),
-            ConfiguredUnit::Tape1 => self.plan_tape1(plan),
+            ConfiguredUnit::Reader => {
+                let step = plan_step(self.alloc, storage, control, &self.devices.reader, plan)?;
+                self.planned_step(unit, step.control, MediaChanges::of_reader(step.change))
+            }
+            ConfiguredUnit::Punch => {
+                let step = plan_step(self.alloc, storage, control, &self.devices.punch, plan)?;
+                self.planned_step(unit, step.control, MediaChanges::of_punch(step.change))
+            }
+            ConfiguredUnit::Printer => {
+                let step = plan_step(self.alloc, storage, control, &self.devices.printer, plan)?;
+                self.planned_step(unit, step.control, MediaChanges::of_printer(step.change))
+            }
+            ConfiguredUnit::Console => {
+                let step = plan_step(self.alloc, storage, control, &self.devices.console, plan)?;
+                self.planned_step(unit, step.control, MediaChanges::of_console(step.change))
+            }
+            ConfiguredUnit::Tape0 => {
+                let step = plan_step(self.alloc, storage, control, &self.devices.tape0, plan)?;
+                self.planned_step(unit, step.control, MediaChanges::of_tape0(step.change))
+            }
+            ConfiguredUnit::Tape1 => {
+                let step = plan_step(self.alloc, storage, control, &self.devices.tape1, plan)?;
+                self.planned_step(unit, step.control, MediaChanges::of_tape1(step.change))
+            }
         }
     }
 

@@ -1,5 +1,5 @@
-//! The units that the machine has. Source: GA22-6821, "Input/Output Operations", unit address; which
-//! units there are, and their addresses, is the own profile.
+//! The units that the machine has. Source: GA22-6821, "Input/Output Operations", unit address;
+//! which units there are, and their addresses, is the own profile.
 ghost use Rattle.std.specs.Prelude.{◌≡◌, ◌<◌};
 ghost use Rattle.s360_machine.specs.InputOutput.{kind_of};
 ghost use Rattle.s360_machine.specs.Units.{address_of_unit, channel_of, unit_at};

@@ -5,8 +5,8 @@ ghost use Rattle.s360_machine.specs.ControlCells.{has_external, has_run_state};
 use crate::external::ExternalConditions;
 use crate::run_state::RunState;
 
-/// The places of the control part that an event alters, each with a value of it. A contract sees the
-/// list of their cells. It is small, since each change in the journal has one.
+/// The places of the control part that an event alters, each with a value of it. A contract sees
+/// the list of their cells. It is small, since each change in the journal has one.
 #[derive(Clone, Copy, Debug, PartialEq, Eq)]
 pub(crate) enum ControlChange {
     /// None of them.

@@ -126,8 +126,8 @@ impl Machine {
         Ok(planned)
     }
 
-    /// Plans an input/output interruption: the condition of the lowest unit whose channel the PSW lets
-    /// interrupt is taken.
+    /// Plans an input/output interruption: the condition of the lowest unit whose channel the PSW
+    /// lets interrupt is taken.
     pub(crate) fn plan_input_output(&self, plan: &mut Plan) -> Result<PlannedEvent, AllocError>
         requires empty { plan.old ≡ [] }
         ensures { IfOk result (λ planned. IsPlanOfMachine self.now.whole plan.new planned (after_input_output (seen self.now.whole))) }

@@ -13,15 +13,16 @@ use crate::media::{Devices, MediaChanges};
 use crate::units::{UnitChanges, Units};
 use std::alloc::{AllocError, Global};
 
-/// What an event alters of the units and their devices. It stands apart from the change that has it,
-/// since few events alter any.
+/// What an event alters of the units and their devices. It stands apart from the change that has
+/// it, since few events alter any.
 #[derive(Debug, Drop)]
 pub(crate) struct IoChange {
     pub(crate) units: UnitChanges,
     pub(crate) media: MediaChanges,
 }
 
-/// Exchanges the units and their devices with what an event alters of them, for which there is room.
+/// Exchanges the units and their devices with what an event alters of them, for which there is
+/// room.
 pub(crate) fn exchange_io(io: &mut Option<Box<IoChange>>, units: &mut Units, devices: &mut Devices)
     requires can { CanSwapMedia (media_of devices.old) (media_changes_of io.old) }
     requires reader { cards_of_reader (media_changes_of io.old) ≤ devices.old.reader.room }

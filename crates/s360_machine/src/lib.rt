@@ -1,5 +1,5 @@
-//! The machine and its events: what an event alters is planned first, room is made for it, and then it
-//! is exchanged with the machine, which the same exchange takes back.
+//! The machine and its events: what an event alters is planned first, room is made for it, and then
+//! it is exchanged with the machine, which the same exchange takes back.
 //!
 //! Source: GA22-6821, "System Structure", "Interruptions", "Status Switching", "Input/Output
 //! Operations" and "System Control Panel".

@@ -26,8 +26,8 @@ use std::alloc::AllocError;
 const CLEAN_END: u16 = 0x0C00;
 
 impl Core {
-    /// Plans the end of loading from the unit at an address over the core as the plan leaves it: the
-    /// address is stored, and the PSW at 0 is loaded. The store is not protected.
+    /// Plans the end of loading from the unit at an address over the core as the plan leaves it:
+    /// the address is stored, and the PSW at 0 is loaded. The store is not protected.
     fn plan_loaded(&self, address: u16, plan: &mut Plan) -> Result<(), AllocError>
         requires cells { AreCellsOf self.now plan.old }
         requires few { length plan.old ≤ 65535 }

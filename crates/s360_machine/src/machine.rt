@@ -269,8 +269,8 @@ impl Machine {
         Ok(planned)
     }
 
-    /// Plans what an event puts into the core, if its own sake does not refuse it, and answers what it
-    /// makes of the other parts.
+    /// Plans what an event puts into the core, unless it is refused for its own sake
+    /// (refusals 2 to 5), and answers what it makes of the other parts.
     fn plan_event(&self, event: &Event, plan: &mut Plan) -> Result<PlannedEvent, AllocError>
         requires empty { plan.old ≡ [] }
         requires accepted { refusal_of (storage_size (seen self.now.whole)) event.now ≡ None }

@@ -60,6 +60,66 @@ impl MediaChanges {
         }
     }
 
+    /// That of the card reader.
+    pub(crate) fn of_reader(change: Option<ReaderChange>) -> MediaChanges
+        ensures { result ≡ record no_media_changes { reader = change } }
+    {
+        MediaChanges {
+            reader: change,
+            ..MediaChanges::none()
+        }
+    }
+
+    /// That of the card punch.
+    pub(crate) fn of_punch(change: Option<PunchChange>) -> MediaChanges
+        ensures { result ≡ record no_media_changes { punch = change } }
+    {
+        MediaChanges {
+            punch: change,
+            ..MediaChanges::none()
+        }
+    }
+
+    /// That of the printer.
+    pub(crate) fn of_printer(change: Option<PrinterChange>) -> MediaChanges
+        ensures { result ≡ record no_media_changes { printer = change } }
+    {
+        MediaChanges {
+            printer: change,
+            ..MediaChanges::none()
+        }
+    }
+
+    /// That of the console.
+    pub(crate) fn of_console(change: Option<ConsoleChange>) -> MediaChanges
+        ensures { result ≡ record no_media_changes { console = change } }
+    {
+        MediaChanges {
+            console: change,
+            ..MediaChanges::none()
+        }
+    }
+
+    /// That of the first magnetic tape.
+    pub(crate) fn of_tape0(change: Option<TapeChange>) -> MediaChanges
+        ensures { result ≡ record no_media_changes { tape0 = change } }
+    {
+        MediaChanges {
+            tape0: change,
+            ..MediaChanges::none()
+        }
+    }
+
+    /// That of the second magnetic tape.
+    pub(crate) fn of_tape1(change: Option<TapeChange>) -> MediaChanges
+        ensures { result ≡ record no_media_changes { tape1 = change } }
+    {
+        MediaChanges {
+            tape1: change,
+            ..MediaChanges::none()
+        }
+    }
+
     /// Whether there is none.
     pub(crate) fn is_none(&self) -> bool
         ensures { MatchBool result (self.now ≡ no_media_changes) (self.now ≡ no_media_changes → ⊥) }
@@ -105,7 +165,8 @@ impl Devices {
         MediaChanges::none()
     }
 
-    /// What a key of the operator makes of them, if its own sake does not refuse it.
+    /// What a key of the operator makes of them, unless it is refused for its own sake
+    /// (refusals 2 to 5).
     pub(crate) fn changes_of_key(&self, key: &Key) -> Result<MediaChanges, AllocError>
         requires accepted { refusal_of_key key.now ≡ None }
         ensures { IfOk result (λ changes. IsMediaChangeTo (media_of self.now) changes (media_after_key key.now (seen_media (media_of self.now)))) }
@@ -124,10 +185,7 @@ impl Devices {
         ensures { IfOk result (λ changes. IsMediaChangeTo (media_of self.now) changes (media_after_key (Enter line.now) (seen_media (media_of self.now)))) }
     {
         let console = self.console.plan_line(line)?;
-        Ok(MediaChanges {
-            console: Some(console),
-            ..MediaChanges::none()
-        })
+        Ok(MediaChanges::of_console(Some(console)))
     }
 
     /// What the end-of-file key does, which stays pressed.
@@ -137,10 +195,7 @@ impl Devices {
         if self.reader.end_of_file() {
             return self.unchanged();
         }
-        MediaChanges {
-            reader: Some(self.reader.plan_end_key()),
-            ..MediaChanges::none()
-        }
+        MediaChanges::of_reader(Some(self.reader.plan_end_key()))
     }
 
     /// Makes room for changes, after which their exchange takes no memory.

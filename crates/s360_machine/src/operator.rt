@@ -1,5 +1,5 @@
-//! The keys of the operator. Source: GA22-6821, "System Control Panel", and the component description
-//! of the 1052.
+//! The keys of the operator. Source: GA22-6821, "System Control Panel", and the component
+//! description of the 1052.
 
 use s360_store::Bytes;
 use s360_word::Unit;
@@ -11,8 +11,8 @@ pub enum Key {
     Start,
     /// The machine that operates stops. It does nothing while the machine loads.
     Stop,
-    /// The machine stops, no external condition is pending any more, and every unit is idle, without
-    /// attention.
+    /// The machine stops, no external condition is pending any more, and every unit is idle,
+    /// without attention.
     Reset,
     /// The condition of the interrupt key is pending.
     Interrupt,
@@ -22,7 +22,7 @@ pub enum Key {
     Request,
     /// The operator enters a line at the console: at most 256 bytes, in EBCDIC.
     Enter(Bytes),
-    /// The load key with this unit selected: what the reset key does, and then initial program loading
-    /// from the unit.
+    /// The load key with this unit selected: what the reset key does, and then initial program
+    /// loading from the unit.
     Load(Unit),
 }

@@ -262,8 +262,8 @@ impl Units {
         self.active_beside(unit).is_some()
     }
 
-    /// The unit whose program HALT I/O ends: itself where it is active, or else the other tape where
-    /// that one is.
+    /// The unit whose program HALT I/O ends: itself where it is active, or else the other tape
+    /// where that one is.
     pub(crate) fn halted(&self, unit: ConfiguredUnit) -> ConfiguredUnit
         ensures { result ≡ halted_unit self.now unit }
     {

@@ -27,6 +27,8 @@ mod slate;
 #[cfg(test)]
 mod storage;
 #[cfg(test)]
+mod tape_reads;
+#[cfg(test)]
 mod texts;
 #[cfg(test)]
 mod words_and_psw;

@@ -13,8 +13,9 @@ use std::process::Abort;
 /// Writers have room for so many bytes from the start, so that only the script wants memory.
 const ROOM: usize = 4_096;
 
-/// Two registers are patched, added and shown, and the sum is taken back.
-const ADD: &str = "patch r 1 7FFFFFFF\npatch r 2 1\npatch s 0 1A12\nstep\nshow regs\nback\n";
+/// Two registers are patched, added and shown, and shown again once the sum is taken back.
+const ADD: &str =
+    "patch r 1 7FFFFFFF\npatch r 2 1\npatch s 0 1A12\nstep\nshow regs\nback\nshow regs\n";
 
 const ADD_ANSWERS: &str = "1 changed 1 r1\n\
     2 changed 1 r2\n\
@@ -24,11 +25,15 @@ const ADD_ANSWERS: &str = "1 changed 1 r1\n\
     r4 00000000 00000000 00000000 00000000\n\
     r8 00000000 00000000 00000000 00000000\n\
     rC 00000000 00000000 00000000 00000000\n\
-    back 4 cpu\n";
+    back 4 cpu\n\
+    r0 00000000 7FFFFFFF 00000001 00000000\n\
+    r4 00000000 00000000 00000000 00000000\n\
+    r8 00000000 00000000 00000000 00000000\n\
+    rC 00000000 00000000 00000000 00000000\n";
 
 /// So many lines are carried out by the time that an answer is written behind so many line feeds. The
-/// fifth line has four of them.
-const CARRIED_OUT: [usize; 9] = [1, 2, 3, 4, 5, 5, 5, 5, 6];
+/// fifth line and the seventh have four of them.
+const CARRIED_OUT: [usize; 13] = [1, 2, 3, 4, 5, 5, 5, 5, 6, 7, 7, 7, 7];
 
 /// More reads of one byte than a number of eight bits counts.
 const COMMENT: usize = 400;
@@ -208,6 +213,16 @@ fn text_left(alloc: Global, script: &[u8], calls: usize) -> Option<String> {
     left.text(alloc)
 }
 
+/// The text of what the script leaves where its reader fails after so many bytes, and whether the
+/// session is as before.
+fn text_cut(alloc: Global, calls: usize) -> Option<String> {
+    let left = Left::of(alloc, 10, ADD.as_bytes(), calls, ROOM)?;
+    let before = Scripted::new(alloc, 10)?;
+    let stands = left.scripted.stands_as(&before);
+    let text = left.text(alloc)?;
+    format!(in alloc; "{text} {stands}").ok()
+}
+
 /// The script behind a long comment.
 fn behind_a_comment(alloc: Global) -> Option<Vec<u8>> {
     let mut script = vec![in alloc; b'*'; COMMENT].ok()?;
@@ -241,6 +256,13 @@ struct Lines {
     breaks: Breaks,
 }
 
+impl Lines {
+    /// The answer to a line.
+    fn answer_line(&mut self, alloc: Global, line: &str) -> Option<String> {
+        self.scripted.text_of_line(alloc, &mut self.breaks, line)
+    }
+}
+
 impl Subject for Lines {
     fn new(alloc: Global) -> Option<Lines> {
         let breaks = Breaks::new();
@@ -249,18 +271,22 @@ impl Subject for Lines {
     }
 
     fn answer(&mut self, alloc: Global, words: &mut Words<'_>) -> Option<String> {
-        let script = ADD.as_bytes();
         match words.next_word() {
-            "line" => {
-                let line = words.behind_the_first();
-                self.scripted.text_of_line(alloc, &mut self.breaks, line)
-            }
-            "limit" => answers_at_the_limit(alloc, b"tick\ntick\nrun 5\nstanding\n"),
-            "whole" => text_left(alloc, script, script.len() + 1),
-            "cut" => text_left(alloc, script, script.len()),
-            "long" => text_behind_a_comment(alloc),
-            _ => None,
+            "line" => self.answer_line(alloc, words.behind_the_first()),
+            kind => text_of_script(alloc, kind, words),
         }
+    }
+}
+
+/// What a script of a kind leaves, or its answers.
+fn text_of_script(alloc: Global, kind: &str, words: &mut Words<'_>) -> Option<String> {
+    match kind {
+        "limit" => answers_at_the_limit(alloc, b"tick\ntick\nrun 5\nstanding\n"),
+        "full" => answers_at_the_limit(alloc, b"patch r 1 5\npatch r 1 5\n"),
+        "whole" => text_left(alloc, ADD.as_bytes(), ADD.len() + 1),
+        "cut" => text_cut(alloc, words.below(0x1_0000) as usize),
+        "long" => text_behind_a_comment(alloc),
+        _ => None,
     }
 }
 
@@ -306,17 +332,21 @@ fn lines_one_by_one(rt: HostRuntime) {
 /// Scripts over streams that give or take one byte a call.
 const STREAMS: &str = "
 * a writer with room for all answers
-whole -> Ok(6) F2 true 3
-* a reader that fails before its end
-cut -> Err(Read) 0 true 0
+whole -> Ok(7) 18E true 3
+* a reader that fails at its first byte, within a line, behind one, and before its end
+cut 0 -> Err(Read) 0 true 0 true
+cut 5 -> Err(Read) 0 true 0 true
+cut 13 -> Err(Read) 0 true 0 true
+cut 4C -> Err(Read) 0 true 0 true
 * a reader that gives its bytes in more than 300 calls
-long -> Ok(6) F2 true 3
+long -> Ok(7) 18E true 3
 ";
 
 /// Commands one by one.
 const LINES: &str = r#"
 * a session where one change may stand
 limit -> "1 changed 4 s000050 s000051 s000052 ext\nrefused 6 journal full\nrun 0 refused 6 journal full\nstanding 1\n"
+full -> "1 changed 1 r1\nrefused 6 journal full\n"
 * lines and their answers
 line patch r 1 2A -> "1 changed 1 r1\n"
 line patch r 1 2A -> "2 idle\n"

@@ -6,6 +6,7 @@ use s360_debug::{LineFault, ScriptFault, Shown};
 use s360_fixed::Ended;
 use s360_journal::NothingStands;
 use s360_machine::{ExternalConditions, Refusal, RunState};
+use s360_print::{CarriageMotion, Position};
 use s360_psw::Psw;
 use s360_store::Checked;
 use s360_word::ProtectionKey;
@@ -50,8 +51,10 @@ fn are_told_apart(alloc: Global) -> Option<String> {
     let fault = ScriptFault::Read != ScriptFault::Write;
     let line = LineFault::Argument(1) != LineFault::Argument(2);
     let shown = Shown::Psw != Shown::Registers;
+    let key = ProtectionKey::new(1) != ProtectionKey::new(2);
+    let position = Position::new() != Position::new().after(CarriageMotion::Space(1));
     format!(in alloc;
-        "{psw} {ended} {checked} {run} {pending} {unit} {refusal} {fault} {line} {shown}"
+        "{psw} {ended} {checked} {run} {pending} {unit} {refusal} {fault} {line} {shown} {key} {position}"
     ).ok()
 }
 
@@ -85,5 +88,5 @@ const TEXTS: &str = "
 line -> line too long, unknown, argument 3, out of memory
 script -> read failed, script too long, write failed, out of memory
 session -> nothing stands
-apart -> true true true true true true true true true true
+apart -> true true true true true true true true true true true true
 ";

@@ -1,6 +1,8 @@
 //! What the program does once its command line is read. Faults are found in the order of the steps.
 ghost use Rattle.std.specs.Prelude.{◌≡◌, ◌≤◌, [], true, false, length, None};
 ghost use Rattle.std.specs.Prelude.{IfOk, IfErr, IfSome, OnOk, Err};
+ghost use Rattle.std.specs.Io.KnownBytes.{Appends, Keeps};
+ghost use Rattle.std.specs.Io.Buffered.{writer_buffer, writer_contents};
 ghost use Rattle.s360_model.specs.Storage.{is_storage_size};
 ghost use Rattle.s360_model.specs.Cards.{IsDeckFile};
 ghost use Rattle.s360_machine.specs.Machine.{seen};
@@ -8,7 +10,7 @@ ghost use Rattle.s360_tape.specs.WholeTape.{seen as seen_tape};
 ghost use Rattle.s360dbg.specs.Beginning.{IsBeginning, IsTapeFor};
 ghost use Rattle.s360_debug.specs.Debugger.{new_debugger};
 ghost use Rattle.s360_debug.specs.Lines.{lines_of};
-ghost use Rattle.s360_debug.specs.Script.{state_after_lines};
+ghost use Rattle.s360_debug.specs.Script.{answers_of, state_after_lines};
 ghost use Rattle.s360dbg.specs.Failures.{IsFailureOf, IsDeckFailure, IsTapeFailure};
 ghost use Rattle.s360dbg.specs.Failures.{IsScriptFailure, IsSetUpFailure};
 ghost use Rattle.s360dbg.specs.declared.failure.Part.TheVariants.{Reader};
@@ -43,16 +45,17 @@ pub(crate) fn run(rt: &HostRuntime, options: Options<'_>) -> Result<(), Failure>
     let alloc = rt.alloc();
     let machine = set_up(rt, alloc, options)?;
     let mut session = Session::new(alloc, machine, LIMIT);
-    match options.script {
+    let _writer = match options.script {
         Some(name) => {
             let mut file = open(rt, Part::Script, name)?;
-            carry_out(alloc, &mut session, &mut file, io::writer(rt))
+            carry_out(alloc, &mut session, &mut file, io::writer(rt))?
         }
         None => {
             tell_terminal(rt);
-            carry_out(alloc, &mut session, &mut rt.reader(), io::writer(rt))
+            carry_out(alloc, &mut session, &mut rt.reader(), io::writer(rt))?
         }
-    }
+    };
+    Ok(())
 }
 
 /// The machine that the options ask for.
@@ -132,26 +135,44 @@ fn tell_terminal(rt: &HostRuntime) {
     }
 }
 
-/// Carries out the script that a reader has left, and writes its answers. The answers that come before
-/// a fault are written too.
+/// Carries out the script that a reader has left, writes its answers, and answers the writer. The answers
+/// that come before a fault are written too, but after a write that failed none is written again.
 fn carry_out<R: Read, W: Write + Drop>(
     alloc: Global,
     session: &mut Session,
     reader: &mut R,
     writer: W,
-) -> Result<(), Failure>
+) -> Result<W, Failure>
     ensures length { OnOk result (IfSome (R.remaining reader.old) (λ text. length text ≤ 1048576)) }
+    ensures answers { IfOk result (λ w. IfSome (R.remaining reader.old) (λ text. Appends (W.contents writer) (W.contents w) (answers_of session.old text))) }
     ensures state { OnOk result (IfSome (R.remaining reader.old) (λ text. session.new ≡ (state_after_lines (new_debugger session.old) (lines_of text)).session)) }
     ensures failure { IfErr result IsScriptFailure }
 {
-    let Ok(mut writer) = BufWriter::new(alloc, writer) else {
+    let Ok(mut buffered) = BufWriter::new(alloc, writer) else {
         return Err(Failure::Memory);
     };
-    let answered = run_script(alloc, session, reader, &mut writer);
-    let flushed = writer.flush();
+    let answered = run_script(alloc, session, reader, &mut buffered);
+    let is_flushed = flush_after(answered, &mut buffered);
+    // A buffer that is dropped would write what is left in it once more.
+    let (writer, _unwritten) = buffered.into_parts();
     let _lines = answered?;
-    if flushed.is_err() {
+    if !is_flushed {
         return Err(Failure::from(ScriptFault::Write));
     }
-    Ok(())
+    Ok(writer)
+}
+
+/// Writes what is left in a buffer, unless a write failed before: that is not tried again. Answers
+/// whether nothing is left.
+fn flush_after<W: Write + Drop>(
+    answered: Result<u32, ScriptFault>,
+    buffered: &mut BufWriter<W>,
+) -> bool
+    ensures bytes { Keeps (writer_contents W.contents buffered.old) (writer_contents W.contents buffered.new) }
+    ensures empty { result ≡ true → writer_buffer buffered.new ≡ [] }
+{
+    match answered {
+        Err(ScriptFault::Write) => false,
+        _ => buffered.flush().is_ok(),
+    }
 }

@@ -11,4 +11,4 @@ returns-then-end_of_file c =
 pub returns : goal.returns
 returns c =
     let off : c.args.self.now.reader.reader.media.end_of_file ≡ false = sym c.end_of_file.ensures ∙ c.if-end_of_file.false
-    in rw c.none.ensures (end-key-pressed (media_of c.args.self.now) c.plan_end_key.result off c.plan_end_key.ensures.can c.plan_end_key.ensures.pressed c.plan_end_key.ensures.back)
+    in rw c.of_reader.ensures (end-key-pressed (media_of c.args.self.now) c.plan_end_key.result off c.plan_end_key.ensures.can c.plan_end_key.ensures.pressed c.plan_end_key.ensures.back)

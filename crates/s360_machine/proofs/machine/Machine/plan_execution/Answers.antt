@@ -1,0 +1,47 @@
+use Rattle.std.proofs.Common.{refl}
+use Rattle.s360_machine.specs.Media.{media_of}
+use Rattle.s360_machine.proofs.IoLemmas.{IsMediaChangeTo-console, IsMediaChangeTo-printer, IsMediaChangeTo-punch, IsMediaChangeTo-reader, IsMediaChangeTo-tape0, IsMediaChangeTo-tape1}
+use Rattle.s360_machine.proofs.StepLemmas.{channel-event, console-change, printer-change, punch-change, reader-change, tape-change}
+use Rattle.s360_machine.proofs.machine.Machine.plan_execution.Goals as goal
+
+pub returns-in_ok-step-in-Reader-clause-plan : goal.returns-in_ok-step-in-Reader-clause-plan
+returns-in_ok-step-in-Reader-clause-plan c =
+    let run = rw (c.storage-storage.ensures, c.control-control.ensures) at c.in_ok-step-in-Reader.ensures
+    in let io = rw c.of_reader.ensures at c.planned_step.ensures
+    in let media = IsMediaChangeTo-reader (media_of c.self.inside.devices) _ _ (reader-change c.self.inside.devices.reader _ _ _ _ run)
+    in channel-event _ _ _ _ _ _ _ _ _ _ _ _ c.self.view_is run io media (rw c.in-Reader.is refl)
+
+pub returns-in_ok-step-in-Punch-clause-plan : goal.returns-in_ok-step-in-Punch-clause-plan
+returns-in_ok-step-in-Punch-clause-plan c =
+    let run = rw (c.storage-storage.ensures, c.control-control.ensures) at c.in_ok-step-in-Punch.ensures
+    in let io = rw c.of_punch.ensures at c.planned_step-in-Punch.ensures
+    in let media = IsMediaChangeTo-punch (media_of c.self.inside.devices) _ _ (punch-change c.self.inside.devices.punch _ _ _ _ run)
+    in channel-event _ _ _ _ _ _ _ _ _ _ _ _ c.self.view_is run io media (rw c.in-Punch.is refl)
+
+pub returns-in_ok-step-in-Printer-clause-plan : goal.returns-in_ok-step-in-Printer-clause-plan
+returns-in_ok-step-in-Printer-clause-plan c =
+    let run = rw (c.storage-storage.ensures, c.control-control.ensures) at c.in_ok-step-in-Printer.ensures
+    in let io = rw c.of_printer.ensures at c.planned_step-in-Printer.ensures
+    in let media = IsMediaChangeTo-printer (media_of c.self.inside.devices) _ _ (printer-change c.self.inside.devices.printer _ _ _ _ run)
+    in channel-event _ _ _ _ _ _ _ _ _ _ _ _ c.self.view_is run io media (rw c.in-Printer.is refl)
+
+pub returns-in_ok-step-in-Console-clause-plan : goal.returns-in_ok-step-in-Console-clause-plan
+returns-in_ok-step-in-Console-clause-plan c =
+    let run = rw (c.storage-storage.ensures, c.control-control.ensures) at c.in_ok-step-in-Console.ensures
+    in let io = rw c.of_console.ensures at c.planned_step-in-Console.ensures
+    in let media = IsMediaChangeTo-console (media_of c.self.inside.devices) _ _ (console-change c.self.inside.devices.console _ _ _ _ run)
+    in channel-event _ _ _ _ _ _ _ _ _ _ _ _ c.self.view_is run io media (rw c.in-Console.is refl)
+
+pub returns-in_ok-step-in-Tape0-clause-plan : goal.returns-in_ok-step-in-Tape0-clause-plan
+returns-in_ok-step-in-Tape0-clause-plan c =
+    let run = rw (c.storage-storage.ensures, c.control-control.ensures) at c.in_ok-step-in-Tape0.ensures
+    in let io = rw c.of_tape0.ensures at c.planned_step-in-Tape0.ensures
+    in let media = IsMediaChangeTo-tape0 (media_of c.self.inside.devices) _ _ (tape-change c.self.inside.devices.tape0 _ _ _ _ run)
+    in channel-event _ _ _ _ _ _ _ _ _ _ _ _ c.self.view_is run io media (rw c.in-Tape0.is refl)
+
+pub returns-in_ok-step-in-Tape1-clause-plan : goal.returns-in_ok-step-in-Tape1-clause-plan
+returns-in_ok-step-in-Tape1-clause-plan c =
+    let run = rw (c.storage-storage.ensures, c.control-control.ensures) at c.in_ok-step-in-Tape1.ensures
+    in let io = rw c.of_tape1.ensures at c.planned_step-in-Tape1.ensures
+    in let media = IsMediaChangeTo-tape1 (media_of c.self.inside.devices) _ _ (tape-change c.self.inside.devices.tape1 _ _ _ _ run)
+    in channel-event _ _ _ _ _ _ _ _ _ _ _ _ c.self.view_is run io media (rw c.in-Tape1.is refl)
