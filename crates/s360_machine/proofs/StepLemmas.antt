@@ -7,20 +7,20 @@ use Rattle.s360_device.specs.declared.reader_change.ReaderChange.{ReaderChange}
 use Rattle.s360_device.specs.declared.punch_change.PunchChange.{PunchChange}
 use Rattle.s360_device.specs.Commands.{command_of}
 use Rattle.s360_device.specs.Motions.{items_put}
-use Rattle.s360_device.specs.Punch.{Punch, PunchWithRoom, punch_table}
+use Rattle.s360_device.specs.Punch.{PunchWithRoom, punch_table}
 use Rattle.s360_device.specs.PunchChanges.{CanSwapPunch, punch_after_swap, punch_change_after_swap}
-use Rattle.s360_device.specs.Reader.{Reader, ReaderWithRoom, reader_table}
+use Rattle.s360_device.specs.Reader.{ReaderWithRoom, reader_table}
 use Rattle.s360_device.specs.ReaderChanges.{CanSwapReader, reader_after_swap, reader_change_after_swap}
 use Rattle.s360_device.specs.Rows.{DeviceWith, Table, after_command}
 use Rattle.s360_print.specs.declared.console_change.ConsoleChange.{ConsoleChange}
 use Rattle.s360_print.specs.declared.printer_change.PrinterChange.{PrinterChange}
-use Rattle.s360_print.specs.Console.{Console, ConsoleWithRoom, console_table}
+use Rattle.s360_print.specs.Console.{ConsoleWithRoom, console_table}
 use Rattle.s360_print.specs.ConsoleChanges.{CanSwapConsole, console_after_swap, console_change_after_swap, console_needs}
-use Rattle.s360_print.specs.Printer.{Printer, PrinterWithRoom, printer_table}
+use Rattle.s360_print.specs.Printer.{PrinterWithRoom, printer_table}
 use Rattle.s360_print.specs.PrinterChanges.{CanSwapPrinter, printer_after_swap, printer_change_after_swap}
 use Rattle.s360_tape.specs.declared.tape_change.TapeChange.{TapeChange}
 use Rattle.s360_tape.specs.Slots.{slots_put}
-use Rattle.s360_tape.specs.Tape.{Tape, tape_table}
+use Rattle.s360_tape.specs.Tape.{tape_table}
 use Rattle.s360_tape.specs.WholeTape.{CanSwapTape, TapeWithRoom, seen as seen_tape, tape_after_swap, tape_change_after_swap}
 use Rattle.s360_store.specs.declared.place.Cell.{Cell}
 use Rattle.s360_store.specs.Plans.{IsPlanOf}
