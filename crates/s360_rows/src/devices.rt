@@ -1,10 +1,10 @@
-//! Devices: decks, each command of the card reader and the punch, and commands that are taken back.
+//! The device of the tests by its own calls: each command, and commands that are taken back.
 ghost use Rattle.std.specs.Prelude.{◌≡◌, IsTrue, IfOk};
 ghost use Rattle.s360_device.specs.Transfers.{CanEndWith};
 
 use crate::rows::{Subject, Words, assert_rows};
 use crate::slate::Slate;
-use s360_device::{Begin, Deck, DeckFault, Device, Punch, Reader, deck_from};
+use s360_device::{Begin, Device};
 use std::alloc::{AllocError, Global};
 
 /// Whether a command that begins so may end with such bytes of output.
@@ -88,26 +88,6 @@ fn file(alloc: Global, count: usize) -> Option<Vec<u8>> {
     Some(bytes)
 }
 
-/// A deck of so many bytes that count up, or why there is none.
-fn deck(alloc: Global, count: usize) -> Option<Result<Deck, DeckFault>> {
-    let file = file(alloc, count)?;
-    match deck_from(alloc, file.as_slice()) {
-        Err(DeckFault::Memory) => None,
-        deck => Some(deck),
-    }
-}
-
-/// A reader with a deck of so many bytes that count up, and its end-of-file key pressed if it is to be.
-fn reader(alloc: Global, count: usize, at_end: bool) -> Option<Reader> {
-    let deck = deck(alloc, count)?.ok()?;
-    let mut reader = Reader::new(alloc, deck);
-    if at_end {
-        let mut change = reader.plan_end_key();
-        reader.swap(&mut change);
-    }
-    Some(reader)
-}
-
 /// How a command begins.
 fn text_of_begin(alloc: Global, begin: Begin) -> Option<String> {
     match begin {
@@ -138,117 +118,6 @@ fn text_of_command<D: Device>(
     let sense = device.sense();
     write!(text, ", sense {:X}", sense[0]).ok()?;
     Some(text)
-}
-
-/// The reader's key, its cards, and the stackers of those fed.
-fn text_of_reader(alloc: Global, reader: &Reader) -> Option<String> {
-    let key = if reader.end_of_file() { " end" } else { "" };
-    let mut text = format!(in alloc; "{} of {}{key}", reader.fed(), reader.cards()).ok()?;
-    for number in 1..=reader.cards() {
-        let first = reader.card(number).map(|card| card[0])?;
-        match reader.stacker(number) {
-            Some(stacker) => write!(text, ", {first:X} in {stacker:?}").ok()?,
-            None => write!(text, ", {first:X}").ok()?,
-        }
-    }
-    Some(text)
-}
-
-/// The card reader.
-#[derive(Drop)]
-struct Reading {
-    reader: Reader,
-}
-
-impl Subject for Reading {
-    fn new(alloc: Global) -> Option<Reading> {
-        let reader = reader(alloc, 0, false)?;
-        Some(Reading { reader })
-    }
-
-    fn answer(&mut self, alloc: Global, words: &mut Words<'_>) -> Option<String> {
-        match words.next_word() {
-            "file" => match deck(alloc, words.below(0x1000) as usize)? {
-                Ok(deck) => format!(in alloc; "{}", deck.as_slice().len()).ok(),
-                Err(fault) => format!(in alloc; "{fault}").ok(),
-            },
-            "deck" => {
-                self.reader = reader(alloc, words.below(0x1000) as usize, false)?;
-                text_of_reader(alloc, &self.reader)
-            }
-            "end" => {
-                self.reader = reader(alloc, words.below(0x1000) as usize, true)?;
-                text_of_reader(alloc, &self.reader)
-            }
-            "times" => {
-                let command = words.below(0x100) as u8;
-                many_times(&mut self.reader, command, &[], words.number()).ok()?;
-                text_of_reader(alloc, &self.reader)
-            }
-            "show" => text_of_reader(alloc, &self.reader),
-            command => {
-                let command = u8::from_str_radix(command, 16).ok()?;
-                text_of_command(alloc, &mut self.reader, command, &[])
-            }
-        }
-    }
-}
-
-#[test]
-fn card_reader(rt: HostRuntime) {
-    assert_rows::<Reading>(&rt, rt.alloc(), READER);
-}
-
-/// The cards punched: the first two bytes and the last of each, and its stacker.
-fn text_of_punch(alloc: Global, punch: &Punch) -> Option<String> {
-    let mut text = format!(in alloc; "{}", punch.cards()).ok()?;
-    for number in 1..=punch.cards() {
-        let punched = punch.card(number)?;
-        let card = punched.card;
-        let (first, second, last) = (card[0], card[1], card[79]);
-        write!(
-            text,
-            ", {first:X} {second:X} to {last:X} in {:?}",
-            punched.stacker
-        )
-        .ok()?;
-    }
-    Some(text)
-}
-
-/// The card punch.
-#[derive(Drop)]
-struct Punching {
-    punch: Punch,
-}
-
-impl Subject for Punching {
-    fn new(alloc: Global) -> Option<Punching> {
-        let punch = Punch::new(alloc);
-        Some(Punching { punch })
-    }
-
-    fn answer(&mut self, alloc: Global, words: &mut Words<'_>) -> Option<String> {
-        match words.next_word() {
-            "times" => {
-                let command = words.below(0x100) as u8;
-                let bytes = file(alloc, words.below(0x100) as usize)?;
-                many_times(&mut self.punch, command, bytes.as_slice(), words.number()).ok()?;
-                text_of_punch(alloc, &self.punch)
-            }
-            "show" => text_of_punch(alloc, &self.punch),
-            command => {
-                let command = u8::from_str_radix(command, 16).ok()?;
-                let bytes = file(alloc, words.below(0x100) as usize)?;
-                text_of_command(alloc, &mut self.punch, command, bytes.as_slice())
-            }
-        }
-    }
-}
-
-#[test]
-fn card_punch(rt: HostRuntime) {
-    assert_rows::<Punching>(&rt, rt.alloc(), PUNCH);
 }
 
 /// The slate.
@@ -290,90 +159,6 @@ impl Subject for Writing {
 fn device_of_the_tests(rt: HostRuntime) {
     assert_rows::<Writing>(&rt, rt.alloc(), SLATE);
 }
-
-const READER: &str = "
-* files of so many bytes
-file 0 -> 0
-file 1 -> short card at 0
-file 4F -> short card at 0
-file 50 -> 1
-file 51 -> short card at 80
-file A0 -> 2
-file A1 -> short card at 160
-* reads, feeds and a read alone, and what they leave
-deck 190 -> 0 of 5, 0, 50, A0, F0, 40
-02 -> input 50 0 to 4F, alters, sense 0
-42 -> input 50 50 to 9F, alters, sense 0
-C2 -> input 50 A0 to EF, sense 0
-82 -> input 50 A0 to EF, alters, sense 0
-63 -> control, alters, sense 0
-show -> 4 of 5, 0 in R1, 50 in R2, A0 in Rp3, F0 in R2, 40
-A3 -> control, alters, sense 0
-show -> 5 of 5, 0 in R1, 50 in R2, A0 in Rp3, F0 in R2, 40 in Rp3
-* with no card left: the sense byte is kept by 03 and 04
-02 -> refused 40, alters, sense 40
-04 -> input 1 40 to 40, sense 40
-03 -> control, sense 40
-42 -> refused 40, sense 40
-82 -> refused 40, sense 40
-C2 -> refused 40, sense 40
-23 -> refused 40, sense 40
-63 -> refused 40, sense 40
-A3 -> refused 40, sense 40
-01 -> refused 80, alters, sense 80
-04 -> input 1 80 to 80, sense 80
-* a command that is done clears it
-deck 50 -> 0 of 1, 0
-0B -> refused 80, alters, sense 80
-C2 -> input 50 0 to 4F, alters, sense 0
-C2 -> input 50 0 to 4F, sense 0
-23 -> control, alters, sense 0
-show -> 1 of 1, 0 in R1
-* with the end-of-file key pressed, and then with no card left
-end 50 -> 0 of 1 end, 0
-C2 -> input 50 0 to 4F, sense 0
-23 -> control, alters, sense 0
-02 -> input 0, exception, sense 0
-42 -> input 0, exception, sense 0
-82 -> input 0, exception, sense 0
-C2 -> input 0, exception, sense 0
-23 -> control, exception, sense 0
-63 -> control, exception, sense 0
-A3 -> control, exception, sense 0
-03 -> control, sense 0
-04 -> input 1 0 to 0, sense 0
-0A -> refused 80, alters, sense 80
-63 -> control, alters, exception, sense 0
-show -> 1 of 1 end, 0 in R1
-* taken back
-end A0 -> 0 of 2 end, 0, 50
-23 -> control, alters, sense 0
-times 02 2710 -> 1 of 2 end, 0 in R1, 50
-times A3 2710 -> 1 of 2 end, 0 in R1, 50
-times FF 2710 -> 1 of 2 end, 0 in R1, 50
-04 -> input 1 0 to 0, sense 0
-";
-
-const PUNCH: &str = "
-* cards, padded with blanks, in the three stackers
-show -> 0
-01 3 -> output 50, alters, sense 0
-41 0 -> output 50, alters, sense 0
-81 50 -> output 50, alters, sense 0
-show -> 3, 0 1 to 40 in P1, 40 40 to 40 in P2, 0 1 to 4F in Rp3
-* 81 bytes are no card
-01 51 -> output 50, sense 0
-* the sense byte is kept by 03 and 04, and cleared by a card
-02 0 -> refused 80, alters, sense 80
-C2 0 -> refused 80, sense 80
-03 0 -> control, sense 80
-04 0 -> input 1 80 to 80, sense 80
-41 1 -> output 50, alters, sense 0
-* taken back
-times 81 50 2710 -> 4, 0 1 to 40 in P1, 40 40 to 40 in P2, 0 1 to 4F in Rp3, 0 40 to 40 in P2
-times 02 0 2710 -> 4, 0 1 to 40 in P1, 40 40 to 40 in P2, 0 1 to 4F in Rp3, 0 40 to 40 in P2
-04 0 -> input 1 0 to 0, sense 0
-";
 
 const SLATE: &str = "
 * no answer until there is a line, which is read once

@@ -44,7 +44,7 @@ fn machine(alloc: Global) -> Option<Machine> {
 }
 
 /// A session that scripts are carried out in. A session that is answered as it is, or is at hand where
-/// a function may end early, takes minutes to prove.
+/// a function may end early, takes minutes to prove: a second one is made where the first is lent.
 #[derive(Drop)]
 struct Scripted {
     session: Session,
@@ -184,6 +184,19 @@ impl Left {
         format!(in alloc; "{outcome:?} {count:X} {first} {standing}").ok()
     }
 
+    /// Whether its session is as one that is begun.
+    fn is_new(&self, alloc: Global) -> Option<bool> {
+        let begun = Scripted::new(alloc, 10)?;
+        Some(self.scripted.stands_as(&begun))
+    }
+
+    /// Its text, and whether its session is as one that is begun.
+    fn text_beside_new(&self, alloc: Global) -> Option<String> {
+        let is_new = self.is_new(alloc)?;
+        let text = self.text(alloc)?;
+        format!(in alloc; "{text} {is_new}").ok()
+    }
+
     /// The answers of a script that was carried out.
     fn answers(&self, alloc: Global) -> Option<String> {
         if self.outcome.is_err() {
@@ -205,6 +218,12 @@ impl Left {
         }
         self.text(alloc)
     }
+
+    /// What is wrong where the writer took so many bytes and then failed. These lines were carried out.
+    fn fault_beside(&self, alloc: Global, room: usize, lines: &[u8]) -> Option<String> {
+        let wanted = Left::of(alloc, 10, lines, lines.len() + 1, ROOM)?;
+        self.fault(alloc, room, &wanted)
+    }
 }
 
 /// The text of what a script leaves.
@@ -217,10 +236,7 @@ fn text_left(alloc: Global, script: &[u8], calls: usize) -> Option<String> {
 /// session is as before.
 fn text_cut(alloc: Global, calls: usize) -> Option<String> {
     let left = Left::of(alloc, 10, ADD.as_bytes(), calls, ROOM)?;
-    let before = Scripted::new(alloc, 10)?;
-    let stands = left.scripted.stands_as(&before);
-    let text = left.text(alloc)?;
-    format!(in alloc; "{text} {stands}").ok()
+    left.text_beside_new(alloc)
 }
 
 /// The script behind a long comment.
@@ -306,8 +322,7 @@ fn carried_out(room: usize) -> Option<usize> {
 fn fault_of_write(alloc: Global, room: usize) -> Option<String> {
     let (first, _) = ADD.as_bytes().split_at_checked(carried_out(room)?)?;
     let found = Left::of(alloc, 10, ADD.as_bytes(), ADD.len() + 1, room)?;
-    let wanted = Left::of(alloc, 10, first, first.len() + 1, ROOM)?;
-    found.fault(alloc, room, &wanted)
+    found.fault_beside(alloc, room, first)
 }
 
 /// Asserts that nothing is wrong with a writer that takes so many bytes.

@@ -110,20 +110,30 @@ impl Reading {
             outcome => outcome,
         }
     }
+
+    /// What is wrong with the read in another session, of which this one shows how it was before.
+    fn fault_of_read(&self, alloc: Global) -> Option<&'static str> {
+        let mut reading = Reading::started(alloc)?;
+        let outcome = reading.read_over(self);
+        let last = reading.session.last_change(Place::Byte(0x105FE));
+        Some(fault_of_outcome(outcome, last))
+    }
 }
 
-/// What is wrong with the read: no more than a growth of it may be refused.
-fn fault_of_read(alloc: Global) -> Option<&'static str> {
-    let mut reading = Reading::started(alloc)?;
-    let before = Reading::started(alloc)?;
-    let outcome = reading.read_over(&before);
-    let last = reading.session.last_change(Place::Byte(0x105FE));
-    Some(match outcome {
+/// What is wrong with a read that came to this, where the last change of its last byte is known.
+fn fault_of_outcome(outcome: Result<usize, Refusal>, last: Option<u32>) -> &'static str {
+    match outcome {
         Ok(ALTERED) if last == Some(STARTED + 1) => "",
         Ok(_) => "it was another change",
         Err(Refusal::Memory) => "refused, it altered the session",
         Err(_) => "it was refused",
-    })
+    }
+}
+
+/// What is wrong with the read: no more than a growth of it may be refused.
+fn fault_of_read(alloc: Global) -> Option<&'static str> {
+    let before = Reading::started(alloc)?;
+    before.fault_of_read(alloc)
 }
 
 #[test]
