@@ -64,3 +64,7 @@ IsStorageFailure failure = (fault : StoreFault) × (failure ≡ failure_of_stora
 -- the failures that setting the machine up ends with
 abbrev pub IsSetUpFailure : Failure → Type 0
 IsSetUpFailure failure = IsDeckFailure failure ⊎ (IsTapeFailure Tape0 failure ⊎ (IsTapeFailure Tape1 failure ⊎ IsStorageFailure failure))
+
+-- the failures that carrying out the script that the options name ends with
+abbrev pub IsAnsweringFailure : Failure → Type 0
+IsAnsweringFailure failure = (failure ≡ Part Script CannotRead) ⊎ IsScriptFailure failure

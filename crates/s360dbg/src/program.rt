@@ -1,5 +1,5 @@
 //! What the program does once its command line is read. Faults are found in the order of the steps.
-ghost use Rattle.std.specs.Prelude.{◌≡◌, ◌≤◌, [], true, false, length, None};
+ghost use Rattle.std.specs.Prelude.{◌≡◌, ◌≢◌, ◌≤◌, [], true, false, length, None};
 ghost use Rattle.std.specs.Prelude.{IfOk, IfErr, IfSome, OnOk, Err};
 ghost use Rattle.std.specs.Io.KnownBytes.{Appends, Keeps};
 ghost use Rattle.std.specs.Io.Buffered.{writer_buffer, writer_contents};
@@ -12,7 +12,7 @@ ghost use Rattle.s360_debug.specs.Debugger.{new_debugger};
 ghost use Rattle.s360_debug.specs.Lines.{lines_of};
 ghost use Rattle.s360_debug.specs.Script.{answers_of, state_after_lines};
 ghost use Rattle.s360dbg.specs.Failures.{IsFailureOf, IsDeckFailure, IsTapeFailure};
-ghost use Rattle.s360dbg.specs.Failures.{IsScriptFailure, IsSetUpFailure};
+ghost use Rattle.s360dbg.specs.Failures.{IsScriptFailure, IsSetUpFailure, IsAnsweringFailure};
 ghost use Rattle.s360dbg.specs.declared.failure.Part.TheVariants.{Reader};
 ghost use Rattle.s360dbg.specs.declared.failure.Fault.TheVariants.{CannotRead};
 ghost use Rattle.s360dbg.specs.declared.failure.Failure.TheVariants.{Part as failure_of_part, StorageSize};
@@ -42,19 +42,37 @@ pub(crate) fn run(rt: &HostRuntime, options: Options<'_>) -> Result<(), Failure>
     ensures size { OnOk result (is_storage_size options.entry.storage ≡ true) }
     ensures no_size { result ≡ Err StorageSize → is_storage_size options.entry.storage ≡ false }
 {
-    let alloc = rt.alloc();
-    let machine = set_up(rt, alloc, options)?;
-    let mut session = Session::new(alloc, machine, LIMIT);
-    let _writer = match options.script {
+    let machine = set_up(rt, rt.alloc(), options)?;
+    answer_script(rt, machine, options.script)
+}
+
+/// Carries out the script in a file, or that on standard input where none is named, over a machine.
+fn answer_script(rt: &HostRuntime, machine: Machine, name: Option<&str>) -> Result<(), Failure>
+    ensures no_size { result ≢ Err StorageSize }
+    ensures failure { IfErr result IsAnsweringFailure }
+{
+    let mut session = Session::new(rt.alloc(), machine, LIMIT);
+    match name {
         Some(name) => {
             let mut file = open(rt, Part::Script, name)?;
-            carry_out(alloc, &mut session, &mut file, io::writer(rt))?
+            answer_on_output(rt, &mut session, &mut file)
         }
         None => {
             tell_terminal(rt);
-            carry_out(alloc, &mut session, &mut rt.reader(), io::writer(rt))?
+            answer_on_output(rt, &mut session, &mut rt.reader())
         }
-    };
+    }
+}
+
+/// Carries out the script that a reader has left, and writes its answers to standard output.
+fn answer_on_output<R: Read>(
+    rt: &HostRuntime,
+    session: &mut Session,
+    reader: &mut R,
+) -> Result<(), Failure>
+    ensures failure { IfErr result IsScriptFailure }
+{
+    let _writer = carry_out(rt.alloc(), session, reader, io::writer(rt))?;
     Ok(())
 }
 
