@@ -1,23 +1,18 @@
-//! A script's bytes in, and its answers out.
-ghost use Rattle.std.specs.Prelude.{◌≡◌, ◌≢◌, ◌≤◌, ◌<◌, ℕ, length, IfOk, IfSome, OnOk, OnErr, Err, IfErr};
-ghost use Rattle.std.specs.Io.KnownBytes.{Appends, Consumes};
-ghost use Rattle.s360_debug.specs.Script.{IsPartWritten};
-ghost use Rattle.s360_debug.specs.declared.bytes.ScriptFault.TheVariants.{TooLong, Memory, Write as write_failed};
+//! What is wrong with a script's bytes, and its answers out.
+ghost use Rattle.std.specs.Prelude.{◌≡◌, OnOk, OnErr, IfErr};
+ghost use Rattle.std.specs.Io.KnownBytes.{Appends};
+ghost use Rattle.s360_debug.specs.Script.{IsPartWritten, fault_of_read};
+ghost use Rattle.s360_debug.specs.declared.bytes.ScriptFault.TheVariants.{Memory, Write as write_failed};
 
-use std::alloc::{AllocError, Global};
-use std::io::{Read, Write};
+use crate::reading::ReadFault;
+use std::alloc::AllocError;
+use std::io::Write;
 use thiserror::Error;
-
-/// A script has at most so many bytes.
-const LONGEST_SCRIPT: usize = 1_048_576;
-
-/// A script is read by at most so many reads.
-const MOST_READS: u32 = 2_000_000;
 
 /// Why a script was not carried out to its end.
 #[derive(Clone, Copy, Debug, PartialEq, Eq, Error)]
 pub enum ScriptFault {
-    /// A read failed, or 2,000,000 reads did not reach the end.
+    /// A read failed.
     #[error("read failed")]
     Read,
     /// The script has more than 1,048,576 bytes.
@@ -39,28 +34,16 @@ impl From<AllocError> for ScriptFault {
     }
 }
 
-/// All the bytes of a reader, of which there are at most 1,048,576.
-pub(crate) fn read_whole<R: Read>(alloc: Global, reader: &mut R) -> Result<Vec<u8>, ScriptFault>
-    ensures ok { IfOk result (λ v. IfSome (R.remaining reader.old) (λ xs. v.items ≡ xs)) }
-    ensures short { IfOk result (λ v. length v.items ≤ 1048576) }
-    ensures too_long { result ≡ Err TooLong → IfSome (R.remaining reader.old) (λ xs. 1048576 < length xs) }
-    ensures unwritten { result ≢ Err write_failed }
-{
-    let mut bytes = Vec::new(alloc);
-    let mut piece = [0u8; 4096];
-    for _ in 0..MOST_READS {
-        let Ok(count) = reader.read(&mut piece) else {
-            return Err(ScriptFault::Read);
-        };
-        if count == 0 {
-            return Ok(bytes);
+impl From<ReadFault> for ScriptFault {
+    ghost from_gives = { λ fault e. e ≡ fault_of_read fault };
+
+    fn from(fault: ReadFault) -> ScriptFault {
+        match fault {
+            ReadFault::Failed => ScriptFault::Read,
+            ReadFault::TooLong => ScriptFault::TooLong,
+            ReadFault::Memory => ScriptFault::Memory,
         }
-        if bytes.len() + count > LONGEST_SCRIPT {
-            return Err(ScriptFault::TooLong);
-        }
-        bytes.extend_from_slice(&piece[..count])?;
     }
-    Err(ScriptFault::Read)
 }
 
 /// Writes a text by as many writes as it takes. After a fault a first part of it is written.

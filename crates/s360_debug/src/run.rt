@@ -10,13 +10,17 @@ ghost use Rattle.s360_debug.specs.declared.bytes.ScriptFault.TheVariants.{Read a
 ghost use Rattle.s360_debug.specs.declared.bytes.ScriptFault.TheVariants.{Write as write_failed};
 
 use crate::answering::{answer, text_of_fault};
-use crate::bytes::{ScriptFault, read_whole, write_whole};
+use crate::bytes::{ScriptFault, write_whole};
 use crate::command_reader::read_command;
 use crate::lines::{Lines, skips};
+use crate::reading::read_whole;
 use crate::text::Text;
 use s360_journal::{Breaks, Session};
 use std::alloc::{AllocError, Global};
 use std::io::{Read, Write};
+
+/// A script has at most so many bytes.
+const LONGEST_SCRIPT: usize = 1_048_576;
 
 /// Carries out the script that a reader has left, writes the answers, and answers the number of its
 /// command lines, faulty ones included. The script is read whole before its first line is carried out.
@@ -37,7 +41,7 @@ pub fn run_script<R: Read, W: Write>(
     ensures memory { result ≡ Err Memory → IfSome (R.remaining reader.old) (λ text. IsStopped (W.contents writer.old) (W.contents writer.new) (new_debugger session.old) session.new (lines_of text)) }
     ensures write { result ≡ Err write_failed → IfSome (R.remaining reader.old) (λ text. IsCut (W.contents writer.old) (W.contents writer.new) (new_debugger session.old) session.new (lines_of text)) }
 {
-    let script = read_whole(alloc, reader)?;
+    let script = read_whole(alloc, reader, LONGEST_SCRIPT)?;
     answer_script(alloc, session, &script, writer)
 }
 

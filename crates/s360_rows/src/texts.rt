@@ -2,7 +2,7 @@
 //! disarm the tests that compare.
 use crate::rows::{Subject, Words, assert_rows};
 use s360_channel::{Program, Progress, UnitState};
-use s360_debug::{LineFault, ScriptFault, Shown};
+use s360_debug::{LineFault, ReadFault, ScriptFault, Shown};
 use s360_fixed::Ended;
 use s360_journal::NothingStands;
 use s360_machine::{ExternalConditions, Refusal, RunState};
@@ -24,6 +24,13 @@ fn text_of_script_faults(alloc: Global) -> Option<String> {
     let (read, too_long) = (ScriptFault::Read, ScriptFault::TooLong);
     let (write, memory) = (ScriptFault::Write, ScriptFault::Memory);
     format!(in alloc; "{read}, {too_long}, {write}, {memory}").ok()
+}
+
+/// The faults of a reader.
+fn text_of_read_faults(alloc: Global) -> Option<String> {
+    let (failed, too_long) = (ReadFault::Failed, ReadFault::TooLong);
+    let memory = ReadFault::Memory;
+    format!(in alloc; "{failed}, {too_long}, {memory}").ok()
 }
 
 /// The state of a unit whose program goes on at an address.
@@ -71,6 +78,7 @@ impl Subject for Texts {
         match words.next_word() {
             "line" => text_of_line_faults(alloc),
             "script" => text_of_script_faults(alloc),
+            "reader" => text_of_read_faults(alloc),
             "session" => format!(in alloc; "{NothingStands}").ok(),
             "apart" => are_told_apart(alloc),
             _ => None,
@@ -87,6 +95,7 @@ fn texts_and_equalities(rt: HostRuntime) {
 const TEXTS: &str = "
 line -> line too long, unknown, argument 3, out of memory
 script -> read failed, script too long, write failed, out of memory
+reader -> read failed, too long, out of memory
 session -> nothing stands
 apart -> true true true true true true true true true true true true
 ";

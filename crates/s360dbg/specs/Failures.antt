@@ -8,8 +8,8 @@ use Rattle.s360_store.specs.declared.fault.StoreFault.{StoreFault}
 use Rattle.s360_store.specs.declared.fault.StoreFault.TheVariants as storage
 use Rattle.s360_tape.specs.declared.fault.TapeFault.{TapeFault}
 use Rattle.s360_tape.specs.declared.fault.TapeFault.TheVariants as tape
-use Rattle.s360dbg.specs.declared.images.ReadFault.{ReadFault}
-use Rattle.s360dbg.specs.declared.images.ReadFault.TheVariants as read
+use Rattle.s360_debug.specs.declared.reading.ReadFault.{ReadFault}
+use Rattle.s360_debug.specs.declared.reading.ReadFault.TheVariants as read
 use Rattle.s360dbg.specs.declared.failure.Part as part
 use Rattle.s360dbg.specs.declared.failure.Part.TheVariants.{Reader, Tape0, Tape1, Script}
 use Rattle.s360dbg.specs.declared.failure.Fault.TheVariants.{CannotRead, FileTooLong, ShortCard, ShortHeader, BadFlags, PartOutOfPlace, ShortBlock, BlockTooLong, ReadFailed, ScriptTooLong, WriteFailed}

@@ -5,9 +5,8 @@ ghost use Rattle.s360dbg.specs.Failures.{failure_of_storage, failure_of_deck, fa
 ghost use Rattle.s360dbg.specs.Failures.{failure_of_script, failure_of_read};
 ghost use Rattle.s360dbg.specs.declared.failure.Failure.TheVariants.{Memory};
 
-use crate::images::ReadFault;
 use itoa::Buffer;
-use s360_debug::ScriptFault;
+use s360_debug::{ReadFault, ScriptFault};
 use s360_device::DeckFault;
 use s360_store::StoreFault;
 use s360_tape::TapeFault;

@@ -4,7 +4,6 @@
 mod arguments;
 mod command_line;
 mod failure;
-mod images;
 mod program;
 mod telling;
 

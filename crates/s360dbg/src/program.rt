@@ -19,8 +19,7 @@ ghost use Rattle.s360dbg.specs.declared.failure.Failure.TheVariants.{Part as fai
 
 use crate::arguments::{Options, TapeOptions};
 use crate::failure::{Failure, Fault, Part};
-use crate::images::{LONGEST_FILE, read_whole};
-use s360_debug::{ScriptFault, run_script};
+use s360_debug::{ScriptFault, read_whole, run_script};
 use s360_device::{Deck, deck_from};
 use s360_journal::Session;
 use s360_machine::Machine;
@@ -31,6 +30,9 @@ use std::io::{self, BufWriter, Input, IsTerminal, Read, Write};
 
 /// So many changes can stand.
 const LIMIT: u32 = 10_000_000;
+
+/// A file of a deck or a tape has at most so many bytes.
+const LONGEST_FILE: usize = 67_108_864;
 
 /// What a person is told from whose terminal the script is read. All of it is read before its first
 /// line is carried out.

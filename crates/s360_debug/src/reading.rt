@@ -1,24 +1,25 @@
-//! The files that decks and tapes are read from. docs/IMAGES.md has their formats.
+//! All that a reader has left.
 ghost use Rattle.std.specs.Prelude.{◌≡◌, ◌≤◌, ◌<◌, length, IfOk, IfSome, Err};
-ghost use Rattle.s360dbg.specs.declared.images.ReadFault.TheVariants.{TooLong, Memory};
+ghost use Rattle.s360_debug.specs.declared.reading.ReadFault.TheVariants.{TooLong, Memory};
 
 use std::alloc::{AllocError, Global};
 use std::io::Read;
-
-/// A file has at most so many bytes.
-pub(crate) const LONGEST_FILE: usize = 67_108_864;
+use thiserror::Error;
 
 /// A read is of at most so many bytes.
 const PIECE: usize = 16_384;
 
-/// Why a file was not read whole.
-#[derive(Clone, Copy, Debug, PartialEq, Eq)]
-pub(crate) enum ReadFault {
+/// Why a reader was not read to its end.
+#[derive(Clone, Copy, Debug, PartialEq, Eq, Error)]
+pub enum ReadFault {
     /// A read failed.
+    #[error("read failed")]
     Failed,
-    /// The file has more bytes than are allowed.
+    /// The reader has more bytes than are allowed.
+    #[error("too long")]
     TooLong,
     /// A growth was refused.
+    #[error("out of memory")]
     Memory,
 }
 
@@ -30,12 +31,9 @@ impl From<AllocError> for ReadFault {
     }
 }
 
-/// All the bytes that a reader has left, of which there are at most `most`.
-pub(crate) fn read_whole<R: Read>(
-    alloc: Global,
-    reader: &mut R,
-    most: usize,
-) -> Result<Vec<u8>, ReadFault>
+/// All the bytes that a reader has left, of which there are at most `most`. Each read but the last gives
+/// one at least, so that there are at most `most + 1` reads.
+pub fn read_whole<R: Read>(alloc: Global, reader: &mut R, most: usize) -> Result<Vec<u8>, ReadFault>
     ensures ok { IfOk result (λ v. IfSome (R.remaining reader.old) (λ bytes. v.items ≡ bytes)) }
     ensures short { IfOk result (λ v. length v.items ≤ most) }
     ensures too_long { result ≡ Err TooLong → IfSome (R.remaining reader.old) (λ bytes. most < length bytes) }
