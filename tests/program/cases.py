@@ -5,8 +5,10 @@ that fails, files that are named on the command line, a terminal, a script of th
 The first faults of tape files are those that `second_tapes.py` finds, which is written apart from
 the program.
 
-It needs the program as `rt ci` or `./run` has built it, and Python's standard library alone.
+It needs the program as `rt ci` or `./run` has built it, a C compiler, and Python's standard library
+alone.
 """
+import itertools
 import os
 import pathlib
 import pty
@@ -27,6 +29,9 @@ LONGEST_SCRIPT = 1_048_576
 LONGEST_FILE = 67_108_864
 CARD = 80
 END_OF_FILE = b"\x04"
+# A script of so many lines has answers that take some writes.
+MANY_LINES = 10_000
+SOME_WRITES = 3
 
 
 class Repeated(NamedTuple):
@@ -454,12 +459,35 @@ def fault_at_a_terminal(folder):
     return None if right else (done.returncode, done.stdout, done.stderr)
 
 
+def fault_of_failed_writes(folder):
+    """What is wrong where one write fails, and each later one would be made: nothing comes after it."""
+    shim = folder / "fail_nth_write.so"
+    source = TOP / "tests/program/fail_nth_write.c"
+    subprocess.run(["cc", "-O1", "-shared", "-fPIC", "-o", shim, source], check=True)
+    script, whole = b"standing\n" * MANY_LINES, STANDING * MANY_LINES
+    before = None
+    for nth in itertools.count(1):
+        environment = dict(os.environ, LD_PRELOAD=str(shim), FAIL_NTH=str(nth))
+        how = {"capture_output": True, "timeout": SECONDS, "cwd": folder, "env": environment}
+        done = subprocess.run([PROGRAM], input=script, **how)
+        if done.returncode == 0:
+            right = done.stdout == whole and nth > SOME_WRITES
+            return None if right else f"{nth - 1} writes, and {len(done.stdout)} bytes written"
+        is_first_part = whole.startswith(done.stdout) and done.stdout != whole
+        is_longer = done.stdout == b"" if before is None else len(done.stdout) > len(before)
+        fault = (done.returncode, done.stderr)
+        if not is_first_part or not is_longer or fault != (1, told(b"script: write failed")):
+            return f"write {nth}: {len(done.stdout)} bytes written, {fault}"
+        before = done.stdout
+
+
 def main():
     with tempfile.TemporaryDirectory() as name:
         folder = pathlib.Path(name)
         make_files(folder)
         faults = [(case.what, fault_of(case, folder)) for case in CASES]
         faults.append(("a script that is typed at a terminal", fault_at_a_terminal(folder)))
+        faults.append(("a write that fails once", fault_of_failed_writes(folder)))
         for what, writing in WRITINGS.items():
             fault = fault_of_read_back(writing, folder)
             faults.append((f"a tape that is written and read back: {what}", fault))

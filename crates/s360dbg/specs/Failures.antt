@@ -68,3 +68,7 @@ IsSetUpFailure failure = IsDeckFailure failure ⊎ (IsTapeFailure Tape0 failure 
 -- the failures that carrying out the script that the options name ends with
 abbrev pub IsAnsweringFailure : Failure → Type 0
 IsAnsweringFailure failure = (failure ≡ Part Script CannotRead) ⊎ IsScriptFailure failure
+
+-- the failures that the program ends with once its command line is read
+abbrev pub IsRunFailure : Failure → Type 0
+IsRunFailure failure = IsSetUpFailure failure ⊎ IsAnsweringFailure failure

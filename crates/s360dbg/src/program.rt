@@ -12,7 +12,7 @@ ghost use Rattle.s360_debug.specs.Debugger.{new_debugger};
 ghost use Rattle.s360_debug.specs.Lines.{lines_of};
 ghost use Rattle.s360_debug.specs.Script.{answers_of, state_after_lines};
 ghost use Rattle.s360dbg.specs.Failures.{IsFailureOf, IsDeckFailure, IsTapeFailure};
-ghost use Rattle.s360dbg.specs.Failures.{IsScriptFailure, IsSetUpFailure, IsAnsweringFailure};
+ghost use Rattle.s360dbg.specs.Failures.{IsScriptFailure, IsSetUpFailure, IsAnsweringFailure, IsRunFailure};
 ghost use Rattle.s360dbg.specs.declared.failure.Part.TheVariants.{Reader};
 ghost use Rattle.s360dbg.specs.declared.failure.Fault.TheVariants.{CannotRead};
 ghost use Rattle.s360dbg.specs.declared.failure.Failure.TheVariants.{Part as failure_of_part, StorageSize};
@@ -43,6 +43,7 @@ const AT_A_TERMINAL: &str =
 pub(crate) fn run(rt: &HostRuntime, options: Options<'_>) -> Result<(), Failure>
     ensures size { OnOk result (is_storage_size options.entry.storage ≡ true) }
     ensures no_size { result ≡ Err StorageSize → is_storage_size options.entry.storage ≡ false }
+    ensures failure { IfErr result IsRunFailure }
 {
     let machine = set_up(rt, rt.alloc(), options)?;
     answer_script(rt, machine, options.script)
