@@ -4,7 +4,6 @@ use Rattle.std.specs.Int.{bytes_high_first}
 use Rattle.s360_store.specs.declared.place.Cell.{Cell}
 use Rattle.s360_store.specs.Cells.{AreCellsOf, after_exchange}
 use Rattle.s360_store.specs.Plans.{AddsToPlan, HasBytes, HasPsw, IsPlanOf}
-use Rattle.s360_channel.specs.declared.unit_control.UnitControl.{UnitControl}
 use Rattle.s360_channel.specs.declared.unit_state.UnitState.{UnitState}
 use Rattle.s360_channel.specs.declared.unit_state.UnitState.TheVariants.{Idle}
 use Rattle.s360_model.specs.Core.{Core, core_with_bytes, core_with_psw}

@@ -135,6 +135,7 @@ fn push_media(places: &mut ArrayVec<Place, BESIDE>, media: &MediaChanges)
 
 impl Changes {
     /// The places beside those of the core, in their order.
+    #[inline(always)]
     fn beside_core(&self) -> ArrayVec<Place, BESIDE>
         ensures { result.items ≡ places_beside_core self.now }
     {

@@ -123,6 +123,7 @@ impl Machine {
     }
 
     /// Plans a channel event of a unit, which may end initial program loading.
+    #[inline(never)]
     pub(crate) fn plan_channel(
         &self,
         unit: Unit,

@@ -301,6 +301,7 @@ impl Machine {
     }
 
     /// Plans that a key is pressed.
+    #[inline(never)]
     fn plan_key(&self, key: &Key) -> Result<PlannedEvent, AllocError>
         requires accepted { refusal_of_key key.now ≡ None }
         ensures { IfOk result (λ planned. IsPlanOfMachine self.now.whole [] planned (after_key (seen self.now.whole) key.now)) }

@@ -1,6 +1,6 @@
 -- A flag in what a command line gives: its value is `true` where the words give it, and else `false` or none.
-use Rattle.std.proofs.Common.{◌≡◌, ◌∙◌, ap, sym, refl, true≢false, ℕ, zero, suc, Bool, true, false, List, [], ◌∷◌, ◌++◌, Option, Some, None, ◌⊎◌, inl, inr}
-use Rattle.std.specs.Prelude.{⊤, ◌&&◌, ◌||◌, ◌==◌, not, codes, slice_get, option_and_then, is_some, encode_utf8, if◌then◌else◌, length, drop}
+use Rattle.std.proofs.Common.{◌≡◌, ◌∙◌, ap, sym, refl, true≢false, ℕ, zero, suc, Bool, true, false, List, [], ◌∷◌, Option, Some, None, inl, inr}
+use Rattle.std.specs.Prelude.{⊤, ◌&&◌, ◌==◌, not, codes, slice_get, option_and_then, is_some, encode_utf8, if◌then◌else◌, length, drop}
 use Rattle.std.specs.List.{find, fold, list_all}
 use Rattle.std.specs.Option.{option_map_or}
 use Rattle.std.specs.Str.{bytes_eq, chars}
@@ -9,7 +9,7 @@ use Rattle.clap.specs.Lexer.{long_of, short_of}
 use Rattle.clap.specs.Takes.{is_given}
 use Rattle.clap.specs.Walk.{Row, Rule, Text, Names, Held, Outcome, Waiting, Step, Walk, done, waits, plain, refused, idle, option}
 use Rattle.clap.specs.Walk.{positional, next, trailing, subcommand, value}
-use Rattle.clap.specs.Walk.{used, row_text, one_of, has_row, reading_by, takes_values, takes_several}
+use Rattle.clap.specs.Walk.{row_text, one_of, has_row, reading_by, takes_values, takes_several}
 use Rattle.clap.specs.Walk.{is_multiple, values_or_missing, settled, settled_rows, used_by_id, reacted, started, pushed}
 use Rattle.clap.specs.Walk.{option_met, flag_met, long_met, short_met, attached_value, bundle_step, bundle_met, bundle}
 use Rattle.clap.specs.Walk.{option_word, plain_word, after_flag, long_or_other, short_or_plain, subcommand_or_other}

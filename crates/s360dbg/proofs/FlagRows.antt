@@ -1,7 +1,7 @@
 -- The rows of what a command line gives, and the rules of a command line, about a flag: it has the value `true` where it
 -- is used, and else `false` or none.
 use Rattle.std.proofs.Common.{◌≡◌, ◌∙◌, ap, sym, refl, subst, true≢false, Bool, true, false, List, [], ◌∷◌, ◌++◌, Option, Some, None, ◌⊎◌, inl, inr}
-use Rattle.std.specs.Prelude.{⊤, ◌&&◌, ◌||◌, ◌==◌, not, codes, slice_get, option_and_then, is_some, unwrap_or, if◌then◌else◌}
+use Rattle.std.specs.Prelude.{⊤, ◌&&◌, ◌||◌, not, codes, slice_get, is_some, unwrap_or, if◌then◌else◌}
 use Rattle.std.specs.List.{find, list_all}
 use Rattle.std.specs.Option.{option_map, option_map_or}
 use Rattle.std.specs.Str.{bytes_eq}
@@ -9,7 +9,7 @@ use Rattle.std.proofs.lemmas.Slice.Eq.{bytes_eq-Decides}
 use Rattle.clap.proofs.SimpleLemmas.{is_false}
 use Rattle.clap.proofs.WalkLemmas.{both}
 use Rattle.clap.specs.Walk.{Row, Rule, Text}
-use Rattle.clap.specs.Walk.{positional, value, at_row, with_values, without, more_values, stronger}
+use Rattle.clap.specs.Walk.{at_row, with_values, without, more_values, stronger}
 use Rattle.clap.specs.Walk.{used, used_as, row_text, action_of, reading_by, takes_values}
 use Rattle.clap.specs.Walk.{values_or_missing}
 use Rattle.clap.specs.Values.{read_as}

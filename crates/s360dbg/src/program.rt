@@ -73,6 +73,8 @@ fn answer_on_output<R: Read>(
     session: &mut Session,
     reader: &mut R,
 ) -> Result<(), Failure>
+    ensures length { OnOk result (IfSome (R.remaining reader.old) (λ text. length text ≤ 1048576)) }
+    ensures state { OnOk result (IfSome (R.remaining reader.old) (λ text. session.new ≡ (state_after_lines (new_debugger session.old) (lines_of text)).session)) }
     ensures failure { IfErr result IsScriptFailure }
 {
     let _writer = carry_out(rt.alloc(), session, reader, io::writer(rt))?;
