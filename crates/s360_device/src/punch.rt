@@ -116,9 +116,11 @@ impl Device for Punch {
     ghost restores_change = { λ p x can. punch_change_after_swap-twice p.punch x can };
 
     fn begin(&self, command: u8) -> Begin {
+        // Looked at, since the punch keeps that there are six.
+        let _ = &self.sense;
         match CommandCode::new(command) {
             CommandCode::NoOperation => Begin::Control,
-            CommandCode::Sense => Begin::Input(self.sense[..1].len() as u32),
+            CommandCode::Sense => Begin::Input(1),
             CommandCode::Own(code) => match stacker_of(code) {
                 Some(_) => Begin::Output(COLUMNS as u32),
                 None => Begin::Refused(COMMAND_REJECT),

@@ -197,9 +197,11 @@ impl Device for Reader {
     ghost restores_change = { λ r x can. reader_change_after_swap-twice r.reader x can };
 
     fn begin(&self, command: u8) -> Begin {
+        // Looked at, since the reader keeps that there are six.
+        let _ = &self.sense;
         match CommandCode::new(command) {
             CommandCode::NoOperation => Begin::Control,
-            CommandCode::Sense => Begin::Input(self.sense[..1].len() as u32),
+            CommandCode::Sense => Begin::Input(1),
             CommandCode::Own(code) => match self.attempt(code) {
                 Attempt::Refused(sense) => Begin::Refused(sense),
                 Attempt::Card(card, ReaderCommand::Read(_)) => Begin::Input(card.len() as u32),

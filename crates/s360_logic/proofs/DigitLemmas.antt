@@ -29,8 +29,8 @@ byte_from_right-kept : (first second : Field) (i byte : ℕ) (s : Storage) → I
     → (j : ℕ) → byte_from_right second (with_byte (address_from_right first i) byte s) j ≡ byte_from_right second s j
 byte_from_right-kept first second i byte s a h j =
     elim (cases_Bool (nat_lt j second.count)) [
-      inl inside ↦ rw inside (byte_at-other s (address_from_right first i) (address_from_right second j) byte (apart first second i j a h (ltb-true _ _ inside)))
-    | inr past ↦ rw past refl
+      | inl inside ↦ rw inside (byte_at-other s (address_from_right first i) (address_from_right second j) byte (apart first second i j a h (ltb-true _ _ inside)))
+      | inr past ↦ rw past refl
     ]
 
 fetched_at-same : (row : DigitRow) (second : Field) (i : ℕ) (source : ℕ → ℕ) (s : Storage) → byte_from_right second s ≡ source → fetched_at row second i source s ≡ source
@@ -74,12 +74,12 @@ stored-made row zone low source first (suc n) i k s l m c inside =
     in let next : Storage = with_byte (address_from_right first i) byte s
     in let size : length next.bytes ≡ length s.bytes = length-set s.bytes (address_from_right first i) byte
     in elim (cases_Bool (nat_eq k i)) [
-      inl same ↦
-        let e : k ≡ i = eqb-true _ _ same
-        in rw e (stored-other row zone low source first n (i + 1) (address_from_right first i) next (λ j p q. λ f. omega arith) ∙ byte_at-same s (address_from_right first i) byte (omega arith))
-    | inr other ↦
-        let ne : k ≢ i = eqb-false _ _ other
-        in stored-made row zone low source first n (i + 1) k next (omega arith) (omega arith) (omega arith) (omega (arith, size))
+      | inl same ↦
+          let e : k ≡ i = eqb-true _ _ same
+          in rw e (stored-other row zone low source first n (i + 1) (address_from_right first i) next (λ j p q. λ f. omega arith) ∙ byte_at-same s (address_from_right first i) byte (omega arith))
+      | inr other ↦
+          let ne : k ≢ i = eqb-false _ _ other
+          in stored-made row zone low source first n (i + 1) k next (omega arith) (omega arith) (omega arith) (omega (arith, size))
     ]
 
 pub digits_of_apart_operands : DigitsOfApartOperands

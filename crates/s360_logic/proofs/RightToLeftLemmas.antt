@@ -49,14 +49,14 @@ made-pack : (zone low : ℕ) (second : Field) (i held : ℕ) (source : ℕ → �
     → (made_at Pack zone second i held s).byte ≡ result_byte Pack zone low (fetched_at Pack second i source s) i
 made-pack zone low second i held source s =
     elim (cases_Bool (nat_eq i 0)) [
-      inl first ↦
-        let e : i ≡ 0 = eqb-true _ _ first
-        in rw first (ap exchanged (sym (fetched_at-now Pack second i 0 source s (omega arith))))
-    | inr later ↦
-        rw later (
-            ap (λ (x : ℕ). digits x (byte_from_right second s (2 * i - 1))) (sym (fetched_at-now Pack second i (2 * i) source s (omega arith)))
-            ∙ ap (λ (x : ℕ). digits (fetched_at Pack second i source s (2 * i)) x) (sym (fetched_at-now Pack second i (2 * i - 1) source s (omega arith)))
-        )
+      | inl first ↦
+          let e : i ≡ 0 = eqb-true _ _ first
+          in rw first (ap exchanged (sym (fetched_at-now Pack second i 0 source s (omega arith))))
+      | inr later ↦
+          rw later (
+          ap (λ (x : ℕ). digits x (byte_from_right second s (2 * i - 1))) (sym (fetched_at-now Pack second i (2 * i) source s (omega arith)))
+          ∙ ap (λ (x : ℕ). digits (fetched_at Pack second i source s (2 * i)) x) (sym (fetched_at-now Pack second i (2 * i - 1) source s (omega arith)))
+          )
     ]
 
 -- unpack
@@ -67,18 +67,18 @@ made-unpack : (zone low : ℕ) (second : Field) (i held : ℕ) (source : ℕ →
     → (made_at Unpack zone second i held s).byte ≡ result_byte Unpack zone low (fetched_at Unpack second i source s) i
 made-unpack zone low second i held source s h =
     elim (cases_Bool (nat_eq i 0)) [
-      inl first ↦
-        rw first refl
-    | inr later ↦
-        let ne : i ≢ 0 = eqb-false _ _ later
-        in elim (cases_Bool (nat_eq (i % 2) 1)) [
-          inl odd ↦
-            let e : i % 2 ≡ 1 = eqb-true _ _ odd
-            in rw (later, odd) (ap (λ (x : ℕ). digits zone x) (sym (rw later at (fetched_at-now Unpack second i ((i + 1) / 2) source s (omega (arith, needed-unpack i later))))))
-        | inr even ↦
-            let e : i % 2 ≢ 1 = eqb-false _ _ even
-            in rw (later, even) (ap (λ (x : ℕ). digits zone (x / 16)) (h (omega arith) ∙ sym (rw later at (fetched_at-before Unpack second i (i / 2) source s (omega (arith, needed-unpack i later))))))
-        ]
+      | inl first ↦
+          rw first refl
+      | inr later ↦
+          let ne : i ≢ 0 = eqb-false _ _ later
+          in elim (cases_Bool (nat_eq (i % 2) 1)) [
+            | inl odd ↦
+                let e : i % 2 ≡ 1 = eqb-true _ _ odd
+                in rw (later, odd) (ap (λ (x : ℕ). digits zone x) (sym (rw later at (fetched_at-now Unpack second i ((i + 1) / 2) source s (omega (arith, needed-unpack i later))))))
+            | inr even ↦
+                let e : i % 2 ≢ 1 = eqb-false _ _ even
+                in rw (later, even) (ap (λ (x : ℕ). digits zone (x / 16)) (h (omega arith) ∙ sym (rw later at (fetched_at-before Unpack second i (i / 2) source s (omega (arith, needed-unpack i later))))))
+          ]
     ]
 
 pub made_at-byte : (row : DigitRow) (zone low : ℕ) (second : Field) (i held : ℕ) (source : ℕ → ℕ) (s : Storage) → IsHeld row i held low source
@@ -97,20 +97,20 @@ IsHeld-next MoveWithOffset zone low second i held source s h =
 IsHeld-next Pack zone low second i held source s h = tt
 IsHeld-next Unpack zone low second i held source s h =
     elim (cases_Bool (nat_eq i 0)) [
-      inl first ↦
-        let e : i ≡ 0 = eqb-true _ _ first
-        in λ more. absurd (omega arith)
-    | inr later ↦
-        let ne : i ≢ 0 = eqb-false _ _ later
-        in elim (cases_Bool (nat_eq (i % 2) 1)) [
-          inl odd ↦
-            let e : i % 2 ≡ 1 = eqb-true _ _ odd
-            in rw (later, odd) (λ more. sym (rw later at (fetched_at-now Unpack second i ((i + 1) / 2) source s (omega (arith, needed-unpack i later)))))
-        | inr even ↦
-            let e : i % 2 ≢ 1 = eqb-false _ _ even
-            in let half : (i + 1) / 2 ≡ i / 2 = omega arith
-            in rw (later, even, half) (λ more. h (omega arith) ∙ sym (rw later at (fetched_at-before Unpack second i (i / 2) source s (omega (arith, needed-unpack i later)))))
-        ]
+      | inl first ↦
+          let e : i ≡ 0 = eqb-true _ _ first
+          in λ more. absurd (omega arith)
+      | inr later ↦
+          let ne : i ≢ 0 = eqb-false _ _ later
+          in elim (cases_Bool (nat_eq (i % 2) 1)) [
+            | inl odd ↦
+                let e : i % 2 ≡ 1 = eqb-true _ _ odd
+                in rw (later, odd) (λ more. sym (rw later at (fetched_at-now Unpack second i ((i + 1) / 2) source s (omega (arith, needed-unpack i later)))))
+            | inr even ↦
+                let e : i % 2 ≢ 1 = eqb-false _ _ even
+                in let half : (i + 1) / 2 ≡ i / 2 = omega arith
+                in rw (later, even, half) (λ more. h (omega arith) ∙ sym (rw later at (fetched_at-before Unpack second i (i / 2) source s (omega (arith, needed-unpack i later)))))
+          ]
     ]
 
 -- the bytes from number i on lead to a storage, whatever was fetched before that is held
@@ -125,10 +125,10 @@ pub LeadsTo-first : (row : DigitRow) (zone : ℕ) (first second : Field) (s : St
 LeadsTo-first row zone first second s =
     let all : first.count - 0 ≡ first.count = omega arith
     in record { source = byte_from_right second s; is_held = first_held row; rest = rw all refl } where
-  first_held : (row : DigitRow) → IsHeld row 0 (digits (byte_from_right first s 0) 0) (byte_from_right first s 0) (byte_from_right second s)
-  first_held MoveWithOffset = omega arith
-  first_held Pack = tt
-  first_held Unpack = λ more. absurd (omega arith)
+      first_held : (row : DigitRow) → IsHeld row 0 (digits (byte_from_right first s 0) 0) (byte_from_right first s 0) (byte_from_right second s)
+      first_held MoveWithOffset = omega arith
+      first_held Pack = tt
+      first_held Unpack = λ more. absurd (omega arith)
 
 -- one byte more that is stored
 right_to_left-step : (row : DigitRow) (zone low : ℕ) (first second : Field) (i n : ℕ) (source : ℕ → ℕ) (s : Storage) → i < n

@@ -182,9 +182,11 @@ impl Device for Console {
     ghost restores_change = { λ c x can. console_change_after_swap-twice c.console x can };
 
     fn begin(&self, command: u8) -> Begin {
+        // Looked at, since the console keeps that there are six.
+        let _ = &self.sense;
         match CommandCode::new(command) {
             CommandCode::NoOperation => Begin::Control,
-            CommandCode::Sense => Begin::Input(self.sense[..1].len() as u32),
+            CommandCode::Sense => Begin::Input(1),
             CommandCode::Own(code) => match ConsoleCommand::new(code) {
                 Some(ConsoleCommand::Write | ConsoleCommand::WriteAndReturn) => {
                     Begin::Output(LINE_LIMIT as u32)

