@@ -8,9 +8,12 @@ A row is a script `tests/rows/CHAPTER/NAME` with its answers in `NAME.stdout`. W
 line stand in `NAME.args`, one a line. The deck of the card reader stands in `NAME.cards`: a line of
 hexadecimal digits for each card, whose other columns are blank. The files of the tapes stand in
 `NAME.tape0` and `NAME.tape1`: words of hexadecimal digits, and a word `DIGITSxN` for N times the
-bytes of its digits. In both a line that begins with `*` is a comment. The examples are rows too:
-their answers stand beside them in `.answers`, and their decks and tapes as files in `.deck`,
-`.tape0` and `.tape1`. With words, the rows that have one of them in their path.
+bytes of its digits. In both a line that begins with `*` is a comment.
+
+A row of single instructions is `tests/rows/CHAPTER/NAME.cases`, of whose lines the script and its
+answers are made; `worked_cases.py` says how they are written. The examples are rows too: their
+answers stand beside them in `.answers`, and their decks and tapes as files in `.deck`, `.tape0` and
+`.tape1`. With words, the rows that have one of them in their path.
 
 The answers have to be the same to the byte, with status 0 and nothing on standard error. Then the
 row is run a second time with as many `back` as changes stand at its end, and all that can be shown
@@ -29,6 +32,8 @@ import sys
 import tempfile
 from concurrent.futures import ThreadPoolExecutor
 from typing import NamedTuple
+
+import worked_cases
 
 TOP = pathlib.Path(__file__).resolve().parent.parent
 ROWS = TOP / "tests/rows"
@@ -51,6 +56,7 @@ class Row(NamedTuple):
     answers: bytes
     args: list[str]
     media: dict[str, bytes]  # files, by the options that name them
+    cases: tuple[worked_cases.Case, ...] = ()  # of which the script and its answers are made
 
     def placed(self, folder):
         """The row with its media as files of the folder, which its command line names."""
@@ -90,6 +96,7 @@ EXAMPLE_MEDIA = {
     ".tape1": ("--tape1", pathlib.Path.read_bytes),
 }
 BESIDE = (".stdout", ".args", *ROW_MEDIA)
+CASES = ".cases"
 
 
 def media_beside(script, kinds):
@@ -102,18 +109,39 @@ def media_beside(script, kinds):
     }
 
 
+def row_of_script(script):
+    answers, args = (script.with_name(script.name + part) for part in (".stdout", ".args"))
+    words = args.read_text().splitlines() if args.exists() else []
+    media = media_beside(script, ROW_MEDIA)
+    name = str(script.relative_to(ROWS))
+    return Row(name, script.read_bytes(), answers.read_bytes(), words, media)
+
+
+def row_of_cases(file):
+    """The row of a file of cases. A fault in it ends the program."""
+    try:
+        cases = tuple(worked_cases.cases(file))
+    except worked_cases.Fault as fault:
+        sys.exit(str(fault))
+    script = text_of(line for case in cases for line in case.lines)
+    answers = text_of(line for case in cases for line in case.answers)
+    return Row(str(file.relative_to(ROWS).with_suffix("")), script, answers, [], {}, cases)
+
+
+def row_of_example(script):
+    answers = script.with_suffix(".answers").read_bytes()
+    media = media_beside(script, EXAMPLE_MEDIA)
+    return Row(f"examples/{script.name}", script.read_bytes(), answers, [], media)
+
+
 def rows():
-    for script in sorted(ROWS.glob("*/*")):
-        if script.suffix not in BESIDE:
-            answers, args = (script.with_name(script.name + part) for part in (".stdout", ".args"))
-            words = args.read_text().splitlines() if args.exists() else []
-            media = media_beside(script, ROW_MEDIA)
-            name = str(script.relative_to(ROWS))
-            yield Row(name, script.read_bytes(), answers.read_bytes(), words, media)
+    for file in sorted(ROWS.glob("*/*")):
+        if file.suffix == CASES:
+            yield row_of_cases(file)
+        elif file.suffix not in BESIDE:
+            yield row_of_script(file)
     for script in sorted((TOP / "examples").glob("*.s360")):
-        answers = script.with_suffix(".answers").read_bytes()
-        media = media_beside(script, EXAMPLE_MEDIA)
-        yield Row(f"examples/{script.name}", script.read_bytes(), answers, [], media)
+        yield row_of_example(script)
 
 
 def run(program, args, script, **how):
@@ -135,7 +163,7 @@ def show_lines(args):
     yield from (f"show image {tape}" for tape in TAPES)
 
 
-def script_of(lines):
+def text_of(lines):
     return "".join(f"{line}\n" for line in lines).encode()
 
 
@@ -144,10 +172,21 @@ def difference(want, found):
     return "\n".join(difflib.unified_diff(*lines, "wanted", "answered", lineterm=""))
 
 
+def origin_of_fault(row, found):
+    """Where the case stands that first has other answers, if the row is made of cases."""
+    lines = found.decode(errors="replace").splitlines()
+    for case in row.cases:
+        answers, lines = lines[: len(case.answers)], lines[len(case.answers) :]
+        if answers != case.answers:
+            return f"{case.origin}\n"
+    return ""
+
+
 def fault_of_text(row, found):
     if found == row.answers:
         return None
-    return difference(row.answers, found) or "the answers differ in bytes that no line shows"
+    what = difference(row.answers, found) or "the answers differ in bytes that no line shows"
+    return origin_of_fault(row, found) + what
 
 
 def fault_of_answers(row, program):
@@ -163,7 +202,7 @@ def fault_of_taking_back(row, program):
     counted = run(program, row.args, script + b"standing\n").stdout.split()
     if len(counted) < 2 or counted[-2] != b"standing":
         return "what stands at the end is not told"
-    shown = script_of(show_lines(row.args))
+    shown = text_of(show_lines(row.args))
     start = run(program, row.args, shown).stdout
     end = run(program, row.args, script + b"back\n" * int(counted[-1]) + shown).stdout
     if not start or not end.endswith(b"\n" + start) and end != start:

@@ -2,7 +2,7 @@
 """Runs the program where no script can say what has to hold: a status, standard error, a stream
 that fails, files that are named on the command line, a terminal, a script of the greatest length.
 
-The first faults of tape files are those that `second_tapes.py` finds, which is written apart from
+The first faults of tape files are those that the second machine finds, which is written apart from
 the program.
 
 It needs the program as `rt ci` or `./run` has built it, a C compiler, and Python's standard library
@@ -20,8 +20,8 @@ from typing import NamedTuple
 
 TOP = pathlib.Path(__file__).resolve().parent.parent.parent
 sys.path.insert(0, str(TOP / "tests"))
-from second_tapes import FIRST, LAST, LONGEST_BLOCK, MARK, TAPE_MARK, TapeFault
-from second_tapes import header, image_of, items_of, shown_image, shown_item
+from second.tapes import FIRST, LAST, LONGEST_BLOCK, MARK, TAPE_MARK, TapeFault
+from second.tapes import header, image_of, items_of, shown_image, shown_item
 
 PROGRAM = TOP / "crates/s360dbg/out/s360dbg"
 SECONDS = 120

@@ -24,7 +24,7 @@ pub(crate) fn put_run(
     ensures stores { OnOk result (StoresRun storage.now plan.new (run_of lowest bytes.now)) }
     ensures few { OnOk result (length plan.new ≤ 65535) }
 {
-    // Its clauses have how great the storage is.
+    // Storage is small, so no address of the bytes passes 32 bits.
     let _ = storage.size();
     if let Some(address) = lowest
         && !bytes.is_empty()

@@ -2,5 +2,6 @@ pub mod ChunkLemmas
 pub mod AlterationLemmas
 pub mod ReaderLemmas
 pub mod KnownDevices
+pub mod EqualityLemmas
 pub mod DifferenceLemmas
 pub mod DeckLemmas

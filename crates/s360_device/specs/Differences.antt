@@ -1,5 +1,5 @@
 -- Whether two readers, or two punches, are alike in sense bytes and media, as a test (ours).
-use Rattle.std.specs.Prelude.{Bool, true, false, ◌&&◌}
+use Rattle.std.specs.Prelude.{◌≡◌, ◌↔◌, Bool, true, false, ◌&&◌, IsTrue}
 use Rattle.std.specs.Bool.{beq}
 use Rattle.std.specs.Cmp.Lexicographic.{pointwise}
 use Rattle.std.specs.Str.{bytes_eq}
@@ -10,6 +10,10 @@ use Rattle.s360_device.specs.declared.card.PunchStacker.TheVariants.{P1, P2, Rp3
 use Rattle.s360_device.specs.declared.card.PunchedCard.{PunchedCard}
 use Rattle.s360_device.specs.Reader.{Reader}
 use Rattle.s360_device.specs.Punch.{Punch}
+
+-- a test of two values is true exactly if they are equal
+abbrev pub DecidesEquality : {A : Type 0} → (A → A → Bool) → Type 0
+DecidesEquality {A = A} test = (a b : A) → IsTrue (test a b) ↔ (a ≡ b)
 
 abbrev pub same_read_stacker : ReadStacker → ReadStacker → Bool
 same_read_stacker R1 R1 = true

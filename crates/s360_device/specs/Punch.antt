@@ -7,7 +7,8 @@ use Rattle.s360_device.specs.declared.card.PunchStacker.{PunchStacker}
 use Rattle.s360_device.specs.declared.card.PunchStacker.TheVariants.{P1, P2, Rp3}
 use Rattle.s360_device.specs.declared.card.PunchedCard.{PunchedCard}
 use Rattle.s360_device.specs.Sense.{no_sense, command_reject}
-use Rattle.s360_device.specs.Rows.{DeviceWith, Row, refused, output, Table, entry_in}
+use Rattle.s360_device.specs.Rows.{DeviceWith, Row, refused, output, Table}
+use Rattle.s360_model.specs.Tables.{entry_in}
 
 -- the cards punched, in their order, each with its stacker
 abbrev pub Punch : Type 0

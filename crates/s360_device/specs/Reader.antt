@@ -6,7 +6,8 @@ use Rattle.s360_device.specs.declared.card.ReadStacker.{ReadStacker}
 use Rattle.s360_device.specs.declared.reader_command.ReaderCommand.{ReaderCommand}
 use Rattle.s360_device.specs.declared.reader_command.ReaderCommand.TheVariants.{Read, Feed}
 use Rattle.s360_device.specs.Sense.{no_sense, command_reject, intervention_required}
-use Rattle.s360_device.specs.Rows.{DeviceWith, Row, refused, input, control, Table, entry_in}
+use Rattle.s360_device.specs.Rows.{DeviceWith, Row, refused, input, control, Table}
+use Rattle.s360_model.specs.Tables.{entry_in}
 use Rattle.s360_device.specs.ReaderCommands.{reader_commands}
 
 -- the cards of the deck, the stackers of those that were fed, in the same order, and whether the end-of-file key

@@ -1,7 +1,7 @@
 -- What a command is to a device: the row of a table (GA22-6821, "Input/Output Operations", for how commands begin
 -- and end; what they do to the sense bytes is the own profile). M is what the device has beside its sense bytes:
 -- its media, and the marks and keys that belong to them.
-use Rattle.std.specs.Prelude.{ℕ, Bool, false, Option, Some, None, List, [], ◌∷◌, take, length, nat_eq, if◌then◌else◌}
+use Rattle.std.specs.Prelude.{ℕ, Bool, false, List, [], take, length}
 use Rattle.s360_device.specs.declared.device.Begin.{Begin}
 use Rattle.s360_device.specs.declared.device.Begin.TheVariants.{Input, Output, Control, NotYet, Refused}
 use Rattle.s360_device.specs.declared.command_code.CommandCode.{CommandCode}
@@ -51,11 +51,6 @@ after_row d not_yet bytes = d
 after_row d (input given media exception) bytes = record { sense = no_sense; media = media }
 after_row d (output limit media exception) bytes = record { sense = no_sense; media = media bytes }
 after_row d (control media exception) bytes = record { sense = no_sense; media = media }
-
--- the entry of a code in a list by codes
-abbrev pub entry_in : {X : Type 0} → List (ℕ × X) → ℕ → Option X
-entry_in [] code = None
-entry_in (e ∷ es) code = if nat_eq code e.0 then Some e.1 else entry_in es code
 
 -- Every device has two commands more, which change nothing, not the sense bytes either: no-operation is a control,
 -- and sense gives the first of the sense bytes, so many as the device has.

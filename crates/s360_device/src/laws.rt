@@ -1,4 +1,5 @@
-//! A law of the definitions, the contract of a call that does nothing.
+//! Laws of the definitions, each the contract of a call that does nothing.
+ghost use Rattle.s360_device.specs.Differences.{DecidesEquality, same_punch, same_reader};
 ghost use Rattle.s360_device.specs.Laws.{NoDeckFileIsShort, ShortFileHasShortCard};
 
 /// The file of a deck has no short card; a file with one is that of a deck up to where the card
@@ -6,4 +7,10 @@ ghost use Rattle.s360_device.specs.Laws.{NoDeckFileIsShort, ShortFileHasShortCar
 pub fn short_card_is_what_is_left()
     ensures whole { NoDeckFileIsShort }
     ensures short { ShortFileHasShortCard }
+{}
+
+/// Two readers, or two punches, are alike by their test exactly if they are equal.
+pub fn same_readers_and_punches_are_equal()
+    ensures reader { DecidesEquality same_reader }
+    ensures punch { DecidesEquality same_punch }
 {}

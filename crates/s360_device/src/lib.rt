@@ -24,7 +24,7 @@ pub use command_code::CommandCode;
 pub use deck::{Deck, deck_from};
 pub use device::{Begin, Device, Planned};
 pub use fault::DeckFault;
-pub use laws::short_card_is_what_is_left;
+pub use laws::{same_readers_and_punches_are_equal, short_card_is_what_is_left};
 pub use motion::Motion;
 pub use punch::Punch;
 pub use punch_change::PunchChange;

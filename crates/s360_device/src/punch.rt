@@ -2,7 +2,7 @@
 ghost use Rattle.std.specs.Prelude.{◌≡◌, length};
 ghost use Rattle.std.specs.Option.{option_copied};
 ghost use Rattle.s360_device.specs.Items.{item_in};
-ghost use Rattle.s360_device.specs.Rows.{entry_in};
+ghost use Rattle.s360_model.specs.Tables.{entry_in};
 ghost use Rattle.s360_device.specs.Punch.{new_punch, punch_commands};
 
 use crate::card::{COLUMNS, PunchStacker, PunchedCard, card_of};

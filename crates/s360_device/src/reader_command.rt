@@ -1,6 +1,6 @@
 //! The card reader's own commands. Source: A21-9033, "2540 Card Read Punch".
 ghost use Rattle.std.specs.Prelude.{◌≡◌};
-ghost use Rattle.s360_device.specs.Rows.{entry_in};
+ghost use Rattle.s360_model.specs.Tables.{entry_in};
 ghost use Rattle.s360_device.specs.ReaderCommands.{reader_commands, motion_of_command};
 
 use crate::card::ReadStacker;

@@ -17,7 +17,8 @@ number_of_code Data = 7
 number_of_code FixedPointOverflow = 8
 number_of_code FixedPointDivide = 9
 
--- what keeps an instruction from being done
+-- what keeps an instruction from being done. Two things more are found where they arise, after all of these that
+-- can be met there: a subject of an execute that is an execute, and a digit or sign that is none
 pub record Conditions : Type 0 where
   -- its address is odd
   pub odd_address : Bool
@@ -31,16 +32,12 @@ pub record Conditions : Type 0 where
   pub operation : Bool
   -- it is privileged, in the problem state
   pub privileged : Bool
-  -- it is the subject of an execute, and an execute
-  pub execute : Bool
   -- an operand is off its boundary, or a register is not even
   pub specification : Bool
   -- an operand is outside storage
   pub addressing : Bool
   -- an operand is stored where the keys don't match
   pub protection : Bool
-  -- a digit or sign is not one
-  pub bad_digit : Bool
   -- the quotient does not fit
   pub divide : Bool
 
@@ -53,11 +50,9 @@ no_conditions = record {
   protected_rest = false;
   operation = false;
   privileged = false;
-  execute = false;
   specification = false;
   addressing = false;
   protection = false;
-  bad_digit = false;
   divide = false;
 }
 
@@ -76,10 +71,8 @@ program_code c = first_that_holds (
     ∷ (c.protected_rest, Protection)
     ∷ (c.operation, Operation)
     ∷ (c.privileged, Privileged)
-    ∷ (c.execute, Execute)
     ∷ (c.specification, Specification)
     ∷ (c.addressing, Addressing)
     ∷ (c.protection, Protection)
-    ∷ (c.bad_digit, Data)
     ∷ (c.divide, FixedPointDivide)
     ∷ [])

@@ -1,6 +1,7 @@
 -- The operation codes: the format and the operation of each (GA22-6821, "Operation Codes"), and the
 -- fields of the formats ("System Structure", program execution).
 use Rattle.std.specs.Prelude.{ℕ, ◌+◌, ◌*◌, ◌/◌, ◌%◌, nat_eq, nat_lt, if◌then◌else◌, Option, Some, None, List, [], ◌∷◌, slice_index}
+use Rattle.s360_model.specs.Tables.{entry_in}
 use Rattle.s360_fixed.specs.declared.operation.Operation.{Operation}
 use Rattle.s360_fixed.specs.declared.operation.Operation.TheVariants.{SetProgramMask, BranchAndLink}
 use Rattle.s360_fixed.specs.declared.operation.Operation.TheVariants.{BranchOnCount}
@@ -144,10 +145,6 @@ rows =
     ∷ []
 
 -- the format and the operation of a code, by the rows
-abbrev pub entry_in : List (ℕ × Entry) → ℕ → Option Entry
-entry_in [] code = None
-entry_in (first ∷ others) code = if nat_eq first.0 code then Some first.1 else entry_in others code
-
 abbrev pub entry_of : ℕ → Option Entry
 entry_of code = entry_in rows code
 

@@ -2,12 +2,9 @@
 use Rattle.std.proofs.Common.{◌≡◌, ◌≢◌, ◌<◌, ◌≤◌, ◌+◌, ◌-◌, ◌∙◌, ℕ, suc, Some, length, arith, rules, refl, add-zero, ap, sym, slice_set, nat_eq, true, false}
 use Rattle.std.proofs.lemmas.List.{places}
 use Rattle.s360_model.specs.Storage.{Storage}
-use Rattle.s360_logic.specs.declared.field.Field.{Field}
-use Rattle.s360_logic.specs.declared.row.DigitRow.{DigitRow}
 use Rattle.s360_logic.specs.Bytes.{byte_at, operand_bytes, with_byte}
 use Rattle.s360_logic.specs.LeftToRight.{found_at, function_address, function_byte, searches_outside, selects_outside, translated_byte, translates_outside}
 use Rattle.s360_logic.specs.Operands.{FirstOperand, first_operand, stored_in}
-use Rattle.s360_logic.specs.RightToLeft.{address_from_right, made_at, right_to_left}
 use Rattle.s360_logic.proofs.FieldLemmas.{length-operand_bytes, stored_in-first, stored_in-set}
 
 pub length-stored_in : (o : FirstOperand) → o.address + length o.bytes ≤ length o.storage.bytes → length (stored_in o).bytes ≡ length o.storage.bytes
@@ -70,23 +67,6 @@ pub searches_outside-end : (table a i n : ℕ) (s : Storage) → i < n → selec
 searches_outside-end table a i n s h clear other =
     let more : n - i ≡ suc (n - (i + 1)) = omega arith
     in rw (more, clear, nat_eq-zero _ other) refl
-
--- from right to left
-right_to_left-step : (row : DigitRow) (zone : ℕ) (first second : Field) (i n held : ℕ) (s : Storage) → i < n
-    → right_to_left row zone first second (i + 1) (n - (i + 1)) (made_at row zone second i held s).held (with_byte (address_from_right first i) (made_at row zone second i held s).byte s)
-    ≡ right_to_left row zone first second i (n - i) held s
-right_to_left-step row zone first second i n held s h =
-    let more : n - i ≡ suc (n - (i + 1)) = omega arith
-    in rw more refl
-
-pub right_to_left-set : (row : DigitRow) (zone : ℕ) (first second : Field) (i held b kept : ℕ) (o : FirstOperand) → i < first.count → length o.bytes ≡ first.count → o.address ≡ first.address
-    → o.address + length o.bytes ≤ length o.storage.bytes → b ≡ (made_at row zone second i held (stored_in o)).byte → kept ≡ (made_at row zone second i held (stored_in o)).held
-    → right_to_left row zone first second (i + 1) (first.count - (i + 1)) kept (stored_in (record o { bytes = slice_set o.bytes (first.count - 1 - i) b }))
-    ≡ right_to_left row zone first second i (first.count - i) held (stored_in o)
-right_to_left-set row zone first second i held b kept o h len here inside eb ek =
-    let there : first.address + (first.count - 1 - i) ≡ address_from_right first i = omega arith
-    in rw (stored_in-next first.address (first.count - 1 - i) b (made_at row zone second i held (stored_in o)).byte o (omega (arith, len, h)) here inside eb, there, ek)
-    (right_to_left-step row zone first second i first.count held (stored_in o) h)
 
 -- a single byte
 pub stored_in-single : (s : Storage) (a b : ℕ) → a < length s.bytes → stored_in (record (first_operand s a 1) { bytes = slice_set (operand_bytes s a 1) 0 b }) ≡ with_byte a b s

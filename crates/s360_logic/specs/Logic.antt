@@ -67,11 +67,11 @@ subject_of v (Rx Execute r1 x2 b2 d2) = Some (r1, operand_address v.core.registe
 subject_of v form = None
 
 -- the bytes of a subject, with the low byte of R1 ored into the second where the field R1 is not 0
-abbrev pub with_register : View → ℕ → List ℕ → List ℕ
-with_register v r1 bytes = if nat_eq r1 0 then bytes else slice_set bytes 1 (bit_or (slice_index bytes 1) (register_of v r1 % 256))
+abbrev pub with_ored_byte : View → ℕ → List ℕ → List ℕ
+with_ored_byte v r1 bytes = if nat_eq r1 0 then bytes else slice_set bytes 1 (bit_or (slice_index bytes 1) (register_of v r1 % 256))
 
 abbrev pub subject_bytes : View → ℕ → ℕ → List ℕ
-subject_bytes v r1 address = with_register v r1 (instruction_bytes v.core.storage address)
+subject_bytes v r1 address = with_ored_byte v r1 (instruction_bytes v.core.storage address)
 
 -- what the subject does, with the next address and the length of the execute
 abbrev pub subject_outcome : View → Option Form → Outcome

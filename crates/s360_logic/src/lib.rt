@@ -12,6 +12,7 @@ mod cpu;
 mod field;
 mod first_operand;
 mod immediate;
+mod laws;
 mod left_to_right;
 mod logic;
 mod right_to_left;
@@ -19,4 +20,5 @@ mod row;
 mod status;
 
 pub use cpu::{PlannedInstruction, plan_instruction};
+pub use laws::digits_of_apart_operands;
 pub use logic::plan_logic;

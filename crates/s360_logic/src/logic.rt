@@ -6,7 +6,7 @@ ghost use Rattle.s360_fixed.specs.Plans.{PlansOutcome};
 ghost use Rattle.s360_fixed.specs.Table.{form_of};
 ghost use Rattle.s360_logic.specs.Logic.{address_of, by_row, execute_outcome, logic_outcome};
 ghost use Rattle.s360_logic.specs.Logic.{outcome_of, row_outcome, status_outcome};
-ghost use Rattle.s360_logic.specs.Logic.{storage_outcome, subject_of, with_register};
+ghost use Rattle.s360_logic.specs.Logic.{storage_outcome, subject_of, with_ored_byte};
 ghost use Rattle.arrayvec.specs.ArrayVec.{array_vec_len};
 
 use crate::converting::plan_conversion;
@@ -153,10 +153,10 @@ fn subject_of(form: &Form, view: &View) -> Option<(RegisterNumber, u32)>
 }
 
 /// The bytes of a subject with the low byte of R1 ored into the second, where the field R1 is not 0.
-fn with_register(view: &View, r1: RegisterNumber, bytes: &[u8]) -> ArrayVec<u8, 6>
+fn with_ored_byte(view: &View, r1: RegisterNumber, bytes: &[u8]) -> ArrayVec<u8, 6>
     requires two { 1 < length bytes.now }
     requires six { length bytes.now ≤ 6 }
-    ensures bytes { result.items ≡ with_register view.now r1 bytes.now }
+    ensures bytes { result.items ≡ with_ored_byte view.now r1 bytes.now }
     ensures length { array_vec_len result ≡ length bytes.now }
     ensures code { slice_index result.items 0 ≡ slice_index bytes.now 0 }
 {
@@ -178,7 +178,7 @@ fn plan_execute(
     ensures { IfOk result (PlansOutcome view.now.core plan.new (execute_outcome view.now r1 address)) }
 {
     let bytes = match fetch_instruction(view.storage(), address, view.psw().protection_key()) {
-        Ok(bytes) => with_register(view, r1, bytes),
+        Ok(bytes) => with_ored_byte(view, r1, bytes),
         Err(code) => return Ok(Ended::Program(code)),
     };
     let Some(form) = decode(&bytes) else {

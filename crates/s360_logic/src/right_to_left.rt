@@ -3,9 +3,9 @@
 ghost use Rattle.std.specs.Prelude.{◌≡◌, ◌≤◌, ◌<◌, ◌+◌, [], IfOk, length};
 ghost use Rattle.s360_fixed.specs.Plans.{PlansOutcome};
 ghost use Rattle.s360_logic.specs.Operands.{field_of, stored_in};
-ghost use Rattle.s360_logic.specs.RightToLeft.{address_from_right, byte_from_right, digits};
-ghost use Rattle.s360_logic.specs.RightToLeft.{digits_outcome, exchanged, held_first, made_at};
-ghost use Rattle.s360_logic.specs.RightToLeft.{right_to_left, zone_of};
+ghost use Rattle.s360_logic.specs.Held.{made_at};
+ghost use Rattle.s360_logic.specs.RightToLeft.{byte_from_right, digits, digits_outcome};
+ghost use Rattle.s360_logic.specs.RightToLeft.{digits_stored, exchanged, zone_of};
 
 use crate::field::{Field, fields_exception};
 use crate::first_operand::FirstOperand;
@@ -101,7 +101,7 @@ fn made_at(row: DigitRow, zone: u8, storage: &FirstOperand, second: Field, i: u3
 fn make_digits(row: DigitRow, zone: u8, operand: &mut FirstOperand, second: Field)
     requires inside { second.address + second.count ≤ length operand.old.storage.bytes }
     requires some { 0 < length operand.old.bytes }
-    ensures stored { stored_in operand.new ≡ right_to_left row zone (field_of operand.old) second 0 (length operand.old.bytes) (held_first (field_of operand.old) (stored_in operand.old)) (stored_in operand.old) }
+    ensures stored { stored_in operand.new ≡ digits_stored row zone (field_of operand.old) second (stored_in operand.old) }
     ensures storage { operand.new.storage ≡ operand.old.storage }
 {
     let count = operand.len();

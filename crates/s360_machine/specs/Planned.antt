@@ -1,5 +1,6 @@
 -- What a plan and a change make of a machine.
 use Rattle.std.specs.Prelude.{◌≡◌, ◌++◌, Bool, true, false, not, ◌&&◌, if◌then◌else◌, List, [], ◌∷◌, nat_eq}
+use Rattle.std.specs.Bool.{beq}
 use Rattle.s360_store.specs.declared.place.Place.{Place}
 use Rattle.s360_store.specs.declared.place.Place.TheVariants.{Run, External}
 use Rattle.s360_store.specs.declared.place.Cell.{Cell}
@@ -32,12 +33,8 @@ same_run_state Stopped Stopped = true
 same_run_state (Loading u) (Loading v) = nat_eq u.0 v.0
 same_run_state r s = false
 
-abbrev pub same_bit : Bool → Bool → Bool
-same_bit true b = b
-same_bit false b = not b
-
 abbrev pub same_external : ExternalConditions → ExternalConditions → Bool
-same_external e f = same_bit e.timer f.timer && same_bit e.key f.key
+same_external e f = beq e.timer f.timer && beq e.key f.key
 
 -- the place, unless what stands there is the same
 abbrev pub unless_same : Bool → Place → List Place

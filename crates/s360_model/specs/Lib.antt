@@ -10,3 +10,4 @@ pub mod Pairs
 pub mod Packed
 pub mod Products
 pub mod Shifts
+pub mod Tables

@@ -4,7 +4,7 @@ use Rattle.std.specs.List.{zip}
 use Rattle.std.proofs.lemmas.Bool.Decides.{nat_tests}
 use Rattle.std.proofs.lemmas.Option.{none-some, same_Some}
 use Rattle.std.proofs.lemmas.List.{drop_more}
-use Rattle.s360_device.specs.Rows.{entry_in}
+use Rattle.s360_model.specs.Tables.{entry_in}
 use Rattle.s360_print.specs.Signs.{sign_rows, ebcdic_in, ascii_in}
 use Rattle.s360_print.specs.Laws.{SignsInvert}
 

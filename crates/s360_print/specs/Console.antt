@@ -3,7 +3,8 @@
 use Rattle.std.specs.Prelude.{ℕ, false, List, [], ◌∷◌, ◌++◌, ◌+◌, slice_get}
 use Rattle.std.specs.Option.{option_map_or}
 use Rattle.s360_device.specs.Sense.{no_sense, command_reject}
-use Rattle.s360_device.specs.Rows.{DeviceWith, Row, refused, not_yet, input, output, control, Table, entry_in}
+use Rattle.s360_device.specs.Rows.{DeviceWith, Row, refused, not_yet, input, output, control, Table}
+use Rattle.s360_model.specs.Tables.{entry_in}
 use Rattle.s360_print.specs.declared.typed_line.TypedItem.{TypedItem}
 use Rattle.s360_print.specs.declared.typed_line.TypedItem.TheVariants.{Text, Return, Alarm}
 use Rattle.s360_print.specs.declared.console_command.ConsoleCommand.{ConsoleCommand}

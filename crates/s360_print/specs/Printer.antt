@@ -3,7 +3,8 @@
 use Rattle.std.specs.Prelude.{ℕ, List, [], ◌∷◌, ◌++◌}
 use Rattle.std.specs.Option.{option_map_or}
 use Rattle.s360_device.specs.Sense.{no_sense, command_reject}
-use Rattle.s360_device.specs.Rows.{DeviceWith, Row, refused, output, control, Table, entry_in}
+use Rattle.s360_device.specs.Rows.{DeviceWith, Row, refused, output, control, Table}
+use Rattle.s360_model.specs.Tables.{entry_in}
 use Rattle.s360_print.specs.declared.paper.Record.{Record}
 use Rattle.s360_print.specs.declared.printer_command.PrinterCommand.{PrinterCommand}
 use Rattle.s360_print.specs.declared.printer_command.PrinterCommand.TheVariants.{Print, Move}

@@ -2,7 +2,7 @@
 -- both codes have).
 use Rattle.std.specs.Prelude.{ℕ, ◌+◌, Option, List, [], ◌∷◌, ◌++◌, codes}
 use Rattle.std.specs.List.{zip}
-use Rattle.s360_device.specs.Rows.{entry_in}
+use Rattle.s360_model.specs.Tables.{entry_in}
 
 -- an EBCDIC byte, and the signs of it and of the bytes that follow it, each as its byte in ASCII
 abbrev pub sign_rows : List (ℕ × List ℕ)

@@ -1,6 +1,6 @@
 //! The console's own commands. Source: the component description of the 1052.
 ghost use Rattle.std.specs.Prelude.{◌≡◌};
-ghost use Rattle.s360_device.specs.Rows.{entry_in};
+ghost use Rattle.s360_model.specs.Tables.{entry_in};
 ghost use Rattle.s360_print.specs.ConsoleCommands.{console_commands};
 
 /// What a command of the console's own does.

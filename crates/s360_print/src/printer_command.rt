@@ -1,6 +1,6 @@
 //! The printer's own commands. Source: the component description of the 1403.
 ghost use Rattle.std.specs.Prelude.{◌≡◌, IfSome};
-ghost use Rattle.s360_device.specs.Rows.{entry_in};
+ghost use Rattle.s360_model.specs.Tables.{entry_in};
 ghost use Rattle.s360_print.specs.PrinterCommands.{printer_commands, MovesTheCarriage};
 
 use crate::carriage::CarriageMotion;

@@ -1,7 +1,7 @@
 //! The signs of EBCDIC bytes: letters, digits and special characters, and their bytes in ASCII.
 ghost use Rattle.std.specs.Prelude.{◌≡◌, length};
 ghost use Rattle.std.specs.List.{zip};
-ghost use Rattle.s360_device.specs.Rows.{entry_in};
+ghost use Rattle.s360_model.specs.Tables.{entry_in};
 ghost use Rattle.s360_print.specs.Signs.{ascii_of, ebcdic_of};
 
 /// How many bytes have a sign.

@@ -6,7 +6,7 @@ use Rattle.std.specs.Option.{option_map}
 use Rattle.std.proofs.lemmas.Bool.Decides.{nat_tests}
 use Rattle.std.proofs.lemmas.List.{take_at, drop_at, append-nil}
 use Rattle.std.proofs.lemmas.Option.{same_Some, none-some}
-use Rattle.s360_device.specs.Rows.{entry_in}
+use Rattle.s360_model.specs.Tables.{entry_in}
 use Rattle.s360_tape.specs.declared.fault.TapeFault.{TapeFault}
 use Rattle.s360_tape.specs.declared.fault.TapeFault.TheVariants.{ShortHeader, ShortBlock, BlockTooLong}
 use Rattle.s360_tape.specs.declared.item.Item.{Item}

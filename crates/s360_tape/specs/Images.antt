@@ -2,7 +2,7 @@
 use Rattle.std.specs.Prelude.{◌≡◌, ◌≤◌, ◌⊎◌, ℕ, ◌+◌, ◌/◌, ◌%◌, Bool, false, ◌&&◌, ◌||◌, not, if◌then◌else◌, nat_eq, nat_lt, Option, Some, None, is_some, is_none, List, [], ◌∷◌, ◌++◌, length}
 use Rattle.std.specs.Bool.{beq}
 use Rattle.std.specs.Option.{option_map, option_map_or}
-use Rattle.s360_device.specs.Rows.{entry_in}
+use Rattle.s360_model.specs.Tables.{entry_in}
 use Rattle.s360_tape.specs.declared.fault.TapeFault.{TapeFault}
 use Rattle.s360_tape.specs.declared.fault.TapeFault.TheVariants.{ShortHeader, BadFlags, PartOutOfPlace, ShortBlock, BlockTooLong, Memory}
 use Rattle.s360_tape.specs.declared.item.Item.{Item}

@@ -137,8 +137,6 @@ impl Tape {
             TapeCommand::Rewind => (0, self.unloaded()),
             TapeCommand::RewindUnload => (0, true),
         };
-        // Looked at, since the tape keeps that the position is among them.
-        let _ = self.as_slice();
         Attempt::Move {
             place,
             exception: false,

@@ -1,4 +1,6 @@
-//! Laws of the definitions of files, the contracts of calls that do nothing.
+//! Laws of the definitions, the contracts of calls that do nothing.
+ghost use Rattle.s360_device.specs.Differences.{DecidesEquality};
+ghost use Rattle.s360_tape.specs.Differences.{same_tape};
 ghost use Rattle.s360_tape.specs.ImageLaws.{FileOfItemsHasThem, FileHasItemsOnce};
 ghost use Rattle.s360_tape.specs.ImageLaws.{NoTapeFileHasFault, FileHasFaultOnce};
 
@@ -12,4 +14,9 @@ pub fn image_is_read_back()
 pub fn fault_is_the_first()
     ensures none { NoTapeFileHasFault }
     ensures once { FileHasFaultOnce }
+{}
+
+/// Two tapes are alike by their test exactly if what is seen of them is equal.
+pub fn same_tapes_are_equal()
+    ensures { DecidesEquality same_tape }
 {}

@@ -1,6 +1,6 @@
 //! The kinds of parts of an AWSTAPE file.
 ghost use Rattle.std.specs.Prelude.{◌≡◌, IfSome};
-ghost use Rattle.s360_device.specs.Rows.{entry_in};
+ghost use Rattle.s360_model.specs.Tables.{entry_in};
 ghost use Rattle.s360_tape.specs.Parts.{part_flags, flags_of, goes_inside};
 
 /// What a part of a file is of a tape.

@@ -73,7 +73,6 @@ impl Tape {
     /// The items that can be seen.
     pub(crate) fn as_slice(&self) -> &[Item]
         ensures items { result.now ≡ (seen self.now.tape).media.items }
-        ensures position { self.now.tape.position ≤ length result.now }
         ensures visible { length result.now ≡ self.now.tape.visible }
     {
         &self.slots[..self.visible]
@@ -95,7 +94,8 @@ impl Tape {
 
     /// The number of blocks and marks before the position.
     pub fn position(&self) -> usize
-        ensures { result ≡ (seen self.now.tape).media.position }
+        ensures place { result ≡ (seen self.now.tape).media.position }
+        ensures inside { result ≤ length (seen self.now.tape).media.items }
     {
         self.position
     }
@@ -213,11 +213,9 @@ impl Device for Tape {
     ghost restores_change = { λ t x can. tape_change_after_swap-twice t.tape x can };
 
     fn begin(&self, command: u8) -> Begin {
-        // Looked at, since the tape keeps that there are six.
-        let _ = &self.sense;
         match CommandCode::new(command) {
             CommandCode::NoOperation => Begin::Control,
-            CommandCode::Sense => Begin::Input(6),
+            CommandCode::Sense => Begin::Input(self.sense.as_slice().len() as u32),
             CommandCode::Own(code) => match self.attempt(code) {
                 Attempt::Refused(sense) => Begin::Refused(sense),
                 Attempt::Write => Begin::Output(BLOCK_LIMIT as u32),

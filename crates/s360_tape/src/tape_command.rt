@@ -1,6 +1,6 @@
 //! The tapes' own commands. Source: GA22-6866, "2400-Series Magnetic Tape Units".
 ghost use Rattle.std.specs.Prelude.{◌≡◌};
-ghost use Rattle.s360_device.specs.Rows.{entry_in};
+ghost use Rattle.s360_model.specs.Tables.{entry_in};
 ghost use Rattle.s360_tape.specs.TapeCommands.{tape_commands, writes};
 
 /// A command of the tapes' own.

@@ -175,7 +175,7 @@ fn carry_out<R: Read, W: Write + Drop>(
         return Err(Failure::Memory);
     };
     let answered = run_script(alloc, session, reader, &mut buffered);
-    let is_flushed = flush_after(answered, &mut buffered);
+    let is_flushed = flush_after(&answered, &mut buffered);
     // A buffer that is dropped would write what is left in it once more.
     let (writer, _unwritten) = buffered.into_parts();
     let _lines = answered?;
@@ -188,14 +188,20 @@ fn carry_out<R: Read, W: Write + Drop>(
 /// Writes what is left in a buffer, unless a write failed before: that is not tried again. Answers
 /// whether nothing is left.
 fn flush_after<W: Write + Drop>(
-    answered: Result<u32, ScriptFault>,
+    answered: &Result<u32, ScriptFault>,
     buffered: &mut BufWriter<W>,
 ) -> bool
     ensures bytes { Keeps (writer_contents W.contents buffered.old) (writer_contents W.contents buffered.new) }
     ensures empty { result ≡ true → writer_buffer buffered.new ≡ [] }
 {
-    match answered {
-        Err(ScriptFault::Write) => false,
-        _ => buffered.flush().is_ok(),
-    }
+    let has_failed = matches!(answered, Err(ScriptFault::Write));
+    !has_failed && flush(buffered)
+}
+
+/// Writes what is left in a buffer, and answers whether nothing is left.
+fn flush<W: Write + Drop>(buffered: &mut BufWriter<W>) -> bool
+    ensures bytes { Keeps (writer_contents W.contents buffered.old) (writer_contents W.contents buffered.new) }
+    ensures empty { result ≡ true → writer_buffer buffered.new ≡ [] }
+{
+    buffered.flush().is_ok()
 }

@@ -1,6 +1,6 @@
 use Rattle.std.proofs.Common.{◌≡◌, drop}
 use Rattle.std.specs.List.{zip}
-use Rattle.s360_device.specs.Rows.{entry_in}
+use Rattle.s360_model.specs.Tables.{entry_in}
 use Rattle.s360_print.proofs.signs.beside.Given as goal
 
 abbrev pub invariant-loop-i : goal.invariant-loop-i

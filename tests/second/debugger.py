@@ -1,0 +1,231 @@
+"""The debugger of the second machine: it answers the lines of a script that are right.
+
+What a change altered is kept by the names of its places, so a step back puts their old values back.
+"""
+from typing import NamedTuple
+
+from .channels import TAPES, UNITS, Program, device_name, state_name
+from .core import BLOCK, SIZE
+from .devices import TYPED_LINE
+from .machine import OPERATING, STOPPED, Loading, Machine
+from .tapes import Tape
+
+MOST_BREAKPOINTS = 64
+NO_SUCH_UNIT = "refused 3 no such unit"
+CONDITIONS = {0: "none", 0x80: "timer", 0x40: "key", 0xC0: "timer key"}
+
+
+class Change(NamedTuple):
+    """A standing change: its event, the values before it by place, and what it altered."""
+
+    event: str
+    noted: dict
+    places: list
+
+
+class Debugger:
+    def __init__(self, deck=(), tapes=(Tape(), Tape()), size=SIZE):
+        self.machine = Machine(deck, tapes, size)
+        self.changes = []
+        self.breakpoints = set()
+
+    def answer(self, line):
+        """The lines of the answer to a line."""
+        word, *rest = line.split()
+        if word == "enter":
+            return self.answer_enter(line.partition("enter")[2][1:])
+        return getattr(self, f"answer_{word}")(*rest)
+
+    # Events.
+
+    def happen(self, event, act):
+        self.machine.begin()
+        act()
+        self.changes.append(Change(event, self.machine.noted, self.machine.changed()))
+
+    def report(self, event, act):
+        self.happen(event, act)
+        places = self.changes[-1].places
+        names = " ".join(places[:8]) + (" .." if len(places) > 8 else "")
+        what = f"changed {len(places)} {names}" if places else "idle"
+        return [f"{len(self.changes)} {what}"]
+
+    def answer_step(self):
+        return self.report("cpu", self.machine.step)
+
+    def answer_channel(self, unit):
+        number = int(unit, 16)
+        if number not in UNITS:
+            return [NO_SUCH_UNIT]
+        return self.report(f"channel {number:03X}", lambda: self.machine.channel(number))
+
+    def answer_tick(self):
+        return self.report("tick", self.machine.tick)
+
+    def answer_key(self, key):
+        return self.report(f"key {key}", lambda: self.machine.press(key))
+
+    def answer_load(self, unit):
+        number = int(unit, 16)
+        if number not in UNITS:
+            return [NO_SUCH_UNIT]
+        return self.report(f"load {number:03X}", lambda: self.machine.load_from(number))
+
+    def answer_enter(self, text):
+        if len(text) > TYPED_LINE:
+            return ["refused 4 line too long"]
+        return self.report("enter", lambda: self.machine.enter(text.encode("cp037")))
+
+    def answer_patch(self, kind, *words):
+        places = self.places_of(kind, *words)
+        if places is None:
+            return ["refused 2 outside storage"]
+        return self.report(f"patch {kind}", lambda: self.put_all(places))
+
+    def places_of(self, kind, *words):
+        """The values that the words of a patch put into places, if these are all there."""
+        values = {"s": self.bytes_of, "r": self.register_of, "k": self.key_of, "p": self.psw_of}
+        return values[kind](*words)
+
+    def put_all(self, places):
+        for place, value in places.items():
+            self.machine.put(place, value)
+
+    def bytes_of(self, address, digits):
+        at, run = int(address, 16), bytes.fromhex(digits)
+        if at + len(run) > self.machine.size:
+            return None
+        return {f"s{at + i:06X}": byte for i, byte in enumerate(run)}
+
+    def register_of(self, number, word):
+        return {f"r{int(number, 16):X}": int(word, 16)}
+
+    def key_of(self, address, key):
+        at = int(address, 16)
+        if at >= self.machine.size:
+            return None
+        return {self.machine.key_name(at // BLOCK): int(key, 16)}
+
+    def psw_of(self, doubleword):
+        return {"p": int(doubleword, 16) & ~(0x3FFFF << 30)}
+
+    # Runs and breakpoints.
+
+    def is_at_breakpoint(self):
+        machine = self.machine
+        waits = machine.psw_field(49, 1)
+        is_operating = machine.value("run") == OPERATING and not waits
+        return is_operating and machine.psw_field(0, 24) in self.breakpoints
+
+    def offered(self):
+        """The event of the lowest unit that is active, or else of the CPU."""
+        for unit in UNITS:
+            if isinstance(self.machine.unit(unit), Program):
+                return f"channel {unit:03X}", lambda: self.machine.channel(unit)
+        return "cpu", self.machine.step
+
+    def answer_run(self, most):
+        for count in range(1, int(most) + 1):
+            self.happen(*self.offered())
+            if not self.changes[-1].places:
+                return [f"run {count} idle"]
+            if self.is_at_breakpoint():
+                return [f"run {count} break"]
+        return [f"run {most} done"]
+
+    def answer_break(self, address):
+        at = int(address, 16)
+        if at not in self.breakpoints and len(self.breakpoints) == MOST_BREAKPOINTS:
+            return ["breaks full"]
+        self.breakpoints.add(at)
+        return [f"breaks {len(self.breakpoints)}"]
+
+    def answer_clear(self, address):
+        self.breakpoints.discard(int(address, 16))
+        return [f"breaks {len(self.breakpoints)}"]
+
+    def take_back(self):
+        change = self.changes.pop()
+        self.machine.undo(change.noted)
+        return change.event
+
+    def answer_back(self):
+        if not self.changes:
+            return ["nothing stands"]
+        number = len(self.changes)
+        return [f"back {number} {self.take_back()}"]
+
+    def answer_until(self):
+        while self.changes:
+            self.take_back()
+            if self.is_at_breakpoint():
+                break
+        return [f"until {len(self.changes)}"]
+
+    # What stands, and what is shown.
+
+    def answer_standing(self):
+        return [f"standing {len(self.changes)}"]
+
+    def answer_last(self, kind, word=""):
+        number = int(word or "0", 16)
+        names = {"s": f"s{number:06X}", "r": f"r{number:X}", "u": state_name(number)}
+        names |= {"d": device_name(number), "k": self.machine.key_name(number // BLOCK)}
+        place = names.get(kind, kind)
+        numbers = range(len(self.changes), 0, -1)
+        found = (n for n in numbers if place in self.changes[n - 1].places)
+        return [f"last {next(found, 'none')}"]
+
+    def answer_show(self, kind, *words):
+        return getattr(self, f"show_{kind}")(*words)
+
+    def show_psw(self):
+        run = self.machine.value("run")
+        names = {OPERATING: "operating", STOPPED: "stopped"}
+        name = f"loading {run.unit:03X}" if isinstance(run, Loading) else names[run]
+        return [f"psw {self.machine.value('p'):016X} {name}"]
+
+    def show_regs(self):
+        return [self.registers_from(first) for first in range(0, 16, 4)]
+
+    def registers_from(self, first):
+        words = [f"{self.machine.register(first + i):08X}" for i in range(4)]
+        return f"r{first:X} {' '.join(words)}"
+
+    def show_s(self, address, count):
+        at, end = int(address, 16), int(address, 16) + int(count)
+        if end > self.machine.size:
+            return ["refused 2 outside storage"]
+        return [self.bytes_from(first, min(first + 16, end)) for first in range(at, end, 16)]
+
+    def bytes_from(self, first, end):
+        run = bytes(self.machine.byte(at) for at in range(first, end))
+        return f"{first:06X} {run.hex().upper()}"
+
+    def show_k(self, address):
+        at = int(address, 16)
+        if at >= self.machine.size:
+            return ["refused 2 outside storage"]
+        return [f"key {self.machine.storage_key(at // BLOCK):X}"]
+
+    def show_ext(self):
+        return [f"ext {CONDITIONS[self.machine.value('ext')]}"]
+
+    def show_u(self, unit):
+        number = int(unit, 16)
+        return [self.machine.shown_unit(number) if number in UNITS else NO_SUCH_UNIT]
+
+    def show_d(self, unit):
+        number = int(unit, 16)
+        return [self.machine.shown_device(number) if number in UNITS else NO_SUCH_UNIT]
+
+    def show_m(self, unit, count):
+        number = int(unit, 16)
+        if number not in UNITS:
+            return [NO_SUCH_UNIT]
+        items = self.machine.device(number).items()
+        return [items[int(count) - 1] if int(count) <= len(items) else "none"]
+
+    def show_image(self, unit):
+        number = int(unit, 16)
+        return self.machine.shown_image(number) if number in TAPES else [NO_SUCH_UNIT]
