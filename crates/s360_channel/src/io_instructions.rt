@@ -14,7 +14,7 @@ use crate::fetching::{Fetched, next_ccw};
 use crate::program::{Program, Progress};
 use crate::unit_control::UnitControl;
 use crate::unit_state::UnitState;
-use s360_store::Storage;
+use s360_store::{LEAST_SIZE, Storage};
 use s360_word::Cc;
 
 /// The address of the channel address word.
@@ -93,8 +93,8 @@ fn is_immediate(ccw: &Ccw) -> bool
 fn start_program(storage: &Storage) -> IoResult
     ensures { result ≡ start_program storage.now }
 {
-    // Its clauses have that the permanent locations are inside storage.
-    let _ = storage.size();
+    // So the permanent locations are inside storage.
+    prove!(storage.size() >= LEAST_SIZE);
     let caw = Caw::from_word(storage.word(CAW));
     let program_check = IoResult::with_status(
         UnitStatus::none(),

@@ -6,7 +6,7 @@ ghost use Rattle.s360_store.specs.declared.protection.Checked.TheVariants.{Clear
 ghost use Rattle.s360_channel.specs.Execution.{access_of, run_of};
 ghost use Rattle.s360_channel.specs.Steps.{StoresRun};
 
-use s360_store::{Plan, Storage};
+use s360_store::{GREATEST_SIZE, Plan, Storage};
 use s360_word::ProtectionKey;
 use std::alloc::AllocError;
 
@@ -24,8 +24,8 @@ pub(crate) fn put_run(
     ensures stores { OnOk result (StoresRun storage.now plan.new (run_of lowest bytes.now)) }
     ensures few { OnOk result (length plan.new ≤ 65535) }
 {
-    // Storage is small, so no address of the bytes passes 32 bits.
-    let _ = storage.size();
+    // So no address of the bytes passes 32 bits.
+    prove!(storage.size() <= GREATEST_SIZE);
     if let Some(address) = lowest
         && !bytes.is_empty()
     {

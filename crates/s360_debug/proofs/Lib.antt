@@ -1,6 +1,4 @@
 pub mod WordLemmas
-pub mod DigitLemmas
-pub mod HexTextLemmas
 pub mod DecimalLemmas
 pub mod PlaceNameLemmas
 pub mod ShownLemmas
@@ -8,6 +6,5 @@ pub mod LineLemmas
 pub mod StandingLemmas
 pub mod RunningLemmas
 pub mod ReportLemmas
-pub mod Writes
 pub mod Readings
 pub mod Runs

@@ -6,8 +6,9 @@ use Rattle.s360_journal.specs.Standing.{Standing}
 use Rattle.s360_debug.specs.Debugger.{Debugger}
 use Rattle.s360_debug.specs.Reading.{reading_of}
 use Rattle.s360_debug.specs.Lines.{lines_from, lines_of, is_skipped, without_return}
-use Rattle.s360_debug.specs.Script.{answer_to_reading, state_after_reading, answer_to_line, state_after_line, answers_to_lines, state_after_lines, command_lines, StandsAfterReading, IsStopped, IsPartWritten, IsCut}
-use Rattle.s360_debug.proofs.Writes.{Appends-join, Appends-nothing}
+use Rattle.s360_debug.specs.Script.{answer_to_reading, state_after_reading, answer_to_line, state_after_line, answers_to_lines, state_after_lines, command_lines, StandsAfterReading, IsStopped, IsCut}
+use Rattle.s360_text.specs.Writing.{IsPartWritten}
+use Rattle.s360_text.proofs.Writes.{Appends-join, Appends-nothing}
 use Rattle.s360_debug.proofs.Readings.{unmoved}
 
 answers-push : (s : Debugger) (ls : List (List ℕ)) (l : List ℕ) → answers_to_lines s (ls ++ l ∷ []) ≡ answers_to_lines s ls ++ answer_to_line (state_after_lines s ls) l

@@ -2,7 +2,6 @@ pub mod Words
 pub mod Digits
 pub mod Names
 pub mod ShownUnits
-pub mod Blanks
 pub mod ShownItems
 pub mod ShownImages
 pub mod Shown

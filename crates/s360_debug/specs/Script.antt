@@ -6,8 +6,8 @@ use Rattle.s360_debug.specs.Debugger.{Debugger, new_debugger}
 use Rattle.s360_debug.specs.Answers.{answer_to, state_after, fault_text, StandsPartly}
 use Rattle.s360_debug.specs.Reading.{Reading, reading_of}
 use Rattle.s360_debug.specs.Lines.{lines_of, is_skipped}
-use Rattle.s360_debug.specs.declared.reading.ReadFault.{ReadFault}
-use Rattle.s360_debug.specs.declared.reading.ReadFault.TheVariants as read
+use Rattle.s360_text.specs.declared.reading.ReadFault.{ReadFault}
+use Rattle.s360_text.specs.declared.reading.ReadFault.TheVariants as read
 use Rattle.s360_debug.specs.declared.bytes.ScriptFault.{ScriptFault}
 use Rattle.s360_debug.specs.declared.bytes.ScriptFault.TheVariants as script
 
@@ -67,12 +67,6 @@ pub record IsStopped (old new : Option (List ℕ)) (d : Debugger) (s : Standing)
   pub split : lines ≡ done ++ next ∷ left
   pub written : Appends old new (answers_to_lines d done)
   pub stands : StandsAfterReading (reading_of next) (state_after_lines d done) s
-
--- of a text the first bytes, fewer than it has, are written
-pub record IsPartWritten (old new : Option (List ℕ)) (text : List ℕ) : Type 0 where
-  pub count : ℕ
-  pub short : count < length text
-  pub written : Appends old new (take count text)
 
 -- the answers of some first lines are written, and of the next line's answer the first bytes, fewer than it has; what
 -- stands is as after all of these lines

@@ -24,7 +24,7 @@ use Rattle.s360_machine.specs.declared.configured_unit.ConfiguredUnit.TheVariant
 use Rattle.s360_machine.specs.declared.refusal.Refusal.TheVariants.{NoSuchUnit}
 use Rattle.s360_machine.specs.Machine.{Machine}
 use Rattle.s360_machine.specs.Units.{unit_at}
-use Rattle.s360_debug.specs.Blanks.{without_blanks}
+use Rattle.s360_text.specs.Blanks.{without_blanks}
 use Rattle.s360_debug.specs.Names.{refused_text}
 
 -- the sign of an EBCDIC byte, or a period where it has none

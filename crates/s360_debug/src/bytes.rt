@@ -1,12 +1,10 @@
-//! What is wrong with a script's bytes, and its answers out.
-ghost use Rattle.std.specs.Prelude.{◌≡◌, OnOk, OnErr, IfErr};
-ghost use Rattle.std.specs.Io.KnownBytes.{Appends};
-ghost use Rattle.s360_debug.specs.Script.{IsPartWritten, fault_of_read};
+//! Why a script is not carried out to its end.
+ghost use Rattle.std.specs.Prelude.{◌≡◌};
+ghost use Rattle.s360_debug.specs.Script.{fault_of_read};
 ghost use Rattle.s360_debug.specs.declared.bytes.ScriptFault.TheVariants.{Memory, Write as write_failed};
 
-use crate::reading::ReadFault;
+use s360_text::{ReadFault, Untaken};
 use std::alloc::AllocError;
-use std::io::Write;
 use thiserror::Error;
 
 /// Why a script was not carried out to its end.
@@ -46,21 +44,10 @@ impl From<ReadFault> for ScriptFault {
     }
 }
 
-/// Writes a text by as many writes as it takes. After a fault a first part of it is written.
-pub(crate) fn write_whole<W: Write>(writer: &mut W, text: &[u8]) -> Result<(), ScriptFault>
-    ensures ok { OnOk result (Appends (W.contents writer.old) (W.contents writer.new) text.now) }
-    ensures fault { IfErr result (λ e. e ≡ write_failed) }
-    ensures part { OnErr result (IsPartWritten (W.contents writer.old) (W.contents writer.new) text.now) }
-{
-    let mut at = 0;
-    while at < text.len() {
-        let Ok(count) = writer.write(&text[at..]) else {
-            return Err(ScriptFault::Write);
-        };
-        if count == 0 {
-            return Err(ScriptFault::Write);
-        }
-        at += count;
+impl From<Untaken> for ScriptFault {
+    ghost from_gives = { λ _ e. e ≡ write_failed };
+
+    fn from(_e: Untaken) -> ScriptFault {
+        ScriptFault::Write
     }
-    Ok(())
 }

@@ -2,7 +2,7 @@
 ghost use Rattle.std.specs.Prelude.{◌≡◌, ◌≤◌, ◌+◌, ◌++◌, IfOk, codes, length, vec_len, vec_capacity};
 ghost use Rattle.s360_model.specs.Text.{decimal};
 
-use crate::text::Text;
+use s360_text::Text;
 use std::alloc::{AllocError, Global};
 use std::marker::Model;
 

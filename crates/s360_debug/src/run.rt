@@ -10,11 +10,10 @@ ghost use Rattle.s360_debug.specs.declared.bytes.ScriptFault.TheVariants.{Read a
 ghost use Rattle.s360_debug.specs.declared.bytes.ScriptFault.TheVariants.{Write as write_failed};
 
 use crate::answering::{answer, text_of_fault};
-use crate::bytes::{ScriptFault, write_whole};
+use crate::bytes::ScriptFault;
 use crate::command_reader::read_command;
 use crate::lines::{Lines, skips};
-use crate::reading::read_whole;
-use crate::text::Text;
+use s360_text::{Text, read_whole, write_whole};
 use s360_journal::{Breaks, Session};
 use std::alloc::{AllocError, Global};
 use std::io::{Read, Write};

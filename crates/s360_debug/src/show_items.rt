@@ -10,7 +10,7 @@ ghost use Rattle.s360_tape.specs.WholeTape.{seen as seen_tape};
 
 use crate::names::refusal_text;
 use crate::show_units::push_digits;
-use crate::text::Text;
+use s360_text::Text;
 use s360_device::{Punch, PunchStacker, ReadStacker, Reader};
 use s360_machine::{ConfiguredUnit, Machine, Refusal};
 use s360_print::{Console, Printer, Record, TypedItem, ebcdic_to_ascii};

@@ -8,7 +8,7 @@ ghost use Rattle.s360_model.specs.Text.{hex_bytes};
 ghost use Rattle.s360_tape.specs.WholeTape.{seen as seen_tape};
 
 use crate::names::{push_numbered, refusal_text};
-use crate::text::Text;
+use s360_text::Text;
 use s360_channel::{Program, UnitState};
 use s360_device::{Device, Punch, Reader};
 use s360_machine::{ConfiguredUnit, Machine, Refusal};

@@ -1,5 +1,5 @@
 //! The card punch of the 2540. Its cards never run out. Source: A21-9033, "2540 Card Read Punch".
-ghost use Rattle.std.specs.Prelude.{◌≡◌, length};
+ghost use Rattle.std.specs.Prelude.{◌≡◌, length, take};
 ghost use Rattle.std.specs.Option.{option_copied};
 ghost use Rattle.s360_device.specs.Items.{item_in};
 ghost use Rattle.s360_model.specs.Tables.{entry_in};
@@ -46,6 +46,14 @@ fn stacker_of(code: u8) -> Option<PunchStacker>
 }
 
 impl Punch {
+    /// The sense bytes that it gives: the first of the six.
+    fn sense_bytes(&self) -> &[u8]
+        ensures bytes { result.now ≡ take 1 self.now.punch.sense }
+        ensures one { length result.now ≡ 1 }
+    {
+        &self.sense[..1]
+    }
+
     /// A punch with no card punched. It takes no memory.
     pub fn new(alloc: Global) -> Punch
         ensures { result.punch ≡ new_punch }
@@ -116,11 +124,9 @@ impl Device for Punch {
     ghost restores_change = { λ p x can. punch_change_after_swap-twice p.punch x can };
 
     fn begin(&self, command: u8) -> Begin {
-        // Looked at, since the punch keeps that there are six.
-        let _ = &self.sense;
         match CommandCode::new(command) {
             CommandCode::NoOperation => Begin::Control,
-            CommandCode::Sense => Begin::Input(1),
+            CommandCode::Sense => Begin::Input(self.sense_bytes().len() as u32),
             CommandCode::Own(code) => match stacker_of(code) {
                 Some(_) => Begin::Output(COLUMNS as u32),
                 None => Begin::Refused(COMMAND_REJECT),
@@ -129,7 +135,7 @@ impl Device for Punch {
     }
 
     fn input_byte(&self, _command: u8, i: u32) -> u8 {
-        self.sense[i as usize]
+        self.sense_bytes()[i as usize]
     }
 
     fn plan(&self, command: u8, bytes: &[u8]) -> Result<Planned<PunchChange>, AllocError> {

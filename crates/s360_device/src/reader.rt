@@ -1,5 +1,5 @@
 //! The card reader of the 2540. Source: A21-9033, "2540 Card Read Punch".
-ghost use Rattle.std.specs.Prelude.{◌≡◌, ◌<◌, length, slice_get, IfSome};
+ghost use Rattle.std.specs.Prelude.{◌≡◌, ◌<◌, length, take, slice_get, IfSome};
 ghost use Rattle.std.specs.Bool.{MatchBool};
 ghost use Rattle.std.specs.Option.{option_copied};
 ghost use Rattle.s360_device.specs.Attempts.{IsAttempt};
@@ -53,6 +53,14 @@ enum Attempt<'a> {
 }
 
 impl Reader {
+    /// The sense bytes that it gives: the first of the six.
+    fn sense_bytes(&self) -> &[u8]
+        ensures bytes { result.now ≡ take 1 self.now.reader.sense }
+        ensures one { length result.now ≡ 1 }
+    {
+        &self.sense[..1]
+    }
+
     /// A reader with a deck in its hopper. It takes no memory.
     pub fn new(alloc: Global, deck: Deck) -> Reader
         ensures { result.reader ≡ new_reader deck }
@@ -197,11 +205,9 @@ impl Device for Reader {
     ghost restores_change = { λ r x can. reader_change_after_swap-twice r.reader x can };
 
     fn begin(&self, command: u8) -> Begin {
-        // Looked at, since the reader keeps that there are six.
-        let _ = &self.sense;
         match CommandCode::new(command) {
             CommandCode::NoOperation => Begin::Control,
-            CommandCode::Sense => Begin::Input(1),
+            CommandCode::Sense => Begin::Input(self.sense_bytes().len() as u32),
             CommandCode::Own(code) => match self.attempt(code) {
                 Attempt::Refused(sense) => Begin::Refused(sense),
                 Attempt::Card(card, ReaderCommand::Read(_)) => Begin::Input(card.len() as u32),
@@ -215,7 +221,7 @@ impl Device for Reader {
     fn input_byte(&self, command: u8, i: u32) -> u8 {
         match CommandCode::new(command) {
             CommandCode::NoOperation => unreachable!(),
-            CommandCode::Sense => self.sense[i as usize],
+            CommandCode::Sense => self.sense_bytes()[i as usize],
             CommandCode::Own(code) => match self.attempt(code) {
                 Attempt::Card(card, _) => card[i as usize],
                 _ => unreachable!(),

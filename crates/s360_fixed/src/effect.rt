@@ -114,8 +114,6 @@ impl Effect {
         requires pair { OnSome self.second (r1 + 1 < 16) }
         ensures { IfOk result (PlansOutcome view.now.core plan.new (after_effect view.now.core r1 self address)) }
     {
-        // Looked at, since its clauses have that there are sixteen registers.
-        let _ = view.register(r1);
         let ended = self.setting.ended(view.psw());
         self.put(view.psw(), r1, address, plan)?;
         Ok(ended)

@@ -3,7 +3,7 @@ use crate::program_code::ProgramCode;
 use s360_word::Unit;
 
 /// An input/output instruction.
-#[derive(Clone, Copy, Debug, PartialEq, Eq, Hash)]
+#[derive(Clone, Copy, Debug, PartialEq, Eq)]
 pub enum IoOperation {
     /// SIO.
     Start,
@@ -16,7 +16,7 @@ pub enum IoOperation {
 }
 
 /// How an instruction ends.
-#[derive(Clone, Copy, Debug, PartialEq, Eq, Hash)]
+#[derive(Clone, Copy, Debug, PartialEq, Eq)]
 pub enum Ended {
     /// It is completed.
     Done,

@@ -14,7 +14,7 @@ use crate::program_code::ProgramCode;
 use crate::puts::{put_next_psw, put_registers, put_words};
 use crate::second_operand::{SecondOperand, Width};
 use crate::view::View;
-use s360_store::{Access, Plan};
+use s360_store::{Access, GREATEST_SIZE, Plan};
 use s360_word::{RegisterNumber, Word};
 use std::alloc::AllocError;
 
@@ -69,8 +69,8 @@ pub fn plan_store(
     if let Some(code) = operand_exception(view, address, count, count, Access::Store) {
         return Ok(Ended::Program(code));
     }
-    // Storage is small, so no address of the run passes 32 bits.
-    let _ = view.storage();
+    // So no address of the run passes 32 bits.
+    prove!(view.storage().size() <= GREATEST_SIZE);
     put_next_psw(view, plan)?;
     plan.put_bytes(address, bytes)?;
     Ok(Ended::Done)

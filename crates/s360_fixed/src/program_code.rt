@@ -6,7 +6,7 @@ ghost use Rattle.s360_fixed.specs.ProgramCodes.{number_of_code};
 use s360_store::Checked;
 
 /// Why an instruction interrupts the program.
-#[derive(Clone, Copy, Debug, PartialEq, Eq, Hash)]
+#[derive(Clone, Copy, Debug, PartialEq, Eq)]
 pub enum ProgramCode {
     /// Code 1: no such operation.
     Operation,

@@ -8,7 +8,7 @@ ghost use Rattle.s360_fixed.specs.Storing.{with_registers_loaded, with_registers
 
 use crate::registers::register_after;
 use crate::view::View;
-use s360_store::Plan;
+use s360_store::{GREATEST_SIZE, Plan};
 use s360_word::{RegisterNumber, Word};
 use std::alloc::AllocError;
 
@@ -86,8 +86,8 @@ pub(crate) fn put_words(
     requires few { length plan.old + 4 * count ≤ 1000000 }
     ensures { OnOk result (AddsToPlan plan.old plan.new (4 * count) (HasBytes address (4 * count)) (with_registers_stored view.now.core.registers r1 address count)) }
 {
-    // Storage is small, so no address of the run passes 32 bits.
-    let _ = view.storage();
+    // So no address of the run passes 32 bits.
+    prove!(view.storage().size() <= GREATEST_SIZE);
     for i in 0..count {
         let bytes = view.register(register_after(r1, i)).to_be_bytes();
         plan.put_bytes(address + 4 * u32::from(i), &bytes)?;

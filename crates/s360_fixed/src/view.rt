@@ -5,7 +5,7 @@ ghost use Rattle.s360_store.specs.Plans.{HasRegisters};
 ghost use Rattle.s360_fixed.specs.View.{register_of, view_with};
 
 use s360_psw::{InstructionLength, Psw};
-use s360_store::Storage;
+use s360_store::{GREATEST_SIZE, Storage};
 use s360_word::{RegisterNumber, Word};
 use std::marker::Model;
 
@@ -54,7 +54,8 @@ impl<'a> View<'a> {
 
     /// The PSW.
     pub fn psw(&self) -> Psw
-        ensures { result ≡ self.now.core.psw }
+        ensures psw { result ≡ self.now.core.psw }
+        ensures sixteen { HasRegisters self.now.core }
     {
         self.psw
     }
@@ -72,8 +73,7 @@ impl<'a> View<'a> {
         ensures storage { result.now ≡ self.now.core.storage }
         ensures small { length self.now.core.storage.bytes ≤ 1048576 }
     {
-        // Its clauses have the bound of the size.
-        let _ = self.storage.size();
+        prove!(self.storage.size() <= GREATEST_SIZE);
         self.storage
     }
 

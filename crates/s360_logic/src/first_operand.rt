@@ -8,7 +8,7 @@ ghost use Rattle.s360_logic.specs.Operands.{first_operand, stored_in};
 use crate::field::Field;
 use arrayvec::ArrayVec;
 use s360_fixed::{Effect, Ended, Setting, View};
-use s360_store::{Plan, Storage};
+use s360_store::{GREATEST_SIZE, Plan, Storage};
 use s360_word::RegisterNumber;
 use std::alloc::AllocError;
 use std::marker::Model;
@@ -45,8 +45,8 @@ impl<'a> FirstOperand<'a> {
         ensures unaltered { stored_in result ≡ storage.now }
         ensures count { length result.bytes ≡ field.count }
     {
-        // Storage is small, so no address of the operand passes 32 bits.
-        let _ = storage.size();
+        // So no address of the operand passes 32 bits.
+        prove!(storage.size() <= GREATEST_SIZE);
         let bytes = storage.bytes(field.address, field.count);
         FirstOperand {
             storage,
@@ -110,10 +110,7 @@ impl<'a> FirstOperand<'a> {
         requires empty { plan.old ≡ [] }
         ensures { IfOk result (PlansOutcome view.now.core plan.new (completed_with view.now setting (stored_in self.now))) }
     {
-        // Looked at, since their clauses have that there are sixteen registers, and that the operand
-        // is inside storage.
-        let _ = view.register(RegisterNumber::new(0));
-        let _ = self.len();
+        prove!(self.address() + self.len() <= self.storage.size());
         let effect = Effect::condition(setting);
         let ended = effect.setting.ended(view.psw());
         effect.put(

@@ -19,7 +19,7 @@ use crate::field::{Field, check, fields_exception};
 use crate::first_operand::FirstOperand;
 use crate::row::ByteCombination;
 use s360_fixed::{ADDRESSES, Effect, Ended, ProgramCode, Setting, View, operand_exception};
-use s360_store::{Access, Checked, Plan, Storage};
+use s360_store::{Access, Checked, GREATEST_SIZE, Plan, Storage};
 use s360_word::{Cc, RegisterNumber, Word, compare_logical};
 use std::alloc::AllocError;
 
@@ -227,8 +227,8 @@ fn plan_found(view: &View, found: Found, field: Field, plan: &mut Plan) -> Resul
     requires empty { plan.old ≡ [] }
     ensures { IfOk result (PlansOutcome view.now.core plan.new (found_outcome found.number found.function_byte view.now field.address field.count)) }
 {
-    // Storage is small, so no address of the operand passes 24 bits.
-    let _ = view.storage().size();
+    // So no address of the operand passes 24 bits.
+    prove!(view.storage().size() <= GREATEST_SIZE);
     let is_last = found.number + 1 == field.count;
     let code = Cc::new(if is_last { 2 } else { 1 });
     let one = RegisterNumber::new(1);

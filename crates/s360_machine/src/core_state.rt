@@ -20,7 +20,7 @@ ghost use Rattle.s360_store.proofs.KeptLemmas.{AreKept};
 use crate::changes::WITHIN;
 use s360_logic::PlannedInstruction;
 use s360_psw::{InstructionLength, Psw};
-use s360_store::{BLOCK_SIZE, Cell, Place, Plan, Storage, StoreFault};
+use s360_store::{BLOCK_SIZE, Cell, GREATEST_SIZE, Place, Plan, Storage, StoreFault};
 use s360_word::{ProtectionKey, RegisterNumber, Word};
 use smallvec::SmallVec;
 use std::alloc::{AllocError, Global};
@@ -138,8 +138,8 @@ impl Core {
         requires few { length bytes.now ≤ 256 }
         ensures { OnOk result (IsPlanOf self.now plan.new (core_with_bytes at bytes.now self.now)) }
     {
-        // Storage is small, so no address of the run passes 32 bits.
-        let _ = self.storage.size();
+        // So no address of the run passes 32 bits.
+        prove!(self.storage.size() <= GREATEST_SIZE);
         plan.put_bytes(at, bytes)?;
         Ok(())
     }
@@ -155,8 +155,8 @@ impl Core {
         requires inside { at < length self.now.storage.bytes }
         ensures { OnOk result (IsPlanOf self.now plan.new (core_with_key (at / block_size) key self.now)) }
     {
-        // Its clauses have that each byte of storage is in a block.
-        let _ = self.storage.size();
+        // So each byte of storage is in a block.
+        prove!(self.storage.size() % BLOCK_SIZE == 0);
         plan.put_key(at / BLOCK_SIZE, key)?;
         Ok(())
     }

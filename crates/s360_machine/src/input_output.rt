@@ -19,7 +19,7 @@ use s360_channel::{
 };
 use s360_fixed::IoOperation;
 use s360_psw::{Class, InstructionLength};
-use s360_store::{Plan, Storage};
+use s360_store::{LEAST_SIZE, Plan, Storage};
 use s360_word::Unit;
 use std::alloc::AllocError;
 
@@ -70,8 +70,8 @@ impl Core {
         ensures plans { OnOk result (PlansCsw self.now plan.old plan.new stores.now) }
         ensures few { OnOk result (length plan.new ≤ length plan.old + 8) }
     {
-        // Its clauses have that the permanent locations are inside storage.
-        let _ = self.storage().size();
+        // So the permanent locations are inside storage.
+        prove!(self.storage().size() >= LEAST_SIZE);
         match stores {
             CswStore::Nothing => Ok(()),
             CswStore::Status(unit, channel) => {

@@ -9,7 +9,7 @@ ghost use Rattle.s360_machine.specs.Interruptions.{after_interruption};
 
 use crate::core_state::Core;
 use s360_psw::{Class, InstructionLength, Psw};
-use s360_store::{Place, Plan};
+use s360_store::{LEAST_SIZE, Place, Plan};
 use std::alloc::AllocError;
 
 impl Core {
@@ -70,8 +70,8 @@ impl Core {
         requires few { length plan.old ≤ 259 }
         ensures { OnOk result (IsPlanOf self.now plan.new (after_interruption class code instruction_length (core_with_psw psw (after_exchange self.now plan.old)))) }
     {
-        // Its clauses have that the permanent locations are inside storage.
-        let _ = self.storage().size();
+        // So the permanent locations are inside storage.
+        prove!(self.storage().size() >= LEAST_SIZE);
         let next = Psw::from_u64(self.planned_double(plan, class.new_location()));
         let stored = psw.stored(code, instruction_length);
         plan.put_psw(next)?;

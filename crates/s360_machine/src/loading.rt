@@ -19,7 +19,7 @@ use crate::media::MediaChanges;
 use crate::run_state::RunState;
 use s360_channel::{UnitControl, UnitState, status_halfword};
 use s360_psw::Psw;
-use s360_store::Plan;
+use s360_store::{LEAST_SIZE, Plan};
 use std::alloc::AllocError;
 
 /// Channel end and device end, and nothing else.
@@ -33,8 +33,8 @@ impl Core {
         requires few { length plan.old ≤ 65535 }
         ensures { OnOk result (IsPlanOf self.now plan.new (core_after_loading address (after_exchange self.now plan.old))) }
     {
-        // Its clauses have that the permanent locations are inside storage.
-        let _ = self.storage().size();
+        // So the permanent locations are inside storage.
+        prove!(self.storage().size() >= LEAST_SIZE);
         plan.put_bytes(2, &address.to_be_bytes())?;
         let psw = Psw::from_u64(self.planned_double(plan, 0));
         plan.put_psw(psw)?;

@@ -6,7 +6,7 @@ ghost use Rattle.s360_machine.specs.Timer.{core_after_tick, is_negative, runs_ou
 ghost use Rattle.s360_machine.specs.Timer.{timer_location, timer_of};
 
 use crate::core_state::Core;
-use s360_store::Plan;
+use s360_store::{LEAST_SIZE, Plan};
 use s360_word::{Word, sub_signed};
 use std::alloc::AllocError;
 
@@ -43,8 +43,8 @@ impl Core {
         ensures word { result ≡ timer_of self.now }
         ensures inside { HasBytes timer_location 4 self.now }
     {
-        // Its clauses have that the timer is inside storage.
-        let _ = self.storage().size();
+        // So the timer is inside storage.
+        prove!(self.storage().size() >= LEAST_SIZE);
         self.storage().word(TIMER)
     }
 

@@ -1,6 +1,6 @@
 //! The 1052 console: what it typed, and the lines that the operator entered. Source: the component
 //! description of the 1052.
-ghost use Rattle.std.specs.Prelude.{◌≡◌, ◌≤◌, false, length, slice_get, IfOk};
+ghost use Rattle.std.specs.Prelude.{◌≡◌, ◌≤◌, false, length, take, slice_get, IfOk};
 ghost use Rattle.std.specs.Bool.{MatchBool};
 ghost use Rattle.std.specs.Option.{option_copied};
 ghost use Rattle.s360_device.specs.Items.{item_in};
@@ -41,6 +41,14 @@ impl Model for Console {
 }
 
 impl Console {
+    /// The sense bytes that it gives: the first of the six.
+    fn sense_bytes(&self) -> &[u8]
+        ensures bytes { result.now ≡ take 1 self.now.console.sense }
+        ensures one { length result.now ≡ 1 }
+    {
+        &self.sense[..1]
+    }
+
     /// A console with nothing typed or entered. It takes no memory.
     pub fn new(alloc: Global) -> Console
         ensures { result.console ≡ new_console }
@@ -182,11 +190,9 @@ impl Device for Console {
     ghost restores_change = { λ c x can. console_change_after_swap-twice c.console x can };
 
     fn begin(&self, command: u8) -> Begin {
-        // Looked at, since the console keeps that there are six.
-        let _ = &self.sense;
         match CommandCode::new(command) {
             CommandCode::NoOperation => Begin::Control,
-            CommandCode::Sense => Begin::Input(1),
+            CommandCode::Sense => Begin::Input(self.sense_bytes().len() as u32),
             CommandCode::Own(code) => match ConsoleCommand::new(code) {
                 Some(ConsoleCommand::Write | ConsoleCommand::WriteAndReturn) => {
                     Begin::Output(LINE_LIMIT as u32)
@@ -204,7 +210,7 @@ impl Device for Console {
     fn input_byte(&self, command: u8, i: u32) -> u8 {
         match CommandCode::new(command) {
             CommandCode::NoOperation => unreachable!(),
-            CommandCode::Sense => self.sense[i as usize],
+            CommandCode::Sense => self.sense_bytes()[i as usize],
             CommandCode::Own(code) => match ConsoleCommand::new(code) {
                 Some(ConsoleCommand::Read) => match self.next_line() {
                     Some(line) => line.as_slice()[i as usize],

@@ -1,5 +1,5 @@
 //! The 1403 printer. Source: the component description of the 1403.
-ghost use Rattle.std.specs.Prelude.{◌≡◌, ◌≤◌, length};
+ghost use Rattle.std.specs.Prelude.{◌≡◌, ◌≤◌, length, take};
 ghost use Rattle.std.specs.Bool.{MatchBool};
 ghost use Rattle.std.specs.Option.{option_copied};
 ghost use Rattle.s360_device.specs.Items.{item_in};
@@ -37,6 +37,14 @@ impl Model for Printer {
 }
 
 impl Printer {
+    /// The sense bytes that it gives: the first of the six.
+    fn sense_bytes(&self) -> &[u8]
+        ensures bytes { result.now ≡ take 1 self.now.printer.sense }
+        ensures one { length result.now ≡ 1 }
+    {
+        &self.sense[..1]
+    }
+
     /// A printer that stands at line 1 of page 1, with no line printed. It takes no memory.
     pub fn new(alloc: Global) -> Printer
         ensures { result.printer ≡ new_printer }
@@ -151,11 +159,9 @@ impl Device for Printer {
     ghost restores_change = { λ p x can. printer_change_after_swap-twice p.printer x can };
 
     fn begin(&self, command: u8) -> Begin {
-        // Looked at, since the printer keeps that there are six.
-        let _ = &self.sense;
         match CommandCode::new(command) {
             CommandCode::NoOperation => Begin::Control,
-            CommandCode::Sense => Begin::Input(1),
+            CommandCode::Sense => Begin::Input(self.sense_bytes().len() as u32),
             CommandCode::Own(code) => match PrinterCommand::new(code) {
                 Some(PrinterCommand::Print(_)) => Begin::Output(LINE_WIDTH as u32),
                 Some(PrinterCommand::Move(_)) => Begin::Control,
@@ -165,7 +171,7 @@ impl Device for Printer {
     }
 
     fn input_byte(&self, _command: u8, i: u32) -> u8 {
-        self.sense[i as usize]
+        self.sense_bytes()[i as usize]
     }
 
     fn plan(&self, command: u8, bytes: &[u8]) -> Result<Planned<PrinterChange>, AllocError> {

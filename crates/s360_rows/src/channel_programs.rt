@@ -4,10 +4,10 @@ ghost use Rattle.s360_machine.specs.IoChanges.{CanIfAny};
 
 use crate::rows::{Subject, Words, assert_rows};
 use crate::slate::Slate;
-use crate::storage::swap;
+use crate::storage::{put, put_bytes};
 use s360_channel::{ChannelStep, Program, Progress, UnitState, channel_plan};
 use s360_device::Device;
-use s360_store::{Place, Plan, Storage};
+use s360_store::{LEAST_SIZE, Plan, Storage};
 use std::alloc::{AllocError, Global};
 use std::mem;
 
@@ -44,7 +44,7 @@ fn execute<D: Device>(
     };
     for i in 0..plan.len() {
         let cell = plan.cell(i);
-        let _ = swap(storage, cell.place, cell.value);
+        put(storage, cell.place, cell.value);
     }
     Ok(state)
 }
@@ -81,9 +81,7 @@ impl Executing {
     fn put(&mut self, words: &mut Words<'_>) {
         let address = words.below(0x2000) as u32;
         let doubleword = words.number();
-        for (at, byte) in (address..0x2000).zip(doubleword.to_be_bytes()) {
-            let _ = swap(&mut self.storage, Place::Byte(at), u64::from(byte));
-        }
+        put_bytes(&mut self.storage, address, &doubleword.to_be_bytes());
     }
 
     /// One channel event, after which the state is answered.
@@ -114,8 +112,7 @@ impl Executing {
     fn bytes(&self, alloc: Global, words: &mut Words<'_>) -> Option<String> {
         let address = words.below(0x1000) as u32;
         let count = words.below(0x100) as u32;
-        // Its clauses have that there are 8,192 bytes at least.
-        let _ = self.storage.size();
+        prove!(self.storage.size() >= LEAST_SIZE);
         let mut text = String::new(alloc);
         for byte in self.storage.bytes(address, count) {
             write!(text, "{byte:02X}").ok()?;

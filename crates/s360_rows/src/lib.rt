@@ -7,8 +7,6 @@ mod calls;
 #[cfg(test)]
 mod channel_programs;
 #[cfg(test)]
-mod codes;
-#[cfg(test)]
 mod devices;
 #[cfg(test)]
 mod instructions;
@@ -28,7 +26,3 @@ mod slate;
 mod storage;
 #[cfg(test)]
 mod tape_reads;
-#[cfg(test)]
-mod texts;
-#[cfg(test)]
-mod words_and_psw;

@@ -2,9 +2,8 @@
 //! begins with an asterisk says what the rows below it are.
 ghost use Rattle.std.specs.Prelude.{◌<◌};
 
-use s360_store::{Cell, Place};
-use s360_word::{ProtectionKey, RegisterNumber, Unit};
-use std::alloc::{AllocError, Global};
+use s360_word::ProtectionKey;
+use std::alloc::Global;
 use std::process::Abort;
 use std::str::Split;
 
@@ -12,17 +11,17 @@ use std::str::Split;
 #[derive(Drop)]
 pub(crate) struct Words<'a> {
     text: &'a str,
-    left: Split<'a, [char; 2]>,
+    left: Split<'a, char>,
     are_read: bool,
 }
 
 impl<'a> Words<'a> {
-    /// The words of a text, between blanks and equals signs.
-    pub(crate) fn new(text: &'a str) -> Words<'a> {
+    /// The words of a text, between blanks.
+    fn new(text: &'a str) -> Words<'a> {
         let text = text.trim();
         Words {
             text,
-            left: text.split([' ', '=']),
+            left: text.split(' '),
             are_read: true,
         }
     }
@@ -40,7 +39,7 @@ impl<'a> Words<'a> {
 
     /// All that stands behind the first word, which is then read.
     pub(crate) fn behind_the_first(&mut self) -> &'a str {
-        self.left = "".split([' ', '=']);
+        self.left = "".split(' ');
         let _ = self.left.next();
         match self.text.split_once(" ") {
             Some((_, line)) => line,
@@ -83,24 +82,6 @@ impl<'a> Words<'a> {
         ProtectionKey::new(self.below(16) as u8)
     }
 
-    /// The next word as a register, or 0.
-    pub(crate) fn register(&mut self) -> RegisterNumber {
-        RegisterNumber::new(self.below(16) as u8)
-    }
-
-    /// The next word as the name of a place, where one is left.
-    pub(crate) fn next_place(&mut self) -> Option<Place> {
-        let name = self.left.next()?;
-        let place = place(name);
-        self.are_read &= place.is_some();
-        place
-    }
-
-    /// Refuses the words that were read, if this does not hold.
-    pub(crate) fn expect(&mut self, holds: bool) {
-        self.are_read &= holds;
-    }
-
     /// Whether each word was what was asked for, and none is left.
     fn are_all_read(mut self) -> bool {
         self.are_read && self.left.next().is_none()
@@ -108,58 +89,8 @@ impl<'a> Words<'a> {
 }
 
 /// The number of hexadecimal digits.
-pub(crate) fn number(digits: &str) -> Option<u64> {
+fn number(digits: &str) -> Option<u64> {
     u64::from_str_radix(digits, 16).ok()
-}
-
-/// The place with a name: `p`, `rF`, `s1FFF`, `k3`, `run`, `ext`, `u00C` (a unit's state) or `m00C`
-/// (its media).
-pub(crate) fn place(name: &str) -> Option<Place> {
-    let digits = name.trim_start_matches(|letter: char| letter.is_ascii_lowercase());
-    let number = u32::from_str_radix(digits, 16).unwrap_or_default();
-    match name.strip_suffix(digits)? {
-        "p" => Some(Place::Psw),
-        "r" if number < 0x100 => Some(Place::Register(number as u8)),
-        "s" => Some(Place::Byte(number)),
-        "k" => Some(Place::Key(number)),
-        "run" => Some(Place::Run),
-        "ext" => Some(Place::External),
-        "u" if number < 0x1_0000 => Some(Place::UnitState(Unit(number as u16))),
-        "m" if number < 0x1_0000 => Some(Place::UnitMedia(Unit(number as u16))),
-        _ => None,
-    }
-}
-
-/// The kind of a place and its number, where it has one.
-fn parts(place: Place) -> (&'static str, Option<u32>) {
-    match place {
-        Place::Psw => ("p", None),
-        Place::Register(number) => ("r", Some(u32::from(number))),
-        Place::Byte(address) => ("s", Some(address)),
-        Place::Key(block) => ("k", Some(block)),
-        Place::Run => ("run", None),
-        Place::External => ("ext", None),
-        Place::UnitState(unit) => ("u", Some(u32::from(unit.address()))),
-        Place::UnitMedia(unit) => ("m", Some(u32::from(unit.address()))),
-    }
-}
-
-/// The name of a place.
-fn name(alloc: Global, place: Place) -> Option<String> {
-    match parts(place) {
-        (kind, Some(number)) => format!(in alloc; "{kind}{number:X}").ok(),
-        (kind, None) => format!(in alloc; "{kind}").ok(),
-    }
-}
-
-/// Cells, each as its place and its value.
-pub(crate) fn text_of_cells(alloc: Global, cells: &[Cell]) -> Option<String> {
-    let mut text = String::new(alloc);
-    for cell in cells {
-        let name = name(alloc, cell.place)?;
-        write!(text, "{name}={:X} ", cell.value).ok()?;
-    }
-    Some(text)
 }
 
 /// What the rows of a table are asked of.

@@ -1,6 +1,6 @@
 //! A device of the tests, a slate. 01 writes a line of at most twelve bytes on it; 02 reads its own
 //! line, for which it waits until one is put there.
-ghost use Rattle.std.specs.Prelude.{◌≡◌, ◌≤◌, false, length};
+ghost use Rattle.std.specs.Prelude.{◌≡◌, ◌≤◌, false, length, take};
 ghost use Rattle.s360_rows.specs.Slate.{line_of};
 
 use s360_device::{Begin, COMMAND_REJECT, CommandCode, Device, Motion, NO_SENSE, Planned};
@@ -62,6 +62,14 @@ fn planned(
 }
 
 impl Slate {
+    /// The sense bytes that it gives: the first of the six.
+    fn sense_bytes(&self) -> &[u8]
+        ensures bytes { result.now ≡ take 1 self.now.slate.sense }
+        ensures one { length result.now ≡ 1 }
+    {
+        &self.sense[..1]
+    }
+
     /// A clean slate.
     pub(crate) fn new(alloc: Global) -> Slate {
         Slate {
@@ -125,11 +133,9 @@ impl Device for Slate {
     ghost restores_change = { λ s x can. slate_change_after_swap-twice s.slate x can };
 
     fn begin(&self, command: u8) -> Begin {
-        // Looked at, since the slate keeps that there are six.
-        let _ = &self.sense;
         match CommandCode::new(command) {
             CommandCode::NoOperation => Begin::Control,
-            CommandCode::Sense => Begin::Input(1),
+            CommandCode::Sense => Begin::Input(self.sense_bytes().len() as u32),
             CommandCode::Own(0x01) => Begin::Output(12),
             CommandCode::Own(0x02) if self.has_line => Begin::Input(12),
             CommandCode::Own(0x02) => Begin::NotYet,
@@ -139,7 +145,7 @@ impl Device for Slate {
 
     fn input_byte(&self, command: u8, i: u32) -> u8 {
         match CommandCode::new(command) {
-            CommandCode::Sense => self.sense[i as usize],
+            CommandCode::Sense => self.sense_bytes()[i as usize],
             _ => LINE[i as usize],
         }
     }

@@ -17,4 +17,4 @@ pub use fault::StoreFault;
 pub use place::{Cell, Place};
 pub use plan::Plan;
 pub use protection::{Access, Checked};
-pub use storage::{BLOCK_SIZE, Storage};
+pub use storage::{BLOCK_SIZE, GREATEST_SIZE, LEAST_SIZE, Storage};

@@ -21,6 +21,12 @@ use std::marker::Model;
 /// Bytes in a block, which has one storage key.
 pub const BLOCK_SIZE: u32 = 2048;
 
+/// The fewest bytes that a storage has.
+pub const LEAST_SIZE: u32 = 8_192;
+
+/// The most bytes that a storage has.
+pub const GREATEST_SIZE: u32 = 1_048_576;
+
 /// Main storage of 8,192 to 1,048,576 bytes, in whole blocks.
 #[derive(Drop)]
 pub struct Storage {
@@ -43,7 +49,7 @@ impl Model for Storage {
 fn is_size(size: u32) -> bool
     ensures { result ≡ is_storage_size size }
 {
-    (8_192..=1_048_576).contains(&size) && size % BLOCK_SIZE == 0
+    (LEAST_SIZE..=GREATEST_SIZE).contains(&size) && size % BLOCK_SIZE == 0
 }
 
 /// Whether each of the keys is this one.

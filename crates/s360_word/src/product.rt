@@ -6,12 +6,19 @@ ghost use Rattle.s360_model.specs.Products.{divided, division, product_words, si
 
 use crate::word::{Word, is_in_word, low_word, signed_of, signed_pair_number, signed_pair_words};
 
+/// The product of two signed words as a number.
+fn product_of(a: Word, b: Word) -> i64
+    ensures { result ≡ signed_product a b }
+{
+    signed_of(a) * signed_of(b)
+}
+
 /// The high and the low word of the 64-bit product of two signed words.
 pub fn multiply(a: Word, b: Word) -> (Word, Word)
     ensures words { result ≡ product_words a b }
     ensures exact { signed_pair result.0 result.1 ≡ signed_product a b }
 {
-    signed_pair_words(signed_of(a) * signed_of(b))
+    signed_pair_words(product_of(a, b))
 }
 
 /// The words of the quotient and the remainder of two signed numbers; `None` where the divisor is

@@ -1,43 +1,12 @@
--- What the faults of the crates below are to the program (own profile). Want of memory is of no part.
+-- The failures that the program ends with once its command line is read (own profile).
 use Rattle.std.specs.Prelude.{◌≡◌, ◌⊎◌}
 use Rattle.s360_debug.specs.declared.bytes.ScriptFault.{ScriptFault}
 use Rattle.s360_debug.specs.declared.bytes.ScriptFault.TheVariants as script
-use Rattle.s360_device.specs.declared.fault.DeckFault.{DeckFault}
-use Rattle.s360_device.specs.declared.fault.DeckFault.TheVariants as deck
-use Rattle.s360_store.specs.declared.fault.StoreFault.{StoreFault}
-use Rattle.s360_store.specs.declared.fault.StoreFault.TheVariants as storage
-use Rattle.s360_tape.specs.declared.fault.TapeFault.{TapeFault}
-use Rattle.s360_tape.specs.declared.fault.TapeFault.TheVariants as tape
-use Rattle.s360_debug.specs.declared.reading.ReadFault.{ReadFault}
-use Rattle.s360_debug.specs.declared.reading.ReadFault.TheVariants as read
-use Rattle.s360dbg.specs.declared.failure.Part as part
-use Rattle.s360dbg.specs.declared.failure.Part.TheVariants.{Reader, Tape0, Tape1, Script}
-use Rattle.s360dbg.specs.declared.failure.Fault.TheVariants.{CannotRead, FileTooLong, ShortCard, ShortHeader, BadFlags, PartOutOfPlace, ShortBlock, BlockTooLong, ReadFailed, ScriptTooLong, WriteFailed}
-use Rattle.s360dbg.specs.declared.failure.Failure.{Failure}
-use Rattle.s360dbg.specs.declared.failure.Failure.TheVariants.{StorageSize, Memory, Part}
-
--- of reading the file of a part
-abbrev pub failure_of_read : part.Part → ReadFault → Failure
-failure_of_read p read.Failed = Part p CannotRead
-failure_of_read p read.TooLong = Part p FileTooLong
-failure_of_read p read.Memory = Memory
-
-abbrev pub failure_of_deck : DeckFault → Failure
-failure_of_deck (deck.ShortCard at) = Part Reader (ShortCard at)
-failure_of_deck deck.Memory = Memory
-
--- of the file of a part, as that of a tape
-abbrev pub failure_of_tape : part.Part → TapeFault → Failure
-failure_of_tape p (tape.ShortHeader at) = Part p (ShortHeader at)
-failure_of_tape p (tape.BadFlags at) = Part p (BadFlags at)
-failure_of_tape p (tape.PartOutOfPlace at) = Part p (PartOutOfPlace at)
-failure_of_tape p (tape.ShortBlock at) = Part p (ShortBlock at)
-failure_of_tape p (tape.BlockTooLong at) = Part p (BlockTooLong at)
-failure_of_tape p tape.Memory = Memory
-
-abbrev pub failure_of_storage : StoreFault → Failure
-failure_of_storage storage.Size = StorageSize
-failure_of_storage storage.Memory = Memory
+use Rattle.s360_setup.specs.declared.failure.Part.TheVariants.{Script}
+use Rattle.s360_setup.specs.declared.failure.Fault.TheVariants.{CannotRead, ReadFailed, ScriptTooLong, WriteFailed}
+use Rattle.s360_setup.specs.declared.failure.Failure.{Failure}
+use Rattle.s360_setup.specs.declared.failure.Failure.TheVariants.{Memory, Part}
+use Rattle.s360_setup.specs.Failures.{IsSetUpFailure}
 
 abbrev pub failure_of_script : ScriptFault → Failure
 failure_of_script script.Read = Part Script ReadFailed
@@ -45,30 +14,14 @@ failure_of_script script.TooLong = Part Script ScriptTooLong
 failure_of_script script.Write = Part Script WriteFailed
 failure_of_script script.Memory = Memory
 
--- the failures that reading the file of a part, the reader's deck, a tape, and carrying out a script end with
-abbrev pub IsFailureOf : part.Part → Failure → Type 0
-IsFailureOf p failure = (fault : ReadFault) × (failure ≡ failure_of_read p fault)
-
-abbrev pub IsDeckFailure : Failure → Type 0
-IsDeckFailure failure = IsFailureOf Reader failure ⊎ ((fault : DeckFault) × (failure ≡ failure_of_deck fault))
-
-abbrev pub IsTapeFailure : part.Part → Failure → Type 0
-IsTapeFailure p failure = IsFailureOf p failure ⊎ ((fault : TapeFault) × (failure ≡ failure_of_tape p fault))
-
+-- the failures that carrying out a script ends with
 abbrev pub IsScriptFailure : Failure → Type 0
 IsScriptFailure failure = (fault : ScriptFault) × (failure ≡ failure_of_script fault)
 
-abbrev pub IsStorageFailure : Failure → Type 0
-IsStorageFailure failure = (fault : StoreFault) × (failure ≡ failure_of_storage fault)
-
--- the failures that setting the machine up ends with
-abbrev pub IsSetUpFailure : Failure → Type 0
-IsSetUpFailure failure = IsDeckFailure failure ⊎ (IsTapeFailure Tape0 failure ⊎ (IsTapeFailure Tape1 failure ⊎ IsStorageFailure failure))
-
--- the failures that carrying out the script that the options name ends with
+-- those that carrying out the script that the options name ends with
 abbrev pub IsAnsweringFailure : Failure → Type 0
 IsAnsweringFailure failure = (failure ≡ Part Script CannotRead) ⊎ IsScriptFailure failure
 
--- the failures that the program ends with once its command line is read
+-- those that the program ends with
 abbrev pub IsRunFailure : Failure → Type 0
 IsRunFailure failure = IsSetUpFailure failure ⊎ IsAnsweringFailure failure

@@ -1,5 +1,1 @@
-pub mod Beginning
-pub mod CommandLine
-pub mod Ending
 pub mod Failures
-pub mod Partial

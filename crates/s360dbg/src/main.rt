@@ -1,19 +1,13 @@
 //! The program: carries a script out over a machine. docs/DEBUGGER.md has its command line.
 #![tactic(auto)]
 
-mod arguments;
-mod command_line;
-mod failure;
 mod program;
-mod telling;
 
 use clap::Error;
 use clap::error::ErrorKind;
-use command_line::options;
-use failure::Failure;
+use s360_setup::{Failure, ending, options};
 use std::process::ExitCode;
 use std::{env, io};
-use telling::ending;
 
 /// The status where the command line did not ask for what can be done.
 const USAGE: u8 = 2;

@@ -1,38 +1,25 @@
 //! What the program does once its command line is read. Faults are found in the order of the steps.
-ghost use Rattle.std.specs.Prelude.{◌≡◌, ◌≢◌, ◌≤◌, [], true, false, length, None};
+ghost use Rattle.std.specs.Prelude.{◌≡◌, ◌≢◌, ◌≤◌, [], true, false, length};
 ghost use Rattle.std.specs.Prelude.{IfOk, IfErr, IfSome, OnOk, Err};
 ghost use Rattle.std.specs.Io.KnownBytes.{Appends, Keeps};
 ghost use Rattle.std.specs.Io.Buffered.{writer_buffer, writer_contents};
 ghost use Rattle.s360_model.specs.Storage.{is_storage_size};
-ghost use Rattle.s360_model.specs.Cards.{IsDeckFile};
-ghost use Rattle.s360_machine.specs.Machine.{seen};
-ghost use Rattle.s360_tape.specs.WholeTape.{seen as seen_tape};
-ghost use Rattle.s360dbg.specs.Beginning.{IsBeginning, IsTapeFor};
 ghost use Rattle.s360_debug.specs.Debugger.{new_debugger};
 ghost use Rattle.s360_debug.specs.Lines.{lines_of};
 ghost use Rattle.s360_debug.specs.Script.{answers_of, state_after_lines};
-ghost use Rattle.s360dbg.specs.Failures.{IsFailureOf, IsDeckFailure, IsTapeFailure};
-ghost use Rattle.s360dbg.specs.Failures.{IsScriptFailure, IsSetUpFailure, IsAnsweringFailure, IsRunFailure};
-ghost use Rattle.s360dbg.specs.declared.failure.Part.TheVariants.{Reader};
-ghost use Rattle.s360dbg.specs.declared.failure.Fault.TheVariants.{CannotRead};
-ghost use Rattle.s360dbg.specs.declared.failure.Failure.TheVariants.{Part as failure_of_part, StorageSize};
+ghost use Rattle.s360dbg.specs.Failures.{IsScriptFailure, IsAnsweringFailure, IsRunFailure};
+ghost use Rattle.s360dbg.specs.Failures.{failure_of_script};
+ghost use Rattle.s360_setup.specs.declared.failure.Failure.TheVariants.{StorageSize};
 
-use crate::arguments::{Options, TapeOptions};
-use crate::failure::{Failure, Fault, Part};
-use s360_debug::{ScriptFault, read_whole, run_script};
-use s360_device::{Deck, deck_from};
+use s360_debug::{ScriptFault, run_script};
 use s360_journal::Session;
 use s360_machine::Machine;
-use s360_tape::{Tape, tape_from};
+use s360_setup::{Failure, Fault, Options, Part, open, set_up};
 use std::alloc::Global;
-use std::fs::{self, File};
 use std::io::{self, BufWriter, Input, IsTerminal, Read, Write};
 
 /// So many changes can stand.
 const LIMIT: u32 = 10_000_000;
-
-/// A file of a deck or a tape has at most so many bytes.
-const LONGEST_FILE: usize = 67_108_864;
 
 /// What a person is told from whose terminal the script is read. All of it is read before its first
 /// line is carried out.
@@ -81,80 +68,23 @@ fn answer_on_output<R: Read>(
     Ok(())
 }
 
-/// The machine that the options ask for.
-fn set_up(rt: &HostRuntime, alloc: Global, options: Options<'_>) -> Result<Machine, Failure>
-    ensures beginning { IfOk result (λ m. IsBeginning options.entry (seen m.whole)) }
-    ensures failure { IfErr result IsSetUpFailure }
-    ensures size { OnOk result (is_storage_size options.entry.storage ≡ true) }
-    ensures no_size { result ≡ Err StorageSize → is_storage_size options.entry.storage ≡ false }
-{
-    let deck = read_deck(rt, alloc, options.reader)?;
-    let tape0 = read_tape(rt, alloc, Part::Tape0, options.tape0)?;
-    let tape1 = read_tape(rt, alloc, Part::Tape1, options.tape1)?;
-    Ok(Machine::new(alloc, options.storage, deck, tape0, tape1)?)
-}
-
-/// The deck in a file, or one with no card where none is named.
-fn read_deck(rt: &HostRuntime, alloc: Global, name: Option<&str>) -> Result<Deck, Failure>
-    ensures unnamed { name.entry ≡ None → IfOk result (λ deck. IsDeckFile [] deck) }
-    ensures failure { IfErr result (λ failure. IsDeckFailure failure) }
-{
-    let file = read_image(rt, alloc, Part::Reader, name)?;
-    Ok(deck_from(alloc, &file)?)
-}
-
-/// The tape in a file, or a blank one where none is named. `part` is what a fault of it is of.
-fn read_tape(
-    rt: &HostRuntime,
-    alloc: Global,
-    part: Part,
-    options: TapeOptions<'_>,
-) -> Result<Tape, Failure>
-    ensures tape { IfOk result (λ t. IsTapeFor options.entry (seen_tape t.tape)) }
-    ensures failure { IfErr result (IsTapeFailure part) }
-{
-    let file = read_image(rt, alloc, part, options.file)?;
-    match tape_from(alloc, &file, options.protected) {
-        Ok(tape) => Ok(tape),
-        Err(fault) => Err(part.tape_failure(fault)),
-    }
-}
-
-/// The bytes of a file of a part, or none where no file is named.
-fn read_image(
-    rt: &HostRuntime,
-    alloc: Global,
-    part: Part,
-    name: Option<&str>,
-) -> Result<Vec<u8>, Failure>
-    ensures unnamed { name.entry ≡ None → IfOk result (λ bytes. bytes.items ≡ []) }
-    ensures failure { IfErr result (IsFailureOf part) }
-{
-    let Some(name) = name else {
-        return Ok(Vec::new(alloc));
-    };
-    let mut file = open(rt, part, name)?;
-    match read_whole(alloc, &mut file, LONGEST_FILE) {
-        Ok(bytes) => Ok(bytes),
-        Err(fault) => Err(part.failure(fault)),
-    }
-}
-
-/// The file of a part, opened.
-fn open(rt: &HostRuntime, part: Part, name: &str) -> Result<File, Failure>
-    ensures { IfErr result (λ failure. failure ≡ failure_of_part part CannotRead) }
-{
-    match fs::open(rt, name) {
-        Ok(file) => Ok(file),
-        Err(_) => Err(Failure::Part(part, Fault::CannotRead)),
-    }
-}
-
 /// Where a person is at the terminal from which the script is read, says what is waited for.
 fn tell_terminal(rt: &HostRuntime) {
     if rt.stdin().is_terminal() {
         // The script is read all the same where standard error does not take this.
         let _ = eprintln!(rt; "{AT_A_TERMINAL}");
+    }
+}
+
+/// What a fault of a script is to the program.
+fn failure_of(fault: ScriptFault) -> Failure
+    ensures { result ≡ failure_of_script fault }
+{
+    match fault {
+        ScriptFault::Read => Failure::Part(Part::Script, Fault::ReadFailed),
+        ScriptFault::TooLong => Failure::Part(Part::Script, Fault::ScriptTooLong),
+        ScriptFault::Write => Failure::Part(Part::Script, Fault::WriteFailed),
+        ScriptFault::Memory => Failure::Memory,
     }
 }
 
@@ -178,11 +108,11 @@ fn carry_out<R: Read, W: Write + Drop>(
     let is_flushed = flush_after(&answered, &mut buffered);
     // A buffer that is dropped would write what is left in it once more.
     let (writer, _unwritten) = buffered.into_parts();
-    let _lines = answered?;
-    if !is_flushed {
-        return Err(Failure::from(ScriptFault::Write));
+    match answered {
+        Ok(_lines) if is_flushed => Ok(writer),
+        Ok(_lines) => Err(failure_of(ScriptFault::Write)),
+        Err(fault) => Err(failure_of(fault)),
     }
-    Ok(writer)
 }
 
 /// Writes what is left in a buffer, unless a write failed before: that is not tried again. Answers

@@ -1,0 +1,5 @@
+pub mod CommandLineLemmas
+mod FlagRows
+mod FlagLemmas
+pub mod KnownCommandLines
+pub mod Texts

@@ -1,0 +1,66 @@
+-- The command line (own profile): its options and its operand, a row each, as the parser of command lines sees them.
+use Rattle.std.specs.Prelude.{◌≡◌, ℕ, ◌<◌, ◌^◌, Bool, true, Option, Some, None, option_map, List, [], ◌∷◌, codes, ⊤}
+use Rattle.std.specs.Str.Parse.{IsNumeral, digits_value}
+use Rattle.clap.specs.Walk.{Rule, Text, first_of}
+use Rattle.clap.specs.Simple.{App, new_rule, new_shape, matches_of}
+use Rattle.clap.specs.Takes.{is_given}
+use Rattle.clap.specs.declared.builder.action.ArgAction.TheVariants.{Set, SetTrue}
+use Rattle.s360_setup.specs.declared.arguments.TapeOptions.{TapeOptions}
+
+-- a word that stands for itself
+abbrev pub operand_row : Text → Rule
+operand_row name = record (new_rule name) { action = Some Set; value_names = 1 }
+
+-- an option that takes a value
+abbrev pub option_row : Text → Rule
+option_row name = record (operand_row name) { long = Some name }
+
+-- an option that takes no value
+abbrev pub flag_row : Text → Rule
+flag_row name = record (new_rule name) { long = Some name; action = Some SetTrue }
+
+-- --storage BYTES, --reader FILE, --tape0 FILE, --tape1 FILE, --protect0, --protect1 and SCRIPT
+abbrev pub command_rows : List Rule
+command_rows =
+    option_row (codes "storage")
+    ∷ option_row (codes "reader")
+    ∷ option_row (codes "tape0")
+    ∷ option_row (codes "tape1")
+    ∷ flag_row (codes "protect0")
+    ∷ flag_row (codes "protect1")
+    ∷ operand_row (codes "script")
+    ∷ []
+
+-- the program, which has a version
+unfoldable pub command_line : App
+command_line = record {
+  top = record (new_shape (codes "s360dbg")) { rules = command_rows; has_version = true };
+  subs = [];
+}
+
+-- what the words of a command line give for a row, if they give it
+unfoldable pub given : Text → List Text → Option Text
+given name words = first_of name (matches_of command_line words)
+
+-- whether they give a flag
+unfoldable pub has_flag : Text → List Text → Bool
+has_flag name words = is_given name (matches_of command_line words)
+
+-- the tape whose file one option names, and that one flag protects
+pub record IsTape (option flag : Text) (words : List Text) (tape : TapeOptions) : Type 0 where
+  pub file : option_map (λ name. name.now) tape.file ≡ given option words
+  pub protected : tape.protected ≡ has_flag flag words
+
+-- decimal digits alone, of a number below 2^32
+abbrev pub IsDecimalNumber : Text → Type 0
+IsDecimalNumber word = IsNumeral 10 word × (digits_value 10 word < 2 ^ 32)
+
+-- the size of storage that is given, in bytes: 65,536 where none is
+abbrev pub IsStorage : Option Text → ℕ → Type 0
+IsStorage None size = size ≡ 65536
+IsStorage (Some word) size = IsDecimalNumber word × (size ≡ digits_value 10 word)
+
+-- a size that is given is a number
+abbrev pub FitsStorage : Option Text → Type 0
+FitsStorage None = ⊤
+FitsStorage (Some word) = IsDecimalNumber word

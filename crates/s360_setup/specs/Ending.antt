@@ -1,0 +1,53 @@
+-- How the program ends for a failure (own profile): the line that tells of it, and the status.
+use Rattle.std.specs.Prelude.{ℕ, List, [], ◌++◌, codes, decimal}
+use Rattle.s360_setup.specs.declared.failure.Part.{Part}
+use Rattle.s360_setup.specs.declared.failure.Part.TheVariants.{Reader, Tape0, Tape1, Script}
+use Rattle.s360_setup.specs.declared.failure.Fault.{Fault}
+use Rattle.s360_setup.specs.declared.failure.Fault.TheVariants.{CannotRead, FileTooLong, ShortCard, ShortHeader, BadFlags, PartOutOfPlace, ShortBlock, BlockTooLong, ReadFailed, ScriptTooLong, WriteFailed}
+use Rattle.s360_setup.specs.declared.failure.Failure.{Failure}
+use Rattle.s360_setup.specs.declared.failure.Failure.TheVariants as failure
+
+abbrev pub part_name : Part → List ℕ
+part_name Reader = codes "reader"
+part_name Tape0 = codes "tape0"
+part_name Tape1 = codes "tape1"
+part_name Script = codes "script"
+
+abbrev pub fault_name : Fault → List ℕ
+fault_name CannotRead = codes "cannot read"
+fault_name FileTooLong = codes "file too long"
+fault_name (ShortCard at) = codes "short card at "
+fault_name (ShortHeader at) = codes "short header at "
+fault_name (BadFlags at) = codes "bad flags at "
+fault_name (PartOutOfPlace at) = codes "part out of place at "
+fault_name (ShortBlock at) = codes "short block at "
+fault_name (BlockTooLong at) = codes "block too long at "
+fault_name ReadFailed = codes "read failed"
+fault_name ScriptTooLong = codes "script too long"
+fault_name WriteFailed = codes "write failed"
+
+-- the offset of the fault, in bytes from the start of the file, in decimal
+abbrev pub offset_digits : Fault → List ℕ
+offset_digits (ShortCard at) = decimal at
+offset_digits (ShortHeader at) = decimal at
+offset_digits (BadFlags at) = decimal at
+offset_digits (PartOutOfPlace at) = decimal at
+offset_digits (ShortBlock at) = decimal at
+offset_digits (BlockTooLong at) = decimal at
+offset_digits fault = []
+
+-- the line, with its line feed
+abbrev pub ending_text : Failure → List ℕ
+ending_text failure.Word = codes "s360dbg: a word of the command line is not UTF-8\n"
+ending_text (failure.Part part fault) =
+    codes "s360dbg: " ++ (part_name part ++ (codes ": " ++ (fault_name fault ++ (offset_digits fault ++ codes "\n"))))
+ending_text failure.StorageSize =
+    codes "s360dbg: storage size must be a multiple of 2048 bytes from 8192 to 1048576\n"
+ending_text failure.Memory = codes "s360dbg: memory: out of memory\n"
+
+-- the status: 2 for the command line and the storage size
+abbrev pub ending_status : Failure → ℕ
+ending_status failure.Word = 2
+ending_status (failure.Part part fault) = 1
+ending_status failure.StorageSize = 2
+ending_status failure.Memory = 1

@@ -1,0 +1,5 @@
+pub mod Beginning
+pub mod CommandLine
+pub mod Ending
+pub mod Failures
+pub mod Partial

@@ -1,0 +1,25 @@
+//! What the command line gives.
+
+/// What a command line asks for of a tape.
+#[derive(Clone, Copy, Debug, PartialEq, Eq)]
+pub struct TapeOptions<'a> {
+    /// The file of the tape, if one is named. Else the tape is blank.
+    pub file: Option<&'a str>,
+    /// Whether the tape is protected against writing.
+    pub protected: bool,
+}
+
+/// What a command line asks for.
+#[derive(Clone, Copy, Debug, PartialEq, Eq)]
+pub struct Options<'a> {
+    /// The size of storage, in bytes. It may be none that a storage can have.
+    pub storage: u32,
+    /// The file of the deck in the card reader, if one is named.
+    pub reader: Option<&'a str>,
+    /// The tape of unit 180.
+    pub tape0: TapeOptions<'a>,
+    /// The tape of unit 181.
+    pub tape1: TapeOptions<'a>,
+    /// The file of the script, if one is named. Else it is standard input.
+    pub script: Option<&'a str>,
+}

@@ -1,0 +1,148 @@
+//! The command line: `s360dbg [--storage BYTES] [--reader FILE] [--tape0 FILE] [--tape1 FILE]
+//! [--protect0] [--protect1] [SCRIPT]`.
+ghost use Rattle.std.specs.Prelude.{◌≡◌, [], true, false, map, option_map, codes, IfOk, IfErr, OnOk};
+ghost use Rattle.std.specs.Option.{SomeIff};
+ghost use Rattle.std.specs.Str.Parse.{digits_value};
+ghost use Rattle.clap.specs.Words.{app_of, fault_of, kind_of, rule_of, takes};
+ghost use Rattle.s360_setup.specs.CommandLine.{command_line, operand_row, option_row, flag_row, given};
+ghost use Rattle.s360_setup.specs.CommandLine.{IsDecimalNumber, IsStorage, FitsStorage, IsTape};
+
+use crate::arguments::{Options, TapeOptions};
+use clap::error::ErrorKind;
+use clap::{Arg, ArgAction, Command, Error};
+use std::alloc::{AllocError, Global};
+use std::convert::AsStr;
+
+/// The size of storage where the command line gives none, in bytes.
+const STORAGE: u32 = 65_536;
+
+const ABOUT: &str = "Debugs programs of a simulated IBM System/360, forward and backward.\n\n\
+    A script has a command a line. It is read whole, then carried out, and the answers are\n\
+    written to standard output.";
+
+const STORAGE_HELP: &str =
+    "Bytes of storage, in decimal: a multiple of 2048 from 8192 to 1048576 [default: 65536]";
+
+const READER_HELP: &str =
+    "Deck in the card reader: cards of 80 bytes, in EBCDIC [default: no card]";
+
+const TAPE0_HELP: &str = "Tape of unit 180: blocks and marks, in AWSTAPE [default: blank]";
+
+const TAPE1_HELP: &str = "Tape of unit 181: blocks and marks, in AWSTAPE [default: blank]";
+
+const PROTECT0_HELP: &str = "Protects the tape of unit 180 against writing";
+
+const PROTECT1_HELP: &str = "Protects the tape of unit 181 against writing";
+
+const SCRIPT_HELP: &str = "Script of at most 1048576 bytes [default: standard input]";
+
+const NOTES: &str =
+    "Example:\n  s360dbg --reader cards.deck --tape0 master.tape --protect0 session.s360\n\n\
+    Status: 0 where the script was carried out to its end, 1 for a fault of a file, a stream or\n\
+    memory, and 2 for a fault of the command line or of the storage size.";
+
+/// The options that a command line gives. Its first word is the name of the program. An `Err` is a
+/// fault of the command line, what `--help` or `--version` asks for, or want of memory.
+pub fn options<'a, S: AsStr>(alloc: Global, words: &'a [S]) -> Result<Options<'a>, Error>
+    ensures storage { IfOk result (λ o. IsStorage (given (codes "storage") (map S.text words.entry.now)) o.storage) }
+    ensures reader { IfOk result (λ o. option_map (λ name. name.now) o.reader ≡ given (codes "reader") (map S.text words.entry.now)) }
+    ensures tape0 { IfOk result (λ o. IsTape (codes "tape0") (codes "protect0") (map S.text words.entry.now) o.tape0) }
+    ensures tape1 { IfOk result (λ o. IsTape (codes "tape1") (codes "protect1") (map S.text words.entry.now) o.tape1) }
+    ensures script { IfOk result (λ o. option_map (λ name. name.now) o.script ≡ given (codes "script") (map S.text words.entry.now)) }
+    ensures accepted { OnOk result (fault_of command_line (map S.text words.entry.now) ≡ []) }
+    ensures passes { IfErr result (λ e. takes command_line (map S.text words.entry.now) ≡ true → FitsStorage (given (codes "storage") (map S.text words.entry.now)) → kind_of e ≡ ErrorKind.OutOfMemory) }
+{
+    let matches = command_line(alloc)?.try_get_matches_from(words)?;
+    Ok(Options {
+        storage: storage_size(alloc, matches.get_str("storage"))?,
+        reader: matches.get_str("reader"),
+        tape0: TapeOptions {
+            file: matches.get_str("tape0"),
+            protected: matches.get_flag("protect0"),
+        },
+        tape1: TapeOptions {
+            file: matches.get_str("tape1"),
+            protected: matches.get_flag("protect1"),
+        },
+        script: matches.get_str("script"),
+    })
+}
+
+/// The options and the operand, a row each.
+#[tactic(auto, unfolding(crate::specs::CommandLine::command_line))]
+fn command_line<'a>(alloc: Global) -> Result<Command<'a>, AllocError>
+    ensures { IfOk result (λ command. app_of command ≡ command_line) }
+{
+    Command::new(alloc, "s360dbg")
+        .version("0.1.0")
+        .about(ABOUT)
+        .after_help(NOTES)
+        .arg(option(alloc, "storage", "BYTES", STORAGE_HELP))?
+        .arg(option(alloc, "reader", "FILE", READER_HELP))?
+        .arg(option(alloc, "tape0", "FILE", TAPE0_HELP))?
+        .arg(option(alloc, "tape1", "FILE", TAPE1_HELP))?
+        .arg(flag(alloc, "protect0", PROTECT0_HELP))?
+        .arg(flag(alloc, "protect1", PROTECT1_HELP))?
+        .arg(operand(alloc, "script", "SCRIPT", SCRIPT_HELP))
+}
+
+/// An option that takes a value.
+fn option<'a>(alloc: Global, name: &'a str, value: &'a str, help: &'a str) -> Arg<'a>
+    ensures row { rule_of result ≡ option_row name.entry.now }
+    ensures own { result.global ≡ false }
+{
+    operand(alloc, name, value, help).long(name)
+}
+
+/// An option that takes no value.
+fn flag<'a>(alloc: Global, name: &'a str, help: &'a str) -> Arg<'a>
+    ensures row { rule_of result ≡ flag_row name.entry.now }
+    ensures own { result.global ≡ false }
+{
+    Arg::new(alloc, name)
+        .long(name)
+        .action(ArgAction::SetTrue)
+        .help(help)
+}
+
+/// A word that stands for itself.
+fn operand<'a>(alloc: Global, name: &'a str, value: &'a str, help: &'a str) -> Arg<'a>
+    ensures row { rule_of result ≡ operand_row name.entry.now }
+    ensures own { result.global ≡ false }
+{
+    Arg::new(alloc, name)
+        .action(ArgAction::Set)
+        .value_name(value)
+        .help(help)
+}
+
+/// The size of storage that a word gives, in bytes, or that is taken where none is given.
+fn storage_size(alloc: Global, word: Option<&str>) -> Result<u32, Error>
+    ensures size { IfOk result (IsStorage (option_map (λ word. word.now) word.entry)) }
+    ensures passes { IfErr result (λ e. FitsStorage (option_map (λ word. word.now) word.entry) → kind_of e ≡ ErrorKind.OutOfMemory) }
+{
+    let Some(word) = word else {
+        return Ok(STORAGE);
+    };
+    match decimal_number(word) {
+        Some(size) => Ok(size),
+        None => {
+            let message = format!(in alloc;
+                "invalid value '{word}' for '--storage <BYTES>': no decimal number below 4294967296"
+            )?;
+            let mut command = command_line(alloc)?;
+            Err(command.error(ErrorKind::ValueValidation, message.as_str())?)
+        }
+    }
+}
+
+/// A number of decimal digits alone, below 2^32.
+fn decimal_number(word: &str) -> Option<u32>
+    ensures { SomeIff result (IsDecimalNumber word.now) (digits_value 10 word.now) }
+{
+    // Where `parse` reads a number, a plus sign may stand first.
+    if word.starts_with('+') {
+        return None;
+    }
+    word.parse().ok()
+}

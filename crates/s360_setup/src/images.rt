@@ -1,0 +1,75 @@
+//! Decks and tapes from files.
+ghost use Rattle.std.specs.Prelude.{◌≡◌, [], None, IfOk, IfErr};
+ghost use Rattle.s360_model.specs.Cards.{IsDeckFile};
+ghost use Rattle.s360_tape.specs.WholeTape.{seen as seen_tape};
+ghost use Rattle.s360_setup.specs.Beginning.{IsTapeFor};
+ghost use Rattle.s360_setup.specs.Failures.{IsFailureOf, IsDeckFailure, IsTapeFailure};
+ghost use Rattle.s360_setup.specs.declared.failure.Fault.TheVariants.{CannotRead};
+ghost use Rattle.s360_setup.specs.declared.failure.Failure.TheVariants.{Part as failure_of_part};
+
+use crate::arguments::TapeOptions;
+use crate::failure::{Failure, Fault, Part};
+use s360_device::{Deck, deck_from};
+use s360_tape::{Tape, tape_from};
+use s360_text::read_whole;
+use std::alloc::Global;
+use std::fs::{self, File};
+
+/// A file of a deck or a tape has at most so many bytes.
+const LONGEST_FILE: usize = 67_108_864;
+
+/// The deck in a file, or one with no card where none is named.
+pub(crate) fn read_deck(rt: &HostRuntime, alloc: Global, name: Option<&str>) -> Result<Deck, Failure>
+    ensures unnamed { name.entry ≡ None → IfOk result (λ deck. IsDeckFile [] deck) }
+    ensures failure { IfErr result (λ failure. IsDeckFailure failure) }
+{
+    let file = read_image(rt, alloc, Part::Reader, name)?;
+    Ok(deck_from(alloc, &file)?)
+}
+
+/// The tape in a file, or a blank one where none is named. `part` is what a fault of it is of.
+pub(crate) fn read_tape(
+    rt: &HostRuntime,
+    alloc: Global,
+    part: Part,
+    options: TapeOptions<'_>,
+) -> Result<Tape, Failure>
+    ensures tape { IfOk result (λ t. IsTapeFor options.entry (seen_tape t.tape)) }
+    ensures failure { IfErr result (IsTapeFailure part) }
+{
+    let file = read_image(rt, alloc, part, options.file)?;
+    match tape_from(alloc, &file, options.protected) {
+        Ok(tape) => Ok(tape),
+        Err(fault) => Err(part.tape_failure(fault)),
+    }
+}
+
+/// The bytes of a file of a part, or none where no file is named.
+fn read_image(
+    rt: &HostRuntime,
+    alloc: Global,
+    part: Part,
+    name: Option<&str>,
+) -> Result<Vec<u8>, Failure>
+    ensures unnamed { name.entry ≡ None → IfOk result (λ bytes. bytes.items ≡ []) }
+    ensures failure { IfErr result (IsFailureOf part) }
+{
+    let Some(name) = name else {
+        return Ok(Vec::new(alloc));
+    };
+    let mut file = open(rt, part, name)?;
+    match read_whole(alloc, &mut file, LONGEST_FILE) {
+        Ok(bytes) => Ok(bytes),
+        Err(fault) => Err(part.failure(fault)),
+    }
+}
+
+/// The file of a part, opened.
+pub fn open(rt: &HostRuntime, part: Part, name: &str) -> Result<File, Failure>
+    ensures { IfErr result (λ failure. failure ≡ failure_of_part part CannotRead) }
+{
+    match fs::open(rt, name) {
+        Ok(file) => Ok(file),
+        Err(_) => Err(Failure::Part(part, Fault::CannotRead)),
+    }
+}

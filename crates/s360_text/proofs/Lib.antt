@@ -1,0 +1,3 @@
+mod DigitLemmas
+mod HexTextLemmas
+pub mod Writes

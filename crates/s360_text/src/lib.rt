@@ -1,0 +1,13 @@
+//! Bytes in and out: what a reader has left, read whole; texts, made piece by piece and written; and numbers as
+//! digits.
+#![tactic(auto)]
+
+mod digits;
+mod reading;
+mod text;
+mod writing;
+
+pub use digits::number_in;
+pub use reading::{ReadFault, read_whole};
+pub use text::Text;
+pub use writing::{Untaken, write_whole};

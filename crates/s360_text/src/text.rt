@@ -1,0 +1,121 @@
+//! The text of an answer, made piece by piece.
+ghost use Rattle.std.specs.Prelude.{◌≡◌, ◌≤◌, ◌<◌, ◌++◌, ◌∷◌, [], OnOk, length, nat_eq};
+ghost use Rattle.std.specs.List.{suffix_len};
+ghost use Rattle.s360_model.specs.Text.{decimal, hex_text, hex_digit};
+ghost use Rattle.s360_text.specs.Blanks.{without_blanks};
+
+use std::alloc::{AllocError, Global};
+use std::marker::Model;
+
+/// A text, which a contract sees as the list of its bytes.
+#[derive(Debug, Drop)]
+pub struct Text {
+    bytes: Vec<u8>,
+    alloc: Global,
+}
+
+impl Model for Text {
+    ghost use Rattle.std.specs.Prelude.{List, ℕ};
+
+    ghost Value = { List ℕ };
+
+    ghost view = { λ t. t.bytes.items };
+}
+
+impl Text {
+    /// An empty text, which takes no memory.
+    pub fn new(alloc: Global) -> Text
+        ensures { result ≡ [] }
+    {
+        Text {
+            bytes: Vec::new(alloc),
+            alloc,
+        }
+    }
+
+    /// The text of these bytes.
+    pub fn of_bytes(alloc: Global, bytes: Vec<u8>) -> Text
+        ensures { result ≡ bytes.items }
+    {
+        Text { bytes, alloc }
+    }
+
+    /// Its bytes.
+    pub fn as_bytes(&self) -> &[u8]
+        ensures { result.now ≡ self.now }
+    {
+        self.bytes.as_slice()
+    }
+
+    /// Adds a text.
+    pub fn push_text(&mut self, text: &str) -> Result<(), AllocError>
+        ensures { OnOk result (self.new ≡ self.old ++ text.now) }
+    {
+        self.bytes.extend_from_slice(text.as_bytes())?;
+        Ok(())
+    }
+
+    /// Adds a byte.
+    pub fn push_byte(&mut self, byte: u8) -> Result<(), AllocError>
+        ensures { OnOk result (self.new ≡ self.old ++ byte ∷ []) }
+    {
+        self.bytes.push(byte)?;
+        Ok(())
+    }
+
+    /// Adds a number in decimal.
+    pub fn push_decimal(&mut self, number: u64) -> Result<(), AllocError>
+        ensures { OnOk result (self.new ≡ self.old ++ decimal number) }
+    {
+        let digits = format!(in self.alloc; "{number}")?;
+        self.bytes.extend_from_slice(digits.as_bytes())?;
+        Ok(())
+    }
+
+    /// Adds the low digits of a number in hexadecimal, so many of them.
+    pub fn push_hex(&mut self, number: u64, width: u8) -> Result<(), AllocError>
+        ensures { OnOk result (self.new ≡ self.old ++ hex_text width number) }
+    {
+        push_hex(&mut self.bytes, number, width)
+    }
+
+    /// Drops the blanks at its end.
+    pub fn drop_blanks(&mut self)
+        ensures { self.new ≡ without_blanks self.old }
+    {
+        let kept = self.bytes.len() - blanks_at_end(&self.bytes);
+        self.bytes.truncate(kept);
+    }
+}
+
+/// How many blanks stand at the end of a text.
+fn blanks_at_end(text: &[u8]) -> usize
+    ensures count { result ≡ suffix_len (λ b. nat_eq b 32) text.now }
+    ensures within { result ≤ length text.now }
+{
+    text.iter().rev().take_while(|byte| **byte == b' ').count()
+}
+
+/// Adds the low digits of a number in hexadecimal, the highest first.
+fn push_hex(bytes: &mut Vec<u8>, number: u64, width: u8) -> Result<(), AllocError>
+    ensures { OnOk result (bytes.new.items ≡ bytes.old.items ++ hex_text width number) }
+{
+    if width == 0 {
+        return Ok(());
+    }
+    push_hex(bytes, number / 16, width - 1)?;
+    bytes.push(digit_of((number % 16) as u8))?;
+    Ok(())
+}
+
+/// The hexadecimal digit of a number below 16.
+fn digit_of(value: u8) -> u8
+    requires { value < 16 }
+    ensures { result ≡ hex_digit value }
+{
+    if value < 10 {
+        b'0' + value
+    } else {
+        b'A' + (value - 10)
+    }
+}
