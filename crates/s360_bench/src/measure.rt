@@ -26,11 +26,13 @@ pub(crate) fn measure<R: Clock + Files>(
     events: u32,
     size: u32,
 ) -> Result<Measured, BenchFault> {
-    let mut session = ready_session(alloc, workload, workload.cards(events), size)?;
-    measure_session(rt, alloc, &mut session, workload, events)
+    let mut session = new_session(alloc, workload.cards(events), size)?;
+    let measured = measure_session(rt, alloc, &mut session, workload, events);
+    session.end();
+    measured
 }
 
-/// Runs so many events of the loop in a session that is about to run it, and takes them all back.
+/// Has a new session run so many events of the loop, and takes them all back.
 fn measure_session<R: Clock + Files>(
     rt: &R,
     alloc: Global,
@@ -38,6 +40,7 @@ fn measure_session<R: Clock + Files>(
     workload: Workload,
     events: u32,
 ) -> Result<Measured, BenchFault> {
+    make_ready(session, alloc, workload)?;
     let before = resident_bytes(rt, alloc);
     let begun = Instant::now(rt)?;
     for _ in 0..events {
@@ -57,18 +60,6 @@ fn measure_session<R: Clock + Files>(
         memory: bytes_of_each(before, after, events),
         moved: operand_bytes.map(|bytes| Moved::Operands(a_second(bytes, forward_time))),
     })
-}
-
-/// A session over a new machine that is about to run the loop, with so many cards in its reader.
-fn ready_session(
-    alloc: Global,
-    workload: Workload,
-    cards: u32,
-    size: u32,
-) -> Result<Session, BenchFault> {
-    let mut session = new_session(alloc, cards, size)?;
-    make_ready(&mut session, alloc, workload)?;
-    Ok(session)
 }
 
 /// Patches the loop and its data, and starts what it is to start.

@@ -18,10 +18,10 @@ use crate::names::{push_event, push_place, refusal_text};
 use crate::open_line::OpenLine;
 use crate::running::answer_run;
 use crate::show::text_of_shown;
-use s360_text::Text;
 use s360_journal::{Breaks, Report, Session};
 use s360_machine::{Event, Refusal};
 use s360_store::Place;
+use s360_text::Text;
 use std::alloc::{AllocError, Global};
 
 /// So many places of a report are named.

@@ -13,11 +13,11 @@ ghost use Rattle.s360_debug.specs.Reading.{AtEnd};
 ghost use Rattle.s360_debug.specs.Digits.{doubleword_of, count_of};
 
 use crate::command::{Command, LineFault, Shown};
-use s360_text::number_in;
 use crate::ebcdic::{ebcdic_in, has_ebcdic};
 use crate::words::{Words, text_behind};
 use s360_machine::{Bytes, Key, Patch};
 use s360_store::{BLOCK_SIZE, Place};
+use s360_text::number_in;
 use s360_word::{ProtectionKey, RegisterNumber, Unit};
 use std::alloc::Global;
 

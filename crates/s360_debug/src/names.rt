@@ -5,9 +5,9 @@ ghost use Rattle.s360_debug.specs.Names.{place_name, event_name, refusal_name};
 ghost use Rattle.s360_debug.specs.Names.{external_name, key_name, patch_name, refused_text};
 ghost use Rattle.s360_debug.specs.Names.{run_state_name};
 
-use s360_text::Text;
 use s360_machine::{Event, ExternalConditions, Key, Patch, Refusal, RunState};
 use s360_store::{BLOCK_SIZE, Place};
+use s360_text::Text;
 use std::alloc::{AllocError, Global};
 
 /// Adds a place's name.

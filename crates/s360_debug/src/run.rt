@@ -13,8 +13,8 @@ use crate::answering::{answer, text_of_fault};
 use crate::bytes::ScriptFault;
 use crate::command_reader::read_command;
 use crate::lines::{Lines, skips};
-use s360_text::{Text, read_whole, write_whole};
 use s360_journal::{Breaks, Session};
+use s360_text::{Text, read_whole, write_whole};
 use std::alloc::{AllocError, Global};
 use std::io::{Read, Write};
 

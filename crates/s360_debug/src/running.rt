@@ -12,10 +12,10 @@ ghost use Rattle.s360_debug.specs.Running.{active_unit, end_of_turn, end_text, e
 ghost use Rattle.s360_debug.specs.Running.{next_event, run_of, run_text};
 
 use crate::names::push_refusal;
-use s360_text::Text;
 use s360_channel::UnitState;
 use s360_journal::{Breaks, Report, Session};
 use s360_machine::{ConfiguredUnit, Event, Machine, Refusal};
+use s360_text::Text;
 use std::alloc::{AllocError, Global};
 
 /// Why a run ended.

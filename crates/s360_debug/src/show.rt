@@ -10,10 +10,10 @@ use crate::names::{name_of_external, push_run_state, refusal_text};
 use crate::show_image::image_of;
 use crate::show_items::item_of;
 use crate::show_units::{device_of, unit_of};
-use s360_text::Text;
 use s360_machine::{ExternalConditions, Machine, Refusal};
 use s360_psw::InstructionLength;
 use s360_store::{BLOCK_SIZE, Storage};
+use s360_text::Text;
 use s360_word::{ProtectionKey, RegisterNumber};
 use std::alloc::{AllocError, Global};
 

@@ -6,9 +6,9 @@ ghost use Rattle.s360_tape.specs.WholeTape.{seen as seen_tape};
 
 use crate::names::refusal_text;
 use crate::show_units::push_digits;
-use s360_text::Text;
 use s360_machine::{Machine, Refusal};
 use s360_tape::Tape;
+use s360_text::Text;
 use s360_word::Unit;
 use std::alloc::{AllocError, Global};
 

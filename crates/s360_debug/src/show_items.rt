@@ -10,11 +10,11 @@ ghost use Rattle.s360_tape.specs.WholeTape.{seen as seen_tape};
 
 use crate::names::refusal_text;
 use crate::show_units::push_digits;
-use s360_text::Text;
 use s360_device::{Punch, PunchStacker, ReadStacker, Reader};
 use s360_machine::{ConfiguredUnit, Machine, Refusal};
 use s360_print::{Console, Printer, Record, TypedItem, ebcdic_to_ascii};
 use s360_tape::{Item, Tape};
+use s360_text::Text;
 use s360_word::Unit;
 use std::alloc::{AllocError, Global};
 

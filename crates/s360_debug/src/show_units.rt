@@ -8,12 +8,12 @@ ghost use Rattle.s360_model.specs.Text.{hex_bytes};
 ghost use Rattle.s360_tape.specs.WholeTape.{seen as seen_tape};
 
 use crate::names::{push_numbered, refusal_text};
-use s360_text::Text;
 use s360_channel::{Program, UnitState};
 use s360_device::{Device, Punch, Reader};
 use s360_machine::{ConfiguredUnit, Machine, Refusal};
 use s360_print::{Console, Printer};
 use s360_tape::Tape;
+use s360_text::Text;
 use s360_word::{Unit, Word};
 use std::alloc::{AllocError, Global};
 

@@ -1,6 +1,6 @@
 -- The operation codes: the format and the operation of each (GA22-6821, "Operation Codes"), and the
 -- fields of the formats ("System Structure", program execution).
-use Rattle.std.specs.Prelude.{ℕ, ◌+◌, ◌*◌, ◌/◌, ◌%◌, nat_eq, nat_lt, if◌then◌else◌, Option, Some, None, List, [], ◌∷◌, slice_index}
+use Rattle.std.specs.Prelude.{ℕ, ◌+◌, ◌*◌, ◌/◌, ◌%◌, nat_lt, if◌then◌else◌, Option, Some, None, List, [], ◌∷◌, slice_index}
 use Rattle.s360_model.specs.Tables.{entry_in}
 use Rattle.s360_fixed.specs.declared.operation.Operation.{Operation}
 use Rattle.s360_fixed.specs.declared.operation.Operation.TheVariants.{SetProgramMask, BranchAndLink}

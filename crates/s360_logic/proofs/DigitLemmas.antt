@@ -1,13 +1,13 @@
 -- What is made of operands that share no byte: nothing that is stored is fetched later.
-use Rattle.std.proofs.Common.{◌≡◌, ◌≢◌, ◌<◌, ◌≤◌, ◌+◌, ◌-◌, ◌∙◌, ℕ, zero, suc, length, arith, rules, refl, ap, sym, slice_set, nat_eq, nat_lt, true, false, if◌then◌else◌, ◌⊎◌, inl, inr, get_or-set_other, get_or-set_same, length-set}
+use Rattle.std.proofs.Common.{◌≡◌, ◌≢◌, ◌<◌, ◌≤◌, ◌+◌, ◌∙◌, ℕ, zero, suc, length, arith, refl, ap, nat_eq, nat_lt, inl, inr, get_or-set_other, get_or-set_same, length-set}
 use Rattle.std.proofs.Math.Path.{fun_ext}
 use Rattle.std.proofs.lemmas.Bool.{cases_Bool, eqb-true, eqb-false, ltb-true}
 use Rattle.s360_model.specs.Storage.{Storage}
 use Rattle.s360_logic.specs.declared.field.Field.{Field}
 use Rattle.s360_logic.specs.declared.row.DigitRow.{DigitRow}
 use Rattle.s360_logic.specs.Bytes.{byte_at, with_byte}
-use Rattle.s360_logic.specs.DigitLaws.{DigitsOfApartOperands, IsApart, MakesEachByte}
-use Rattle.s360_logic.specs.RightToLeft.{address_from_right, byte_from_right, digits_stored, fetched_at, needed_before, result_byte, right_to_left}
+use Rattle.s360_logic.specs.DigitLaws.{DigitsOfApartOperands, IsApart}
+use Rattle.s360_logic.specs.RightToLeft.{address_from_right, byte_from_right, fetched_at, needed_before, result_byte, right_to_left}
 
 -- the bytes of the result stored, all of the same bytes of the second operand
 abbrev stored : DigitRow → ℕ → ℕ → (ℕ → ℕ) → Field → ℕ → ℕ → Storage → Storage

@@ -144,6 +144,8 @@ impl Subject for Executing {
         }
         Some(String::new(alloc))
     }
+
+    fn end(self) {}
 }
 
 #[test]

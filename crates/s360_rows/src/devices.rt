@@ -153,6 +153,8 @@ impl Subject for Writing {
         }
         Some(text)
     }
+
+    fn end(self) {}
 }
 
 #[test]

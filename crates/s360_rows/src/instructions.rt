@@ -53,6 +53,8 @@ impl Subject for Instructions {
         let before = Before::new(alloc, words)?;
         before.ending(alloc)
     }
+
+    fn end(self) {}
 }
 
 #[test]

@@ -93,13 +93,17 @@ fn number(digits: &str) -> Option<u64> {
     u64::from_str_radix(digits, 16).ok()
 }
 
-/// What the rows of a table are asked of.
-pub(crate) trait Subject: Drop {
+/// What the rows of a table are asked of. It is let go by a call, so that a subject that holds a session ends
+/// it: a function in which a session is dropped takes minutes to prove.
+pub(crate) trait Subject {
     /// What a table's first row is asked of.
     fn new(alloc: Global) -> Option<Self>;
 
     /// The answer to the words of a question, or none where they are no question or memory is out.
     fn answer(&mut self, alloc: Global, words: &mut Words<'_>) -> Option<String>;
+
+    /// Lets it go.
+    fn end(self);
 }
 
 /// Asserts that a question has its answer.
@@ -127,4 +131,5 @@ pub(crate) fn assert_rows<S: Subject>(rt: &impl Abort, alloc: Global, rows: &str
             None => assert!(rt; row.is_empty() || row.starts_with("*"), "no row: {row}"),
         }
     }
+    subject.end();
 }

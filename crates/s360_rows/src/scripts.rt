@@ -5,7 +5,6 @@ use crate::machine::{are_same, machine_of};
 use crate::rows::{Subject, Words, assert_rows};
 use s360_debug::{ScriptFault, answer, read_command, run_script};
 use s360_journal::{Breaks, Session};
-use s360_machine::Machine;
 use std::alloc::Global;
 use std::io::{self, Read, Write};
 use std::process::Abort;
@@ -38,54 +37,22 @@ const CARRIED_OUT: [usize; 13] = [1, 2, 3, 4, 5, 5, 5, 5, 6, 7, 7, 7, 7];
 /// More reads of one byte than a number of eight bits counts.
 const COMMENT: usize = 400;
 
-/// A machine of the size that there is where none is named.
-fn machine(alloc: Global) -> Option<Machine> {
-    machine_of(alloc, 65_536).ok()
+/// What carrying a script out answers. The callers' proofs have no need of all that it promises.
+fn carry_out<R: Read, W: Write>(
+    alloc: Global,
+    session: &mut Session,
+    reader: &mut R,
+    writer: &mut W,
+) -> Result<u32, ScriptFault> {
+    run_script(alloc, session, reader, writer)
 }
 
-/// A session that scripts are carried out in. A session that is answered as it is, or is at hand where
-/// a function may end early, takes minutes to prove: a second one is made where the first is lent.
-#[derive(Drop)]
-struct Scripted {
-    session: Session,
-}
-
-impl Scripted {
-    /// A session where at most so many changes may stand.
-    fn new(alloc: Global, limit: u32) -> Option<Scripted>
-        requires { limit ≤ 10000000 }
-    {
-        let session = Session::new(alloc, machine(alloc)?, limit);
-        Some(Scripted { session })
-    }
-
-    /// What carrying a script out answers. The callers' proofs have no need of all that it promises.
-    fn carry_out<R: Read, W: Write>(
-        &mut self,
-        alloc: Global,
-        reader: &mut R,
-        writer: &mut W,
-    ) -> Result<u32, ScriptFault> {
-        run_script(alloc, &mut self.session, reader, writer)
-    }
-
-    /// The answer to a line.
-    fn text_of_line(&mut self, alloc: Global, breaks: &mut Breaks, line: &str) -> Option<String> {
-        let command = read_command(alloc, line.as_bytes()).ok()?;
-        let text = answer(alloc, &mut self.session, breaks, command).ok()?;
-        quoted(alloc, text.as_bytes())
-    }
-
-    /// How many changes stand.
-    fn standing(&self) -> u32 {
-        self.session.standing()
-    }
-
-    /// Whether as many changes stand as in another, and the machines are the same.
-    fn stands_as(&self, other: &Scripted) -> bool {
-        self.standing() == other.standing()
-            && are_same(self.session.machine(), other.session.machine())
-    }
+/// A session over a machine of the size that there is where none is named. At most so many changes may stand.
+fn session(alloc: Global, limit: u32) -> Option<Session>
+    requires { limit ≤ 10000000 }
+{
+    let machine = machine_of(alloc, 65_536).ok()?;
+    Some(Session::new(alloc, machine, limit))
 }
 
 /// A reader that gives one byte a call, and fails after so many.
@@ -140,11 +107,10 @@ impl Write for SlowWriter {
 }
 
 /// What a script leaves.
-#[derive(Drop)]
 struct Left {
     outcome: Result<u32, ScriptFault>,
     written: Vec<u8>,
-    scripted: Scripted,
+    session: Session,
 }
 
 impl Left {
@@ -154,22 +120,38 @@ impl Left {
         requires { limit ≤ 10000000 }
     {
         let taken = Vec::with_capacity(alloc, ROOM).ok()?;
-        let mut scripted = Scripted::new(alloc, limit)?;
+        let mut session = session(alloc, limit)?;
         let left = script;
         let mut reader = SlowReader { left, calls };
         let mut writer = SlowWriter { taken, room };
-        let outcome = scripted.carry_out(alloc, &mut reader, &mut writer);
+        let outcome = carry_out(alloc, &mut session, &mut reader, &mut writer);
         let written = writer.taken;
         Some(Left {
             outcome,
             written,
-            scripted,
+            session,
         })
+    }
+
+    /// Lets it go.
+    fn end(self) {
+        let Left {
+            session,
+            outcome: _outcome,
+            written: _written,
+        } = self;
+        session.end();
     }
 
     /// Whether memory was wanting.
     fn wants_memory(&self) -> bool {
         self.outcome == Err(ScriptFault::Memory)
+    }
+
+    /// Whether its session is as another's.
+    fn stands_as(&self, other: &Left) -> bool {
+        self.session.standing() == other.session.standing()
+            && are_same(self.session.machine(), other.session.machine())
     }
 
     /// Its outcome, the number of bytes written, whether they are a first part of the answers, and how
@@ -179,22 +161,24 @@ impl Left {
             return None;
         }
         let first = ADD_ANSWERS.as_bytes().starts_with(&self.written);
-        let (count, standing) = (self.written.len(), self.scripted.standing());
+        let (count, standing) = (self.written.len(), self.session.standing());
         let outcome = self.outcome;
         format!(in alloc; "{outcome:?} {count:X} {first} {standing}").ok()
     }
 
-    /// Whether its session is as one that is begun.
-    fn is_new(&self, alloc: Global) -> Option<bool> {
-        let begun = Scripted::new(alloc, 10)?;
-        Some(self.scripted.stands_as(&begun))
+    /// Its text, and whether its session is as another's.
+    fn text_beside(&self, alloc: Global, other: &Left) -> Option<String> {
+        let text = self.text(alloc)?;
+        let is_same = self.stands_as(other);
+        format!(in alloc; "{text} {is_same}").ok()
     }
 
     /// Its text, and whether its session is as one that is begun.
     fn text_beside_new(&self, alloc: Global) -> Option<String> {
-        let is_new = self.is_new(alloc)?;
-        let text = self.text(alloc)?;
-        format!(in alloc; "{text} {is_new}").ok()
+        let begun = Left::of(alloc, 10, &[], 1, ROOM)?;
+        let text = self.text_beside(alloc, &begun);
+        begun.end();
+        text
     }
 
     /// The answers of a script that was carried out.
@@ -212,8 +196,7 @@ impl Left {
             return None;
         }
         let written = ADD_ANSWERS.as_bytes().get(..room) == Some(&*self.written);
-        let stands = self.scripted.stands_as(&wanted.scripted);
-        if self.outcome == Err(ScriptFault::Write) && written && stands {
+        if self.outcome == Err(ScriptFault::Write) && written && self.stands_as(wanted) {
             return Some(String::new(alloc));
         }
         self.text(alloc)
@@ -222,21 +205,27 @@ impl Left {
     /// What is wrong where the writer took so many bytes and then failed. These lines were carried out.
     fn fault_beside(&self, alloc: Global, room: usize, lines: &[u8]) -> Option<String> {
         let wanted = Left::of(alloc, 10, lines, lines.len() + 1, ROOM)?;
-        self.fault(alloc, room, &wanted)
+        let fault = self.fault(alloc, room, &wanted);
+        wanted.end();
+        fault
     }
 }
 
 /// The text of what a script leaves.
 fn text_left(alloc: Global, script: &[u8], calls: usize) -> Option<String> {
     let left = Left::of(alloc, 10, script, calls, ROOM)?;
-    left.text(alloc)
+    let text = left.text(alloc);
+    left.end();
+    text
 }
 
 /// The text of what the script leaves where its reader fails after so many bytes, and whether the
 /// session is as before.
 fn text_cut(alloc: Global, calls: usize) -> Option<String> {
     let left = Left::of(alloc, 10, ADD.as_bytes(), calls, ROOM)?;
-    left.text_beside_new(alloc)
+    let text = left.text_beside_new(alloc);
+    left.end();
+    text
 }
 
 /// The script behind a long comment.
@@ -262,28 +251,31 @@ fn quoted(alloc: Global, bytes: &[u8]) -> Option<String> {
 /// The answers to a script in a session where one change may stand.
 fn answers_at_the_limit(alloc: Global, script: &[u8]) -> Option<String> {
     let left = Left::of(alloc, 1, script, script.len() + 1, ROOM)?;
-    left.answers(alloc)
+    let answers = left.answers(alloc);
+    left.end();
+    answers
 }
 
 /// A session where ten changes may stand, and no breakpoint.
-#[derive(Drop)]
 struct Lines {
-    scripted: Scripted,
+    session: Session,
     breaks: Breaks,
 }
 
 impl Lines {
     /// The answer to a line.
     fn answer_line(&mut self, alloc: Global, line: &str) -> Option<String> {
-        self.scripted.text_of_line(alloc, &mut self.breaks, line)
+        let command = read_command(alloc, line.as_bytes()).ok()?;
+        let text = answer(alloc, &mut self.session, &mut self.breaks, command).ok()?;
+        quoted(alloc, text.as_bytes())
     }
 }
 
 impl Subject for Lines {
     fn new(alloc: Global) -> Option<Lines> {
         let breaks = Breaks::new();
-        let scripted = Scripted::new(alloc, 10)?;
-        Some(Lines { scripted, breaks })
+        let session = session(alloc, 10)?;
+        Some(Lines { session, breaks })
     }
 
     fn answer(&mut self, alloc: Global, words: &mut Words<'_>) -> Option<String> {
@@ -291,6 +283,14 @@ impl Subject for Lines {
             "line" => self.answer_line(alloc, words.behind_the_first()),
             kind => text_of_script(alloc, kind, words),
         }
+    }
+
+    fn end(self) {
+        let Lines {
+            session,
+            breaks: _breaks,
+        } = self;
+        session.end();
     }
 }
 
@@ -322,7 +322,9 @@ fn carried_out(room: usize) -> Option<usize> {
 fn fault_of_write(alloc: Global, room: usize) -> Option<String> {
     let (first, _) = ADD.as_bytes().split_at_checked(carried_out(room)?)?;
     let found = Left::of(alloc, 10, ADD.as_bytes(), ADD.len() + 1, room)?;
-    found.fault_beside(alloc, room, first)
+    let fault = found.fault_beside(alloc, room, first);
+    found.end();
+    fault
 }
 
 /// Asserts that nothing is wrong with a writer that takes so many bytes.

@@ -10,22 +10,35 @@ use s360_psw::InstructionLength;
 use s360_store::Place;
 use s360_word::{RegisterNumber, Unit, Word};
 use std::alloc::Global;
+use std::mem;
 
 /// AR of registers 1 and 2 at 0, and the registers.
 const START: &str = "patch s 0 1A12\npatch r 1 7FFFFFFF\npatch r 2 1";
 
-/// A machine in which these lines were carried out.
+/// A machine in which these lines were carried out, if memory sufficed for them.
 fn machine(alloc: Global) -> Option<Machine> {
     let calls = calls(alloc, START)?;
     let machine = machine_of(alloc, 8_192).ok()?;
-    let outcome = run_calls(alloc, machine, 100, calls).ok()?;
-    // There is no text where memory was wanting, and so no machine.
-    let _ = text_of_answers(alloc, &outcome.answers)?;
-    Some(outcome.machine)
+    let Ok(outcome) = run_calls(alloc, machine, 100, calls) else {
+        return None;
+    };
+    let Outcome { machine, answers } = outcome;
+    // There is no text where memory was wanting.
+    match text_of_answers(alloc, &answers) {
+        Some(_) => Some(machine),
+        None => {
+            end(alloc, machine);
+            None
+        }
+    }
+}
+
+/// Lets a machine go.
+fn end(alloc: Global, machine: Machine) {
+    Session::new(alloc, machine, 0).end();
 }
 
 /// A session.
-#[derive(Drop)]
 struct Running {
     session: Session,
 }
@@ -43,7 +56,9 @@ impl Running {
     fn restart(&mut self, alloc: Global, limit: u32) -> Option<String>
         requires { limit ≤ 10000000 }
     {
-        *self = Running::with_limit(alloc, limit)?;
+        let Running { session } = Running::with_limit(alloc, limit)?;
+        let old = mem::replace(&mut self.session, session);
+        old.end();
         self.picture(alloc)
     }
 
@@ -99,11 +114,6 @@ impl Running {
         self.session.perform_all(calls).ok()
     }
 
-    /// The texts of answers, and what is left of the machine.
-    fn text_of_end(self, alloc: Global, answers: &[Answer]) -> Option<String> {
-        text_of_end(alloc, answers, &self.session.into_machine())
-    }
-
     /// The last changes of places that the machine lacks.
     fn of_lacking_places(&self, alloc: Global) -> Option<String> {
         let byte = self.session.last_change(Place::Byte(0x2000));
@@ -130,6 +140,11 @@ impl Subject for Running {
             "do" => self.perform(alloc, words.behind_the_first()),
             kind => self.report(alloc, kind, words),
         }
+    }
+
+    fn end(self) {
+        let Running { session } = self;
+        session.end();
     }
 }
 
@@ -295,24 +310,29 @@ fn text_of_end(alloc: Global, answers: &[Answer], machine: &Machine) -> Option<S
     Some(text)
 }
 
-/// What a list of calls as a whole gives.
-fn outcome_of(alloc: Global, calls: Vec<Call>) -> Option<Outcome> {
-    run_calls(alloc, machine(alloc)?, 3, calls).ok()
-}
-
 /// The answers to a list of calls as a whole, and what is left of the machine.
 fn run(alloc: Global) -> Option<String> {
     let calls = calls(alloc, EACH_KIND)?;
-    let outcome = outcome_of(alloc, calls)?;
-    text_of_end(alloc, &outcome.answers, &outcome.machine)
+    let machine = machine(alloc)?;
+    let Ok(outcome) = run_calls(alloc, machine, 3, calls) else {
+        return None;
+    };
+    let Outcome { machine, answers } = outcome;
+    let text = text_of_end(alloc, &answers, &machine);
+    end(alloc, machine);
+    text
 }
 
 /// The answers to the same in a session, and what is left of its machine.
 fn perform(alloc: Global) -> Option<String> {
     let calls = calls(alloc, EACH_KIND)?;
     let mut running = Running::with_limit(alloc, 3)?;
-    let answers = running.perform_all(calls)?;
-    running.text_of_end(alloc, &answers)
+    let text = match running.perform_all(calls) {
+        Some(answers) => text_of_end(alloc, &answers, running.session.machine()),
+        None => None,
+    };
+    running.end();
+    text
 }
 
 /// Whether the places of a change are the same as a list.

@@ -52,7 +52,6 @@ fn machine(alloc: Global) -> Option<Machine> {
 }
 
 /// A session that comes to the read.
-#[derive(Drop)]
 struct Reading {
     session: Session,
 }
@@ -61,6 +60,12 @@ impl Reading {
     fn new(alloc: Global) -> Option<Reading> {
         let session = Session::new(alloc, machine(alloc)?, 10);
         Some(Reading { session })
+    }
+
+    /// Lets it go.
+    fn end(self) {
+        let Reading { session } = self;
+        session.end();
     }
 
     /// Carries lines out, and answers whether none was refused.
@@ -79,8 +84,12 @@ impl Reading {
     /// A session that is at the read.
     fn started(alloc: Global) -> Option<Reading> {
         let mut reading = Reading::new(alloc)?;
-        let is_started = reading.carry_out(alloc, START);
-        if is_started { Some(reading) } else { None }
+        if reading.carry_out(alloc, START) {
+            Some(reading)
+        } else {
+            reading.end();
+            None
+        }
     }
 
     /// How many places the read alters, or why it is refused.
@@ -116,6 +125,7 @@ impl Reading {
         let mut reading = Reading::started(alloc)?;
         let outcome = reading.read_over(self);
         let last = reading.session.last_change(Place::Byte(0x105FE));
+        reading.end();
         Some(fault_of_outcome(outcome, last))
     }
 }
@@ -133,7 +143,9 @@ fn fault_of_outcome(outcome: Result<usize, Refusal>, last: Option<u32>) -> &'sta
 /// What is wrong with the read: no more than a growth of it may be refused.
 fn fault_of_read(alloc: Global) -> Option<&'static str> {
     let before = Reading::started(alloc)?;
-    before.fault_of_read(alloc)
+    let fault = before.fault_of_read(alloc);
+    before.end();
+    fault
 }
 
 #[test]

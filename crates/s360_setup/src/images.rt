@@ -19,7 +19,11 @@ use std::fs::{self, File};
 const LONGEST_FILE: usize = 67_108_864;
 
 /// The deck in a file, or one with no card where none is named.
-pub(crate) fn read_deck(rt: &HostRuntime, alloc: Global, name: Option<&str>) -> Result<Deck, Failure>
+pub(crate) fn read_deck(
+    rt: &HostRuntime,
+    alloc: Global,
+    name: Option<&str>,
+) -> Result<Deck, Failure>
     ensures unnamed { name.entry ≡ None → IfOk result (λ deck. IsDeckFile [] deck) }
     ensures failure { IfErr result (λ failure. IsDeckFailure failure) }
 {

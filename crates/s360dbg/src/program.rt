@@ -42,14 +42,24 @@ fn answer_script(rt: &HostRuntime, machine: Machine, name: Option<&str>) -> Resu
     ensures failure { IfErr result IsAnsweringFailure }
 {
     let mut session = Session::new(rt.alloc(), machine, LIMIT);
+    let answered = answer_named(rt, &mut session, name);
+    session.end();
+    answered
+}
+
+/// Carries out the script in a file, or that on standard input where none is named.
+fn answer_named(rt: &HostRuntime, session: &mut Session, name: Option<&str>) -> Result<(), Failure>
+    ensures no_size { result ≢ Err StorageSize }
+    ensures failure { IfErr result IsAnsweringFailure }
+{
     match name {
         Some(name) => {
             let mut file = open(rt, Part::Script, name)?;
-            answer_on_output(rt, &mut session, &mut file)
+            answer_on_output(rt, session, &mut file)
         }
         None => {
             tell_terminal(rt);
-            answer_on_output(rt, &mut session, &mut rt.reader())
+            answer_on_output(rt, session, &mut rt.reader())
         }
     }
 }
