@@ -2,7 +2,7 @@
 //! and lengths that are wrong. No unit of the machine is such a device.
 ghost use Rattle.s360_machine.specs.IoChanges.{CanIfAny};
 
-use crate::rows::{Subject, Words, assert_rows};
+use crate::rows::{Subject, Words, assert_no_fault, fault_of_rows};
 use crate::slate::Slate;
 use crate::storage::{put, put_bytes};
 use s360_channel::{ChannelStep, Program, Progress, UnitState, channel_plan};
@@ -122,10 +122,6 @@ impl Executing {
 }
 
 impl Subject for Executing {
-    fn new(alloc: Global) -> Option<Executing> {
-        Executing::idle(alloc)
-    }
-
     fn answer(&mut self, alloc: Global, words: &mut Words<'_>) -> Option<String> {
         match words.next_word() {
             "new" => *self = Executing::idle(alloc)?,
@@ -144,14 +140,18 @@ impl Subject for Executing {
         }
         Some(String::new(alloc))
     }
+}
 
-    fn end(self) {}
+/// What is wrong with the rows of a table.
+fn fault_of_programs(alloc: Global, rows: &str) -> Option<String> {
+    let mut executing = Executing::idle(alloc)?;
+    fault_of_rows(alloc, &mut executing, rows)
 }
 
 #[test]
 fn programs_over_the_device_of_the_tests(rt: HostRuntime) {
-    assert_rows::<Executing>(&rt, rt.alloc(), INPUT);
-    assert_rows::<Executing>(&rt, rt.alloc(), OUTPUT);
+    assert_no_fault(&rt, fault_of_programs(rt.alloc(), INPUT));
+    assert_no_fault(&rt, fault_of_programs(rt.alloc(), OUTPUT));
 }
 
 /// Reads of its line, which has twelve bytes.

@@ -2,7 +2,7 @@
 ghost use Rattle.std.specs.Prelude.{◌≡◌, IsTrue, IfOk};
 ghost use Rattle.s360_device.specs.Transfers.{CanEndWith};
 
-use crate::rows::{Subject, Words, assert_rows};
+use crate::rows::{Subject, Words, assert_no_fault, fault_of_rows};
 use crate::slate::Slate;
 use s360_device::{Begin, Device};
 use std::alloc::{AllocError, Global};
@@ -127,11 +127,6 @@ struct Writing {
 }
 
 impl Subject for Writing {
-    fn new(alloc: Global) -> Option<Writing> {
-        let slate = Slate::new(alloc);
-        Some(Writing { slate })
-    }
-
     fn answer(&mut self, alloc: Global, words: &mut Words<'_>) -> Option<String> {
         match words.next_word() {
             "put" => self.slate.put_line(),
@@ -153,13 +148,15 @@ impl Subject for Writing {
         }
         Some(text)
     }
-
-    fn end(self) {}
 }
 
 #[test]
 fn device_of_the_tests(rt: HostRuntime) {
-    assert_rows::<Writing>(&rt, rt.alloc(), SLATE);
+    let slate = Slate::new(rt.alloc());
+    assert_no_fault(
+        &rt,
+        fault_of_rows(rt.alloc(), &mut Writing { slate }, SLATE),
+    );
 }
 
 const SLATE: &str = "

@@ -1,6 +1,6 @@
 //! How the instruction at the instruction address ends, by the call that plans it. What is planned beside an
 //! interruption code shows whether the instruction was completed.
-use crate::rows::{Subject, Words, assert_rows};
+use crate::rows::{Subject, Words, assert_no_fault, fault_of_rows};
 use crate::storage::put_bytes;
 use s360_logic::plan_instruction;
 use s360_psw::Psw;
@@ -45,21 +45,15 @@ impl Before {
 struct Instructions;
 
 impl Subject for Instructions {
-    fn new(_alloc: Global) -> Option<Instructions> {
-        Some(Instructions)
-    }
-
     fn answer(&mut self, alloc: Global, words: &mut Words<'_>) -> Option<String> {
         let before = Before::new(alloc, words)?;
         before.ending(alloc)
     }
-
-    fn end(self) {}
 }
 
 #[test]
 fn endings(rt: HostRuntime) {
-    assert_rows::<Instructions>(&rt, rt.alloc(), ENDINGS);
+    assert_no_fault(&rt, fault_of_rows(rt.alloc(), &mut Instructions, ENDINGS));
 }
 
 /// An instruction, registers 2 to 4 and the doubleword at `600`, and how it ends.

@@ -9,6 +9,8 @@ mod channel_programs;
 #[cfg(test)]
 mod devices;
 #[cfg(test)]
+mod held;
+#[cfg(test)]
 mod instructions;
 #[cfg(test)]
 mod machine;

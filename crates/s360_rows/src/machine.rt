@@ -1,11 +1,10 @@
-//! Machines, and whether two of them show the same.
-use s360_device::{Device, Punch, Reader, deck_from};
+//! Whether two machines show the same.
+use s360_device::{Device, Punch, Reader};
 use s360_machine::Machine;
 use s360_print::{Console, Printer};
-use s360_store::{Storage, StoreFault};
+use s360_store::Storage;
 use s360_tape::Tape;
 use s360_word::{RegisterNumber, Unit, Word};
-use std::alloc::Global;
 
 fn word(machine: &Machine, number: u8) -> Word {
     machine.register(RegisterNumber::new(number % 16))
@@ -20,12 +19,6 @@ const UNITS: [Unit; 6] = [
     Unit(0x180),
     Unit(0x181),
 ];
-
-/// A machine of so many bytes, with no card in its reader.
-pub(crate) fn machine_of(alloc: Global, size: u32) -> Result<Machine, StoreFault> {
-    let deck = deck_from(alloc, &[]).map_err(|_| StoreFault::Memory)?;
-    Machine::new(alloc, size, deck, Tape::blank(alloc), Tape::blank(alloc))
-}
 
 /// Whether the units of two machines stand alike, and have done alike.
 fn have_like_units(first: &Machine, second: &Machine) -> bool {

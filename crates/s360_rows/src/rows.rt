@@ -37,11 +37,16 @@ impl<'a> Words<'a> {
         }
     }
 
-    /// All that stands behind the first word, which is then read.
-    pub(crate) fn behind_the_first(&mut self) -> &'a str {
+    /// All words, which are then read.
+    pub(crate) fn whole(&mut self) -> &'a str {
         self.left = "".split(' ');
         let _ = self.left.next();
-        match self.text.split_once(" ") {
+        self.text
+    }
+
+    /// All that stands behind the first word, which is then read.
+    pub(crate) fn behind_the_first(&mut self) -> &'a str {
+        match self.whole().split_once(" ") {
             Some((_, line)) => line,
             None => "",
         }
@@ -93,43 +98,55 @@ fn number(digits: &str) -> Option<u64> {
     u64::from_str_radix(digits, 16).ok()
 }
 
-/// What the rows of a table are asked of. It is let go by a call, so that a subject that holds a session ends
-/// it: a function in which a session is dropped takes minutes to prove.
+/// What the rows of a table are asked of.
 pub(crate) trait Subject {
-    /// What a table's first row is asked of.
-    fn new(alloc: Global) -> Option<Self>;
-
     /// The answer to the words of a question, or none where they are no question or memory is out.
     fn answer(&mut self, alloc: Global, words: &mut Words<'_>) -> Option<String>;
-
-    /// Lets it go.
-    fn end(self);
 }
 
-/// Asserts that a question has its answer.
-fn assert_answer<S: Subject>(
-    rt: &impl Abort,
+/// What is wrong where a question has another answer, or an empty text.
+fn fault_of_answer<S: Subject>(
     alloc: Global,
     subject: &mut S,
     asked: &str,
     wanted: &str,
-) {
+) -> Option<String> {
     let mut words = Words::new(asked);
-    let answer = subject.answer(alloc, &mut words);
-    assert!(rt; answer.is_some(), "{asked}: out of memory, or no question");
-    let found = answer.as_deref().unwrap_or_default().trim();
-    let is_right = words.are_all_read() && found == wanted.trim();
-    assert!(rt; is_right, "{asked}->{wanted}: found {found}");
+    let answer = subject.answer(alloc, &mut words)?;
+    let found = answer.trim();
+    if words.are_all_read() && found == wanted.trim() {
+        return Some(String::new(alloc));
+    }
+    format!(in alloc; "{asked}->{wanted}: found {found}").ok()
 }
 
-/// Asserts that each row's question has its answer.
-pub(crate) fn assert_rows<S: Subject>(rt: &impl Abort, alloc: Global, rows: &str) {
-    let mut subject = S::new(alloc).expect(rt, "out of memory");
+/// What is wrong with a row, or an empty text.
+fn fault_of_row<S: Subject>(alloc: Global, subject: &mut S, row: &str) -> Option<String> {
+    match row.split_once("->") {
+        Some((asked, wanted)) => fault_of_answer(alloc, subject, asked, wanted),
+        None if row.is_empty() || row.starts_with("*") => Some(String::new(alloc)),
+        None => format!(in alloc; "no row: {row}").ok(),
+    }
+}
+
+/// What is wrong with the first row whose question has another answer, or an empty text. None is where memory was
+/// wanting, or a question is none.
+pub(crate) fn fault_of_rows<S: Subject>(
+    alloc: Global,
+    subject: &mut S,
+    rows: &str,
+) -> Option<String> {
     for row in rows.lines() {
-        match row.split_once("->") {
-            Some((asked, wanted)) => assert_answer(rt, alloc, &mut subject, asked, wanted),
-            None => assert!(rt; row.is_empty() || row.starts_with("*"), "no row: {row}"),
+        let fault = fault_of_row(alloc, subject, row)?;
+        if !fault.is_empty() {
+            return Some(fault);
         }
     }
-    subject.end();
+    Some(String::new(alloc))
+}
+
+/// Asserts that nothing is wrong.
+pub(crate) fn assert_no_fault(rt: &impl Abort, fault: Option<String>) {
+    let fault = fault.expect(rt, "out of memory, or no question");
+    assert!(rt; fault.is_empty(), "{fault}");
 }

@@ -1,13 +1,11 @@
 //! Scripts over readers and writers that are slow or fail, and commands one by one.
-ghost use Rattle.std.specs.Prelude.{◌≤◌};
-
-use crate::machine::{are_same, machine_of};
-use crate::rows::{Subject, Words, assert_rows};
+use crate::held::{Lent, lend};
+use crate::machine::are_same;
+use crate::rows::{Subject, Words, assert_no_fault, fault_of_rows};
 use s360_debug::{ScriptFault, answer, read_command, run_script};
 use s360_journal::{Breaks, Session};
 use std::alloc::Global;
 use std::io::{self, Read, Write};
-use std::process::Abort;
 
 /// Writers have room for so many bytes from the start, so that only the script wants memory.
 const ROOM: usize = 4_096;
@@ -36,24 +34,6 @@ const CARRIED_OUT: [usize; 13] = [1, 2, 3, 4, 5, 5, 5, 5, 6, 7, 7, 7, 7];
 
 /// More reads of one byte than a number of eight bits counts.
 const COMMENT: usize = 400;
-
-/// What carrying a script out answers. The callers' proofs have no need of all that it promises.
-fn carry_out<R: Read, W: Write>(
-    alloc: Global,
-    session: &mut Session,
-    reader: &mut R,
-    writer: &mut W,
-) -> Result<u32, ScriptFault> {
-    run_script(alloc, session, reader, writer)
-}
-
-/// A session over a machine of the size that there is where none is named. At most so many changes may stand.
-fn session(alloc: Global, limit: u32) -> Option<Session>
-    requires { limit ≤ 10000000 }
-{
-    let machine = machine_of(alloc, 65_536).ok()?;
-    Some(Session::new(alloc, machine, limit))
-}
 
 /// A reader that gives one byte a call, and fails after so many.
 #[derive(Drop)]
@@ -106,126 +86,101 @@ impl Write for SlowWriter {
     }
 }
 
-/// What a script leaves.
+/// What a script leaves beside its session.
+#[derive(Drop)]
 struct Left {
     outcome: Result<u32, ScriptFault>,
     written: Vec<u8>,
-    session: Session,
 }
 
-impl Left {
-    /// Of a script in a session where at most so many changes may stand, over a reader that gives so
-    /// many bytes before it fails, and a writer that takes so many before it does.
-    fn of(alloc: Global, limit: u32, script: &[u8], calls: usize, room: usize) -> Option<Left>
-        requires { limit ≤ 10000000 }
-    {
-        let taken = Vec::with_capacity(alloc, ROOM).ok()?;
-        let mut session = session(alloc, limit)?;
-        let left = script;
-        let mut reader = SlowReader { left, calls };
-        let mut writer = SlowWriter { taken, room };
-        let outcome = carry_out(alloc, &mut session, &mut reader, &mut writer);
-        let written = writer.taken;
-        Some(Left {
-            outcome,
-            written,
-            session,
-        })
-    }
+/// What carrying a script out answers. The callers' proofs have no need of all that it promises.
+fn run<R: Read, W: Write>(
+    alloc: Global,
+    session: &mut Session,
+    reader: &mut R,
+    writer: &mut W,
+) -> Result<u32, ScriptFault> {
+    run_script(alloc, session, reader, writer)
+}
 
-    /// Lets it go.
-    fn end(self) {
-        let Left {
-            session,
-            outcome: _outcome,
-            written: _written,
-        } = self;
-        session.end();
-    }
-
-    /// Whether memory was wanting.
-    fn wants_memory(&self) -> bool {
-        self.outcome == Err(ScriptFault::Memory)
-    }
-
-    /// Whether its session is as another's.
-    fn stands_as(&self, other: &Left) -> bool {
-        self.session.standing() == other.session.standing()
-            && are_same(self.session.machine(), other.session.machine())
-    }
-
-    /// Its outcome, the number of bytes written, whether they are a first part of the answers, and how
-    /// many changes stand, unless memory was wanting.
-    fn text(&self, alloc: Global) -> Option<String> {
-        if self.wants_memory() {
-            return None;
-        }
-        let first = ADD_ANSWERS.as_bytes().starts_with(&self.written);
-        let (count, standing) = (self.written.len(), self.session.standing());
-        let outcome = self.outcome;
-        format!(in alloc; "{outcome:?} {count:X} {first} {standing}").ok()
-    }
-
-    /// Its text, and whether its session is as another's.
-    fn text_beside(&self, alloc: Global, other: &Left) -> Option<String> {
-        let text = self.text(alloc)?;
-        let is_same = self.stands_as(other);
-        format!(in alloc; "{text} {is_same}").ok()
-    }
-
-    /// Its text, and whether its session is as one that is begun.
-    fn text_beside_new(&self, alloc: Global) -> Option<String> {
-        let begun = Left::of(alloc, 10, &[], 1, ROOM)?;
-        let text = self.text_beside(alloc, &begun);
-        begun.end();
-        text
-    }
-
-    /// The answers of a script that was carried out.
-    fn answers(&self, alloc: Global) -> Option<String> {
-        if self.outcome.is_err() {
-            return None;
-        }
-        quoted(alloc, &self.written)
-    }
-
-    /// What is wrong where the writer took so many bytes and then failed, where a script with the
-    /// lines that were carried out leaves another.
-    fn fault(&self, alloc: Global, room: usize, wanted: &Left) -> Option<String> {
-        if wanted.wants_memory() {
-            return None;
-        }
-        let written = ADD_ANSWERS.as_bytes().get(..room) == Some(&*self.written);
-        if self.outcome == Err(ScriptFault::Write) && written && self.stands_as(wanted) {
-            return Some(String::new(alloc));
-        }
-        self.text(alloc)
-    }
-
-    /// What is wrong where the writer took so many bytes and then failed. These lines were carried out.
-    fn fault_beside(&self, alloc: Global, room: usize, lines: &[u8]) -> Option<String> {
-        let wanted = Left::of(alloc, 10, lines, lines.len() + 1, ROOM)?;
-        let fault = self.fault(alloc, room, &wanted);
-        wanted.end();
-        fault
+/// Carries a script out over a reader that gives so many bytes before it fails, and a writer that takes so many
+/// before it does. Nothing is answered where memory was wanting.
+fn carry_out(
+    alloc: Global,
+    session: &mut Session,
+    script: &[u8],
+    calls: usize,
+    room: usize,
+) -> Option<Left> {
+    let taken = Vec::with_capacity(alloc, ROOM).ok()?;
+    let left = script;
+    let mut reader = SlowReader { left, calls };
+    let mut writer = SlowWriter { taken, room };
+    let outcome = run(alloc, session, &mut reader, &mut writer);
+    let written = writer.taken;
+    match outcome {
+        Err(ScriptFault::Memory) => None,
+        outcome => Some(Left { outcome, written }),
     }
 }
 
-/// The text of what a script leaves.
-fn text_left(alloc: Global, script: &[u8], calls: usize) -> Option<String> {
-    let left = Left::of(alloc, 10, script, calls, ROOM)?;
-    let text = left.text(alloc);
-    left.end();
-    text
+/// Bytes that are a text, within quotes.
+fn quoted(alloc: Global, bytes: &[u8]) -> Option<String> {
+    let text = str::from_utf8(bytes).ok()?;
+    format!(in alloc; "{text:?}").ok()
 }
 
-/// The text of what the script leaves where its reader fails after so many bytes, and whether the
-/// session is as before.
-fn text_cut(alloc: Global, calls: usize) -> Option<String> {
-    let left = Left::of(alloc, 10, ADD.as_bytes(), calls, ROOM)?;
-    let text = left.text_beside_new(alloc);
-    left.end();
-    text
+/// Whether a session is as another, in which a script is carried out to its end.
+#[derive(Drop)]
+struct Beside<'a> {
+    other: &'a Session,
+    script: &'a [u8],
+}
+
+impl<'a> Lent for Beside<'a> {
+    fn use_session(&mut self, alloc: Global, session: &mut Session) -> Option<String> {
+        let _left = carry_out(alloc, session, self.script, self.script.len() + 1, ROOM)?;
+        let is_same = session.standing() == self.other.standing()
+            && are_same(session.machine(), self.other.machine());
+        format!(in alloc; "{is_same}").ok()
+    }
+}
+
+/// A script over a reader that gives so many bytes before it fails, and a writer that takes so many before it does.
+/// What it leaves is to be as after another script.
+#[derive(Drop)]
+struct Cut<'a> {
+    script: &'a [u8],
+    calls: usize,
+    room: usize,
+    beside: &'a [u8],
+}
+
+impl<'a> Lent for Cut<'a> {
+    /// Its outcome, the number of bytes written, whether they are a first part of the answers, and whether the
+    /// session is as after the other script.
+    fn use_session(&mut self, alloc: Global, session: &mut Session) -> Option<String> {
+        let left = carry_out(alloc, session, self.script, self.calls, self.room)?;
+        let (outcome, count) = (left.outcome, left.written.len());
+        let is_first = ADD_ANSWERS.as_bytes().starts_with(&left.written);
+        let other = &*session;
+        let script = self.beside;
+        let is_same = lend(alloc, 10, &mut Beside { other, script })?;
+        format!(in alloc; "{outcome:?} {count:X} {is_first} {is_same}").ok()
+    }
+}
+
+/// A script that is carried out to its end, which answers its answers.
+#[derive(Drop)]
+struct Whole<'a> {
+    script: &'a [u8],
+}
+
+impl<'a> Lent for Whole<'a> {
+    fn use_session(&mut self, alloc: Global, session: &mut Session) -> Option<String> {
+        let left = carry_out(alloc, session, self.script, self.script.len() + 1, ROOM)?;
+        quoted(alloc, &left.written)
+    }
 }
 
 /// The script behind a long comment.
@@ -236,74 +191,26 @@ fn behind_a_comment(alloc: Global) -> Option<Vec<u8>> {
     Some(script)
 }
 
-/// The text of what the script leaves behind a long comment.
-fn text_behind_a_comment(alloc: Global) -> Option<String> {
-    let script = behind_a_comment(alloc)?;
-    text_left(alloc, &script, script.len() + 1)
+/// What a script leaves over streams that do not fail, beside the script itself.
+fn text_of_whole(alloc: Global, script: &[u8]) -> Option<String> {
+    let mut whole = Cut {
+        script,
+        calls: script.len() + 1,
+        room: ROOM,
+        beside: ADD.as_bytes(),
+    };
+    lend(alloc, 10, &mut whole)
 }
 
-/// Bytes that are a text, within quotes.
-fn quoted(alloc: Global, bytes: &[u8]) -> Option<String> {
-    let text = str::from_utf8(bytes).ok()?;
-    format!(in alloc; "{text:?}").ok()
-}
-
-/// The answers to a script in a session where one change may stand.
-fn answers_at_the_limit(alloc: Global, script: &[u8]) -> Option<String> {
-    let left = Left::of(alloc, 1, script, script.len() + 1, ROOM)?;
-    let answers = left.answers(alloc);
-    left.end();
-    answers
-}
-
-/// A session where ten changes may stand, and no breakpoint.
-struct Lines {
-    session: Session,
-    breaks: Breaks,
-}
-
-impl Lines {
-    /// The answer to a line.
-    fn answer_line(&mut self, alloc: Global, line: &str) -> Option<String> {
-        let command = read_command(alloc, line.as_bytes()).ok()?;
-        let text = answer(alloc, &mut self.session, &mut self.breaks, command).ok()?;
-        quoted(alloc, text.as_bytes())
-    }
-}
-
-impl Subject for Lines {
-    fn new(alloc: Global) -> Option<Lines> {
-        let breaks = Breaks::new();
-        let session = session(alloc, 10)?;
-        Some(Lines { session, breaks })
-    }
-
-    fn answer(&mut self, alloc: Global, words: &mut Words<'_>) -> Option<String> {
-        match words.next_word() {
-            "line" => self.answer_line(alloc, words.behind_the_first()),
-            kind => text_of_script(alloc, kind, words),
-        }
-    }
-
-    fn end(self) {
-        let Lines {
-            session,
-            breaks: _breaks,
-        } = self;
-        session.end();
-    }
-}
-
-/// What a script of a kind leaves, or its answers.
-fn text_of_script(alloc: Global, kind: &str, words: &mut Words<'_>) -> Option<String> {
-    match kind {
-        "limit" => answers_at_the_limit(alloc, b"tick\ntick\nrun 5\nstanding\n"),
-        "full" => answers_at_the_limit(alloc, b"patch r 1 5\npatch r 1 5\n"),
-        "whole" => text_left(alloc, ADD.as_bytes(), ADD.len() + 1),
-        "cut" => text_cut(alloc, words.below(0x1_0000) as usize),
-        "long" => text_behind_a_comment(alloc),
-        _ => None,
-    }
+/// What the script leaves where its reader fails after so many bytes, beside a session that is begun.
+fn text_of_failed_read(alloc: Global, calls: usize) -> Option<String> {
+    let mut cut = Cut {
+        script: ADD.as_bytes(),
+        calls,
+        room: ROOM,
+        beside: &[],
+    };
+    lend(alloc, 10, &mut cut)
 }
 
 /// The first lines of the script that are carried out where its writer fails after so many bytes.
@@ -317,57 +224,111 @@ fn carried_out(room: usize) -> Option<usize> {
     Some(length)
 }
 
-/// What is wrong where a script fails at a writer that takes so many bytes: it has taken them and no
-/// more, and the session stands as after the line whose answer was cut.
-fn fault_of_write(alloc: Global, room: usize) -> Option<String> {
-    let (first, _) = ADD.as_bytes().split_at_checked(carried_out(room)?)?;
-    let found = Left::of(alloc, 10, ADD.as_bytes(), ADD.len() + 1, room)?;
-    let fault = found.fault_beside(alloc, room, first);
-    found.end();
-    fault
+/// What the script leaves where its writer fails after so many bytes, beside the lines that are carried out then.
+fn text_of_failed_write(alloc: Global, room: usize) -> Option<String> {
+    let (beside, _) = ADD.as_bytes().split_at_checked(carried_out(room)?)?;
+    let mut cut = Cut {
+        script: ADD.as_bytes(),
+        calls: ADD.len() + 1,
+        room,
+        beside,
+    };
+    lend(alloc, 10, &mut cut)
 }
 
-/// Asserts that nothing is wrong with a writer that takes so many bytes.
-fn assert_write_fails(rt: &impl Abort, alloc: Global, room: usize) {
-    let fault = fault_of_write(alloc, room).expect(rt, "out of memory");
-    assert!(rt; fault.is_empty(), "after {room} bytes: {fault}");
+/// What is wrong where the writer fails after so many bytes: it has taken them and no more, and the session stands as
+/// after the line whose answer was cut.
+fn fault_of_write(alloc: Global, room: usize) -> Option<String> {
+    let wanted = format!(in alloc; "Err(Write) {room:X} true true").ok()?;
+    let text = text_of_failed_write(alloc, room)?;
+    if text == wanted {
+        return Some(String::new(alloc));
+    }
+    format!(in alloc; "{wanted}: found {text}").ok()
+}
+
+/// Scripts over streams that give or take one byte a call.
+#[derive(Drop)]
+struct Scripts;
+
+impl Subject for Scripts {
+    fn answer(&mut self, alloc: Global, words: &mut Words<'_>) -> Option<String> {
+        match words.next_word() {
+            "limit" => lend(alloc, 1, &mut Whole { script: TICKS }),
+            "full" => lend(alloc, 1, &mut Whole { script: PATCHES }),
+            "whole" => text_of_whole(alloc, ADD.as_bytes()),
+            "long" => text_of_whole(alloc, &behind_a_comment(alloc)?),
+            _ => text_of_failed_read(alloc, words.below(0x1_0000) as usize),
+        }
+    }
+}
+
+/// Commands one by one, in a session where no breakpoint is set at first.
+#[derive(Drop)]
+struct Lines<'a> {
+    session: &'a mut Session,
+    breaks: Breaks,
+}
+
+impl<'a> Subject for Lines<'a> {
+    fn answer(&mut self, alloc: Global, words: &mut Words<'_>) -> Option<String> {
+        let command = read_command(alloc, words.whole().as_bytes()).ok()?;
+        let text = answer(alloc, self.session, &mut self.breaks, command).ok()?;
+        quoted(alloc, text.as_bytes())
+    }
+}
+
+/// The commands of a table.
+#[derive(Drop)]
+struct Commands;
+
+impl Lent for Commands {
+    fn use_session(&mut self, alloc: Global, session: &mut Session) -> Option<String> {
+        let breaks = Breaks::new();
+        fault_of_rows(alloc, &mut Lines { session, breaks }, LINES)
+    }
 }
 
 #[test]
 fn slow_streams_that_fail(rt: HostRuntime) {
     for room in 0..ADD_ANSWERS.len() {
-        assert_write_fails(&rt, rt.alloc(), room);
+        assert_no_fault(&rt, fault_of_write(rt.alloc(), room));
     }
-    assert_rows::<Lines>(&rt, rt.alloc(), STREAMS);
+    assert_no_fault(&rt, fault_of_rows(rt.alloc(), &mut Scripts, STREAMS));
 }
 
 #[test]
 fn lines_one_by_one(rt: HostRuntime) {
-    assert_rows::<Lines>(&rt, rt.alloc(), LINES);
+    assert_no_fault(&rt, lend(rt.alloc(), 10, &mut Commands));
 }
 
-/// Scripts over streams that give or take one byte a call.
-const STREAMS: &str = "
-* a writer with room for all answers
-whole -> Ok(7) 18E true 3
-* a reader that fails at its first byte, within a line, behind one, and before its end
-cut 0 -> Err(Read) 0 true 0 true
-cut 5 -> Err(Read) 0 true 0 true
-cut 13 -> Err(Read) 0 true 0 true
-cut 4C -> Err(Read) 0 true 0 true
-* a reader that gives its bytes in more than 300 calls
-long -> Ok(7) 18E true 3
-";
+/// More ticks than may stand where one change may, and more patches.
+const TICKS: &[u8] = b"tick\ntick\nrun 5\nstanding\n";
 
-/// Commands one by one.
-const LINES: &str = r#"
+const PATCHES: &[u8] = b"patch r 1 5\npatch r 1 5\n";
+
+/// Scripts over streams that give or take one byte a call: the outcome, the number of bytes written, whether they are
+/// a first part of the answers, and whether the session is as it is to be.
+const STREAMS: &str = r#"
+* a writer with room for all answers
+whole -> Ok(7) 18E true true
+* a reader that fails at its first byte, within a line, behind one, and before its end
+cut 0 -> Err(Read) 0 true true
+cut 5 -> Err(Read) 0 true true
+cut 13 -> Err(Read) 0 true true
+cut 4C -> Err(Read) 0 true true
+* a reader that gives its bytes in more than 300 calls
+long -> Ok(7) 18E true true
 * a session where one change may stand
 limit -> "1 changed 4 s000050 s000051 s000052 ext\nrefused 6 journal full\nrun 0 refused 6 journal full\nstanding 1\n"
 full -> "1 changed 1 r1\nrefused 6 journal full\n"
-* lines and their answers
-line patch r 1 2A -> "1 changed 1 r1\n"
-line patch r 1 2A -> "2 idle\n"
-line break 200 -> "breaks 1\n"
-line until -> "until 0\n"
-line standing -> "standing 0\n"
+"#;
+
+/// Commands one by one, and their answers.
+const LINES: &str = r#"
+patch r 1 2A -> "1 changed 1 r1\n"
+patch r 1 2A -> "2 idle\n"
+break 200 -> "breaks 1\n"
+until -> "until 0\n"
+standing -> "standing 0\n"
 "#;

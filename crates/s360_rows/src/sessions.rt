@@ -1,67 +1,26 @@
 //! Sessions: calls in which few changes may stand, previews, and lists of calls.
-ghost use Rattle.std.specs.Prelude.{◌≤◌};
-
 use crate::calls::{call, calls, event, long_patch, text_of_answer, text_of_report};
-use crate::machine::machine_of;
-use crate::rows::{Subject, Words, assert_rows};
-use s360_journal::{Answer, Call, Outcome, Places, Session, run_calls};
+use crate::held::{Lent, lend_with_tape};
+use crate::rows::{Subject, Words, assert_no_fault, fault_of_rows};
+use s360_device::deck_from;
+use s360_journal::{Answer, Outcome, Places, Session, run_calls};
 use s360_machine::{Machine, Refusal};
 use s360_psw::InstructionLength;
 use s360_store::Place;
+use s360_tape::Tape;
 use s360_word::{RegisterNumber, Unit, Word};
 use std::alloc::Global;
-use std::mem;
 
-/// AR of registers 1 and 2 at 0, and the registers.
-const START: &str = "patch s 0 1A12\npatch r 1 7FFFFFFF\npatch r 2 1";
+/// A machine has so many bytes.
+const STORAGE: u32 = 8_192;
 
-/// A machine in which these lines were carried out, if memory sufficed for them.
-fn machine(alloc: Global) -> Option<Machine> {
-    let calls = calls(alloc, START)?;
-    let machine = machine_of(alloc, 8_192).ok()?;
-    let Ok(outcome) = run_calls(alloc, machine, 100, calls) else {
-        return None;
-    };
-    let Outcome { machine, answers } = outcome;
-    // There is no text where memory was wanting.
-    match text_of_answers(alloc, &answers) {
-        Some(_) => Some(machine),
-        None => {
-            end(alloc, machine);
-            None
-        }
-    }
+/// A session that calls are made of.
+#[derive(Drop)]
+struct Running<'a> {
+    session: &'a mut Session,
 }
 
-/// Lets a machine go.
-fn end(alloc: Global, machine: Machine) {
-    Session::new(alloc, machine, 0).end();
-}
-
-/// A session.
-struct Running {
-    session: Session,
-}
-
-impl Running {
-    /// A session over the machine where at most so many changes may stand.
-    fn with_limit(alloc: Global, limit: u32) -> Option<Running>
-        requires { limit ≤ 10000000 }
-    {
-        let session = Session::new(alloc, machine(alloc)?, limit);
-        Some(Running { session })
-    }
-
-    /// Begins again with another limit.
-    fn restart(&mut self, alloc: Global, limit: u32) -> Option<String>
-        requires { limit ≤ 10000000 }
-    {
-        let Running { session } = Running::with_limit(alloc, limit)?;
-        let old = mem::replace(&mut self.session, session);
-        old.end();
-        self.picture(alloc)
-    }
-
+impl<'a> Running<'a> {
     fn register(&self, number: u8) -> Word {
         let register = RegisterNumber::new(number % 16);
         self.session.machine().register(register)
@@ -109,11 +68,6 @@ impl Running {
         text_of_answer(alloc, &answer)
     }
 
-    /// What a list of calls is answered.
-    fn perform_all(&mut self, calls: Vec<Call>) -> Option<Vec<Answer>> {
-        self.session.perform_all(calls).ok()
-    }
-
     /// The last changes of places that the machine lacks.
     fn of_lacking_places(&self, alloc: Global) -> Option<String> {
         let byte = self.session.last_change(Place::Byte(0x2000));
@@ -125,14 +79,9 @@ impl Running {
     }
 }
 
-impl Subject for Running {
-    fn new(alloc: Global) -> Option<Running> {
-        Running::with_limit(alloc, 10)
-    }
-
+impl<'a> Subject for Running<'a> {
     fn answer(&mut self, alloc: Global, words: &mut Words<'_>) -> Option<String> {
         match words.next_word() {
-            "limit" => self.restart(alloc, words.below(0x100) as u32),
             "picture" => self.picture(alloc),
             "lacking" => self.of_lacking_places(alloc),
             "event" => format!(in alloc; "{:?}", self.session.last_event()).ok(),
@@ -141,30 +90,55 @@ impl Subject for Running {
             kind => self.report(alloc, kind, words),
         }
     }
+}
 
-    fn end(self) {
-        let Running { session } = self;
-        session.end();
+/// The rows of a table, which are asked of a new session.
+#[derive(Drop)]
+struct Table {
+    rows: &'static str,
+}
+
+impl Lent for Table {
+    fn use_session(&mut self, alloc: Global, session: &mut Session) -> Option<String> {
+        fault_of_rows(alloc, &mut Running { session }, self.rows)
     }
+}
+
+/// Lends a session over such a machine, where at most so many changes may stand.
+fn lend<L: Lent>(alloc: Global, limit: u8, lent: &mut L) -> Option<String> {
+    lend_with_tape(alloc, STORAGE, Tape::blank(alloc), limit, lent)
 }
 
 #[test]
 fn sessions(rt: HostRuntime) {
-    assert_rows::<Running>(&rt, rt.alloc(), ROWS);
+    for (limit, rows) in TABLES {
+        assert_no_fault(&rt, lend(rt.alloc(), limit, &mut Table { rows }));
+    }
 }
 
-const ROWS: &str = "
-* a limit of 0: refusals for an event's own sake come first, then a full journal
-limit 0 -> 0 7FFFFFFF 0 0
+/// Tables, and how many changes may stand in the session of each.
+const TABLES: [(u8, &str); 6] = [
+    (0, NOTHING_STANDS),
+    (1, ONE_STANDS),
+    (6, SIX_STAND),
+    (5, IDLE),
+    (13, PREVIEWS),
+    (13, MEMORY),
+];
+
+/// No change may stand: refusals for an event's own sake come first, then a full journal.
+const NOTHING_STANDS: &str = "
 do channel 00F -> no such unit
 long 1FFF 101 -> patch too long
 do patch s 1FFF 0102 -> outside storage
 do patch s 1FFE 0102 -> journal full
 do step -> journal full
 preview step -> journal full
-picture -> 0 7FFFFFFF 0 0
-* a limit of 1
-limit 1 -> 0 7FFFFFFF 0 0
+picture -> 0 0 0 0
+";
+
+/// One change may stand.
+const ONE_STANDS: &str = "
 do patch s 300 01 -> [Byte(768)]
 long 1FFF 101 -> patch too long
 do patch s 1FFF 0102 -> outside storage
@@ -173,11 +147,16 @@ do step -> journal full
 preview step -> journal full
 do standing -> 1
 do back -> Patch(Bytes { at: 768, bytes: Bytes { items: [1] } })
-do step -> [Psw, Register(1)]
+do patch r 1 7 -> [Register(1)]
 do step -> journal full
-picture -> 30000002 80000000 0 1
-* a limit of 3
-limit 3 -> 0 7FFFFFFF 0 0
+picture -> 0 7 0 1
+";
+
+/// Six changes may stand. The first three are AR of registers 1 and 2 at 0, and the registers.
+const SIX_STAND: &str = "
+do patch s 0 1A12 -> [Byte(0), Byte(1)]
+do patch r 1 7FFFFFFF -> [Register(1)]
+do patch r 2 1 -> [Register(2)]
 do patch s 300 01 -> [Byte(768)]
 do patch s 301 01 -> [Byte(769)]
 do patch s 302 01 -> [Byte(770)]
@@ -186,73 +165,96 @@ do patch s 1FFF 0102 -> outside storage
 do patch s 1FFE 0102 -> journal full
 do step -> journal full
 preview step -> journal full
-do standing -> 3
+do standing -> 6
 do back -> Patch(Bytes { at: 770, bytes: Bytes { items: [1] } })
 do step -> [Psw, Register(1)]
 do step -> journal full
-do standing -> 3
-* idle events stand
-limit 2 -> 0 7FFFFFFF 0 0
+do standing -> 6
+";
+
+/// Idle events stand.
+const IDLE: &str = "
+do patch s 0 1A12 -> [Byte(0), Byte(1)]
+do patch r 1 7FFFFFFF -> [Register(1)]
+do patch r 2 1 -> [Register(2)]
 do patch r 2 1 -> idle
-do standing -> 1
-do last r 2 -> None
+do standing -> 4
+do last r 2 -> Some(3)
 do patch s 0 1A12 -> idle
-do standing -> 2
+do standing -> 5
 do patch r 2 1 -> journal full
 do back -> Patch(Bytes { at: 0, bytes: Bytes { items: [26, 18] } })
 do back -> Patch(Register(RegisterNumber(2), 1))
-do standing -> 0
-* previews leave the session as it is
-limit A -> 0 7FFFFFFF 0 0
+do standing -> 3
+";
+
+/// Previews and refused events leave the session as it is.
+const PREVIEWS: &str = "
 event -> None
+do patch s 0 1A12 -> [Byte(0), Byte(1)]
+do patch r 1 7FFFFFFF -> [Register(1)]
+do patch r 2 1 -> [Register(2)]
 do patch r 3 7 -> [Register(3)]
 preview step -> [Psw, Register(1)]
-picture -> 0 7FFFFFFF 7 1
+picture -> 0 7FFFFFFF 7 4
 preview patch r 3 8 -> [Register(3)]
-picture -> 0 7FFFFFFF 7 1
+picture -> 0 7FFFFFFF 7 4
 preview patch r 3 7 -> idle
-picture -> 0 7FFFFFFF 7 1
+picture -> 0 7FFFFFFF 7 4
 preview patch s 2000 01 -> outside storage
-picture -> 0 7FFFFFFF 7 1
+picture -> 0 7FFFFFFF 7 4
 preview_long 300 101 -> patch too long
-picture -> 0 7FFFFFFF 7 1
-do last r 3 -> Some(1)
+picture -> 0 7FFFFFFF 7 4
+do last r 3 -> Some(4)
 do last p -> None
 event -> Some(Patch(Register(RegisterNumber(3), 7)))
 * refused events leave it too
 do step -> [Psw, Register(1)]
-picture -> 30000002 80000000 7 2
+picture -> 30000002 80000000 7 5
 long FFFF 101 -> patch too long
-picture -> 30000002 80000000 7 2
+picture -> 30000002 80000000 7 5
 do patch s 2000 01 -> outside storage
-picture -> 30000002 80000000 7 2
+picture -> 30000002 80000000 7 5
 long FFFFFFFF 1 -> outside storage
-picture -> 30000002 80000000 7 2
+picture -> 30000002 80000000 7 5
 do channel 00F -> no such unit
-picture -> 30000002 80000000 7 2
-do last r 1 -> Some(2)
+picture -> 30000002 80000000 7 5
+do last r 1 -> Some(5)
 * a place that the machine lacks has no last change
 lacking -> None None None None None
 do back -> Cpu
 do back -> Patch(Register(RegisterNumber(3), 7))
+picture -> 0 7FFFFFFF 0 3
+do back -> Patch(Register(RegisterNumber(2), 1))
+do back -> Patch(Register(RegisterNumber(1), 2147483647))
+do back -> Patch(Bytes { at: 0, bytes: Bytes { items: [26, 18] } })
 do back -> nothing stands
-picture -> 0 7FFFFFFF 0 0
-* want of memory changes nothing
+picture -> 0 0 0 0
+";
+
+/// Want of memory changes nothing.
+const MEMORY: &str = "
+do patch s 0 1A12 -> [Byte(0), Byte(1)]
+do patch r 1 7FFFFFFF -> [Register(1)]
+do patch r 2 1 -> [Register(2)]
 memory step -> stands
 memory patch s 300 0101010101010101010101010101010101010101 -> stands
 memory patch r 2 1 -> stands
-do standing -> 3
-do last p -> Some(1)
-do last s 313 -> Some(2)
-do last r 2 -> None
+do standing -> 6
+do last p -> Some(4)
+do last s 313 -> Some(5)
+do last r 2 -> Some(3)
 do back -> Patch(Register(RegisterNumber(2), 1))
 do back -> Patch(Bytes { at: 768, bytes: Bytes { items: [1, 1, 1, 1, 1, 1, 1, 1, 1, 1, 1, 1, 1, 1, 1, 1, 1, 1, 1, 1] } })
 do back -> Cpu
-picture -> 0 7FFFFFFF 0 0
+picture -> 0 7FFFFFFF 0 3
 ";
 
 /// Calls of each kind, with changes that are taken back, idle events and refusals.
 const EACH_KIND: &str = "back
+patch s 0 1A12
+patch r 1 7FFFFFFF
+patch r 2 1
 patch s 300 01
 patch s 301 02
 last s 301
@@ -266,20 +268,23 @@ last r 1
 patch r 3 1
 standing";
 
-/// Their answers where three changes may stand, and register 1 in the end.
+/// Their answers where six changes may stand, and register 1 in the end.
 const ANSWERS: &str = "nothing stands
+[Byte(0), Byte(1)]
+[Register(1)]
+[Register(2)]
 [Byte(768)]
 [Byte(769)]
-Some(2)
+Some(5)
 Patch(Bytes { at: 769, bytes: Bytes { items: [2] } })
 None
 idle
-2
+5
 outside storage
 [Psw, Register(1)]
-Some(3)
+Some(6)
 journal full
-3
+6
 80000000
 ";
 
@@ -310,29 +315,31 @@ fn text_of_end(alloc: Global, answers: &[Answer], machine: &Machine) -> Option<S
     Some(text)
 }
 
-/// The answers to a list of calls as a whole, and what is left of the machine.
+/// Lists of calls as a whole, which are made of a new machine.
 fn run(alloc: Global) -> Option<String> {
     let calls = calls(alloc, EACH_KIND)?;
-    let machine = machine(alloc)?;
-    let Ok(outcome) = run_calls(alloc, machine, 3, calls) else {
+    let deck = deck_from(alloc, &[]).ok()?;
+    let (first, second) = (Tape::blank(alloc), Tape::blank(alloc));
+    let machine = Machine::new(alloc, STORAGE, deck, first, second).ok()?;
+    let Ok(outcome) = run_calls(alloc, machine, 6, calls) else {
         return None;
     };
     let Outcome { machine, answers } = outcome;
     let text = text_of_end(alloc, &answers, &machine);
-    end(alloc, machine);
+    Session::new(alloc, machine, 0).end();
     text
 }
 
-/// The answers to the same in a session, and what is left of its machine.
-fn perform(alloc: Global) -> Option<String> {
-    let calls = calls(alloc, EACH_KIND)?;
-    let mut running = Running::with_limit(alloc, 3)?;
-    let text = match running.perform_all(calls) {
-        Some(answers) => text_of_end(alloc, &answers, running.session.machine()),
-        None => None,
-    };
-    running.end();
-    text
+/// The same calls, made of a session.
+#[derive(Drop)]
+struct Calls;
+
+impl Lent for Calls {
+    fn use_session(&mut self, alloc: Global, session: &mut Session) -> Option<String> {
+        let calls = calls(alloc, EACH_KIND)?;
+        let answers = session.perform_all(calls).ok()?;
+        text_of_end(alloc, &answers, session.machine())
+    }
 }
 
 /// Whether the places of a change are the same as a list.
@@ -345,7 +352,7 @@ fn are_listed(alloc: Global, list: &[Place]) -> Option<bool> {
 fn lists_of_calls(rt: HostRuntime) {
     let answers = run(rt.alloc()).expect(&rt, "out of memory");
     assert_eq!(rt; answers.as_str(), ANSWERS);
-    let answers = perform(rt.alloc()).expect(&rt, "out of memory");
+    let answers = lend(rt.alloc(), 6, &mut Calls).expect(&rt, "out of memory");
     assert_eq!(rt; answers.as_str(), ANSWERS);
     for list in LISTS {
         let are_listed = are_listed(rt.alloc(), list).expect(&rt, "out of memory");

@@ -1,10 +1,11 @@
 //! A tape's block of the greatest length, read in a session. Where a growth is refused, the session is as
 //! before, and the read can be done again.
 use crate::calls::event;
+use crate::held::{Lent, lend_with_tape};
 use crate::machine::are_same;
-use s360_device::deck_from;
+use crate::rows::assert_no_fault;
 use s360_journal::{Report, Session};
-use s360_machine::{Event, Machine, Refusal};
+use s360_machine::{Event, Refusal};
 use s360_store::Place;
 use s360_tape::{Tape, tape_from};
 use s360_word::Unit;
@@ -16,6 +17,9 @@ const TAPE: Unit = Unit(0x180);
 const HEADER: [u8; 6] = [0xFF, 0xFF, 0x00, 0x00, 0xA0, 0x00];
 
 const LONGEST: usize = 65_535;
+
+/// A machine that has room for it.
+const STORAGE: u32 = 131_072;
 
 /// A block of that length is to be read to 600.
 const START: &str = "patch p 0000000000000200
@@ -46,87 +50,74 @@ fn tape(alloc: Global) -> Option<Tape> {
     tape_from(alloc, &file, false).ok()
 }
 
-fn machine(alloc: Global) -> Option<Machine> {
-    let deck = deck_from(alloc, &[]).ok()?;
-    Machine::new(alloc, 131_072, deck, tape(alloc)?, Tape::blank(alloc)).ok()
+/// Carries lines out, and answers whether none was refused.
+fn carry_out(alloc: Global, session: &mut Session, lines: &str) -> bool {
+    for line in lines.lines() {
+        let Some(event) = event(alloc, line) else {
+            return false;
+        };
+        if session.forward(event).is_err() {
+            return false;
+        }
+    }
+    true
 }
 
-/// A session that comes to the read.
-struct Reading {
-    session: Session,
+/// How many places the read alters, or why it is refused.
+fn read(session: &mut Session) -> Result<usize, Refusal> {
+    match session.forward(Event::Channel(TAPE)) {
+        Ok(Report::Changed(places)) => Ok(places.as_slice().len()),
+        Ok(Report::Idle) => Ok(0),
+        Err(refusal) => Err(refusal),
+    }
 }
 
-impl Reading {
-    fn new(alloc: Global) -> Option<Reading> {
-        let session = Session::new(alloc, machine(alloc)?, 10);
-        Some(Reading { session })
-    }
-
-    /// Lets it go.
-    fn end(self) {
-        let Reading { session } = self;
-        session.end();
-    }
-
-    /// Carries lines out, and answers whether none was refused.
-    fn carry_out(&mut self, alloc: Global, lines: &str) -> bool {
-        for line in lines.lines() {
-            let Some(event) = event(alloc, line) else {
-                return false;
-            };
-            if self.session.forward(event).is_err() {
-                return false;
-            }
-        }
-        true
-    }
-
-    /// A session that is at the read.
-    fn started(alloc: Global) -> Option<Reading> {
-        let mut reading = Reading::new(alloc)?;
-        if reading.carry_out(alloc, START) {
-            Some(reading)
-        } else {
-            reading.end();
-            None
+/// Whether all is as in another: what stands, the last changes and the machine.
+fn stands_as(session: &Session, other: &Session) -> bool {
+    for place in PLACES {
+        if session.last_change(place) != other.last_change(place) {
+            return false;
         }
     }
+    session.standing() == other.standing() && are_same(session.machine(), other.machine())
+}
 
-    /// How many places the read alters, or why it is refused.
-    fn read(&mut self) -> Result<usize, Refusal> {
-        match self.session.forward(Event::Channel(TAPE)) {
-            Ok(Report::Changed(places)) => Ok(places.as_slice().len()),
-            Ok(Report::Idle) => Ok(0),
-            Err(refusal) => Err(refusal),
-        }
+/// Reads, and again where memory was wanting: that has to leave all as it is before the read.
+fn read_over(session: &mut Session, before: &Session) -> Result<usize, Refusal> {
+    match read(session) {
+        Err(Refusal::Memory) if stands_as(session, before) => read(session),
+        outcome => outcome,
     }
+}
 
-    /// Whether all is as in another: what stands, the last changes and the machine.
-    fn stands_as(&self, other: &Reading) -> bool {
-        for place in PLACES {
-            if self.session.last_change(place) != other.session.last_change(place) {
-                return false;
-            }
+/// What reads the block in a session, beside one that shows how it was before.
+#[derive(Drop)]
+struct Reader<'a> {
+    before: &'a Session,
+}
+
+impl<'a> Lent for Reader<'a> {
+    fn use_session(&mut self, alloc: Global, session: &mut Session) -> Option<String> {
+        if !carry_out(alloc, session, START) {
+            return None;
         }
-        self.session.standing() == other.session.standing()
-            && are_same(self.session.machine(), other.session.machine())
+        let outcome = read_over(session, self.before);
+        let last = session.last_change(Place::Byte(0x105FE));
+        String::from_str(alloc, fault_of_outcome(outcome, last)).ok()
     }
+}
 
-    /// Reads, and again where memory was wanting: that has to leave all as it is before the read.
-    fn read_over(&mut self, before: &Reading) -> Result<usize, Refusal> {
-        match self.read() {
-            Err(Refusal::Memory) if self.stands_as(before) => self.read(),
-            outcome => outcome,
+/// What makes a session that comes to the read, and has another one read beside it.
+#[derive(Drop)]
+struct Readers;
+
+impl Lent for Readers {
+    fn use_session(&mut self, alloc: Global, session: &mut Session) -> Option<String> {
+        if !carry_out(alloc, session, START) {
+            return None;
         }
-    }
-
-    /// What is wrong with the read in another session, of which this one shows how it was before.
-    fn fault_of_read(&self, alloc: Global) -> Option<&'static str> {
-        let mut reading = Reading::started(alloc)?;
-        let outcome = reading.read_over(self);
-        let last = reading.session.last_change(Place::Byte(0x105FE));
-        reading.end();
-        Some(fault_of_outcome(outcome, last))
+        let before = &*session;
+        lend_with_tape(alloc, STORAGE, tape(alloc)?, 10, &mut Reader { before })
     }
 }
 
@@ -141,15 +132,11 @@ fn fault_of_outcome(outcome: Result<usize, Refusal>, last: Option<u32>) -> &'sta
 }
 
 /// What is wrong with the read: no more than a growth of it may be refused.
-fn fault_of_read(alloc: Global) -> Option<&'static str> {
-    let before = Reading::started(alloc)?;
-    let fault = before.fault_of_read(alloc);
-    before.end();
-    fault
+fn fault_of_read(alloc: Global) -> Option<String> {
+    lend_with_tape(alloc, STORAGE, tape(alloc)?, 10, &mut Readers)
 }
 
 #[test]
 fn longest_block(rt: HostRuntime) {
-    let fault = fault_of_read(rt.alloc()).expect(&rt, "out of memory");
-    assert!(rt; fault.is_empty(), "{fault}");
+    assert_no_fault(&rt, fault_of_read(rt.alloc()));
 }

@@ -1,0 +1,35 @@
+//! A session, lent to what uses it and then ended. One function alone holds it, since each function that holds
+//! a session takes half a minute to prove.
+
+use s360_device::deck_from;
+use s360_journal::Session;
+use s360_machine::Machine;
+use s360_tape::Tape;
+use std::alloc::Global;
+
+/// What a session is lent to.
+pub(crate) trait Lent {
+    /// Uses the session, and answers a text. There is none where memory was wanting.
+    fn use_session(&mut self, alloc: Global, session: &mut Session) -> Option<String>;
+}
+
+/// Lends a session over a machine of so many bytes with a tape on 180, where at most so many changes may stand.
+pub(crate) fn lend_with_tape<L: Lent>(
+    alloc: Global,
+    size: u32,
+    tape: Tape,
+    limit: u8,
+    lent: &mut L,
+) -> Option<String> {
+    let deck = deck_from(alloc, &[]).ok()?;
+    let machine = Machine::new(alloc, size, deck, tape, Tape::blank(alloc)).ok()?;
+    let mut session = Session::new(alloc, machine, u32::from(limit));
+    let text = lent.use_session(alloc, &mut session);
+    session.end();
+    text
+}
+
+/// Lends a session over a machine of 65,536 bytes.
+pub(crate) fn lend<L: Lent>(alloc: Global, limit: u8, lent: &mut L) -> Option<String> {
+    lend_with_tape(alloc, 65_536, Tape::blank(alloc), limit, lent)
+}
