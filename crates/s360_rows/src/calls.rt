@@ -1,31 +1,33 @@
 //! Events and calls of a session, written as lines of a script, and the texts of their answers. None
 //! of them is there where a line is no command or memory is out.
 use crate::rows::Words;
-use s360_debug::{Command, read_command};
-use s360_journal::{Answer, Breaks, Call, Report};
+use s360_debug::read_command;
+use s360_journal::{Answer, Call, Report};
 use s360_machine::{Bytes, Event, Patch, Refusal};
+use s360_store::Place;
 use std::alloc::Global;
 
-/// The call that a command asks of a session. `until` has no breakpoint, and one that asks no session or
-/// is a run asks how many changes stand.
-fn call_of(command: Command) -> Call {
-    match command {
-        Command::Step => Call::Forward(Event::Cpu),
-        Command::Channel(unit) => Call::Forward(Event::Channel(unit)),
-        Command::Tick => Call::Forward(Event::Tick),
-        Command::Key(key) => Call::Forward(Event::Key(key)),
-        Command::Patch(patch) => Call::Forward(Event::Patch(patch)),
-        Command::Back => Call::Back,
-        Command::Until => Call::BackUntil(Breaks::new()),
-        Command::Last(place) => Call::LastChange(place),
-        _ => Call::Standing,
+/// The call that a line asks of a session: how many changes stand, a step back, the last change of a byte or a
+/// register, or the event that it offers.
+pub(crate) fn call(alloc: Global, line: &str) -> Option<Call> {
+    match line.split_once(" ") {
+        None if line == "standing" => Some(Call::Standing),
+        None if line == "back" => Some(Call::Back),
+        Some(("last", "p")) => Some(Call::LastChange(Place::Psw)),
+        Some(("last", place)) => Some(Call::LastChange(place_of(place)?)),
+        _ => Some(Call::Forward(event(alloc, line)?)),
     }
 }
 
-/// The call that a line asks of a session.
-pub(crate) fn call(alloc: Global, line: &str) -> Option<Call> {
-    let command = read_command(alloc, line.as_bytes()).ok()?;
-    Some(call_of(command))
+/// The place that the words of a byte or a register are.
+fn place_of(words: &str) -> Option<Place> {
+    let (kind, digits) = words.split_once(" ")?;
+    let number = u32::from_str_radix(digits, 16).ok()?;
+    match kind {
+        "s" => Some(Place::Byte(number)),
+        "r" if number < 0x10 => Some(Place::Register(number as u8)),
+        _ => None,
+    }
 }
 
 /// The calls that lines ask of a session.

@@ -88,17 +88,6 @@ fn file(alloc: Global, count: usize) -> Option<Vec<u8>> {
     Some(bytes)
 }
 
-/// How a command begins.
-fn text_of_begin(alloc: Global, begin: Begin) -> Option<String> {
-    match begin {
-        Begin::Input(count) => format!(in alloc; "input {count:X}").ok(),
-        Begin::Output(limit) => format!(in alloc; "output {limit:X}").ok(),
-        Begin::Control => format!(in alloc; "control").ok(),
-        Begin::NotYet => format!(in alloc; "not yet").ok(),
-        Begin::Refused(sense) => format!(in alloc; "refused {:X}", sense[0]).ok(),
-    }
-}
-
 /// How a command begins, the first and the last byte that it gives, what it does, and the sense bytes afterwards.
 fn text_of_command<D: Device>(
     alloc: Global,
@@ -106,7 +95,7 @@ fn text_of_command<D: Device>(
     command: u8,
     bytes: &[u8],
 ) -> Option<String> {
-    let mut text = text_of_begin(alloc, device.begin(command))?;
+    let mut text = format!(in alloc; "{:?}", device.begin(command)).ok()?;
     let given = given(alloc, device, command).ok()?;
     if let (Some(first), Some(last)) = (given.first(), given.last()) {
         write!(text, " {first:X} to {last:X}").ok()?;
@@ -161,15 +150,15 @@ fn device_of_the_tests(rt: HostRuntime) {
 
 const SLATE: &str = "
 * no answer until there is a line, which is read once
-02 0 -> not yet, sense 0
+02 0 -> NotYet, sense 0
 put ->
 times 02 0 2710 ->
-02 0 -> input C 1 to C, alters, sense 0
-02 0 -> not yet, sense 0
+02 0 -> Input(12) 1 to C, alters, sense 0
+02 0 -> NotYet, sense 0
 * lines written
-01 2 -> output C, alters, sense 0
+01 2 -> Output(12), alters, sense 0
 times 01 C 2710 -> 0 to 0,
-FF 0 -> refused 80, alters, sense 80
-01 C -> output C, alters, sense 0
+FF 0 -> Refused([128, 0, 0, 0, 0, 0]), alters, sense 80
+01 C -> Output(12), alters, sense 0
 show -> 0 to 0, 0 to B,
 ";
