@@ -2,11 +2,11 @@
 //! Operations", channel command word and transfer in channel, and "System Control Panel", initial
 //! program loading.
 ghost use Rattle.std.specs.Prelude.{◌≡◌, ◌<◌, ◌≤◌, ◌^◌, ◌+◌, length, IfSome};
-ghost use Rattle.s360_channel.specs.Programs.{ccw_at, executed_at, next_ccw, goes_on_with_record};
-ghost use Rattle.s360_channel.specs.Programs.{is_executable, is_first, is_loading, transferred_to};
+ghost use Rattle.s360_channel.specs.Programs.{ccw_at, executed_at, next_ccw, is_executable};
+ghost use Rattle.s360_channel.specs.Programs.{transferred_to};
 
 use crate::ccw::Ccw;
-use crate::program::{Program, Progress};
+use crate::program::Program;
 use s360_store::Storage;
 
 /// The channel command word with which loading begins.
@@ -29,32 +29,6 @@ fn ccw_at(storage: &Storage, address: u32) -> Option<Ccw>
         return None;
     }
     Some(Ccw::from_u64(storage.double(address)))
-}
-
-impl Progress {
-    /// Whether no word of the program was executed yet.
-    fn is_first(&self) -> bool
-        ensures { result ≡ is_first self.now }
-    {
-        matches!(self, Progress::First)
-    }
-
-    /// Whether the next word is that with which loading begins.
-    fn is_loading(&self) -> bool
-        ensures { result ≡ is_loading self.now }
-    {
-        matches!(self, Progress::Loading)
-    }
-
-    /// Whether the next word goes on with the same record.
-    fn goes_on_with_record(&self) -> bool
-        ensures { result ≡ goes_on_with_record self.now }
-    {
-        match self {
-            Progress::First | Progress::Loading | Progress::CommandChained => false,
-            Progress::InputChained { .. } | Progress::OutputChained { .. } => true,
-        }
-    }
 }
 
 /// Whether a word that is no transfer in channel can be executed.

@@ -2,58 +2,13 @@
 //! Source: GA22-6821, "Input/Output Operations", read, read backward, write, and skipping.
 ghost use Rattle.std.specs.Prelude.{◌≡◌, ◌≤◌, ◌<◌, ◌+◌, ◌-◌, ◌^◌, ◌++◌, ◌⊎◌, IfOk, length, take, drop};
 ghost use Rattle.std.specs.List.{slice_range};
-ghost use Rattle.s360_channel.specs.Execution.{command_with, gathered_before, gathered_within};
-ghost use Rattle.s360_channel.specs.Execution.{in_order, moved_before};
+ghost use Rattle.s360_channel.specs.Execution.{in_order};
 ghost use Rattle.s360_channel.specs.Words.{reads_backward};
 
-use crate::ccw::{Ccw, reads_backward};
-use crate::program::Progress;
+use crate::ccw::reads_backward;
 use s360_device::Device;
 use s360_store::Storage;
 use std::alloc::{AllocError, Global};
-
-impl Progress {
-    /// The command of a word: where the record goes on that of its first word, and else its own.
-    pub(crate) fn command_with(&self, ccw: &Ccw) -> u8
-        ensures { result ≡ command_with self.now ccw.now }
-    {
-        match self {
-            Progress::InputChained { command, .. } | Progress::OutputChained { command, .. } => {
-                *command
-            }
-            Progress::First | Progress::Loading | Progress::CommandChained => ccw.command,
-        }
-    }
-
-    /// How many bytes of the input were moved by the words before.
-    pub(crate) fn moved_before(&self) -> u32
-        ensures { result ≡ moved_before self.now }
-    {
-        match self {
-            Progress::InputChained { moved, .. } => *moved,
-            _ => 0,
-        }
-    }
-
-    /// The bytes that the words before have gathered for the output.
-    fn gathered_before(&self) -> &[u8]
-        ensures { result.now ≡ gathered_before self.now }
-    {
-        match self {
-            Progress::OutputChained { gathered, .. } => gathered.as_slice(),
-            _ => &[],
-        }
-    }
-
-    /// The same for a device that takes at most so many.
-    pub(crate) fn gathered_within(&self, limit: u32) -> &[u8]
-        ensures bytes { result.now ≡ gathered_within limit self.now }
-        ensures count { length result.now ≤ limit }
-    {
-        let gathered = self.gathered_before();
-        &gathered[..gathered.len().min(limit as usize)]
-    }
-}
 
 /// So many bytes of a command's input, from the first of them on.
 fn input_bytes<D: Device>(

@@ -1,9 +1,17 @@
 //! A channel program: what a channel keeps of it from one command word to the next. Source:
 //! GA22-6821, "Input/Output Operations", execution of input/output operations, and "System Control Panel",
 //! initial program loading.
-ghost use Rattle.std.specs.Prelude.{◌≡◌, IfOk};
-ghost use Rattle.s360_channel.specs.Programs.{loading_program};
+ghost use Rattle.std.specs.Prelude.{◌≡◌, ◌≤◌, IfOk, None, length};
+ghost use Rattle.s360_channel.specs.Execution.{after_check, after_conclusion, command_with, ends_with};
+ghost use Rattle.s360_channel.specs.Execution.{gathered_before, gathered_within, goes_on_after, moved_before};
+ghost use Rattle.s360_channel.specs.Programs.{goes_on_with_record, is_first, is_loading, loading_program};
+ghost use Rattle.s360_channel.specs.Steps.{change_of_step, state_after_step};
+ghost use Rattle.s360_channel.specs.declared.unit_state.UnitState.TheVariants.{Active, Waiting};
 
+use crate::ccw::Ccw;
+use crate::conclusion::{Conclusion, address_after};
+use crate::csw::{ChannelStatus, Csw, UnitStatus};
+use crate::engine::ChannelStep;
 use s360_store::Bytes;
 use s360_word::ProtectionKey;
 use std::alloc::{AllocError, Global};
@@ -45,6 +53,71 @@ impl Progress {
                 }
             }
         })
+    }
+
+    /// Whether no word of the program was executed yet.
+    pub(crate) fn is_first(&self) -> bool
+        ensures { result ≡ is_first self.now }
+    {
+        matches!(self, Progress::First)
+    }
+
+    /// Whether the next word is that with which loading begins.
+    pub(crate) fn is_loading(&self) -> bool
+        ensures { result ≡ is_loading self.now }
+    {
+        matches!(self, Progress::Loading)
+    }
+
+    /// Whether the next word goes on with the same record.
+    pub(crate) fn goes_on_with_record(&self) -> bool
+        ensures { result ≡ goes_on_with_record self.now }
+    {
+        match self {
+            Progress::First | Progress::Loading | Progress::CommandChained => false,
+            Progress::InputChained { .. } | Progress::OutputChained { .. } => true,
+        }
+    }
+
+    /// The command of a word: where the record goes on that of its first word, and else its own.
+    pub(crate) fn command_with(&self, ccw: &Ccw) -> u8
+        ensures { result ≡ command_with self.now ccw.now }
+    {
+        match self {
+            Progress::InputChained { command, .. } | Progress::OutputChained { command, .. } => {
+                *command
+            }
+            Progress::First | Progress::Loading | Progress::CommandChained => ccw.command,
+        }
+    }
+
+    /// How many bytes of the input were moved by the words before.
+    pub(crate) fn moved_before(&self) -> u32
+        ensures { result ≡ moved_before self.now }
+    {
+        match self {
+            Progress::InputChained { moved, .. } => *moved,
+            _ => 0,
+        }
+    }
+
+    /// The bytes that the words before have gathered for the output.
+    fn gathered_before(&self) -> &[u8]
+        ensures { result.now ≡ gathered_before self.now }
+    {
+        match self {
+            Progress::OutputChained { gathered, .. } => gathered.as_slice(),
+            _ => &[],
+        }
+    }
+
+    /// The same for a device that takes at most so many.
+    pub(crate) fn gathered_within(&self, limit: u32) -> &[u8]
+        ensures bytes { result.now ≡ gathered_within limit self.now }
+        ensures count { length result.now ≤ limit }
+    {
+        let gathered = self.gathered_before();
+        &gathered[..gathered.len().min(limit as usize)]
     }
 }
 
@@ -96,5 +169,64 @@ impl Program {
             address: self.address,
             progress,
         })
+    }
+
+    /// The program where it goes on with the word after the one at an address.
+    pub(crate) fn going_on_after(&self, at: u32, progress: Progress) -> Program
+        ensures { Active result ≡ goes_on_after self.now at progress }
+    {
+        Program {
+            key: self.key,
+            address: address_after(at),
+            progress,
+        }
+    }
+
+    /// The status word where the program has ended with the word at an address.
+    fn csw(&self, at: u32, unit: UnitStatus, channel: ChannelStatus, count: u16) -> Csw
+        ensures { Waiting result ≡ ends_with self.now at unit channel count }
+    {
+        Csw {
+            key: self.key,
+            address: address_after(at),
+            unit,
+            channel,
+            count,
+        }
+    }
+
+    /// The step where the word at an address has met a check.
+    pub(crate) fn checked<C: Drop>(&self, at: u32, status: ChannelStatus) -> ChannelStep<C>
+        ensures state { state_after_step self.now result ≡ (after_check self.now at status).state }
+        ensures change { change_of_step result ≡ None }
+    {
+        ChannelStep::Ends {
+            csw: self.csw(at, UnitStatus::none(), status, 0),
+            change: None,
+        }
+    }
+
+    /// The step where a command has ended with the word at an address, with the device's change.
+    pub(crate) fn concluded<C: Drop>(
+        &self,
+        at: u32,
+        ccw: &Ccw,
+        conclusion: &Conclusion,
+        change: Option<C>,
+    ) -> ChannelStep<C>
+        ensures state { state_after_step self.now result ≡ after_conclusion self.now at ccw.now conclusion.now }
+        ensures change { change_of_step result ≡ change }
+    {
+        let flags = &ccw.flags;
+        if flags.chain_command && !flags.chain_data && conclusion.is_clean() {
+            let program = self.going_on_after(at, Progress::CommandChained);
+            return ChannelStep::GoesOn { program, change };
+        }
+        let channel = ChannelStatus {
+            incorrect_length: conclusion.incorrect_length,
+            ..ChannelStatus::none()
+        };
+        let csw = self.csw(at, conclusion.unit, channel, conclusion.residual);
+        ChannelStep::Ends { csw, change }
     }
 }

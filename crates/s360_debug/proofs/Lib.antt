@@ -4,7 +4,6 @@ pub mod PlaceNameLemmas
 pub mod ShownLemmas
 pub mod LineLemmas
 pub mod StandingLemmas
-pub mod RunningLemmas
 pub mod ReportLemmas
 pub mod Readings
 pub mod Runs

@@ -1,21 +1,12 @@
 -- The text of an accepted event.
-use Rattle.std.proofs.Common.{◌≡◌, ◌+◌, ◌∙◌, ℕ, List, [], ◌∷◌, length, refl, ap, Option, Some, None, Ok, Err, IsOkUnless}
-use Rattle.std.specs.Prelude.{MatchOption, Result}
+use Rattle.std.proofs.Common.{◌≡◌, ◌+◌, ◌∙◌, ℕ, List, [], ◌∷◌, length, refl, ap, None}
 use Rattle.s360_store.specs.declared.place.Place.{Place}
 use Rattle.s360_machine.specs.declared.event.Event.{Event}
-use Rattle.s360_machine.specs.declared.refusal.Refusal.{Refusal}
-use Rattle.s360_machine.specs.declared.refusal.Refusal.TheVariants.{Memory}
 use Rattle.s360_journal.specs.declared.report.Report.{Report}
 use Rattle.s360_journal.specs.declared.report.Report.TheVariants.{Changed, Idle}
 use Rattle.s360_journal.specs.Reports.{IsReport}
 use Rattle.s360_journal.specs.Standing.{Standing, refusal_in, alteration}
 use Rattle.s360_debug.specs.Answers.{report_text, text_of_event, text_of_report}
-
--- an event that is accepted is not refused
-pub accepted-None : {X : Type 0} (o : Option Refusal) (x : X) (result : Result X Refusal) → result ≡ Ok x
-    → MatchOption o (IsOkUnless result Memory) (λ r. result ≡ Err r) → o ≡ None
-accepted-None None x result e h = refl
-accepted-None (Some r) x result e h = absurd (cc)
 
 report-text : (number : ℕ) (report : Report) (ps : List Place) → IsReport report ps → text_of_report number report ≡ report_text number ps
 report-text number Idle ps h = rw h refl

@@ -13,14 +13,15 @@ use Rattle.s360_journal.specs.Rerun.{last_change_of}
 use Rattle.s360_journal.specs.Standing.{Standing, machine_of, refusal_in, alteration, last_of}
 use Rattle.s360_journal.specs.Breakpoints.{has_room_for, with_address, without_address}
 use Rattle.s360_journal.specs.Stops.{stop_of}
+use Rattle.s360_journal.specs.Offers.{unless_refused, with_events}
+use Rattle.s360_journal.specs.Running.{run_of}
 use Rattle.s360_debug.specs.Debugger.{Debugger}
 use Rattle.s360_debug.specs.declared.command.Command.{Command}
 use Rattle.s360_debug.specs.declared.command.Command.TheVariants.{Step, Channel, Tick, Key, Patch, Back, Standing as standing, Last, Show, Break, Clear, Until, Run}
 use Rattle.s360_debug.specs.declared.command.LineFault.{LineFault}
 use Rattle.s360_debug.specs.declared.command.LineFault.TheVariants.{LineTooLong, Unknown, Argument, Memory}
 use Rattle.s360_debug.specs.Names.{place_name, event_name, refused_text}
-use Rattle.s360_debug.specs.Offers.{unless_refused, with_events}
-use Rattle.s360_debug.specs.Running.{run_of, run_text}
+use Rattle.s360_debug.specs.Running.{run_text}
 use Rattle.s360_debug.specs.Shown.{shown_text}
 
 -- the names of places, each after a blank

@@ -6,7 +6,6 @@ pub mod ShownItems
 pub mod ShownImages
 pub mod Shown
 pub mod Debugger
-pub mod Offers
 pub mod Running
 pub mod Answers
 pub mod Reading

@@ -7,7 +7,7 @@ ghost use Rattle.s360_journal.specs.Standing.{last_of};
 ghost use Rattle.s360_debug.specs.Answers.{answer_to, state_after, StandsPartly};
 ghost use Rattle.s360_debug.specs.Answers.{text_of_event, accepted_of_offer};
 ghost use Rattle.s360_debug.specs.Answers.{break_text, breaks_text, stop_in};
-ghost use Rattle.s360_debug.specs.Offers.{with_events};
+ghost use Rattle.s360_journal.specs.Offers.{with_events};
 ghost use Rattle.s360_debug.specs.Answers.{text_of_report};
 ghost use Rattle.s360_debug.specs.Answers.{back_text, last_text};
 ghost use Rattle.s360_debug.specs.declared.command.LineFault.TheVariants.{Memory};

@@ -9,7 +9,8 @@ use Rattle.s360_machine.specs.Machine.{Machine, Whole, storage_size, seen}
 use Rattle.s360_machine.specs.Refusals.{refusal_of}
 use Rattle.s360_machine.specs.Step.{step, after}
 use Rattle.s360_machine.specs.Change.{Change, CanSwap, NeedsNoRoom, after_swap, change_after_swap, places_of_change}
-use Rattle.s360_machine.specs.Planned.{differences, IsChangeTo}
+use Rattle.s360_machine.specs.Differences.{differences}
+use Rattle.s360_machine.specs.Planned.{IsChangeTo}
 use Rattle.s360_journal.specs.declared.entry.Entry.{Entry}
 use Rattle.s360_journal.specs.Standing.{or_full}
 use Rattle.s360_journal.specs.History.{IsHistory}

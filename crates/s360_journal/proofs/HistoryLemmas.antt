@@ -10,7 +10,7 @@ use Rattle.s360_machine.specs.Refusals.{refusal_of}
 use Rattle.s360_machine.specs.Step.{step_to, step, after}
 use Rattle.s360_machine.specs.Change.{Change, CanSwap, NeedsNoRoom, after_swap, change_after_swap, places_of_change}
 use Rattle.s360_machine.proofs.SwapLemmas.{places_of_change-after_swap}
-use Rattle.s360_machine.specs.Planned.{differences}
+use Rattle.s360_machine.specs.Differences.{differences}
 use Rattle.s360_journal.specs.declared.entry.Entry.{Entry}
 use Rattle.s360_journal.specs.Rerun.{rerun, AreAccepted}
 use Rattle.s360_journal.specs.Standing.{Standing, machine_of, last_of}

@@ -8,7 +8,7 @@ use Rattle.s360_machine.specs.declared.event.Event.{Event}
 use Rattle.s360_machine.specs.Machine.{Machine, Whole, seen}
 use Rattle.s360_machine.specs.Step.{after}
 use Rattle.s360_machine.specs.Change.{after_swap, places_of_change}
-use Rattle.s360_machine.specs.Planned.{differences}
+use Rattle.s360_machine.specs.Differences.{differences}
 use Rattle.s360_journal.specs.declared.entry.Entry.{Entry}
 use Rattle.s360_journal.specs.Rerun.{rerun, alters, or_else, last_numbered_from, last_change_of}
 use Rattle.s360_journal.specs.History.{unwound, IsHistory}

@@ -5,3 +5,4 @@ pub mod StopLemmas
 pub mod ForwardLemmas
 pub mod RunLemmas
 pub mod LawLemmas
+pub mod RunningLemmas

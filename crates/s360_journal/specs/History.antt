@@ -3,7 +3,7 @@ use Rattle.std.specs.Prelude.{◌≡◌, List, [], ◌∷◌, Ok}
 use Rattle.s360_machine.specs.Machine.{Whole, seen}
 use Rattle.s360_machine.specs.Step.{step}
 use Rattle.s360_machine.specs.Change.{CanSwap, NeedsNoRoom, after_swap, places_of_change}
-use Rattle.s360_machine.specs.Planned.{differences}
+use Rattle.s360_machine.specs.Differences.{differences}
 use Rattle.s360_journal.specs.declared.entry.Entry.{Entry}
 
 -- the whole before the entries: all of them taken back

@@ -5,5 +5,7 @@ pub mod Breakpoints
 pub mod Stops
 pub mod Laws
 pub mod Standing
+pub mod Offers
+pub mod Running
 pub mod History
 pub mod Calls

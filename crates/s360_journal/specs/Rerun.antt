@@ -6,7 +6,7 @@ use Rattle.s360_store.specs.Places.{same_place}
 use Rattle.s360_machine.specs.declared.event.Event.{Event}
 use Rattle.s360_machine.specs.Machine.{Machine}
 use Rattle.s360_machine.specs.Step.{step, after}
-use Rattle.s360_machine.specs.Planned.{differences}
+use Rattle.s360_machine.specs.Differences.{differences}
 
 -- the machine after the events, one after another
 abbrev pub rerun : Machine → List Event → Machine

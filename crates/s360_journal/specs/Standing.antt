@@ -7,7 +7,7 @@ use Rattle.s360_machine.specs.declared.refusal.Refusal.TheVariants.{JournalFull}
 use Rattle.s360_machine.specs.Machine.{Machine, Whole, storage_size, seen}
 use Rattle.s360_machine.specs.Step.{after}
 use Rattle.s360_machine.specs.Refusals.{refusal_of}
-use Rattle.s360_machine.specs.Planned.{differences}
+use Rattle.s360_machine.specs.Differences.{differences}
 use Rattle.s360_journal.specs.Rerun.{rerun}
 
 -- the whole machine at the start, the events that stand, and how many may stand

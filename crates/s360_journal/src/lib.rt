@@ -12,6 +12,7 @@ mod entry;
 mod laws;
 mod places;
 mod report;
+mod running;
 mod session;
 
 pub use breaks::Breaks;
@@ -19,4 +20,5 @@ pub use calls::{Answer, Call, Outcome, run_calls};
 pub use laws::{breakpoints_are_a_set, last_change_is_the_greatest, last_stop_is_the_greatest};
 pub use places::Places;
 pub use report::Report;
+pub use running::RunEnd;
 pub use session::{NothingStands, Session};

@@ -39,7 +39,8 @@ use Rattle.s360_machine.specs.IoChanges.{CanIfAny, after_if_any, back_if_any, ne
 use Rattle.s360_machine.specs.IoChanges.{media_after_swap, no_media_changes, no_unit_changes, unit_change_of, units_after_swap}
 use Rattle.s360_machine.specs.Units.{control_of, with_control_of}
 use Rattle.s360_machine.specs.Machine.{Media, WholeMedia, seen_media}
-use Rattle.s360_machine.specs.Planned.{IsMediaChangeTo, IsUnitsChangeTo, unless_same}
+use Rattle.s360_machine.specs.Differences.{unless_same}
+use Rattle.s360_machine.specs.Planned.{IsMediaChangeTo, IsUnitsChangeTo}
 
 -- a change that may be there makes one thing of another, and is there just where the two differ
 pub record IsPartChange {D C : Type 0} (after : D → C → D) (same : D → D → Bool) (d e : D) (x : Option C) : Type 0 where

@@ -14,4 +14,5 @@ pub mod Refusals
 pub mod Step
 pub mod IoChanges
 pub mod Change
+pub mod Differences
 pub mod Planned

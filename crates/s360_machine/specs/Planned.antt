@@ -1,73 +1,19 @@
 -- What a plan and a change make of a machine.
-use Rattle.std.specs.Prelude.{◌≡◌, ◌++◌, Bool, true, false, ◌&&◌, if◌then◌else◌, List, [], ◌∷◌, nat_eq}
-use Rattle.std.specs.Bool.{beq}
-use Rattle.s360_store.specs.declared.place.Place.{Place}
-use Rattle.s360_store.specs.declared.place.Place.TheVariants.{Run, External}
+use Rattle.std.specs.Prelude.{◌≡◌, List}
 use Rattle.s360_store.specs.declared.place.Cell.{Cell}
 use Rattle.s360_store.specs.Plans.{IsPlanOf}
-use Rattle.s360_store.specs.Differences.{core_differences}
-use Rattle.s360_device.specs.Differences.{same_punch, same_reader}
-use Rattle.s360_print.specs.Differences.{same_console, same_printer}
-use Rattle.s360_tape.specs.Differences.{same_tape}
-use Rattle.s360_channel.specs.Differences.{same_unit}
 use Rattle.s360_machine.specs.ControlCells.{ControlCell}
-use Rattle.s360_machine.specs.declared.external.ExternalConditions.{ExternalConditions}
-use Rattle.s360_machine.specs.declared.run_state.RunState.{RunState}
-use Rattle.s360_machine.specs.declared.run_state.RunState.TheVariants.{Operating, Stopped, Loading}
-use Rattle.s360_machine.specs.declared.configured_unit.ConfiguredUnit.TheVariants.{Reader, Punch, Printer, Console, Tape0, Tape1}
 use Rattle.s360_machine.specs.declared.machine.PlannedEvent.{PlannedEvent}
 use Rattle.s360_machine.specs.declared.media.MediaChanges.{MediaChanges}
 use Rattle.s360_machine.specs.declared.units.UnitChanges.{UnitChanges}
 use Rattle.s360_machine.specs.declared.units.Units.{Units}
+use Rattle.s360_machine.specs.Differences.{control_differences, differences, media_differences, unit_differences}
 use Rattle.s360_machine.specs.Machine.{Machine, Media, Whole, WholeMedia, Control, seen, seen_media}
 use Rattle.s360_machine.specs.ControlCells.{HasEachControlOnce, control_after_exchange, places_of_control}
 use Rattle.s360_machine.specs.Change.{Change, CanSwap, NeedsNoRoom, after_swap, change_after_swap, places_of_change}
 use Rattle.s360_machine.specs.IoChanges.{CanSwapMedia, media_after_swap, media_changes_after_swap}
 use Rattle.s360_machine.specs.IoChanges.{cards_of_punch, cards_of_reader, lines_of_console, lines_of_printer, slots_of_tape0, slots_of_tape1}
 use Rattle.s360_machine.specs.IoChanges.{media_changes_of, places_of_media, places_of_units, unit_changes_of, units_after_swap}
-use Rattle.s360_machine.specs.Units.{media_place, state_place}
-
-abbrev pub same_run_state : RunState → RunState → Bool
-same_run_state Operating Operating = true
-same_run_state Stopped Stopped = true
-same_run_state (Loading u) (Loading v) = nat_eq u.0 v.0
-same_run_state r s = false
-
-abbrev pub same_external : ExternalConditions → ExternalConditions → Bool
-same_external e f = beq e.timer f.timer && beq e.key f.key
-
--- the place, unless what stands there is the same
-abbrev pub unless_same : Bool → Place → List Place
-unless_same same p = if same then [] else p ∷ []
-
-abbrev pub control_differences : Control → Control → List Place
-control_differences c d = unless_same (same_run_state c.run_state d.run_state) Run ++ unless_same (same_external c.external d.external) External
-
-abbrev pub unit_differences : Units → Units → List Place
-unit_differences us vs =
-    unless_same (same_unit us.reader vs.reader) (state_place Reader)
-    ++ unless_same (same_unit us.punch vs.punch) (state_place Punch)
-    ++ unless_same (same_unit us.printer vs.printer) (state_place Printer)
-    ++ unless_same (same_unit us.console vs.console) (state_place Console)
-    ++ unless_same (same_unit us.tape0 vs.tape0) (state_place Tape0)
-    ++ unless_same (same_unit us.tape1 vs.tape1) (state_place Tape1)
-
-abbrev pub media_differences : Media → Media → List Place
-media_differences m n =
-    unless_same (same_reader m.reader n.reader) (media_place Reader)
-    ++ unless_same (same_punch m.punch n.punch) (media_place Punch)
-    ++ unless_same (same_printer m.printer n.printer) (media_place Printer)
-    ++ unless_same (same_console m.console n.console) (media_place Console)
-    ++ unless_same (same_tape m.tape0 n.tape0) (media_place Tape0)
-    ++ unless_same (same_tape m.tape1 n.tape1) (media_place Tape1)
-
--- the places beside the core at which two machines differ, in their order
-abbrev pub differences_beside_core : Machine → Machine → List Place
-differences_beside_core m n = control_differences m.control n.control ++ (unit_differences m.units n.units ++ media_differences m.media n.media)
-
--- the places at which two machines of one storage size differ, in their order
-abbrev pub differences : Machine → Machine → List Place
-differences m n = core_differences m.core n.core ++ differences_beside_core m n
 
 -- the control cells make the second control part of the first, and have just the places at which
 -- the two differ

@@ -1,12 +1,9 @@
 //! What an instruction works on: the current PSW, the general registers and main storage. Source:
 //! GA22-6821, "System Structure".
-ghost use Rattle.std.specs.Prelude.{OnOk};
-ghost use Rattle.std.specs.Prelude.{IsTrue, ◌≡◌, ◌≢◌, ◌≤◌, ◌<◌, ◌+◌, ◌/◌, [], length, slice_index, Err, IfOk, IsOkUnless};
+ghost use Rattle.std.specs.Prelude.{◌≡◌, ◌≢◌, ◌≤◌, ◌+◌, [], length, slice_index, Err, IfOk, IsOkUnless, IsTrue, OnOk};
 ghost use Rattle.std.specs.Bool.{MatchBool};
-ghost use Rattle.s360_model.specs.Core.{zero_core, core_with_bytes, core_with_psw, core_with_word};
-ghost use Rattle.s360_model.specs.Psw.{current_psw};
-ghost use Rattle.s360_model.specs.Core.{core_with_key};
-ghost use Rattle.s360_model.specs.Storage.{block_size, is_storage_size};
+ghost use Rattle.s360_model.specs.Core.{zero_core, core_with_bytes};
+ghost use Rattle.s360_model.specs.Storage.{is_storage_size};
 ghost use Rattle.s360_store.specs.Cells.{AreCellsOf, AllFit, places_of_cells};
 ghost use Rattle.s360_store.specs.Cells.{after_exchange, cells_after_exchange};
 ghost use Rattle.s360_store.specs.Places.{IsPlaceOf, Fits, value_at, with_value};
@@ -15,13 +12,13 @@ ghost use Rattle.s360_store.specs.Differences.{IsCoreChangeTo};
 ghost use Rattle.s360_store.specs.Order.{IsAscending};
 ghost use Rattle.s360_store.specs.Plans.{IsPlanOf};
 ghost use Rattle.s360_logic.specs.Instruction.{PlansInstruction, instruction};
-ghost use Rattle.s360_store.proofs.KeptLemmas.{AreKept};
+ghost use Rattle.s360_store.specs.Differences.{AreKept};
 
 use crate::changes::WITHIN;
 use s360_logic::PlannedInstruction;
 use s360_psw::{InstructionLength, Psw};
-use s360_store::{BLOCK_SIZE, Cell, GREATEST_SIZE, Place, Plan, Storage, StoreFault};
-use s360_word::{ProtectionKey, RegisterNumber, Word};
+use s360_store::{Cell, GREATEST_SIZE, Place, Plan, Storage, StoreFault};
+use s360_word::{RegisterNumber, Word};
 use smallvec::SmallVec;
 use std::alloc::{AllocError, Global};
 use std::marker::Model;
@@ -101,31 +98,6 @@ impl Core {
         s360_logic::plan_instruction(self.psw, &self.registers, &self.storage, plan)
     }
 
-    /// Plans the PSW that a doubleword loads.
-    pub(crate) fn plan_psw(&self, doubleword: u64, plan: &mut Plan) -> Result<(), AllocError>
-        requires empty { plan.old ≡ [] }
-        ensures { OnOk result (IsPlanOf self.now plan.new (core_with_psw (current_psw doubleword) self.now)) }
-    {
-        plan.put_psw(Psw::from_u64(doubleword))?;
-        Ok(())
-    }
-
-    /// Plans a word for a general register.
-    pub(crate) fn plan_register(
-        &self,
-        register: RegisterNumber,
-        word: Word,
-        plan: &mut Plan,
-    ) -> Result<(), AllocError>
-        requires empty { plan.old ≡ [] }
-        ensures { OnOk result (IsPlanOf self.now plan.new (core_with_word register word self.now)) }
-    {
-        // Looked at, since its clauses have that there are sixteen registers.
-        let _ = self.register(register);
-        plan.put_register(register, word)?;
-        Ok(())
-    }
-
     /// Plans bytes from an address on.
     pub(crate) fn plan_bytes(
         &self,
@@ -141,23 +113,6 @@ impl Core {
         // So no address of the run passes 32 bits.
         prove!(self.storage.size() <= GREATEST_SIZE);
         plan.put_bytes(at, bytes)?;
-        Ok(())
-    }
-
-    /// Plans a storage key of the block that an address lies in.
-    pub(crate) fn plan_key(
-        &self,
-        at: u32,
-        key: ProtectionKey,
-        plan: &mut Plan,
-    ) -> Result<(), AllocError>
-        requires empty { plan.old ≡ [] }
-        requires inside { at < length self.now.storage.bytes }
-        ensures { OnOk result (IsPlanOf self.now plan.new (core_with_key (at / block_size) key self.now)) }
-    {
-        // So each byte of storage is in a block.
-        prove!(self.storage.size() % BLOCK_SIZE == 0);
-        plan.put_key(at / BLOCK_SIZE, key)?;
         Ok(())
     }
 

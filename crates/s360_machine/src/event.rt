@@ -1,7 +1,20 @@
 //! The events of the machine, each of which is taken back as one change.
+ghost use Rattle.std.specs.Prelude.{◌≡◌, ◌<◌, ◌/◌, [], None, OnOk, length};
+ghost use Rattle.s360_model.specs.Core.{core_with_key, core_with_psw, core_with_word};
+ghost use Rattle.s360_model.specs.Psw.{current_psw};
+ghost use Rattle.s360_model.specs.Storage.{block_size};
+ghost use Rattle.s360_store.specs.Plans.{IsPlanOf};
+ghost use Rattle.s360_machine.specs.Machine.{seen, storage_size};
+ghost use Rattle.s360_machine.specs.Refusals.{refusal_of_patch};
+ghost use Rattle.s360_machine.specs.Step.{after_patch};
+
+use crate::core_state::Core;
+use crate::machine::Machine;
 use crate::operator::Key;
-use s360_store::Bytes;
+use s360_psw::Psw;
+use s360_store::{BLOCK_SIZE, Bytes, Plan};
 use s360_word::{ProtectionKey, RegisterNumber, Unit, Word};
+use std::alloc::AllocError;
 
 /// What a patch puts into the machine from outside. It ignores protection.
 #[derive(Debug, Drop)]
@@ -31,4 +44,64 @@ pub enum Event {
     Key(Key),
     /// A patch.
     Patch(Patch),
+}
+
+impl Core {
+    /// Plans the PSW that a doubleword loads.
+    fn plan_psw(&self, doubleword: u64, plan: &mut Plan) -> Result<(), AllocError>
+        requires empty { plan.old ≡ [] }
+        ensures { OnOk result (IsPlanOf self.now plan.new (core_with_psw (current_psw doubleword) self.now)) }
+    {
+        plan.put_psw(Psw::from_u64(doubleword))?;
+        Ok(())
+    }
+
+    /// Plans a word for a general register.
+    fn plan_register(
+        &self,
+        register: RegisterNumber,
+        word: Word,
+        plan: &mut Plan,
+    ) -> Result<(), AllocError>
+        requires empty { plan.old ≡ [] }
+        ensures { OnOk result (IsPlanOf self.now plan.new (core_with_word register word self.now)) }
+    {
+        // Looked at, since its clauses have that there are sixteen registers.
+        let _ = self.register(register);
+        plan.put_register(register, word)?;
+        Ok(())
+    }
+
+    /// Plans a storage key of the block that an address lies in.
+    fn plan_key(
+        &self,
+        at: u32,
+        key: ProtectionKey,
+        plan: &mut Plan,
+    ) -> Result<(), AllocError>
+        requires empty { plan.old ≡ [] }
+        requires inside { at < length self.now.storage.bytes }
+        ensures { OnOk result (IsPlanOf self.now plan.new (core_with_key (at / block_size) key self.now)) }
+    {
+        // So each byte of storage is in a block.
+        prove!(self.storage.size() % BLOCK_SIZE == 0);
+        plan.put_key(at / BLOCK_SIZE, key)?;
+        Ok(())
+    }
+}
+
+impl Machine {
+    /// Plans a patch.
+    pub(crate) fn plan_patch(&self, patch: &Patch, plan: &mut Plan) -> Result<(), AllocError>
+        requires empty { plan.old ≡ [] }
+        requires accepted { refusal_of_patch (storage_size (seen self.now.whole)) patch.now ≡ None }
+        ensures { OnOk result (IsPlanOf self.now.whole.core plan.new (after_patch (seen self.now.whole) patch.now).core) }
+    {
+        match patch {
+            Patch::Bytes { at, bytes } => self.core.plan_bytes(*at, bytes.as_slice(), plan),
+            Patch::Register(register, word) => self.core.plan_register(*register, *word, plan),
+            Patch::StorageKey { at, key } => self.core.plan_key(*at, *key, plan),
+            Patch::Psw(doubleword) => self.core.plan_psw(*doubleword, plan),
+        }
+    }
 }

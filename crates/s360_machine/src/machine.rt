@@ -8,14 +8,11 @@ ghost use Rattle.s360_store.specs.declared.fault.StoreFault.TheVariants.{Size, M
 ghost use Rattle.s360_machine.specs.Machine.{Machine as Seen, new_machine, storage_size, seen};
 ghost use Rattle.s360_machine.specs.Change.{CanSwap, after_swap, change_after_swap};
 ghost use Rattle.s360_machine.specs.Change.{HasRoom, NeedsNoRoom};
-ghost use Rattle.s360_machine.specs.Step.{after, after_patch};
-ghost use Rattle.s360_machine.specs.Timer.{after_tick};
+ghost use Rattle.s360_machine.specs.Step.{after};
 ghost use Rattle.s360_tape.specs.WholeTape.{TapeWithRoom, seen as seen_tape};
 ghost use Rattle.s360_machine.specs.Media.{tape_of};
 ghost use Rattle.s360_machine.specs.Units.{attention_at, state_at, unit_at};
-ghost use Rattle.s360_machine.specs.Refusals.{refusal_of, refusal_of_key, refusal_of_patch};
-ghost use Rattle.s360_store.specs.Plans.{IsPlanOf};
-ghost use Rattle.s360_machine.specs.Operator.{after_key};
+ghost use Rattle.s360_machine.specs.Refusals.{refusal_of};
 ghost use Rattle.s360_machine.specs.Planned.{IsChangeTo, IsPlanOfMachine, LeavesUnits, PlansIo};
 ghost use Rattle.s360_machine.specs.declared.refusal.Refusal.TheVariants.{Memory};
 
@@ -23,26 +20,22 @@ use crate::changes::Changes;
 use crate::configured_unit::ConfiguredUnit;
 use crate::control::Control;
 use crate::core_state::Core;
-use crate::event::{Event, Patch};
+use crate::event::Event;
 use crate::external::ExternalConditions;
 use crate::io_change::{IoChange, exchange_io};
 use crate::media::{Devices, MediaChanges};
-use crate::operator::Key;
 use crate::refusal::Refusal;
 use crate::run_state::RunState;
 use crate::units::{UnitChanges, Units};
 use s360_channel::UnitState;
 use s360_device::{Deck, Punch, Reader};
-use s360_print::{Console, LINE_LIMIT, Printer};
+use s360_print::{Console, Printer};
 use s360_psw::Psw;
 use s360_store::{Plan, Storage, StoreFault};
 use s360_tape::Tape;
 use s360_word::{RegisterNumber, Unit, Word};
 use std::alloc::{AllocError, Global};
 use std::marker::Model;
-
-/// A patch has at most so many bytes.
-const LONGEST_PATCH: usize = 256;
 
 /// The machine. A contract sees the whole of it (PSW, registers, storage with its keys, run state,
 /// pending external conditions, the states of the units and their devices) with room beside it.
@@ -196,39 +189,6 @@ impl Machine {
         }
     }
 
-    /// Why an event is refused whatever the machine's state, by the event and the storage size
-    /// alone.
-    pub fn refusal(&self, event: &Event) -> Option<Refusal>
-        ensures { result ≡ refusal_of (storage_size (seen self.now.whole)) event.now }
-    {
-        let size = self.core.storage().size();
-        match event {
-            Event::Patch(Patch::Bytes { at, bytes }) => {
-                let count = bytes.as_slice().len();
-                if count > LONGEST_PATCH {
-                    Some(Refusal::PatchTooLong)
-                } else if u64::from(*at) + count as u64 > u64::from(size) {
-                    Some(Refusal::OutsideStorage)
-                } else {
-                    None
-                }
-            }
-            Event::Patch(Patch::StorageKey { at, .. }) if *at >= size => {
-                Some(Refusal::OutsideStorage)
-            }
-            Event::Channel(unit) if ConfiguredUnit::at(*unit).is_none() => Some(
-                Refusal::NoSuchUnit,
-            ),
-            Event::Key(Key::Load(unit)) if ConfiguredUnit::at(*unit).is_none() => Some(
-                Refusal::NoSuchUnit,
-            ),
-            Event::Key(Key::Enter(line)) if line.as_slice().len() > LINE_LIMIT => Some(
-                Refusal::LineTooLong,
-            ),
-            _ => None,
-        }
-    }
-
     /// What an event alters, or why it is refused.
     pub fn plan(&self, event: &Event) -> Result<Changes, Refusal>
         ensures ok { IfOk result (λ changes. IsChangeTo self.now.whole changes (after (seen self.now.whole) event.now)) }
@@ -285,45 +245,6 @@ impl Machine {
                 self.plan_patch(patch, plan)?;
                 Ok(self.planned(self.control))
             }
-        }
-    }
-
-    /// Plans a tick of the timer.
-    fn plan_tick(&self, plan: &mut Plan) -> Result<PlannedEvent, AllocError>
-        requires empty { plan.old ≡ [] }
-        ensures { IfOk result (λ planned. IsPlanOfMachine self.now.whole plan.new planned (after_tick (seen self.now.whole))) }
-    {
-        if !self.control.run_state().is_operating() {
-            return Ok(self.planned(self.control));
-        }
-        self.core.plan_tick(plan)?;
-        Ok(self.planned(self.control.after_tick(self.core.timer())))
-    }
-
-    /// Plans that a key is pressed.
-    #[inline(never)]
-    fn plan_key(&self, key: &Key) -> Result<PlannedEvent, AllocError>
-        requires accepted { refusal_of_key key.now ≡ None }
-        ensures { IfOk result (λ planned. IsPlanOfMachine self.now.whole [] planned (after_key (seen self.now.whole) key.now)) }
-    {
-        let control = self.control.after_key(key);
-        let units = self.units.changes_of_key(self.alloc, key)?;
-        let media = self.devices.changes_of_key(key)?;
-        let planned = self.planned_with(control, units, media)?;
-        Ok(planned)
-    }
-
-    /// Plans a patch.
-    fn plan_patch(&self, patch: &Patch, plan: &mut Plan) -> Result<(), AllocError>
-        requires empty { plan.old ≡ [] }
-        requires accepted { refusal_of_patch (storage_size (seen self.now.whole)) patch.now ≡ None }
-        ensures { OnOk result (IsPlanOf self.now.whole.core plan.new (after_patch (seen self.now.whole) patch.now).core) }
-    {
-        match patch {
-            Patch::Bytes { at, bytes } => self.core.plan_bytes(*at, bytes.as_slice(), plan),
-            Patch::Register(register, word) => self.core.plan_register(*register, *word, plan),
-            Patch::StorageKey { at, key } => self.core.plan_key(*at, *key, plan),
-            Patch::Psw(doubleword) => self.core.plan_psw(*doubleword, plan),
         }
     }
 

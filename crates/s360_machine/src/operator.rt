@@ -1,8 +1,15 @@
 //! The keys of the operator. Source: GA22-6821, "System Control Panel", and the component
 //! description of the 1052.
+ghost use Rattle.std.specs.Prelude.{◌≡◌, [], None, IfOk};
+ghost use Rattle.s360_machine.specs.Machine.{seen};
+ghost use Rattle.s360_machine.specs.Operator.{after_key};
+ghost use Rattle.s360_machine.specs.Planned.{IsPlanOfMachine};
+ghost use Rattle.s360_machine.specs.Refusals.{refusal_of_key};
 
+use crate::machine::{Machine, PlannedEvent};
 use s360_store::Bytes;
 use s360_word::Unit;
+use std::alloc::AllocError;
 
 /// A key that the operator presses.
 #[derive(Debug, PartialEq, Eq, Drop)]
@@ -25,4 +32,19 @@ pub enum Key {
     /// The load key with this unit selected: what the reset key does, and then initial program
     /// loading from the unit.
     Load(Unit),
+}
+
+impl Machine {
+    /// Plans that a key is pressed.
+    #[inline(never)]
+    pub(crate) fn plan_key(&self, key: &Key) -> Result<PlannedEvent, AllocError>
+        requires accepted { refusal_of_key key.now ≡ None }
+        ensures { IfOk result (λ planned. IsPlanOfMachine self.now.whole [] planned (after_key (seen self.now.whole) key.now)) }
+    {
+        let control = self.control.after_key(key);
+        let units = self.units.changes_of_key(self.alloc, key)?;
+        let media = self.devices.changes_of_key(key)?;
+        let planned = self.planned_with(control, units, media)?;
+        Ok(planned)
+    }
 }

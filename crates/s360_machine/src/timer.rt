@@ -1,11 +1,14 @@
 //! The timer: a signed word in storage, which counts down. Source: GA22-6821, "System Structure",
 //! interval timer.
-ghost use Rattle.std.specs.Prelude.{◌≡◌, ◌+◌, ◌≤◌, [], OnOk, length};
+ghost use Rattle.std.specs.Prelude.{◌≡◌, ◌+◌, ◌≤◌, [], IfOk, OnOk, length};
 ghost use Rattle.s360_store.specs.Plans.{HasBytes, IsPlanOf};
-ghost use Rattle.s360_machine.specs.Timer.{core_after_tick, is_negative, runs_out, timer_after_tick};
+ghost use Rattle.s360_machine.specs.Machine.{seen};
+ghost use Rattle.s360_machine.specs.Planned.{IsPlanOfMachine};
+ghost use Rattle.s360_machine.specs.Timer.{after_tick, core_after_tick, is_negative, runs_out, timer_after_tick};
 ghost use Rattle.s360_machine.specs.Timer.{timer_location, timer_of};
 
 use crate::core_state::Core;
+use crate::machine::{Machine, PlannedEvent};
 use s360_store::{LEAST_SIZE, Plan};
 use s360_word::{Word, sub_signed};
 use std::alloc::AllocError;
@@ -55,5 +58,19 @@ impl Core {
     {
         let word = timer_after_tick(self.timer());
         self.plan_bytes(TIMER, &word.to_be_bytes(), plan)
+    }
+}
+
+impl Machine {
+    /// Plans a tick of the timer.
+    pub(crate) fn plan_tick(&self, plan: &mut Plan) -> Result<PlannedEvent, AllocError>
+        requires empty { plan.old ≡ [] }
+        ensures { IfOk result (λ planned. IsPlanOfMachine self.now.whole plan.new planned (after_tick (seen self.now.whole))) }
+    {
+        if !self.control.run_state().is_operating() {
+            return Ok(self.planned(self.control));
+        }
+        self.core.plan_tick(plan)?;
+        Ok(self.planned(self.control.after_tick(self.core.timer())))
     }
 }

@@ -7,6 +7,7 @@ use Rattle.s360_store.specs.declared.place.Place.{Place}
 use Rattle.s360_store.specs.declared.place.Cell.{Cell}
 use Rattle.s360_store.specs.Places.{with_value, value_at, IsPlaceOf, Fits}
 use Rattle.s360_store.specs.Cells.{after_exchange, IsFresh, AreCellsOf, AllDiffer}
+use Rattle.s360_store.specs.Differences.{AreKept}
 use Rattle.s360_store.proofs.PlaceLemmas.{with_value-same_value}
 use Rattle.s360_store.proofs.PlanLemmas.{IsFresh-push}
 use Rattle.s360_store.proofs.ExchangeLemmas.{after_exchange-with_value}
@@ -51,13 +52,6 @@ IsCellOf-cell m cs i c e l h = subst (λ (x : Cell). IsCellOf m (take i cs) x) (
 pub after_exchange-push : (m : Core) (cs : List Cell) (c : Cell) → after_exchange m (cs ++ c ∷ []) ≡ with_value (after_exchange m cs) c.place c.value
 after_exchange-push m [] c = refl
 after_exchange-push m (d ∷ cs) c = after_exchange-push (with_value m d.place d.value) cs c
-
--- the cells kept make the same core as the plan, alter their places, and have no other places
-pub record AreKept (m : Core) (plan kept : List Cell) : Type 0 where
-  pub cells : AreCellsOf m kept
-  pub makes : after_exchange m kept ≡ after_exchange m plan
-  pub among : (p : Place) → IsFresh p plan → IsFresh p kept
-  pub alter : AllDiffer m kept
 
 pub AreKept-skip : (m : Core) (plan kept : List Cell) (i : ℕ) (c : Cell) → c ≡ get_or plan i c → i < length plan → AreCellsOf m plan → AreKept m (take i plan) kept
     → value_at m c.place ≡ c.value → AreKept m (take (i + 1) plan) kept

@@ -19,7 +19,7 @@ use Rattle.s360_store.specs.Differences.{core_differences, IsCoreChangeTo}
 use Rattle.s360_store.proofs.AscendingLemmas.{IsBefore-trans}
 use Rattle.s360_store.proofs.DifferenceLemmas.{places_of_cells-differences}
 use Rattle.s360_store.proofs.ExchangeLemmas.{value_at-after_exchange, AreCellsOf-kept}
-use Rattle.s360_store.proofs.KeptLemmas.{AreKept}
+use Rattle.s360_store.specs.Differences.{AreKept}
 use Rattle.s360_store.proofs.OrderOfPlaces.{compare, compare_is}
 use Rattle.s360_store.proofs.PlaceLemmas.{value_at-same, value_at-other, IsPlaceOf-kept, IsPlaceOf-before}
 use Rattle.s360_store.proofs.PlanLemmas.{same_place-true, same_place-refl, same_place-false}

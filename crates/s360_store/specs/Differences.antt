@@ -6,7 +6,7 @@ use Rattle.s360_store.specs.declared.place.Place.{Place}
 use Rattle.s360_store.specs.declared.place.Place.TheVariants.{Psw, Register, Byte, Key}
 use Rattle.s360_store.specs.declared.place.Cell.{Cell}
 use Rattle.s360_store.specs.Places.{value_at}
-use Rattle.s360_store.specs.Cells.{after_exchange, AreCellsOf, places_of_cells}
+use Rattle.s360_store.specs.Cells.{after_exchange, AllDiffer, AreCellsOf, IsFresh, places_of_cells}
 
 -- the places of a core, in their order
 abbrev pub places_of : Core → List Place
@@ -18,6 +18,13 @@ places_of m =
 -- the places at which the second core has another value
 abbrev pub core_differences : Core → Core → List Place
 core_differences m n = filter (λ p. not (nat_eq (value_at m p) (value_at n p))) (places_of m)
+
+-- the cells kept make the same core as the plan, alter their places, and have no other places
+pub record AreKept (m : Core) (plan kept : List Cell) : Type 0 where
+  pub cells : AreCellsOf m kept
+  pub makes : after_exchange m kept ≡ after_exchange m plan
+  pub among : (p : Place) → IsFresh p plan → IsFresh p kept
+  pub alter : AllDiffer m kept
 
 -- the cells make the second core of the first, and have just the places at which the two differ
 pub record IsCoreChangeTo (m : Core) (cs : List Cell) (n : Core) : Type 0 where

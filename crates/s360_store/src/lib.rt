@@ -9,7 +9,6 @@ mod fault;
 mod place;
 mod plan;
 mod protection;
-mod puts;
 mod storage;
 
 pub use bytes::Bytes;

@@ -35,106 +35,106 @@ pub(crate) enum Attempt<'a> {
     },
 }
 
-impl Tape {
+impl<'a> Attempt<'a> {
     /// What a read meets.
-    fn read(&self) -> Attempt<'_>
-        ensures { IsAttempt (seen_media self.now.tape) (read_row (seen_media self.now.tape)) result }
+    fn read(tape: &'a Tape) -> Attempt<'a>
+        ensures { IsAttempt (seen_media tape.now.tape) (read_row (seen_media tape.now.tape)) result }
     {
-        match self.as_slice().get(self.position()) {
+        match tape.as_slice().get(tape.position()) {
             Some(item) => Attempt::Read {
                 item,
                 backward: false,
-                place: self.position() + 1,
+                place: tape.position() + 1,
             },
             None => Attempt::Refused(INTERVENTION_REQUIRED),
         }
     }
 
     /// What a read backward meets.
-    fn read_backward(&self) -> Attempt<'_>
-        ensures { IsAttempt (seen_media self.now.tape) (read_backward_row (seen_media self.now.tape)) result }
+    fn read_backward(tape: &'a Tape) -> Attempt<'a>
+        ensures { IsAttempt (seen_media tape.now.tape) (read_backward_row (seen_media tape.now.tape)) result }
     {
-        match self.item(self.position()) {
+        match tape.item(tape.position()) {
             Some(item) => Attempt::Read {
                 item,
                 backward: true,
-                place: self.position() - 1,
+                place: tape.position() - 1,
             },
             None => Attempt::Refused(AT_LOAD_POINT),
         }
     }
 
     /// What spacing over a block or mark meets.
-    fn space_record(&self) -> Attempt<'_>
-        ensures { IsAttempt (seen_media self.now.tape) (space_record_row (seen_media self.now.tape)) result }
+    fn space_record(tape: &'a Tape) -> Attempt<'a>
+        ensures { IsAttempt (seen_media tape.now.tape) (space_record_row (seen_media tape.now.tape)) result }
     {
-        match self.as_slice().get(self.position()) {
+        match tape.as_slice().get(tape.position()) {
             Some(item) => Attempt::Move {
-                place: self.position() + 1,
+                place: tape.position() + 1,
                 exception: item.is_mark(),
-                unloaded: self.unloaded(),
+                unloaded: tape.unloaded(),
             },
             None => Attempt::Refused(INTERVENTION_REQUIRED),
         }
     }
 
     /// What backspacing over a block or mark meets.
-    fn backspace_record(&self) -> Attempt<'_>
-        ensures { IsAttempt (seen_media self.now.tape) (backspace_record_row (seen_media self.now.tape)) result }
+    fn backspace_record(tape: &'a Tape) -> Attempt<'a>
+        ensures { IsAttempt (seen_media tape.now.tape) (backspace_record_row (seen_media tape.now.tape)) result }
     {
-        match self.item(self.position()) {
+        match tape.item(tape.position()) {
             Some(item) => Attempt::Move {
-                place: self.position() - 1,
+                place: tape.position() - 1,
                 exception: item.is_mark(),
-                unloaded: self.unloaded(),
+                unloaded: tape.unloaded(),
             },
             None => Attempt::Refused(AT_LOAD_POINT),
         }
     }
 
     /// What spacing over a file meets.
-    fn space_file(&self) -> Attempt<'_>
-        ensures { IsAttempt (seen_media self.now.tape) (space_file_row (seen_media self.now.tape)) result }
+    fn space_file(tape: &'a Tape) -> Attempt<'a>
+        ensures { IsAttempt (seen_media tape.now.tape) (space_file_row (seen_media tape.now.tape)) result }
     {
-        match after_mark(self.as_slice(), self.position()) {
+        match after_mark(tape.as_slice(), tape.position()) {
             Some(place) => Attempt::Move {
                 place,
                 exception: false,
-                unloaded: self.unloaded(),
+                unloaded: tape.unloaded(),
             },
             None => Attempt::Refused(INTERVENTION_REQUIRED),
         }
     }
 
     /// What backspacing over a file meets.
-    fn backspace_file(&self) -> Attempt<'_>
-        ensures { IsAttempt (seen_media self.now.tape) (backspace_file_row (seen_media self.now.tape)) result }
+    fn backspace_file(tape: &'a Tape) -> Attempt<'a>
+        ensures { IsAttempt (seen_media tape.now.tape) (backspace_file_row (seen_media tape.now.tape)) result }
     {
-        if self.position() == 0 {
+        if tape.position() == 0 {
             return Attempt::Refused(AT_LOAD_POINT);
         }
         Attempt::Move {
-            place: before_mark(self.as_slice(), self.position()),
+            place: before_mark(tape.as_slice(), tape.position()),
             exception: false,
-            unloaded: self.unloaded(),
+            unloaded: tape.unloaded(),
         }
     }
 
     /// What a command meets on a tape that is loaded, and not protected against it.
-    fn loaded(&self, command: TapeCommand) -> Attempt<'_>
-        ensures { IsAttempt (seen_media self.now.tape) (row_of_command (seen_media self.now.tape) command) result }
+    fn loaded(tape: &'a Tape, command: TapeCommand) -> Attempt<'a>
+        ensures { IsAttempt (seen_media tape.now.tape) (row_of_command (seen_media tape.now.tape) command) result }
     {
         let (place, unloaded) = match command {
             TapeCommand::Write => return Attempt::Write,
             TapeCommand::WriteMark => return Attempt::WriteMark,
-            TapeCommand::Read => return self.read(),
-            TapeCommand::ReadBackward => return self.read_backward(),
-            TapeCommand::SpaceRecord => return self.space_record(),
-            TapeCommand::BackspaceRecord => return self.backspace_record(),
-            TapeCommand::SpaceFile => return self.space_file(),
-            TapeCommand::BackspaceFile => return self.backspace_file(),
-            TapeCommand::EraseGap => (self.position(), self.unloaded()),
-            TapeCommand::Rewind => (0, self.unloaded()),
+            TapeCommand::Read => return Attempt::read(tape),
+            TapeCommand::ReadBackward => return Attempt::read_backward(tape),
+            TapeCommand::SpaceRecord => return Attempt::space_record(tape),
+            TapeCommand::BackspaceRecord => return Attempt::backspace_record(tape),
+            TapeCommand::SpaceFile => return Attempt::space_file(tape),
+            TapeCommand::BackspaceFile => return Attempt::backspace_file(tape),
+            TapeCommand::EraseGap => (tape.position(), tape.unloaded()),
+            TapeCommand::Rewind => (0, tape.unloaded()),
             TapeCommand::RewindUnload => (0, true),
         };
         Attempt::Move {
@@ -144,19 +144,19 @@ impl Tape {
         }
     }
 
-    /// What a command of the tape's own meets.
-    pub(crate) fn attempt(&self, code: u8) -> Attempt<'_>
-        ensures { IsAttempt (seen_media self.now.tape) (tape_row (seen_media self.now.tape) code) result }
+    /// What one of a tape's own commands meets.
+    pub(crate) fn of(tape: &'a Tape, code: u8) -> Attempt<'a>
+        ensures { IsAttempt (seen_media tape.now.tape) (tape_row (seen_media tape.now.tape) code) result }
     {
         let Some(command) = TapeCommand::new(code) else {
             return Attempt::Refused(COMMAND_REJECT);
         };
-        if self.unloaded() {
+        if tape.unloaded() {
             return Attempt::Refused(INTERVENTION_REQUIRED);
         }
-        if self.protected() && command.writes() {
+        if tape.protected() && command.writes() {
             return Attempt::Refused(WRITE_PROTECTED);
         }
-        self.loaded(command)
+        Attempt::loaded(tape, command)
     }
 }

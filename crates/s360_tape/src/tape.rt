@@ -216,7 +216,7 @@ impl Device for Tape {
         match CommandCode::new(command) {
             CommandCode::NoOperation => Begin::Control,
             CommandCode::Sense => Begin::Input(self.sense.as_slice().len() as u32),
-            CommandCode::Own(code) => match self.attempt(code) {
+            CommandCode::Own(code) => match Attempt::of(self, code) {
                 Attempt::Refused(sense) => Begin::Refused(sense),
                 Attempt::Write => Begin::Output(BLOCK_LIMIT as u32),
                 Attempt::Read { item, .. } => Begin::Input(item.bytes().len() as u32),
@@ -229,7 +229,7 @@ impl Device for Tape {
         match CommandCode::new(command) {
             CommandCode::NoOperation => unreachable!(),
             CommandCode::Sense => self.sense[i as usize],
-            CommandCode::Own(code) => match self.attempt(code) {
+            CommandCode::Own(code) => match Attempt::of(self, code) {
                 Attempt::Read { item, backward, .. } => {
                     let bytes = item.bytes();
                     if backward {
@@ -248,7 +248,7 @@ impl Device for Tape {
             CommandCode::NoOperation | CommandCode::Sense => {
                 self.moving(self.sense, self.position, self.unloaded, false)
             }
-            CommandCode::Own(code) => match self.attempt(code) {
+            CommandCode::Own(code) => match Attempt::of(self, code) {
                 Attempt::Refused(sense) => {
                     self.moving(sense, self.position, self.unloaded, false)
                 }

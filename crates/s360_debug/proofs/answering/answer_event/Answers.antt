@@ -1,6 +1,7 @@
 use Rattle.std.proofs.Common.{rules, tests, ◌≡◌, ◌+◌, ◌∙◌, ap, length, length-append, None, [], ◌∷◌}
 use Rattle.s360_journal.specs.Standing.{Standing, refusal_in}
-use Rattle.s360_debug.proofs.ReportLemmas.{accepted-None, accepted-text}
+use Rattle.s360_journal.proofs.RunningLemmas.{accepted-None}
+use Rattle.s360_debug.proofs.ReportLemmas.{accepted-text}
 use Rattle.s360_debug.proofs.answering.answer_event.Goals as goal
 
 pub returns-in_ok-text-in-Ok-clause-text : goal.returns-in_ok-text-in-Ok-clause-text

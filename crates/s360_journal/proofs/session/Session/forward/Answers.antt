@@ -6,7 +6,8 @@ use Rattle.s360_machine.specs.Refusals.{refusal_of}
 use Rattle.s360_machine.specs.declared.refusal.Refusal.TheVariants.{Memory}
 use Rattle.s360_machine.specs.Step.{after}
 use Rattle.s360_machine.specs.Change.{NeedsNoRoom, after_swap, change_after_swap, places_of_change}
-use Rattle.s360_machine.specs.Planned.{differences, IsChangeTo}
+use Rattle.s360_machine.specs.Differences.{differences}
+use Rattle.s360_machine.specs.Planned.{IsChangeTo}
 use Rattle.s360_journal.specs.declared.entry.Entry.{Entry}
 use Rattle.s360_journal.specs.Reports.{IsReport}
 use Rattle.s360_journal.specs.Standing.{Standing, machine_of, refusal_in, alteration}

@@ -1,5 +1,5 @@
 use Rattle.std.proofs.Common.{◌≤◌, length, take}
-use Rattle.s360_store.proofs.KeptLemmas.{AreKept}
+use Rattle.s360_store.specs.Differences.{AreKept}
 use Rattle.s360_machine.proofs.core_state.Core.altering.Given as goal
 
 abbrev pub invariant-loop-i : goal.invariant-loop-i

@@ -4,15 +4,14 @@ use Rattle.s360_machine.specs.declared.event.Event.{Event}
 use Rattle.s360_machine.specs.declared.refusal.Refusal.TheVariants.{Memory}
 use Rattle.s360_journal.specs.Breakpoints.{is_at_breakpoint}
 use Rattle.s360_journal.specs.Standing.{machine_of, refusal_in, alteration}
-use Rattle.s360_debug.specs.Offers.{unless_refused, with_events}
-use Rattle.s360_debug.specs.Running.{end_of_turn, end_with, next_event}
-use Rattle.s360_debug.proofs.ReportLemmas.{accepted-None}
-use Rattle.s360_debug.proofs.RunningLemmas.{turn-accepted, turn-refused, refused-Some, refused-stands}
-use Rattle.s360_debug.proofs.running.take_turn.Goals as goal
+use Rattle.s360_journal.specs.Offers.{unless_refused, with_events}
+use Rattle.s360_journal.specs.Running.{end_of_turn, end_with, next_event}
+use Rattle.s360_journal.proofs.RunningLemmas.{accepted-None, turn-accepted, turn-refused, refused-Some, refused-stands}
+use Rattle.s360_journal.proofs.session.Session.take_turn.Goals as goal
 
 pub returns-in-Err : goal.returns-in-Err
 returns-in-Err c =
-    let s = c.args.session.now
+    let s = c.args.self.now
     in let e : Event = c.next_event-event.result
     in let is : e ≡ next_event (machine_of s) = c.next_event-event.ensures ∙ ap next_event c.machine.ensures.rerun
     in let other : c.in-Err.refusal ≢ Memory = λ same. search rules
@@ -25,7 +24,7 @@ returns-in-Err c =
 
 pub returns-in-Ok-clause-end : goal.returns-in-Ok-clause-end
 returns-in-Ok-clause-end c =
-    let s = c.args.session.now
+    let s = c.args.self.now
     in let e : Event = c.next_event-event.result
     in let is : e ≡ next_event (machine_of s) = c.next_event-event.ensures ∙ ap next_event c.machine.ensures.rerun
     in let none : refusal_in s e ≡ None = accepted-None (refusal_in s e) c.in-Ok.report c.forward.result c.in-Ok.is c.forward.ensures.refused

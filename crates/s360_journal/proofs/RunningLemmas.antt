@@ -9,11 +9,19 @@ use Rattle.s360_machine.specs.declared.refusal.Refusal.{Refusal}
 use Rattle.s360_machine.specs.declared.refusal.Refusal.TheVariants.{Memory}
 use Rattle.s360_journal.specs.Breakpoints.{is_at_breakpoint}
 use Rattle.s360_journal.specs.Standing.{Standing, machine_of, refusal_in, alteration}
-use Rattle.s360_debug.specs.declared.running.RunEnd.{RunEnd}
-use Rattle.s360_debug.specs.declared.running.RunEnd.TheVariants.{Refused, Break, Done}
-use Rattle.s360_debug.specs.Offers.{unless_refused, with_events}
-use Rattle.s360_debug.specs.Running.{end_of_turn, end_with, next_event, run_of}
-use Rattle.s360_debug.proofs.StandingLemmas.{with_events-none}
+use Rattle.s360_journal.specs.declared.running.RunEnd.{RunEnd}
+use Rattle.s360_journal.specs.declared.running.RunEnd.TheVariants.{Refused, Break, Done}
+use Rattle.s360_journal.specs.Offers.{unless_refused, with_events}
+use Rattle.s360_journal.specs.Running.{end_of_turn, end_with, next_event, run_of}
+
+pub with_events-none : (s : Standing) → with_events s [] ≡ s
+with_events-none s = ap (λ (es : List Event). record s { events = es }) (append-nil s.events)
+
+-- an event that is accepted is not refused
+pub accepted-None : {X : Type 0} (o : Option Refusal) (x : X) (result : Result X Refusal) → result ≡ Ok x
+    → MatchOption o (IsOkUnless result Memory) (λ r. result ≡ Err r) → o ≡ None
+accepted-None None x result e h = refl
+accepted-None (Some r) x result e h = absurd (cc)
 
 -- what is reported of an accepted event
 pub end-changed : (ps : List Place) (stops : Bool) → ps ≢ [] → end_with None ps stops ≡ (if stops then Some Break else None)
@@ -88,13 +96,13 @@ IsRunning-more breaks start now next most n m count r goes_on stands =
     }
 
 -- what a run comes to: why it ends, and what stands
-pub record IsRun (breaks : List ℕ) (start : Standing) (most : ℕ) (end : RunEnd) (now : Standing) : Type 0 where
+pub record IsRunOf (breaks : List ℕ) (start : Standing) (most : ℕ) (end : RunEnd) (now : Standing) : Type 0 where
   pub why : end ≡ (run_of breaks start most).why
   pub stands : now ≡ with_events start (run_of breaks start most).events
 
 -- a turn more, with which the run ends
 pub IsRunning-ended : (breaks : List ℕ) (start now next : Standing) (most n m : ℕ) (why : RunEnd) → n ≡ m + 1 → IsRunning breaks start now most n
-    → end_of_turn breaks now (turn now) ≡ Some why → next ≡ with_events now (turn_events now) → IsRun breaks start most why next
+    → end_of_turn breaks now (turn now) ≡ Some why → next ≡ with_events now (turn_events now) → IsRunOf breaks start most why next
 unfolding run_of
 IsRunning-ended breaks start now next most n m why count r ends stands =
     let left : n ≡ suc m = omega arith
@@ -108,7 +116,7 @@ IsRunning-ended breaks start now next most n m why count r ends stands =
     }
 
 -- no turn is left
-pub IsRunning-all : (breaks : List ℕ) (start now : Standing) (most n : ℕ) → n ≡ 0 → IsRunning breaks start now most n → IsRun breaks start most Done now
+pub IsRunning-all : (breaks : List ℕ) (start now : Standing) (most n : ℕ) → n ≡ 0 → IsRunning breaks start now most n → IsRunOf breaks start most Done now
 unfolding run_of
 IsRunning-all breaks start now most n none r =
     let events : (run_of breaks start most).events ≡ r.done ++ [] = rw none at r.events
