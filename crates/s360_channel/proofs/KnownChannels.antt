@@ -4,7 +4,7 @@ use Rattle.std.specs.Prelude.{◌≡◌, ℕ, ◌-◌, Bool, true, false, Option
 use Rattle.s360_model.specs.Storage.{Storage}
 use Rattle.s360_device.specs.declared.device.Begin.{Begin}
 use Rattle.s360_device.specs.declared.device.Begin.TheVariants.{Input, Output, Control, NotYet, Refused}
-use Rattle.s360_channel.specs.declared.io_instructions.ChannelKind.TheVariants.{Multiplexer}
+use Rattle.s360_channel.specs.declared.configured_unit.ConfiguredUnit.TheVariants.{Reader}
 use Rattle.s360_channel.specs.declared.io_instructions.CswStore.TheVariants.{Nothing, Status, Csw as whole}
 use Rattle.s360_channel.specs.declared.program.Progress.{Progress}
 use Rattle.s360_channel.specs.declared.program.Progress.TheVariants.{First, CommandChained, InputChained, OutputChained}
@@ -13,7 +13,7 @@ use Rattle.s360_channel.specs.declared.unit_state.UnitState.{UnitState}
 use Rattle.s360_channel.specs.declared.unit_state.UnitState.TheVariants.{Idle, Active, Waiting}
 use Rattle.s360_channel.specs.Words.{csw_doubleword, device_has_ended, meets_program_check, no_channel_status, no_unit_status}
 use Rattle.s360_channel.specs.Programs.{program_at}
-use Rattle.s360_channel.specs.IoInstructions.{halt_io, start_io, test_io}
+use Rattle.s360_channel.specs.IoInstructions.{becomes, halt_unit, start_unit, test_unit}
 use Rattle.s360_channel.specs.Execution.{DeviceView, Execution, channel_execution}
 
 -- a device that begins each command so, gives these bytes, and gives unit exception or not
@@ -230,22 +230,22 @@ started word = record { bytes = word ++ replicate (80 - length word) 0; keys = 0
 abbrev idle : UnitControl
 idle = record { state = Idle; attention = false }
 
-pub no_operation_is_immediate : start_io (started (0x03 ∷ 0 ∷ 0 ∷ 0 ∷ 0 ∷ 0 ∷ 0 ∷ 1 ∷ [])) false idle ≡ record { condition = 1; stores = Status device_has_ended no_channel_status; unit = None }
+pub no_operation_is_immediate : start_unit (started (0x03 ∷ 0 ∷ 0 ∷ 0 ∷ 0 ∷ 0 ∷ 0 ∷ 1 ∷ [])) false Reader idle ≡ record { condition = 1; stores = Status device_has_ended no_channel_status; unit = None }
 no_operation_is_immediate = refl
 
-pub chained_no_operation_starts : start_io (started (0x03 ∷ 0 ∷ 0 ∷ 0 ∷ 0x40 ∷ 0 ∷ 0 ∷ 1 ∷ [])) false idle ≡ record { condition = 0; stores = Nothing; unit = Some (record { state = goes_on 0 First; attention = false }) }
+pub chained_no_operation_starts : start_unit (started (0x03 ∷ 0 ∷ 0 ∷ 0 ∷ 0x40 ∷ 0 ∷ 0 ∷ 1 ∷ [])) false Reader idle ≡ record { condition = 0; stores = Nothing; unit = becomes Reader (record { state = goes_on 0 First; attention = false }) }
 chained_no_operation_starts = refl
 
-pub broken_program_does_not_start : start_io (started (0x08 ∷ [])) false idle ≡ record { condition = 1; stores = Status no_unit_status meets_program_check; unit = None }
+pub broken_program_does_not_start : start_unit (started (0x08 ∷ [])) false Reader idle ≡ record { condition = 1; stores = Status no_unit_status meets_program_check; unit = None }
 broken_program_does_not_start = refl
 
 -- a program that waits for its first event is halted: a status of zeros, and the address of its first word waits
-pub halted_program_waits : halt_io Multiplexer (record { state = Active (program_at 0 0x400); attention = false }) ≡ record { condition = 1; stores = Status no_unit_status no_channel_status; unit = Some (record { state = Waiting (record { key = 0; address = 0x400; unit = device_has_ended; channel = no_channel_status; count = 0 }); attention = false }) }
+pub halted_program_waits : halt_unit Reader (record { state = Active (program_at 0 0x400); attention = false }) ≡ record { condition = 1; stores = Status no_unit_status no_channel_status; unit = becomes Reader (record { state = Waiting (record { key = 0; address = 0x400; unit = device_has_ended; channel = no_channel_status; count = 0 }); attention = false }) }
 halted_program_waits = refl
 
 -- TEST I/O takes the status word that waits, and then finds the unit available
-pub status_word_is_taken : test_io false (record { state = Waiting (record { key = 0; address = 0x408; unit = device_has_ended; channel = no_channel_status; count = 0 }); attention = false }) ≡ record { condition = 1; stores = whole (record { key = 0; address = 0x408; unit = device_has_ended; channel = no_channel_status; count = 0 }); unit = Some idle }
+pub status_word_is_taken : test_unit false Reader (record { state = Waiting (record { key = 0; address = 0x408; unit = device_has_ended; channel = no_channel_status; count = 0 }); attention = false }) ≡ record { condition = 1; stores = whole (record { key = 0; address = 0x408; unit = device_has_ended; channel = no_channel_status; count = 0 }); unit = becomes Reader idle }
 status_word_is_taken = refl
 
-pub unit_is_available : test_io false idle ≡ record { condition = 0; stores = Nothing; unit = None }
+pub unit_is_available : test_unit false Reader idle ≡ record { condition = 0; stores = Nothing; unit = None }
 unit_is_available = refl

@@ -1,2 +1,4 @@
 pub mod DifferenceLemmas
+pub mod UnitChangeLemmas
 pub mod KnownChannels
+mod KnownTapes

@@ -1,7 +1,8 @@
 -- The input/output instructions (GA22-6821, "Input/Output Operations", START I/O, TEST I/O, HALT I/O and TEST
--- CHANNEL): the condition code, what is stored of the channel status word, and what becomes of the unit. Of each
+-- CHANNEL): the condition code, what is stored of the channel status word, and which unit becomes what. Of each
 -- instruction the first case that holds; their order is the own profile.
-use Rattle.std.specs.Prelude.{ℕ, Bool, true, false, not, ◌&&◌, ◌||◌, nat_eq, if◌then◌else◌, Option, Some, None}
+use Rattle.std.specs.Prelude.{ℕ, Bool, true, false, not, ◌&&◌, ◌||◌, nat_eq, if◌then◌else◌, unwrap_or, Option, Some, None}
+use Rattle.std.specs.Option.{option_map_or}
 use Rattle.s360_model.specs.Storage.{Storage, word_at}
 use Rattle.s360_channel.specs.declared.caw.Caw.{Caw}
 use Rattle.s360_channel.specs.declared.ccw.Ccw.{Ccw}
@@ -10,17 +11,22 @@ use Rattle.s360_channel.specs.declared.csw.UnitStatus.{UnitStatus}
 use Rattle.s360_channel.specs.declared.csw.ChannelStatus.{ChannelStatus}
 use Rattle.s360_channel.specs.declared.fetching.Fetched.{Fetched}
 use Rattle.s360_channel.specs.declared.fetching.Fetched.TheVariants.{Broken, Whole}
-use Rattle.s360_channel.specs.declared.io_instructions.ChannelKind.{ChannelKind}
-use Rattle.s360_channel.specs.declared.io_instructions.ChannelKind.TheVariants.{Multiplexer, Selector}
+use Rattle.s360_word.specs.declared.unit.Unit.{Unit as UnitAddress}
+use Rattle.s360_channel.specs.declared.configured_unit.ChannelKind.{ChannelKind}
+use Rattle.s360_channel.specs.declared.configured_unit.ChannelKind.TheVariants.{Multiplexer, Selector}
+use Rattle.s360_channel.specs.declared.configured_unit.ConfiguredUnit.{ConfiguredUnit}
+use Rattle.s360_channel.specs.declared.configured_unit.ConfiguredUnit.TheVariants.{Tape0, Tape1}
 use Rattle.s360_channel.specs.declared.io_instructions.CswStore.TheVariants.{Nothing, Status, Csw as whole}
 use Rattle.s360_channel.specs.declared.io_instructions.IoResult.{IoResult}
+use Rattle.s360_channel.specs.declared.io_instructions.UnitAfter.{UnitAfter}
 use Rattle.s360_channel.specs.declared.program.Program.{Program}
 use Rattle.s360_channel.specs.declared.unit_control.Condition.{Condition}
 use Rattle.s360_channel.specs.declared.unit_control.UnitControl.{UnitControl}
 use Rattle.s360_channel.specs.declared.unit_state.UnitState.{UnitState}
 use Rattle.s360_channel.specs.declared.unit_state.UnitState.TheVariants.{Idle, Active, Waiting}
+use Rattle.s360_channel.specs.ConfiguredUnits.{Units, active_beside, control_of, is_occupied, kind_of, unit_at, with_control_of}
 use Rattle.s360_channel.specs.Programs.{next_ccw, program_at}
-use Rattle.s360_channel.specs.Units.{condition_of, is_active, is_waiting}
+use Rattle.s360_channel.specs.Units.{condition_of, idle_unit, is_active, is_waiting}
 use Rattle.s360_channel.specs.Words.{asks_attention, caw_of, device_has_ended, is_whole_caw}
 use Rattle.s360_channel.specs.Words.{meets_program_check, no_channel_status, no_unit_status}
 
@@ -34,48 +40,66 @@ csw_location = 64
 abbrev pub condition_alone : ℕ → IoResult
 condition_alone code = record { condition = code; stores = Nothing; unit = None }
 
+-- a unit, or a channel, that is not there
+abbrev pub not_operational : IoResult
+not_operational = condition_alone 3
+
+-- an instruction of a unit, by its address
+abbrev pub at_unit : (ConfiguredUnit → IoResult) → UnitAddress → IoResult
+at_unit result address = option_map_or result (unit_at address.0) not_operational
+
 -- condition code 1, with bits 32 to 47 of the channel status word stored
-abbrev pub with_status : UnitStatus → ChannelStatus → Option UnitControl → IoResult
+abbrev pub with_status : UnitStatus → ChannelStatus → Option UnitAfter → IoResult
 with_status unit channel next = record { condition = 1; stores = Status unit channel; unit = next }
+
+-- the unit stands so then
+abbrev pub becomes : ConfiguredUnit → UnitControl → Option UnitAfter
+becomes u control = Some (record { unit = u; control = control })
 
 -- the word would be executed at once: no-operation that is not chained to another
 abbrev pub is_immediate : Ccw → Bool
 is_immediate c = nat_eq c.command 0x03 && (not c.flags.chain_data && not c.flags.chain_command)
 
 -- START I/O of a unit that is available: the program is checked as far as its first word
-abbrev pub started : Program → Fetched → IoResult
-started p (Broken last) = with_status no_unit_status meets_program_check None
-started p (Whole last c) =
+abbrev pub started : ConfiguredUnit → Program → Fetched → IoResult
+started u p (Broken last) = with_status no_unit_status meets_program_check None
+started u p (Whole last c) =
     if is_immediate c then with_status device_has_ended no_channel_status None
-    else record { condition = 0; stores = Nothing; unit = Some (record { state = Active p; attention = false }) }
+    else record { condition = 0; stores = Nothing; unit = becomes u (record { state = Active p; attention = false }) }
 
 -- the program at the channel address word
-abbrev pub start_with : Storage → Caw → IoResult
-start_with s caw =
-    if is_whole_caw caw then started (program_at caw.key caw.address) (next_ccw s (program_at caw.key caw.address))
+abbrev pub start_with : Storage → ConfiguredUnit → Caw → IoResult
+start_with s u caw =
+    if is_whole_caw caw then started u (program_at caw.key caw.address) (next_ccw s (program_at caw.key caw.address))
     else with_status no_unit_status meets_program_check None
 
-abbrev pub start_program : Storage → IoResult
-start_program s = start_with s (caw_of (word_at s.bytes caw_location))
+abbrev pub start_program : Storage → ConfiguredUnit → IoResult
+start_program s u = start_with s u (caw_of (word_at s.bytes caw_location))
 
 -- START I/O of an idle unit: attention comes first
-abbrev pub start_idle : Storage → Bool → IoResult
-start_idle s true = with_status (record asks_attention { busy = true }) no_channel_status (Some (record { state = Idle; attention = false }))
-start_idle s false = start_program s
+abbrev pub start_idle : Storage → ConfiguredUnit → Bool → IoResult
+start_idle s u true = with_status (record asks_attention { busy = true }) no_channel_status (becomes u idle_unit)
+start_idle s u false = start_program s u
 
 -- START I/O of a unit, where another program of its channel may be executed that runs one at a time
-abbrev pub start_io : Storage → Bool → UnitControl → IoResult
-start_io s occupied u =
-    if is_active u.state || (is_waiting u.state || occupied) then condition_alone 2
-    else start_idle s u.attention
+abbrev pub start_unit : Storage → Bool → ConfiguredUnit → UnitControl → IoResult
+start_unit s occupied u control =
+    if is_active control.state || (is_waiting control.state || occupied) then condition_alone 2
+    else start_idle s u control.attention
+
+abbrev pub start_io : Storage → Units → UnitAddress → IoResult
+start_io s us = at_unit (λ u. start_unit s (is_occupied us u) u (control_of us u))
 
 -- TEST I/O of it: its condition is taken, and its status word stored whole
-abbrev pub take_condition : Option Condition → IoResult
-take_condition None = condition_alone 0
-take_condition (Some c) = record { condition = 1; stores = whole c.csw; unit = Some c.unit }
+abbrev pub take_condition : ConfiguredUnit → Option Condition → IoResult
+take_condition u None = condition_alone 0
+take_condition u (Some c) = record { condition = 1; stores = whole c.csw; unit = becomes u c.unit }
 
-abbrev pub test_io : Bool → UnitControl → IoResult
-test_io occupied u = if is_active u.state || occupied then condition_alone 2 else take_condition (condition_of u)
+abbrev pub test_unit : Bool → ConfiguredUnit → UnitControl → IoResult
+test_unit occupied u control = if is_active control.state || occupied then condition_alone 2 else take_condition u (condition_of control)
+
+abbrev pub test_io : Units → UnitAddress → IoResult
+test_io us = at_unit (λ u. test_unit (is_occupied us u) u (control_of us u))
 
 -- a program that is halted: its status word waits, with the address of the word that would have come next, and
 -- device and media as they are (own profile)
@@ -84,22 +108,35 @@ csw_of_halted p = record { key = p.key; address = p.address; unit = device_has_e
 
 -- HALT I/O of the unit whose program occupies the channel, if there is one: the multiplexer channel stores a status
 -- of zeros and ends with condition code 1, the selector channel with 2
-abbrev pub result_of_halt : ChannelKind → UnitControl → IoResult
-result_of_halt Multiplexer next = with_status no_unit_status no_channel_status (Some next)
-result_of_halt Selector next = record { condition = 2; stores = Nothing; unit = Some next }
+abbrev pub result_of_halt : ChannelKind → Option UnitAfter → IoResult
+result_of_halt Multiplexer next = with_status no_unit_status no_channel_status next
+result_of_halt Selector next = record { condition = 2; stores = Nothing; unit = next }
 
-abbrev pub halt_io : ChannelKind → UnitControl → IoResult
-halt_io kind u = of_state u.state where
+abbrev pub halt_unit : ConfiguredUnit → UnitControl → IoResult
+halt_unit u control = of_state control.state where
   of_state : UnitState → IoResult
-  of_state (Active p) = result_of_halt kind (record { state = Waiting (csw_of_halted p); attention = u.attention })
+  of_state (Active p) = result_of_halt (kind_of u) (becomes u (record control { state = Waiting (csw_of_halted p) }))
   of_state other = condition_alone 0
 
--- TEST CHANNEL: the multiplexer channel is available; the selector channel is occupied by a program, or a status
--- word of one of its units waits, or it is available
-abbrev pub test_channel_condition : ChannelKind → Bool → Bool → ℕ
-test_channel_condition Multiplexer occupied waiting = 0
-test_channel_condition Selector occupied waiting = if occupied then 2 else (if waiting then 1 else 0)
+-- the unit whose program HALT I/O ends: itself where it is active, or else the other tape where that one is
+abbrev pub halted_unit : Units → ConfiguredUnit → ConfiguredUnit
+halted_unit us u = if is_active (control_of us u).state then u else unwrap_or (active_beside us u) u
 
--- a unit, or a channel, that is not there
-abbrev pub not_operational : IoResult
-not_operational = condition_alone 3
+abbrev pub halt_io : Units → UnitAddress → IoResult
+halt_io us = at_unit (λ u. halt_unit (halted_unit us u) (control_of us (halted_unit us u)))
+
+-- TEST CHANNEL by the number of the channel: the multiplexer channel 0 is available; the selector channel 1 is
+-- occupied by a program, or a status word of one of its units waits, or it is available; others are not there
+abbrev pub has_tape : (UnitState → Bool) → Units → Bool
+has_tape test us = test (control_of us Tape0).state || test (control_of us Tape1).state
+
+abbrev pub test_channel : Units → ℕ → IoResult
+test_channel us channel =
+    if nat_eq channel 0 then condition_alone 0
+    else if nat_eq channel 1 then condition_alone (if has_tape is_active us then 2 else (if has_tape is_waiting us then 1 else 0))
+    else not_operational
+
+-- the units after it
+abbrev pub units_after_io : Units → Option UnitAfter → Units
+units_after_io us None = us
+units_after_io us (Some x) = with_control_of us x.unit x.control

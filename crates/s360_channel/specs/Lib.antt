@@ -5,3 +5,6 @@ pub mod IoInstructions
 pub mod Execution
 pub mod Steps
 pub mod Differences
+pub mod ConfiguredUnits
+pub mod SeveralUnits
+pub mod UnitChanges

@@ -1,33 +1,27 @@
 //! The input/output instructions. Each answers a condition code, what is stored of the channel status
-//! word, and what becomes of the unit; none takes memory. Source: GA22-6821, "Input/Output
+//! word, and which unit becomes what; none takes memory. Source: GA22-6821, "Input/Output
 //! Operations", START I/O, TEST I/O, HALT I/O and TEST CHANNEL.
 ghost use Rattle.std.specs.Prelude.{◌≡◌};
-ghost use Rattle.s360_channel.specs.IoInstructions.{condition_alone, halt_io, is_immediate};
-ghost use Rattle.s360_channel.specs.IoInstructions.{not_operational, result_of_halt};
-ghost use Rattle.s360_channel.specs.IoInstructions.{start_io, start_program, test_channel_condition};
-ghost use Rattle.s360_channel.specs.IoInstructions.{test_io, with_status};
+ghost use Rattle.s360_channel.specs.ConfiguredUnits.{control_of};
+ghost use Rattle.s360_channel.specs.IoInstructions.{becomes, condition_alone, halt_io, halt_unit, halted_unit};
+ghost use Rattle.s360_channel.specs.IoInstructions.{is_immediate, not_operational, result_of_halt, start_io};
+ghost use Rattle.s360_channel.specs.IoInstructions.{start_program, start_unit, test_channel, test_io, test_unit};
+ghost use Rattle.s360_channel.specs.IoInstructions.{with_status};
 
 use crate::caw::Caw;
 use crate::ccw::Ccw;
+use crate::configured_unit::{ChannelKind, ConfiguredUnit};
 use crate::csw::{ChannelStatus, Csw, UnitStatus};
 use crate::fetching::{Fetched, next_ccw};
 use crate::program::{Program, Progress};
 use crate::unit_control::UnitControl;
 use crate::unit_state::UnitState;
+use crate::units::Units;
 use s360_store::{LEAST_SIZE, Storage};
-use s360_word::Cc;
+use s360_word::{Cc, Unit};
 
 /// The address of the channel address word.
 const CAW: u32 = 72;
-
-/// How a channel serves its units.
-#[derive(Clone, Copy, Debug, PartialEq, Eq)]
-pub enum ChannelKind {
-    /// It executes the programs of all its units side by side.
-    Multiplexer,
-    /// It executes one program at a time.
-    Selector,
-}
 
 /// What is stored of the channel status word.
 #[derive(Clone, Copy, Debug, PartialEq, Eq)]
@@ -40,6 +34,15 @@ pub enum CswStore {
     Csw(Csw),
 }
 
+/// A unit, and how it stands then.
+#[derive(Debug, Drop)]
+pub struct UnitAfter {
+    /// The unit.
+    pub unit: ConfiguredUnit,
+    /// How it stands.
+    pub control: UnitControl,
+}
+
 /// What an input/output instruction does.
 #[derive(Debug, Drop)]
 pub struct IoResult {
@@ -47,13 +50,14 @@ pub struct IoResult {
     pub condition: Cc,
     /// What is stored of the channel status word.
     pub stores: CswStore,
-    /// What becomes of the unit, where it does not stay as it is.
-    pub unit: Option<UnitControl>,
+    /// The unit that does not stay as it is, where there is one: HALT I/O of a tape may end the program of the
+    /// other.
+    pub unit: Option<UnitAfter>,
 }
 
 impl IoResult {
     /// A condition code alone.
-    pub fn condition_alone(condition: Cc) -> IoResult
+    fn condition_alone(condition: Cc) -> IoResult
         ensures { result ≡ condition_alone condition }
     {
         IoResult {
@@ -64,7 +68,7 @@ impl IoResult {
     }
 
     /// Condition code 1 with bits 32 to 47 of the channel status word.
-    fn with_status(unit: UnitStatus, channel: ChannelStatus, next: Option<UnitControl>) -> IoResult
+    fn with_status(unit: UnitStatus, channel: ChannelStatus, next: Option<UnitAfter>) -> IoResult
         ensures { result ≡ with_status unit channel next }
     {
         IoResult {
@@ -75,7 +79,7 @@ impl IoResult {
     }
 
     /// The unit, or the channel, is not there: condition code 3.
-    pub fn not_operational() -> IoResult
+    fn not_operational() -> IoResult
         ensures { result ≡ not_operational }
     {
         IoResult::condition_alone(Cc::new(3))
@@ -89,9 +93,16 @@ fn is_immediate(ccw: &Ccw) -> bool
     ccw.command == 0x03 && !ccw.flags.chain_data && !ccw.flags.chain_command
 }
 
+/// The unit stands so then.
+fn becomes(unit: ConfiguredUnit, control: UnitControl) -> Option<UnitAfter>
+    ensures { result ≡ becomes unit control }
+{
+    Some(UnitAfter { unit, control })
+}
+
 /// START I/O of a unit that is available, with the program at the channel address word.
-fn start_program(storage: &Storage) -> IoResult
-    ensures { result ≡ start_program storage.now }
+fn start_program(storage: &Storage, unit: ConfiguredUnit) -> IoResult
+    ensures { result ≡ start_program storage.now unit }
 {
     // So the permanent locations are inside storage.
     prove!(storage.size() >= LEAST_SIZE);
@@ -114,73 +125,102 @@ fn start_program(storage: &Storage) -> IoResult
         Fetched::Whole(_, ccw) if is_immediate(&ccw) => {
             IoResult::with_status(UnitStatus::ended(), ChannelStatus::none(), None)
         }
-        Fetched::Whole(..) => IoResult {
-            condition: Cc::new(0),
-            stores: CswStore::Nothing,
-            unit: Some(UnitControl {
+        Fetched::Whole(..) => {
+            let control = UnitControl {
                 state: UnitState::Active(program),
                 attention: false,
-            }),
-        },
+            };
+            IoResult {
+                condition: Cc::new(0),
+                stores: CswStore::Nothing,
+                unit: becomes(unit, control),
+            }
+        }
     }
 }
 
-/// START I/O of a unit. `occupied` says whether its channel executes the program of another unit and
+/// START I/O of a unit that is there. `occupied` says whether its channel executes the program of another unit and
 /// runs one at a time.
-pub fn start(storage: &Storage, occupied: bool, unit: &UnitControl) -> IoResult
-    ensures { result ≡ start_io storage.now occupied unit.now }
+fn start_unit(
+    storage: &Storage,
+    occupied: bool,
+    unit: ConfiguredUnit,
+    control: &UnitControl,
+) -> IoResult
+    ensures { result ≡ start_unit storage.now occupied unit control.now }
 {
-    if unit.state.is_active() || unit.state.is_waiting() || occupied {
+    if control.state.is_active() || control.state.is_waiting() || occupied {
         return IoResult::condition_alone(Cc::new(2));
     }
-    if unit.attention {
+    if control.attention {
         let status = UnitStatus {
             busy: true,
             ..UnitStatus::attention()
         };
-        return IoResult::with_status(status, ChannelStatus::none(), Some(UnitControl::idle()));
+        let next = becomes(unit, UnitControl::idle());
+        return IoResult::with_status(status, ChannelStatus::none(), next);
     }
-    start_program(storage)
+    start_program(storage, unit)
 }
 
-/// TEST I/O of a unit; `occupied` as for START I/O.
-pub fn test(occupied: bool, unit: &UnitControl) -> IoResult
-    ensures { result ≡ test_io occupied unit.now }
+/// START I/O of the unit at an address.
+pub fn start(storage: &Storage, units: &Units, unit: Unit) -> IoResult
+    ensures { result ≡ start_io storage.now units.now unit }
 {
-    if unit.state.is_active() || occupied {
+    match ConfiguredUnit::at(unit) {
+        Some(unit) => start_unit(storage, units.is_occupied(unit), unit, units.control(unit)),
+        None => IoResult::not_operational(),
+    }
+}
+
+/// TEST I/O of a unit that is there; `occupied` as for START I/O.
+fn test_unit(occupied: bool, unit: ConfiguredUnit, control: &UnitControl) -> IoResult
+    ensures { result ≡ test_unit occupied unit control.now }
+{
+    if control.state.is_active() || occupied {
         return IoResult::condition_alone(Cc::new(2));
     }
-    match unit.condition() {
+    match control.condition() {
         Some(condition) => IoResult {
             condition: Cc::new(1),
             stores: CswStore::Csw(condition.csw),
-            unit: Some(condition.unit),
+            unit: becomes(unit, condition.unit),
         },
         None => IoResult::condition_alone(Cc::new(0)),
     }
 }
 
-/// What a halted unit answers on a channel, by the unit that it becomes.
-fn result_of_halt(kind: ChannelKind, next: UnitControl) -> IoResult
+/// TEST I/O of the unit at an address.
+pub fn test(units: &Units, unit: Unit) -> IoResult
+    ensures { result ≡ test_io units.now unit }
+{
+    match ConfiguredUnit::at(unit) {
+        Some(unit) => test_unit(units.is_occupied(unit), unit, units.control(unit)),
+        None => IoResult::not_operational(),
+    }
+}
+
+/// What a halted unit answers on a channel, by what it becomes.
+fn result_of_halt(kind: ChannelKind, next: Option<UnitAfter>) -> IoResult
     ensures { result ≡ result_of_halt kind next }
 {
     match kind {
         ChannelKind::Multiplexer => {
-            IoResult::with_status(UnitStatus::none(), ChannelStatus::none(), Some(next))
+            IoResult::with_status(UnitStatus::none(), ChannelStatus::none(), next)
         }
         ChannelKind::Selector => IoResult {
             condition: Cc::new(2),
             stores: CswStore::Nothing,
-            unit: Some(next),
+            unit: next,
         },
     }
 }
 
-/// HALT I/O of a unit: on a selector channel, of the one whose program occupies it.
-pub fn halt(kind: ChannelKind, unit: &UnitControl) -> IoResult
-    ensures { result ≡ halt_io kind unit.now }
+/// HALT I/O of the unit whose program occupies the channel, if there is one.
+fn halt_unit(unit: ConfiguredUnit, control: &UnitControl) -> IoResult
+    ensures { result ≡ halt_unit unit control.now }
 {
-    let UnitState::Active(program) = &unit.state else {
+    let UnitState::Active(program) = &control.state else {
         return IoResult::condition_alone(Cc::new(0));
     };
     let csw = Csw {
@@ -192,20 +232,47 @@ pub fn halt(kind: ChannelKind, unit: &UnitControl) -> IoResult
     };
     let next = UnitControl {
         state: UnitState::Waiting(csw),
-        attention: unit.attention,
+        attention: control.attention,
     };
-    result_of_halt(kind, next)
+    result_of_halt(unit.kind(), becomes(unit, next))
 }
 
-/// The condition code of TEST CHANNEL: `occupied` says whether a program is executed, `waiting` whether
-/// a status word waits.
-pub fn test_channel(kind: ChannelKind, occupied: bool, waiting: bool) -> Cc
-    ensures { result ≡ test_channel_condition kind occupied waiting }
+/// The unit whose program HALT I/O of a unit ends: itself where it is active, or else the other tape where that
+/// one is.
+fn halted_unit(units: &Units, unit: ConfiguredUnit) -> ConfiguredUnit
+    ensures { result ≡ halted_unit units.now unit }
 {
-    match kind {
-        ChannelKind::Multiplexer => Cc::new(0),
-        ChannelKind::Selector if occupied => Cc::new(2),
-        ChannelKind::Selector if waiting => Cc::new(1),
-        ChannelKind::Selector => Cc::new(0),
+    if units.control(unit).state.is_active() {
+        return unit;
     }
+    units.active_beside(unit).unwrap_or(unit)
+}
+
+/// HALT I/O of the unit at an address.
+pub fn halt(units: &Units, unit: Unit) -> IoResult
+    ensures { result ≡ halt_io units.now unit }
+{
+    match ConfiguredUnit::at(unit) {
+        Some(unit) => {
+            let unit = halted_unit(units, unit);
+            halt_unit(unit, units.control(unit))
+        }
+        None => IoResult::not_operational(),
+    }
+}
+
+/// TEST CHANNEL by the number of the channel.
+pub fn test_channel(units: &Units, channel: u16) -> IoResult
+    ensures { result ≡ test_channel units.now channel }
+{
+    let first = &units.control(ConfiguredUnit::Tape0).state;
+    let second = &units.control(ConfiguredUnit::Tape1).state;
+    let condition = match channel {
+        0 => 0,
+        1 if first.is_active() || second.is_active() => 2,
+        1 if first.is_waiting() || second.is_waiting() => 1,
+        1 => 0,
+        _ => return IoResult::not_operational(),
+    };
+    IoResult::condition_alone(Cc::new(condition))
 }

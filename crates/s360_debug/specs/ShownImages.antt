@@ -6,11 +6,11 @@ use Rattle.s360_model.specs.Text.{decimal, hex_bytes}
 use Rattle.s360_word.specs.declared.unit.Unit.{Unit}
 use Rattle.s360_tape.specs.Images.{tape_file}
 use Rattle.s360_tape.specs.Tape.{Tape}
-use Rattle.s360_machine.specs.declared.configured_unit.ConfiguredUnit.{ConfiguredUnit}
-use Rattle.s360_machine.specs.declared.configured_unit.ConfiguredUnit.TheVariants.{Tape0, Tape1}
+use Rattle.s360_channel.specs.declared.configured_unit.ConfiguredUnit.{ConfiguredUnit}
+use Rattle.s360_channel.specs.declared.configured_unit.ConfiguredUnit.TheVariants.{Tape0, Tape1}
 use Rattle.s360_machine.specs.declared.refusal.Refusal.TheVariants.{NoSuchUnit}
 use Rattle.s360_machine.specs.Machine.{Machine}
-use Rattle.s360_machine.specs.Units.{unit_at}
+use Rattle.s360_channel.specs.ConfiguredUnits.{unit_at}
 use Rattle.s360_debug.specs.Names.{refused_text}
 
 -- of a file the line with this number: 32 bytes as digits, or those that are left

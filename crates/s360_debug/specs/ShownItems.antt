@@ -19,11 +19,11 @@ use Rattle.s360_print.specs.Signs.{ascii_of}
 use Rattle.s360_tape.specs.declared.item.Item.{Item}
 use Rattle.s360_tape.specs.declared.item.Item.TheVariants.{Block, Mark}
 use Rattle.s360_tape.specs.Tape.{Tape}
-use Rattle.s360_machine.specs.declared.configured_unit.ConfiguredUnit.{ConfiguredUnit}
-use Rattle.s360_machine.specs.declared.configured_unit.ConfiguredUnit.TheVariants.{Reader as reader_unit, Punch as punch_unit, Printer as printer_unit, Console as console_unit, Tape0, Tape1}
+use Rattle.s360_channel.specs.declared.configured_unit.ConfiguredUnit.{ConfiguredUnit}
+use Rattle.s360_channel.specs.declared.configured_unit.ConfiguredUnit.TheVariants.{Reader as reader_unit, Punch as punch_unit, Printer as printer_unit, Console as console_unit, Tape0, Tape1}
 use Rattle.s360_machine.specs.declared.refusal.Refusal.TheVariants.{NoSuchUnit}
 use Rattle.s360_machine.specs.Machine.{Machine}
-use Rattle.s360_machine.specs.Units.{unit_at}
+use Rattle.s360_channel.specs.ConfiguredUnits.{unit_at}
 use Rattle.s360_text.specs.Blanks.{without_blanks}
 use Rattle.s360_debug.specs.Names.{refused_text}
 

@@ -11,11 +11,11 @@ use Rattle.s360_channel.specs.declared.program.Program.{Program}
 use Rattle.s360_channel.specs.declared.unit_state.UnitState.{UnitState}
 use Rattle.s360_channel.specs.declared.unit_state.UnitState.TheVariants.{Idle, Active, Waiting}
 use Rattle.s360_channel.specs.Words.{csw_doubleword}
-use Rattle.s360_machine.specs.declared.configured_unit.ConfiguredUnit.{ConfiguredUnit}
-use Rattle.s360_machine.specs.declared.configured_unit.ConfiguredUnit.TheVariants.{Reader as reader_unit, Punch as punch_unit, Printer as printer_unit, Console as console_unit, Tape0, Tape1}
+use Rattle.s360_channel.specs.declared.configured_unit.ConfiguredUnit.{ConfiguredUnit}
+use Rattle.s360_channel.specs.declared.configured_unit.ConfiguredUnit.TheVariants.{Reader as reader_unit, Punch as punch_unit, Printer as printer_unit, Console as console_unit, Tape0, Tape1}
 use Rattle.s360_machine.specs.declared.refusal.Refusal.TheVariants.{NoSuchUnit}
 use Rattle.s360_machine.specs.Machine.{Machine}
-use Rattle.s360_machine.specs.Units.{attention_at, state_at, unit_at}
+use Rattle.s360_channel.specs.ConfiguredUnits.{attention_at, state_at, unit_at}
 use Rattle.s360_debug.specs.Names.{refused_text}
 
 -- of a program its key, zeros and the address of its next channel command word, as a channel address word has them

@@ -4,12 +4,12 @@ use Rattle.std.specs.Option.{option_map_or}
 use Rattle.std.specs.List.{find}
 use Rattle.s360_store.specs.declared.place.Place.{Place}
 use Rattle.s360_channel.specs.Units.{is_active}
-use Rattle.s360_machine.specs.declared.configured_unit.ConfiguredUnit.{ConfiguredUnit}
+use Rattle.s360_channel.specs.declared.configured_unit.ConfiguredUnit.{ConfiguredUnit}
 use Rattle.s360_machine.specs.declared.event.Event.{Event}
 use Rattle.s360_machine.specs.declared.event.Event.TheVariants.{Cpu, Channel}
 use Rattle.s360_machine.specs.declared.refusal.Refusal.{Refusal}
 use Rattle.s360_machine.specs.Machine.{Machine}
-use Rattle.s360_machine.specs.Units.{address_of_unit, configured_units, control_of}
+use Rattle.s360_channel.specs.ConfiguredUnits.{address_of_unit, configured_units, control_of}
 use Rattle.s360_journal.specs.Breakpoints.{is_at_breakpoint}
 use Rattle.s360_journal.specs.Standing.{Standing, machine_of, refusal_in, alteration}
 use Rattle.s360_journal.specs.declared.running.RunEnd.{RunEnd}

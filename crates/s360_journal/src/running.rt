@@ -2,7 +2,7 @@
 ghost use Rattle.std.specs.Prelude.{◌≡◌, ℕ, IfOk, OnOk, OnErr, None, List, take};
 ghost use Rattle.s360_channel.specs.Units.{is_active};
 ghost use Rattle.s360_machine.specs.Machine.{seen};
-ghost use Rattle.s360_machine.specs.Units.{control_of};
+ghost use Rattle.s360_channel.specs.ConfiguredUnits.{control_of};
 ghost use Rattle.s360_store.specs.declared.place.Place.{Place};
 ghost use Rattle.s360_journal.specs.Breakpoints.{is_at_breakpoint};
 ghost use Rattle.s360_journal.specs.Offers.{unless_refused, with_events};

@@ -8,7 +8,7 @@ use Rattle.s360_device.specs.Reader.{new_reader}
 use Rattle.s360_print.specs.Console.{new_console}
 use Rattle.s360_print.specs.Printer.{new_printer}
 use Rattle.s360_tape.specs.Tape.{new_tape}
-use Rattle.s360_machine.specs.declared.configured_unit.ConfiguredUnit.TheVariants.{Reader}
+use Rattle.s360_channel.specs.declared.configured_unit.ConfiguredUnit.TheVariants.{Reader}
 use Rattle.s360_machine.specs.declared.external.ExternalConditions.{ExternalConditions}
 use Rattle.s360_machine.specs.declared.operator.Key.TheVariants.{Start, Stop, Reset, Interrupt, Load}
 use Rattle.s360_machine.specs.declared.run_state.RunState.{RunState}
@@ -19,7 +19,7 @@ use Rattle.s360_machine.specs.Loading.{after_load, core_after_loading, loading_u
 use Rattle.s360_machine.specs.Machine.{Machine, no_external}
 use Rattle.s360_machine.specs.Operator.{after_key}
 use Rattle.s360_machine.specs.Timer.{after_tick, runs_out, timer_after_tick}
-use Rattle.s360_machine.specs.Units.{idle_units}
+use Rattle.s360_channel.specs.ConfiguredUnits.{idle_units, with_control_of}
 
 -- both external conditions
 abbrev both : ExternalConditions
@@ -146,7 +146,7 @@ interrupt : after_key (known 0x200 0 0 [] Stopped no_external) Interrupt ≡ kno
 interrupt = refl
 
 load : after_key (known 0x200 7 0 [] Operating both) (Load (record { 0 = 0x00C }))
-    ≡ record (known 0x200 7 0 [] (Loading (record { 0 = 0x00C })) no_external) { units = record idle_units { reader = loading_unit } }
+    ≡ record (known 0x200 7 0 [] (Loading (record { 0 = 0x00C })) no_external) { units = with_control_of idle_units Reader loading_unit }
 load = refl
 
 -- the end of loading from the card reader, whose record has put a PSW with an interruption code at 0

@@ -1,4 +1,3 @@
-pub mod PlaceLemmas
 pub mod ControlLemmas
 pub mod SwapLemmas
 pub mod ChangeLemmas
@@ -8,4 +7,3 @@ pub mod CswLemmas
 pub mod InterruptionLemmas
 pub mod LoadingLemmas
 mod KnownEvents
-mod KnownTapes

@@ -1,5 +1,6 @@
 -- The end of initial program loading.
-use Rattle.std.proofs.Common.{◌≡◌, ◌≤◌, ◌+◌, ℕ, List, length, refl, ap, ◌∙◌}
+use Rattle.std.proofs.Common.{◌≡◌, ◌≤◌, ◌+◌, ℕ, List, length, refl, ap, ◌∙◌, set-set}
+use Rattle.std.specs.Prelude.{Option}
 use Rattle.std.specs.Int.{bytes_high_first}
 use Rattle.s360_store.specs.declared.place.Cell.{Cell}
 use Rattle.s360_store.specs.Cells.{AreCellsOf, after_exchange}
@@ -9,41 +10,29 @@ use Rattle.s360_channel.specs.declared.unit_state.UnitState.TheVariants.{Idle}
 use Rattle.s360_model.specs.Core.{Core, core_with_bytes, core_with_psw}
 use Rattle.s360_model.specs.Psw.{current_psw}
 use Rattle.s360_model.specs.Storage.{doubleword_at}
-use Rattle.s360_machine.specs.declared.configured_unit.ConfiguredUnit.{ConfiguredUnit}
-use Rattle.s360_machine.specs.declared.configured_unit.ConfiguredUnit.TheVariants.{Reader, Punch, Printer, Console, Tape0, Tape1}
+use Rattle.s360_channel.specs.declared.configured_unit.ConfiguredUnit.{ConfiguredUnit}
 use Rattle.s360_machine.specs.declared.machine.PlannedEvent.{PlannedEvent}
 use Rattle.s360_machine.specs.declared.run_state.RunState.TheVariants.{Operating}
-use Rattle.s360_machine.specs.declared.units.UnitChanges.{UnitChanges}
-use Rattle.s360_machine.specs.declared.units.Units.{Units}
-use Rattle.s360_machine.specs.ChannelEvents.{after_channel}
-use Rattle.s360_machine.specs.IoChanges.{media_changes_of}
+use Rattle.s360_channel.specs.declared.unit_change.UnitChange.{UnitChange}
+use Rattle.s360_channel.specs.declared.unit_control.UnitControl.{UnitControl}
+use Rattle.s360_channel.specs.UnitChanges.{IsUnitsChangeTo}
+use Rattle.s360_channel.proofs.UnitChangeLemmas.{control-set}
+use Rattle.s360_machine.specs.IoChanges.{media_change_of}
 use Rattle.s360_machine.specs.Loading.{core_after_loading, after_load}
 use Rattle.s360_machine.specs.Machine.{Machine, Whole}
-use Rattle.s360_machine.specs.Planned.{IsPlanOfMachine, IsUnitsChangeTo, PlansIo}
-use Rattle.s360_machine.specs.Units.{address_of_unit, control_of, with_control_of}
+use Rattle.s360_machine.specs.Planned.{IsPlanOfMachine, PlansIo}
+use Rattle.s360_channel.specs.ConfiguredUnits.{HasEachUnit, Units, address_of_unit, control_of, index_of, with_control_of}
 use Rattle.s360_machine.proofs.StepLemmas.{IsPlanOfMachine-from}
-
--- a channel event alters the state of its unit alone
-pub after_channel-units : (u : ConfiguredUnit) (m : Machine)
-    → (after_channel u m).units ≡ with_control_of m.units u (record (control_of m.units u) { state = (control_of (after_channel u m).units u).state })
-after_channel-units Reader m = refl
-after_channel-units Punch m = refl
-after_channel-units Printer m = refl
-after_channel-units Console m = refl
-after_channel-units Tape0 m = refl
-after_channel-units Tape1 m = refl
 
 -- a unit that was altered, and is idle at last
 abbrev altered : Units → ConfiguredUnit → UnitState → Units
 altered us u state = with_control_of us u (record (control_of us u) { state = state })
 
-idle-at-last : (us : Units) (u : ConfiguredUnit) (state : UnitState) → altered (altered us u state) u Idle ≡ altered us u Idle
-idle-at-last us Reader state = refl
-idle-at-last us Punch state = refl
-idle-at-last us Printer state = refl
-idle-at-last us Console state = refl
-idle-at-last us Tape0 state = refl
-idle-at-last us Tape1 state = refl
+idle-at-last : (us : Units) (u : ConfiguredUnit) (state : UnitState) → HasEachUnit us → altered (altered us u state) u Idle ≡ altered us u Idle
+idle-at-last us u state each =
+    let v : UnitControl = record (control_of us u) { state = state }
+    in ap (λ (c : UnitControl). with_control_of (with_control_of us u v) u (record c { state = Idle })) (control-set us u v each)
+    ∙ set-set us (index_of u) v (record (control_of us u) { state = Idle })
 
 -- the puts of the end of loading: the address of the unit, and then the PSW that stands at 0
 pub IsPlanOf-address : (m : Core) (p q : List Cell) (address : ℕ) (bytes : List ℕ) → AreCellsOf m p → 2 + length bytes ≤ length m.storage.bytes
@@ -65,15 +54,15 @@ IsPlanOf-loaded m p q r address psw h is w =
     in rw next at all
 
 -- loading ends over what a channel event has planned
-pub loaded-plan : (w : Whole) (n : Machine) (u : ConfiguredUnit) (state : UnitState) (plan plan_after : List Cell) (planned done : PlannedEvent) (x : UnitChanges)
-    → n.units ≡ altered w.units u state → IsPlanOfMachine w plan planned n
+pub loaded-plan : (w : Whole) (n : Machine) (u : ConfiguredUnit) (state : UnitState) (plan plan_after : List Cell) (planned done : PlannedEvent) (x : Option UnitChange)
+    → HasEachUnit w.units → n.units ≡ altered w.units u state → IsPlanOfMachine w plan planned n
     → IsPlanOf w.core plan_after (core_after_loading (address_of_unit u) (after_exchange w.core plan))
-    → PlansIo done (record planned.control { run_state = Operating }) x (media_changes_of planned.io)
+    → PlansIo done (record planned.control { run_state = Operating }) x (media_change_of planned.io)
     → IsUnitsChangeTo w.units x (altered w.units u Idle)
     → IsPlanOfMachine w plan_after done (after_load u n)
-loaded-plan w n u state plan plan_after planned done x is h core io units =
-    let last : (after_load u n).units ≡ altered w.units u Idle = ap (λ (us : Units). altered us u Idle) is ∙ idle-at-last w.units u state
-    in IsPlanOfMachine-from w (after_load u n) plan_after done x (media_changes_of planned.io)
+loaded-plan w n u state plan plan_after planned done x each is h core io units =
+    let last : (after_load u n).units ≡ altered w.units u Idle = ap (λ (us : Units). altered us u Idle) is ∙ idle-at-last w.units u state each
+    in IsPlanOfMachine-from w (after_load u n) plan_after done x (media_change_of planned.io)
     (rw h.core.makes at core)
     (rw h.control at io)
     (rw last units)

@@ -1,5 +1,6 @@
 -- A channel event of a unit, and what was planned of the machine beside the core.
-use Rattle.std.proofs.Common.{◌≡◌, ℕ, true, List, [], refl, ap, subst, sym, arith}
+use Rattle.std.proofs.Common.{◌≡◌, ℕ, Bool, true, false, List, [], refl, ap, subst, sym, arith, if◌then◌else◌}
+use Rattle.std.specs.Option.{option_map}
 use Rattle.std.specs.Prelude.{Option, Some, None, Result, Ok, Err, IfOk}
 use Rattle.s360_model.specs.Core.{Core}
 use Rattle.s360_model.specs.Storage.{Storage}
@@ -36,23 +37,25 @@ use Rattle.s360_channel.specs.Steps.{AltersDevice, IsDeviceChange, KeepsDevice, 
 use Rattle.s360_channel.proofs.DifferenceLemmas.{same_unit-Decides}
 use Rattle.s360_machine.specs.declared.channel_event.UnitStep.{UnitStep}
 use Rattle.s360_machine.specs.declared.machine.PlannedEvent.{PlannedEvent}
-use Rattle.s360_machine.specs.declared.media.MediaChanges.{MediaChanges}
-use Rattle.s360_machine.specs.declared.units.UnitChanges.{UnitChanges}
-use Rattle.s360_machine.specs.declared.units.Units.{Units}
-use Rattle.s360_machine.specs.ChannelEvents.{ExecutesProgram, IsAlterationOf, StepsTo, after_channel, after_ending, after_execution, execution_of, execution_with, view_of}
-use Rattle.s360_machine.specs.declared.configured_unit.ConfiguredUnit.{ConfiguredUnit}
-use Rattle.s360_machine.specs.IoChanges.{unit_change_of}
-use Rattle.s360_machine.specs.Machine.{Control, Machine, Media, Spare, Whole, WholeMedia, WithRoom, seen}
-use Rattle.s360_machine.specs.Planned.{IsMediaChangeTo, IsPlanOfMachine, IsUnitsChangeTo, PlansIo}
-use Rattle.s360_machine.specs.Units.{control_of, with_control_of}
-use Rattle.s360_machine.proofs.IoLemmas.{IsConsoleChange, IsPrinterChange, IsPunchChange, IsReaderChange, IsTapeChange, IsUnitsChangeTo-one}
-use Rattle.s360_machine.proofs.IoLemmas.{altered-is, console-becomes, console-stays, printer-becomes, printer-stays, punch-becomes, punch-stays, reader-becomes, reader-stays, tape-becomes, tape-stays}
+use Rattle.s360_machine.specs.declared.media.MediaChange.{MediaChange}
+use Rattle.s360_channel.specs.declared.unit_change.UnitChange.{UnitChange}
+use Rattle.s360_channel.specs.declared.unit_change.UnitChange.TheVariants.{One}
+use Rattle.s360_channel.specs.UnitChanges.{IsUnitsChangeTo}
+use Rattle.s360_channel.specs.ConfiguredUnits.{HasEachUnit, Units}
+use Rattle.s360_machine.specs.ChannelEvents.{ExecutesProgram, IsAlterationOf, StepsTo, after_channel, after_ending, after_execution, execution_at, execution_of, execution_with, media_after, view_of}
+use Rattle.s360_channel.specs.declared.configured_unit.ConfiguredUnit.{ConfiguredUnit}
+use Rattle.s360_machine.specs.Machine.{Control, Machine, Spare, Whole, WholeMedia, WithRoom, seen, seen_media}
+use Rattle.s360_machine.specs.Planned.{IsMediaChangeTo, IsPlanOfMachine, PlansIo}
+use Rattle.s360_channel.specs.ConfiguredUnits.{control_of, with_control_of}
+use Rattle.s360_channel.proofs.UnitChangeLemmas.{IsUnitsChangeTo-one}
+use Rattle.s360_machine.proofs.IoLemmas.{IsConsoleChange, IsPrinterChange, IsPunchChange, IsReaderChange, IsTapeChange}
+use Rattle.s360_machine.proofs.IoLemmas.{console-becomes, console-stays, printer-becomes, printer-stays, punch-becomes, punch-stays, reader-becomes, reader-stays, tape-becomes, tape-stays}
 
 -- a whole of its parts
 abbrev pub whole_with : Core → Control → Units → WholeMedia → Whole
 whole_with core control us media = record { core = core; control = control; units = us; media = media }
 
-pub IsPlanOfMachine-from : (w : Whole) (n : Machine) (plan : List Cell) (planned : PlannedEvent) (us : UnitChanges) (ms : MediaChanges)
+pub IsPlanOfMachine-from : (w : Whole) (n : Machine) (plan : List Cell) (planned : PlannedEvent) (us : Option UnitChange) (ms : Option MediaChange)
     → IsPlanOf w.core plan n.core → PlansIo planned n.control us ms → IsUnitsChangeTo w.units us n.units → IsMediaChangeTo w.media ms n.media
     → IsPlanOfMachine w plan planned n
 IsPlanOfMachine-from w n plan planned us ms core io u x = record {
@@ -180,25 +183,36 @@ tape-change d s u plan step run =
     device-change tape_table (seen_tape d.tape) (λ e x. IsTapeChange d.tape e x) (AltersTape d) (KeepsDevice TapeEnds d) (execution_of tape_table (seen_tape d.tape) s u.state).ending step.change
     (tape-stays d.tape) (λ e k. k) (λ e x a. tape-becomes d.tape (after_command tape_table (seen_tape d.tape) (command_of e.command) e.output) x a.can a.row a.back a.alters) run.change
 
+-- what was planned of one unit makes it stand so
+one-altered-by : (us : Units) (u : ConfiguredUnit) (v : UnitControl) (x : Option UnitControl) (b : Bool) → x ≡ (if b then None else Some v)
+    → IsUnitsChangeTo us (if b then None else Some (One u v)) (with_control_of us u v) → IsUnitsChangeTo us (option_map (λ c. One u c) x) (with_control_of us u v)
+one-altered-by us u v x true e h = rw e h
+one-altered-by us u v x false e h = rw e h
+
+one-altered : (us : Units) (u : ConfiguredUnit) (v : UnitControl) (x : Option UnitControl) → HasEachUnit us → IsAlterationOf (control_of us u) v x
+    → IsUnitsChangeTo us (option_map (λ c. One u c) x) (with_control_of us u v)
+one-altered us u v x each h = one-altered-by us u v x (same_unit (control_of us u) v) h (IsUnitsChangeTo-one us u v each)
+
 -- a channel event of a unit: what was planned of it makes the machine after what it executes, with the media that the
 -- changes make
 pub channel-event : {C E : Type 0} (k : WithRoom) (w : Whole) (spare : Spare) (unit : ConfiguredUnit) (plan : List Cell) (d : DeviceView) (Becomes : Ending → C → Type 0) (Stays : Ending → Type 0) (step : UnitStep C)
-    (ms : MediaChanges) (n : Media) (result : Result PlannedEvent E)
-    → record { whole = w; spare = spare } ≡ k
+    (ms : Option MediaChange) (result : Result PlannedEvent E)
+    → record { whole = w; spare = spare } ≡ k → HasEachUnit w.units
     → ExecutesProgram w.core.storage (control_of w.units unit) plan d Becomes Stays step
-    → IfOk result (λ planned. PlansIo planned k.whole.control (unit_change_of unit step.control) ms)
-    → IsMediaChangeTo w.media ms n
-    → after_channel unit (seen w) ≡ after_execution (execution_with d w.core.storage (control_of w.units unit).state) unit n (seen w)
+    → IfOk result (λ planned. PlansIo planned k.whole.control (option_map (λ c. One unit c) step.control) ms)
+    → execution_with d w.core.storage (control_of w.units unit).state ≡ execution_at unit (seen w)
+    → IsMediaChangeTo w.media ms (media_after unit (execution_at unit (seen w)).ending (seen_media w.media))
     → IfOk result (λ planned. IsPlanOfMachine k.whole plan planned (after_channel unit (seen k.whole)))
-channel-event k w spare unit plan d Becomes Stays step ms n (Err x) view run io media is = tt
-channel-event k w spare unit plan d Becomes Stays step ms n (Ok planned) view run io media is =
+channel-event k w spare unit plan d Becomes Stays step ms (Err x) view each run io is media = tt
+channel-event k w spare unit plan d Becomes Stays step ms (Ok planned) view each run io is media =
     let e : Execution = execution_with d w.core.storage (control_of w.units unit).state
     in let u : UnitControl = control_of w.units unit
     in let v : UnitControl = record u { state = e.state }
-    in let mine : PlansIo planned w.control (unit_change_of unit step.control) ms
-    = subst (λ (m : WithRoom). PlansIo planned m.whole.control (unit_change_of unit step.control) ms) (sym view) io
-    in let units : IsUnitsChangeTo w.units (unit_change_of unit step.control) (with_control_of w.units unit v)
-    = IsUnitsChangeTo-one w.units unit v step.control (altered-is u v step.control run.control)
-    in let plans : IsPlanOfMachine w plan planned (after_execution e unit n (seen w))
-    = IsPlanOfMachine-from w (after_execution e unit n (seen w)) plan planned _ _ (run.stores w.core refl) mine units media
-    in subst (λ (m : WithRoom). IsPlanOfMachine m.whole plan planned (after_channel unit (seen m.whole))) view (subst (λ (o : Machine). IsPlanOfMachine w plan planned o) (sym is) plans)
+    in let mine : PlansIo planned w.control (option_map (λ c. One unit c) step.control) ms
+    = subst (λ (m : WithRoom). PlansIo planned m.whole.control (option_map (λ c. One unit c) step.control) ms) (sym view) io
+    in let units : IsUnitsChangeTo w.units (option_map (λ c. One unit c) step.control) (with_control_of w.units unit v)
+    = one-altered w.units unit v step.control each run.control
+    in let plans : IsPlanOfMachine w plan planned (after_execution e unit (seen w))
+    = IsPlanOfMachine-from w (after_execution e unit (seen w)) plan planned _ _ (run.stores w.core refl) mine units (rw (← is) media)
+    in subst (λ (m : WithRoom). IsPlanOfMachine m.whole plan planned (after_channel unit (seen m.whole))) view
+    (subst (λ (x : Execution). IsPlanOfMachine w plan planned (after_execution x unit (seen w))) is plans)

@@ -2,25 +2,26 @@
 -- exchange done again takes the event back. Cells have the places of the core, control cells those
 -- of the control part, and the other changes those of the units, so that a change alone tells which
 -- places it alters.
-use Rattle.std.specs.Prelude.{◌++◌, ◌≤◌, List}
+use Rattle.std.specs.Prelude.{◌++◌, ◌≤◌, Option, List, IfSome}
+use Rattle.s360_model.specs.Exchanges.{CanIfAny, after_if_any, back_if_any}
 use Rattle.s360_store.specs.declared.place.Place.{Place}
 use Rattle.s360_store.specs.declared.place.Cell.{Cell}
 use Rattle.s360_store.specs.Cells.{after_exchange, cells_after_exchange, AreCellsOf, places_of_cells}
+use Rattle.s360_channel.specs.declared.unit_change.UnitChange.{UnitChange}
+use Rattle.s360_channel.specs.UnitChanges.{CanSwapUnits, places_of_units, unit_change_after_swap, units_after_swap}
 use Rattle.s360_machine.specs.ControlCells.{ControlCell}
-use Rattle.s360_machine.specs.declared.media.MediaChanges.{MediaChanges}
-use Rattle.s360_machine.specs.declared.units.UnitChanges.{UnitChanges}
+use Rattle.s360_machine.specs.declared.media.MediaChange.{MediaChange}
 use Rattle.s360_machine.specs.ControlCells.{places_of_control, HasEachControlOnce}
 use Rattle.s360_machine.specs.ControlCells.{control_after_exchange, control_cells_after_exchange}
-use Rattle.s360_machine.specs.IoChanges.{CanSwapMedia, media_after_swap, media_changes_after_swap}
-use Rattle.s360_machine.specs.IoChanges.{cards_of_punch, cards_of_reader, lines_of_console, lines_of_printer, slots_of_tape0, slots_of_tape1}
-use Rattle.s360_machine.specs.IoChanges.{places_of_media, places_of_units, units_after_swap, unit_changes_after_swap}
-use Rattle.s360_machine.specs.Machine.{Whole, Spare}
+use Rattle.s360_machine.specs.IoChanges.{CanSwapMedia, media_after_swap, media_change_after_swap}
+use Rattle.s360_machine.specs.IoChanges.{media_needs, places_of_media, unit_of_change}
+use Rattle.s360_machine.specs.Machine.{Whole, Spare, room_for}
 
 pub record Change : Type 0 where
   pub cells : List Cell
   pub control : List ControlCell
-  pub units : UnitChanges
-  pub media : MediaChanges
+  pub units : Option UnitChange
+  pub media : Option MediaChange
 
 -- the places that it alters beside those of the core
 abbrev pub places_beside_core : Change → List Place
@@ -32,17 +33,11 @@ places_of_change x = places_of_cells x.cells ++ places_beside_core x
 
 -- it can be exchanged with the whole
 abbrev pub CanSwap : Whole → Change → Type 0
-CanSwap w x = AreCellsOf w.core x.cells × HasEachControlOnce x.control × CanSwapMedia w.media x.media
+CanSwap w x = AreCellsOf w.core x.cells × HasEachControlOnce x.control × CanIfAny CanSwapUnits w.units x.units × CanIfAny CanSwapMedia w.media x.media
 
 -- the room is enough for the exchange
 abbrev pub HasRoom : Spare → Change → Type 0
-HasRoom s x =
-    (cards_of_reader x.media ≤ s.reader)
-    × (cards_of_punch x.media ≤ s.punch)
-    × (lines_of_printer x.media ≤ s.printer)
-    × (lines_of_console x.media ≤ s.console)
-    × (slots_of_tape0 x.media ≤ s.tape0)
-    × (slots_of_tape1 x.media ≤ s.tape1)
+HasRoom s x = IfSome x.media (λ y. media_needs y ≤ room_for s (unit_of_change y))
 
 -- the exchange wants no room
 abbrev pub NeedsNoRoom : Change → Type 0
@@ -53,8 +48,8 @@ abbrev pub after_swap : Whole → Change → Whole
 after_swap w x = record {
   core = after_exchange w.core x.cells;
   control = control_after_exchange w.control x.control;
-  units = units_after_swap w.units x.units;
-  media = media_after_swap w.media x.media;
+  units = after_if_any units_after_swap w.units x.units;
+  media = after_if_any media_after_swap w.media x.media;
 }
 
 -- the change after the exchange
@@ -62,6 +57,6 @@ abbrev pub change_after_swap : Whole → Change → Change
 change_after_swap w x = record {
   cells = cells_after_exchange w.core x.cells;
   control = control_cells_after_exchange w.control x.control;
-  units = unit_changes_after_swap w.units x.units;
-  media = media_changes_after_swap w.media x.media;
+  units = back_if_any unit_change_after_swap w.units x.units;
+  media = back_if_any media_change_after_swap w.media x.media;
 }

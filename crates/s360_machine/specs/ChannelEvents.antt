@@ -5,12 +5,12 @@ use Rattle.std.specs.Option.{option_map_or}
 use Rattle.s360_model.specs.Storage.{Storage}
 use Rattle.s360_word.specs.declared.unit.Unit.{Unit}
 use Rattle.s360_device.specs.Commands.{command_of}
-use Rattle.s360_device.specs.Punch.{punch_table}
-use Rattle.s360_device.specs.Reader.{reader_table}
+use Rattle.s360_device.specs.Punch.{PunchMedia, punch_table}
+use Rattle.s360_device.specs.Reader.{ReaderMedia, reader_table}
 use Rattle.s360_device.specs.Rows.{DeviceWith, Table, after_command, begin_of, exception_of, input_of}
-use Rattle.s360_print.specs.Console.{console_table}
-use Rattle.s360_print.specs.Printer.{printer_table}
-use Rattle.s360_tape.specs.Tape.{tape_table}
+use Rattle.s360_print.specs.Console.{ConsoleMedia, console_table}
+use Rattle.s360_print.specs.Printer.{PrinterMedia, printer_table}
+use Rattle.s360_tape.specs.Tape.{TapeMedia, tape_table}
 use Rattle.s360_store.specs.declared.place.Cell.{Cell}
 use Rattle.s360_channel.specs.declared.unit_control.UnitControl.{UnitControl}
 use Rattle.s360_channel.specs.declared.unit_state.UnitState.{UnitState}
@@ -21,11 +21,11 @@ use Rattle.s360_channel.specs.declared.engine.ChannelStep.{ChannelStep}
 use Rattle.s360_channel.specs.declared.program.Program.{Program}
 use Rattle.s360_channel.specs.Differences.{same_unit}
 use Rattle.s360_machine.specs.declared.channel_event.UnitStep.{UnitStep}
-use Rattle.s360_machine.specs.declared.configured_unit.ConfiguredUnit.{ConfiguredUnit}
-use Rattle.s360_machine.specs.declared.configured_unit.ConfiguredUnit.TheVariants.{Reader, Punch, Printer, Console, Tape0, Tape1}
+use Rattle.s360_channel.specs.declared.configured_unit.ConfiguredUnit.{ConfiguredUnit}
+use Rattle.s360_channel.specs.declared.configured_unit.ConfiguredUnit.TheVariants.{Reader, Punch, Printer, Console, Tape0, Tape1}
 use Rattle.s360_machine.specs.Loading.{after_loading}
 use Rattle.s360_machine.specs.Machine.{Machine, Media}
-use Rattle.s360_machine.specs.Units.{control_of, unit_at, with_control_of}
+use Rattle.s360_channel.specs.ConfiguredUnits.{control_of, unit_at, with_control_of}
 
 -- a device as its channel sees it, by its table
 abbrev pub view_of : {M : Type 0} → Table M → DeviceWith M → DeviceView
@@ -48,42 +48,33 @@ execution_with d s other = record { stores = None; state = other; ending = None 
 abbrev pub execution_of : {M : Type 0} → Table M → DeviceWith M → Storage → UnitState → Execution
 execution_of t d s state = execution_with (view_of t d) s state
 
--- the execution of each unit's program
-abbrev pub reader_execution : Machine → Execution
-reader_execution m = execution_of reader_table m.media.reader m.core.storage m.units.reader.state
+-- which device is a unit's: with its table, and the devices with another in its place
+abbrev pub at_device : {R : Type 0} → ConfiguredUnit → Media → ((M : Type 0) → Table M → DeviceWith M → (DeviceWith M → Media) → R) → R
+at_device Reader m f = f ReaderMedia reader_table m.reader (λ d. record m { reader = d })
+at_device Punch m f = f PunchMedia punch_table m.punch (λ d. record m { punch = d })
+at_device Printer m f = f PrinterMedia printer_table m.printer (λ d. record m { printer = d })
+at_device Console m f = f ConsoleMedia console_table m.console (λ d. record m { console = d })
+at_device Tape0 m f = f TapeMedia tape_table m.tape0 (λ d. record m { tape0 = d })
+at_device Tape1 m f = f TapeMedia tape_table m.tape1 (λ d. record m { tape1 = d })
 
-abbrev pub punch_execution : Machine → Execution
-punch_execution m = execution_of punch_table m.media.punch m.core.storage m.units.punch.state
+-- the execution of a unit's program, and the devices after the command that ends, if one does
+abbrev pub execution_at : ConfiguredUnit → Machine → Execution
+execution_at u m = at_device u m.media (λ M t d with_device. execution_of t d m.core.storage (control_of m.units u).state)
 
-abbrev pub printer_execution : Machine → Execution
-printer_execution m = execution_of printer_table m.media.printer m.core.storage m.units.printer.state
+abbrev pub media_after : ConfiguredUnit → Option Ending → Media → Media
+media_after u e m = at_device u m (λ M t d with_device. with_device (after_ending t d e))
 
-abbrev pub console_execution : Machine → Execution
-console_execution m = execution_of console_table m.media.console m.core.storage m.units.console.state
-
-abbrev pub tape0_execution : Machine → Execution
-tape0_execution m = execution_of tape_table m.media.tape0 m.core.storage m.units.tape0.state
-
-abbrev pub tape1_execution : Machine → Execution
-tape1_execution m = execution_of tape_table m.media.tape1 m.core.storage m.units.tape1.state
-
--- the machine after what a unit executes: what it stores, the unit in the state afterwards, and
--- these media
-abbrev pub after_execution : Execution → ConfiguredUnit → Media → Machine → Machine
-after_execution e u media m = record m {
+-- the machine after a channel event of a unit: what it stores, the unit in the state afterwards, and its device, which
+-- alone may be altered
+abbrev pub after_execution : Execution → ConfiguredUnit → Machine → Machine
+after_execution e u m = record m {
   core = core_with_run e.stores m.core;
   units = with_control_of m.units u (record (control_of m.units u) { state = e.state });
-  media = media;
+  media = media_after u e.ending m.media;
 }
 
--- the machine after a channel event of each unit, of whose media its own alone may be altered
 abbrev pub after_channel : ConfiguredUnit → Machine → Machine
-after_channel Reader m = after_execution (reader_execution m) Reader (record m.media { reader = after_ending reader_table m.media.reader (reader_execution m).ending }) m
-after_channel Punch m = after_execution (punch_execution m) Punch (record m.media { punch = after_ending punch_table m.media.punch (punch_execution m).ending }) m
-after_channel Printer m = after_execution (printer_execution m) Printer (record m.media { printer = after_ending printer_table m.media.printer (printer_execution m).ending }) m
-after_channel Console m = after_execution (console_execution m) Console (record m.media { console = after_ending console_table m.media.console (console_execution m).ending }) m
-after_channel Tape0 m = after_execution (tape0_execution m) Tape0 (record m.media { tape0 = after_ending tape_table m.media.tape0 (tape0_execution m).ending }) m
-after_channel Tape1 m = after_execution (tape1_execution m) Tape1 (record m.media { tape1 = after_ending tape_table m.media.tape1 (tape1_execution m).ending }) m
+after_channel u m = after_execution (execution_at u m) u m
 
 -- the machine after a channel event, by the address of the unit
 abbrev pub after_channel_event : Unit → Machine → Machine

@@ -17,11 +17,11 @@ use Rattle.s360_machine.specs.declared.cpu.CpuCase.{CpuCase}
 use Rattle.s360_machine.specs.declared.cpu.CpuCase.TheVariants.{Halted, Interrupted, Waiting, Executing}
 use Rattle.s360_machine.specs.Interruptions.{after_interruption, external_code}
 use Rattle.s360_word.specs.declared.unit.Unit.{Unit as UnitAddress}
-use Rattle.s360_machine.specs.declared.units.Units.{Units}
+use Rattle.s360_channel.specs.ConfiguredUnits.{Units}
 use Rattle.s360_machine.specs.InputOutput.{after_input_output, after_io}
 use Rattle.s360_machine.specs.Machine.{Control, Machine, no_external}
 use Rattle.s360_machine.specs.RunStates.{is_operating}
-use Rattle.s360_machine.specs.Units.{address_of_unit, lowest_pending}
+use Rattle.s360_channel.specs.ConfiguredUnits.{address_of_unit, lowest_pending}
 
 -- the lowest unit of a channel that has a condition, by its address
 abbrev pub pending_unit : Units → ℕ → Option UnitAddress

@@ -1,5 +1,6 @@
 -- The places at which two machines of one storage size differ, in their order.
-use Rattle.std.specs.Prelude.{Bool, true, false, ◌&&◌, if◌then◌else◌, List, [], ◌∷◌, ◌++◌, nat_eq}
+use Rattle.std.specs.Prelude.{Bool, true, false, ◌&&◌, if◌then◌else◌, List, [], ◌∷◌, ◌++◌, map, nat_eq, not}
+use Rattle.std.specs.List.{filter}
 use Rattle.std.specs.Bool.{beq}
 use Rattle.s360_store.specs.declared.place.Place.{Place}
 use Rattle.s360_store.specs.declared.place.Place.TheVariants.{Run, External}
@@ -7,14 +8,15 @@ use Rattle.s360_store.specs.Differences.{core_differences}
 use Rattle.s360_device.specs.Differences.{same_punch, same_reader}
 use Rattle.s360_print.specs.Differences.{same_console, same_printer}
 use Rattle.s360_tape.specs.Differences.{same_tape}
-use Rattle.s360_channel.specs.Differences.{same_unit}
+use Rattle.s360_channel.specs.declared.configured_unit.ConfiguredUnit.{ConfiguredUnit}
 use Rattle.s360_machine.specs.declared.external.ExternalConditions.{ExternalConditions}
 use Rattle.s360_machine.specs.declared.run_state.RunState.{RunState}
 use Rattle.s360_machine.specs.declared.run_state.RunState.TheVariants.{Operating, Stopped, Loading}
-use Rattle.s360_machine.specs.declared.configured_unit.ConfiguredUnit.TheVariants.{Reader, Punch, Printer, Console, Tape0, Tape1}
-use Rattle.s360_machine.specs.declared.units.Units.{Units}
+use Rattle.s360_channel.specs.declared.configured_unit.ConfiguredUnit.TheVariants.{Reader, Punch, Printer, Console, Tape0, Tape1}
+use Rattle.s360_channel.specs.ConfiguredUnits.{configured_units}
+use Rattle.s360_channel.specs.UnitChanges.{unit_differences}
 use Rattle.s360_machine.specs.Machine.{Machine, Media, Control}
-use Rattle.s360_machine.specs.Units.{media_place, state_place}
+use Rattle.s360_machine.specs.IoChanges.{media_place}
 
 abbrev pub same_run_state : RunState → RunState → Bool
 same_run_state Operating Operating = true
@@ -32,23 +34,20 @@ unless_same same p = if same then [] else p ∷ []
 abbrev pub control_differences : Control → Control → List Place
 control_differences c d = unless_same (same_run_state c.run_state d.run_state) Run ++ unless_same (same_external c.external d.external) External
 
-abbrev pub unit_differences : Units → Units → List Place
-unit_differences us vs =
-    unless_same (same_unit us.reader vs.reader) (state_place Reader)
-    ++ unless_same (same_unit us.punch vs.punch) (state_place Punch)
-    ++ unless_same (same_unit us.printer vs.printer) (state_place Printer)
-    ++ unless_same (same_unit us.console vs.console) (state_place Console)
-    ++ unless_same (same_unit us.tape0 vs.tape0) (state_place Tape0)
-    ++ unless_same (same_unit us.tape1 vs.tape1) (state_place Tape1)
+-- the devices that differ as they are seen, and their places
+abbrev pub same_device : Media → Media → ConfiguredUnit → Bool
+same_device m n Reader = same_reader m.reader n.reader
+same_device m n Punch = same_punch m.punch n.punch
+same_device m n Printer = same_printer m.printer n.printer
+same_device m n Console = same_console m.console n.console
+same_device m n Tape0 = same_tape m.tape0 n.tape0
+same_device m n Tape1 = same_tape m.tape1 n.tape1
+
+abbrev pub altered_devices : Media → Media → List ConfiguredUnit
+altered_devices m n = filter (λ u. not (same_device m n u)) configured_units
 
 abbrev pub media_differences : Media → Media → List Place
-media_differences m n =
-    unless_same (same_reader m.reader n.reader) (media_place Reader)
-    ++ unless_same (same_punch m.punch n.punch) (media_place Punch)
-    ++ unless_same (same_printer m.printer n.printer) (media_place Printer)
-    ++ unless_same (same_console m.console n.console) (media_place Console)
-    ++ unless_same (same_tape m.tape0 n.tape0) (media_place Tape0)
-    ++ unless_same (same_tape m.tape1 n.tape1) (media_place Tape1)
+media_differences m n = map (λ u. media_place u) (altered_devices m n)
 
 -- the places beside the core at which two machines differ, in their order
 abbrev pub differences_beside_core : Machine → Machine → List Place

@@ -1,4 +1,3 @@
-pub mod Units
 pub mod Machine
 pub mod Media
 pub mod RunStates

@@ -1,5 +1,5 @@
 -- The machine as one record (GA22-6821, "System Structure"), and what its code keeps of it.
-use Rattle.std.specs.Prelude.{ℕ, false, List, length}
+use Rattle.std.specs.Prelude.{ℕ, false, List, length, slice_index_or}
 use Rattle.s360_model.specs.Core.{Core, zero_core}
 use Rattle.s360_device.specs.Punch.{Punch, new_punch}
 use Rattle.s360_device.specs.Reader.{Reader, new_reader}
@@ -10,8 +10,8 @@ use Rattle.s360_tape.specs.WholeTape.{WholeTape, seen as seen_tape}
 use Rattle.s360_machine.specs.declared.external.ExternalConditions.{ExternalConditions}
 use Rattle.s360_machine.specs.declared.run_state.RunState.{RunState}
 use Rattle.s360_machine.specs.declared.run_state.RunState.TheVariants.{Operating}
-use Rattle.s360_machine.specs.declared.units.Units.{Units}
-use Rattle.s360_machine.specs.Units.{idle_units}
+use Rattle.s360_channel.specs.declared.configured_unit.ConfiguredUnit.{ConfiguredUnit}
+use Rattle.s360_channel.specs.ConfiguredUnits.{Units, idle_units, index_of}
 
 -- what the operator's panel works on beside the core
 pub record Control : Type 0 where
@@ -72,14 +72,12 @@ seen w = record { core = w.core; control = w.control; units = w.units; media = s
 
 -- room that was made for what will be put there; it is no part of the whole, and no law speaks of
 -- it: the cards that can be fed, those that can be punched, the lines that can be printed, those of
--- the console, and the slots of each tape
-pub record Spare : Type 0 where
-  pub reader : ℕ
-  pub punch : ℕ
-  pub printer : ℕ
-  pub console : ℕ
-  pub tape0 : ℕ
-  pub tape1 : ℕ
+-- the console, and the slots of each tape, device by device
+abbrev pub Spare : Type 0
+Spare = List ℕ
+
+abbrev pub room_for : Spare → ConfiguredUnit → ℕ
+room_for s u = slice_index_or s (index_of u) 0
 
 -- a whole with room beside it
 pub record WithRoom : Type 0 where

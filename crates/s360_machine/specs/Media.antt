@@ -1,10 +1,10 @@
 -- The devices with room in them, as the whole devices, and the tapes by their addresses.
-use Rattle.std.specs.Prelude.{Option, Some, None}
+use Rattle.std.specs.Prelude.{Option, Some, None, [], ◌∷◌}
 use Rattle.s360_tape.specs.WholeTape.{WholeTape}
-use Rattle.s360_machine.specs.declared.configured_unit.ConfiguredUnit.{ConfiguredUnit}
-use Rattle.s360_machine.specs.declared.configured_unit.ConfiguredUnit.TheVariants.{Tape0, Tape1}
+use Rattle.s360_channel.specs.declared.configured_unit.ConfiguredUnit.{ConfiguredUnit}
+use Rattle.s360_channel.specs.declared.configured_unit.ConfiguredUnit.TheVariants.{Tape0, Tape1}
 use Rattle.s360_machine.specs.declared.media.Devices.{Devices}
-use Rattle.s360_machine.specs.Machine.{WholeMedia}
+use Rattle.s360_machine.specs.Machine.{Spare, WholeMedia}
 
 abbrev pub media_of : Devices → WholeMedia
 media_of d = record {
@@ -15,6 +15,10 @@ media_of d = record {
   tape0 = d.tape0.tape;
   tape1 = d.tape1.tape;
 }
+
+-- the room in them
+abbrev pub room_of : Devices → Spare
+room_of d = d.reader.room ∷ d.punch.room ∷ d.printer.room ∷ d.console.room ∷ d.tape0.room ∷ d.tape1.room ∷ []
 
 -- the tape of a unit, if it is one
 abbrev pub tape_of : WholeMedia → Option ConfiguredUnit → Option WholeTape

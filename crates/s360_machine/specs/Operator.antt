@@ -6,10 +6,10 @@ use Rattle.s360_machine.specs.declared.run_state.RunState.{RunState}
 use Rattle.s360_machine.specs.declared.run_state.RunState.TheVariants.{Operating, Stopped, Loading}
 use Rattle.s360_device.specs.Reader.{with_end_key}
 use Rattle.s360_print.specs.Console.{with_line}
-use Rattle.s360_machine.specs.declared.units.Units.{Units}
+use Rattle.s360_channel.specs.declared.configured_unit.ConfiguredUnit.TheVariants.{Console}
+use Rattle.s360_channel.specs.ConfiguredUnits.{Units, control_of, unit_at, with_control_of}
 use Rattle.s360_machine.specs.Machine.{Control, Machine, Media, no_external}
 use Rattle.s360_machine.specs.Loading.{units_after_reset}
-use Rattle.s360_machine.specs.Units.{unit_at}
 
 -- the start key works while the machine is stopped, the stop key while it operates
 abbrev pub after_start : RunState → RunState
@@ -37,7 +37,7 @@ control_after_key other c = c
 abbrev pub units_after_key : Key → Units → Units
 units_after_key Reset us = units_after_reset None
 units_after_key (Load unit) us = units_after_reset (unit_at unit.0)
-units_after_key Request us = record us { console = record us.console { attention = true } }
+units_after_key Request us = with_control_of us Console (record (control_of us Console) { attention = true })
 units_after_key other us = us
 
 -- the end-of-file key stays pressed (own profile). A line that is entered is the console's

@@ -9,7 +9,7 @@ use Rattle.s360_machine.specs.declared.operator.Key.TheVariants.{Enter, Load}
 use Rattle.s360_machine.specs.declared.refusal.Refusal.{Refusal}
 use Rattle.s360_machine.specs.declared.refusal.Refusal.TheVariants.{Memory, OutsideStorage, NoSuchUnit, LineTooLong, PatchTooLong, JournalFull}
 use Rattle.s360_print.specs.TypedLines.{line_limit}
-use Rattle.s360_machine.specs.Units.{unit_at}
+use Rattle.s360_channel.specs.ConfiguredUnits.{unit_at}
 
 -- the numbers by which refusals are printed
 abbrev pub number_of_refusal : Refusal → ℕ

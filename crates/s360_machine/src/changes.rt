@@ -4,13 +4,9 @@ ghost use Rattle.std.specs.Prelude.{if◌then◌else◌};
 ghost use Rattle.std.specs.List.{list_any};
 ghost use Rattle.s360_store.specs.Places.{same_place};
 ghost use Rattle.s360_machine.specs.Change.{places_beside_core, places_of_change};
-ghost use Rattle.s360_machine.specs.IoChanges.{places_of_media, places_of_units};
 
-use crate::configured_unit::ConfiguredUnit;
 use crate::control_change::ControlChange;
 use crate::io_change::IoChange;
-use crate::media::MediaChanges;
-use crate::units::UnitChanges;
 use arrayvec::ArrayVec;
 use s360_store::{Cell, Place};
 use smallvec::SmallVec;
@@ -20,8 +16,9 @@ use std::marker::Model;
 /// So many cells of the core stand within a change, as many as most instructions alter.
 pub(crate) const WITHIN: usize = 2;
 
-/// So many places there are beside those of the core.
-const BESIDE: usize = 14;
+/// So many places there are beside those of the core: two of the control part, those of six units, and one of a
+/// device.
+const BESIDE: usize = 9;
 
 /// The places that an event alters, in their order, each with the value that stands there while the
 /// change is not made, or no longer: those of the core, then those of the control part, and then
@@ -40,97 +37,22 @@ impl Model for Changes {
 
     ghost Value = { Change };
 
-    ghost use Rattle.s360_machine.specs.IoChanges.{media_changes_of, unit_changes_of};
+    ghost use Rattle.s360_machine.specs.IoChanges.{media_change_of, unit_change_of};
 
-    ghost view = { λ c. record { cells = c.cells.items; control = control_cells c.control; units = unit_changes_of c.io; media = media_changes_of c.io } };
+    ghost view = { λ c. record { cells = c.cells.items; control = control_cells c.control; units = unit_change_of c.io; media = media_change_of c.io } };
 
     ghost invariant = { λ c. length c.cells.items ≤ 1000000 };
 }
 
 /// Adds a place where there is a change of it.
 fn push_if(places: &mut ArrayVec<Place, BESIDE>, altered: bool, place: Place)
-    requires room { length places.old.items < 14 }
+    requires room { length places.old.items < 9 }
     ensures places { places.new.items ≡ places.old.items ++ (if altered then place ∷ [] else []) }
     ensures few { length places.new.items ≤ length places.old.items + 1 }
 {
     if altered {
         places.push(place);
     }
-}
-
-/// Adds the places of the units that do not stay as they are.
-fn push_units(places: &mut ArrayVec<Place, BESIDE>, units: &UnitChanges)
-    requires room { length places.old.items ≤ 8 }
-    ensures places { places.new.items ≡ places.old.items ++ places_of_units units.now }
-    ensures few { length places.new.items ≤ length places.old.items + 6 }
-{
-    push_if(
-        places,
-        units.reader.is_some(),
-        Place::UnitState(ConfiguredUnit::Reader.unit()),
-    );
-    push_if(
-        places,
-        units.punch.is_some(),
-        Place::UnitState(ConfiguredUnit::Punch.unit()),
-    );
-    push_if(
-        places,
-        units.printer.is_some(),
-        Place::UnitState(ConfiguredUnit::Printer.unit()),
-    );
-    push_if(
-        places,
-        units.console.is_some(),
-        Place::UnitState(ConfiguredUnit::Console.unit()),
-    );
-    push_if(
-        places,
-        units.tape0.is_some(),
-        Place::UnitState(ConfiguredUnit::Tape0.unit()),
-    );
-    push_if(
-        places,
-        units.tape1.is_some(),
-        Place::UnitState(ConfiguredUnit::Tape1.unit()),
-    );
-}
-
-/// Adds the places of the devices that do not stay as they are.
-fn push_media(places: &mut ArrayVec<Place, BESIDE>, media: &MediaChanges)
-    requires room { length places.old.items ≤ 8 }
-    ensures { places.new.items ≡ places.old.items ++ places_of_media media.now }
-{
-    push_if(
-        places,
-        media.reader.is_some(),
-        Place::UnitMedia(ConfiguredUnit::Reader.unit()),
-    );
-    push_if(
-        places,
-        media.punch.is_some(),
-        Place::UnitMedia(ConfiguredUnit::Punch.unit()),
-    );
-    push_if(
-        places,
-        media.printer.is_some(),
-        Place::UnitMedia(ConfiguredUnit::Printer.unit()),
-    );
-    push_if(
-        places,
-        media.console.is_some(),
-        Place::UnitMedia(ConfiguredUnit::Console.unit()),
-    );
-    push_if(
-        places,
-        media.tape0.is_some(),
-        Place::UnitMedia(ConfiguredUnit::Tape0.unit()),
-    );
-    push_if(
-        places,
-        media.tape1.is_some(),
-        Place::UnitMedia(ConfiguredUnit::Tape1.unit()),
-    );
 }
 
 impl Changes {
@@ -145,8 +67,14 @@ impl Changes {
         let Some(io) = &self.io else {
             return places;
         };
-        push_units(&mut places, &io.units);
-        push_media(&mut places, &io.media);
+        if let Some(change) = &io.units {
+            for unit in change.altered() {
+                places.push(Place::UnitState(unit.unit()));
+            }
+        }
+        if let Some(change) = &io.media {
+            places.push(Place::UnitMedia(change.unit().unit()));
+        }
         places
     }
 

@@ -1,18 +1,19 @@
 //! Channel events. Source: GA22-6821, "Input/Output Operations", execution of input/output
 //! operations.
 ghost use Rattle.std.specs.Prelude.{◌≡◌, ◌≤◌, [], IfOk, OnOk, length};
+ghost use Rattle.std.specs.Option.{option_map};
+ghost use Rattle.s360_channel.specs.declared.unit_change.UnitChange.TheVariants.{One};
 ghost use Rattle.s360_channel.specs.Steps.{AltersDevice, KeepsDevice, change_of_step};
-ghost use Rattle.s360_machine.specs.ChannelEvents.{ExecutesProgram, StepsTo};
+ghost use Rattle.s360_machine.specs.ChannelEvents.{ExecutesProgram, IsAlterationOf, StepsTo};
 ghost use Rattle.s360_machine.specs.ChannelEvents.{after_channel, after_channel_event};
-ghost use Rattle.s360_machine.specs.IoChanges.{unit_change_of};
 ghost use Rattle.s360_machine.specs.Machine.{seen};
 ghost use Rattle.s360_machine.specs.Planned.{IsPlanOfMachine, PlansIo};
 
-use crate::configured_unit::ConfiguredUnit;
 use crate::machine::{Machine, PlannedEvent};
-use crate::media::MediaChanges;
-use crate::units::{UnitChanges, altered_to};
-use s360_channel::{ChannelStep, UnitControl, UnitState, channel_plan};
+use crate::media::MediaChange;
+use s360_channel::{
+    ChannelStep, ConfiguredUnit, UnitChange, UnitControl, UnitState, channel_plan,
+};
 use s360_device::Device;
 use s360_store::{Plan, Storage};
 use s360_word::Unit;
@@ -25,6 +26,17 @@ pub(crate) struct UnitStep<C> {
     pub(crate) control: Option<UnitControl>,
     /// The change of its device.
     pub(crate) change: Option<C>,
+}
+
+/// What a unit in another state becomes, where that is not what it is.
+fn altered_to(unit: &UnitControl, state: UnitState) -> Option<UnitControl>
+    ensures { IsAlterationOf unit.now (record unit.now { state = state }) result }
+{
+    let next = UnitControl {
+        state,
+        attention: unit.attention,
+    };
+    if unit.is(&next) { None } else { Some(next) }
 }
 
 /// What a step of its program makes of a unit.
@@ -76,11 +88,12 @@ impl Machine {
         &self,
         unit: ConfiguredUnit,
         control: Option<UnitControl>,
-        media: MediaChanges,
+        media: Option<MediaChange>,
     ) -> Result<PlannedEvent, AllocError>
-        ensures { IfOk result (λ planned. PlansIo planned self.now.whole.control (unit_change_of unit control) media) }
+        ensures { IfOk result (λ planned. PlansIo planned self.now.whole.control (option_map (λ c. One unit c) control) media) }
     {
-        self.planned_with(self.control, UnitChanges::of(unit, control), media)
+        let units = control.map(|control| UnitChange::One(unit, control));
+        self.planned_with(self.control, units, media)
     }
 
     /// Plans what the channel makes of a unit.
@@ -97,27 +110,27 @@ impl Machine {
         match unit {
             ConfiguredUnit::Reader => {
                 let step = plan_step(self.alloc, storage, control, &self.devices.reader, plan)?;
-                self.planned_step(unit, step.control, MediaChanges::of_reader(step.change))
+                self.planned_step(unit, step.control, step.change.map(MediaChange::Reader))
             }
             ConfiguredUnit::Punch => {
                 let step = plan_step(self.alloc, storage, control, &self.devices.punch, plan)?;
-                self.planned_step(unit, step.control, MediaChanges::of_punch(step.change))
+                self.planned_step(unit, step.control, step.change.map(MediaChange::Punch))
             }
             ConfiguredUnit::Printer => {
                 let step = plan_step(self.alloc, storage, control, &self.devices.printer, plan)?;
-                self.planned_step(unit, step.control, MediaChanges::of_printer(step.change))
+                self.planned_step(unit, step.control, step.change.map(MediaChange::Printer))
             }
             ConfiguredUnit::Console => {
                 let step = plan_step(self.alloc, storage, control, &self.devices.console, plan)?;
-                self.planned_step(unit, step.control, MediaChanges::of_console(step.change))
+                self.planned_step(unit, step.control, step.change.map(MediaChange::Console))
             }
             ConfiguredUnit::Tape0 => {
                 let step = plan_step(self.alloc, storage, control, &self.devices.tape0, plan)?;
-                self.planned_step(unit, step.control, MediaChanges::of_tape0(step.change))
+                self.planned_step(unit, step.control, step.change.map(MediaChange::Tape0))
             }
             ConfiguredUnit::Tape1 => {
                 let step = plan_step(self.alloc, storage, control, &self.devices.tape1, plan)?;
-                self.planned_step(unit, step.control, MediaChanges::of_tape1(step.change))
+                self.planned_step(unit, step.control, step.change.map(MediaChange::Tape1))
             }
         }
     }

@@ -2,24 +2,24 @@
 //! interruption. Source: GA22-6821, "Input/Output Operations".
 ghost use Rattle.std.specs.Prelude.{◌≡◌, ◌≤◌, ◌+◌, [], IfOk, OnOk, length};
 ghost use Rattle.s360_store.specs.Plans.{IsPlanOf};
+ghost use Rattle.s360_channel.specs.IoInstructions.{units_after_io};
+ghost use Rattle.s360_channel.specs.UnitChanges.{IsUnitsChangeTo};
 ghost use Rattle.s360_machine.specs.InputOutput.{after_input_output, after_io, after_taking};
 ghost use Rattle.s360_machine.specs.InputOutput.{core_after_io, core_with_csw, io_result};
-ghost use Rattle.s360_machine.specs.InputOutput.{result_for_unit, tested_channel};
 ghost use Rattle.s360_machine.specs.Machine.{seen};
 ghost use Rattle.s360_machine.specs.Planned.{IsPlanOfMachine};
 ghost use Rattle.s360_store.specs.Cells.{AreCellsOf, after_exchange};
 ghost use Rattle.s360_machine.specs.InputOutput.{PlansCsw};
 
-use crate::configured_unit::ConfiguredUnit;
 use crate::core_state::Core;
 use crate::machine::{Machine, PlannedEvent};
-use crate::units::Units;
 use s360_channel::{
-    ChannelKind, Condition, CswStore, IoResult, halt, start, status_halfword, test, test_channel,
+    Condition, ConfiguredUnit, CswStore, IoResult, UnitAfter, UnitChange, halt, start,
+    status_halfword, test, test_channel,
 };
 use s360_fixed::IoOperation;
 use s360_psw::{Class, InstructionLength};
-use s360_store::{LEAST_SIZE, Plan, Storage};
+use s360_store::{LEAST_SIZE, Plan};
 use s360_word::Unit;
 use std::alloc::AllocError;
 
@@ -28,40 +28,6 @@ const CSW: u32 = 64;
 
 /// The address of its bits 32 to 47.
 const STATUS: u32 = 68;
-
-/// TEST CHANNEL by the number of the channel.
-fn tested_channel(units: &Units, channel: u16) -> IoResult
-    ensures { result ≡ tested_channel units.now channel }
-{
-    let condition = match channel {
-        0 => test_channel(ChannelKind::Multiplexer, false, false),
-        1 => {
-            let (first, second) = (&units.tape0.state, &units.tape1.state);
-            let occupied = first.is_active() || second.is_active();
-            let waiting = first.is_waiting() || second.is_waiting();
-            test_channel(ChannelKind::Selector, occupied, waiting)
-        }
-        _ => return IoResult::not_operational(),
-    };
-    IoResult::condition_alone(condition)
-}
-
-/// Another input/output instruction of a unit that is there.
-fn result_for_unit(
-    operation: IoOperation,
-    storage: &Storage,
-    units: &Units,
-    unit: ConfiguredUnit,
-) -> IoResult
-    ensures { result ≡ result_for_unit operation storage.now units.now unit }
-{
-    match operation {
-        IoOperation::Start => start(storage, units.is_occupied(unit), units.control(unit)),
-        IoOperation::Test => test(units.is_occupied(unit), units.control(unit)),
-        IoOperation::Halt => halt(unit.kind(), units.control(units.halted(unit))),
-        IoOperation::TestChannel => IoResult::not_operational(),
-    }
-}
 
 impl Core {
     /// Plans what is stored of the channel status word.
@@ -98,13 +64,20 @@ impl Machine {
     fn io_result(&self, operation: IoOperation, unit: Unit) -> IoResult
         ensures { result ≡ io_result operation unit (seen self.now.whole) }
     {
-        if operation == IoOperation::TestChannel {
-            return tested_channel(&self.units, unit.address() / 0x100);
+        match operation {
+            IoOperation::Start => start(self.core.storage(), &self.units, unit),
+            IoOperation::Test => test(&self.units, unit),
+            IoOperation::Halt => halt(&self.units, unit),
+            IoOperation::TestChannel => test_channel(&self.units, unit.address() / 0x100),
         }
-        match ConfiguredUnit::at(unit) {
-            Some(unit) => result_for_unit(operation, self.core.storage(), &self.units, unit),
-            None => IoResult::not_operational(),
-        }
+    }
+
+    /// What makes the unit stand so that an input/output instruction alters.
+    fn change_after_io(&self, next: Option<UnitAfter>) -> Option<UnitChange>
+        ensures { IsUnitsChangeTo self.now.whole.units result (units_after_io self.now.whole.units next) }
+    {
+        let UnitAfter { unit, control } = next?;
+        self.units.change_of(unit, control)
     }
 
     /// Plans an input/output instruction.
@@ -120,9 +93,8 @@ impl Machine {
     {
         let done = self.io_result(operation, unit);
         self.core.plan_io(&done, next_address, plan)?;
-        let unit = self.units.of_result(operation, ConfiguredUnit::at(unit));
-        let units = self.units.changes_with(unit, done.unit);
-        let planned = self.planned_with(self.control, units, self.devices.unchanged())?;
+        let units = self.change_after_io(done.unit);
+        let planned = self.planned_with(self.control, units, None)?;
         Ok(planned)
     }
 
@@ -157,8 +129,8 @@ impl Machine {
         let length = InstructionLength::NotAvailable;
         self.core
             .plan_interruption(Class::InputOutput, self.core.psw(), code, length, plan)?;
-        let units = self.units.changes_of(unit, next);
-        let planned = self.planned_with(self.control, units, self.devices.unchanged())?;
+        let units = self.units.change_of(unit, next);
+        let planned = self.planned_with(self.control, units, None)?;
         Ok(planned)
     }
 }

@@ -7,7 +7,6 @@
 
 mod changes;
 mod channel_event;
-mod configured_unit;
 mod control;
 mod control_change;
 mod core_state;
@@ -24,14 +23,13 @@ mod operator;
 mod refusal;
 mod run_state;
 mod timer;
-mod units;
 
 pub use changes::Changes;
-pub use configured_unit::ConfiguredUnit;
 pub use event::{Event, Patch};
 pub use external::ExternalConditions;
 pub use machine::Machine;
 pub use operator::Key;
 pub use refusal::Refusal;
 pub use run_state::RunState;
+pub use s360_channel::ConfiguredUnit;
 pub use s360_store::Bytes;

@@ -1,23 +1,22 @@
 //! The end of initial program loading. Source: GA22-6821, "System Control Panel", initial program
 //! loading.
 ghost use Rattle.std.specs.Prelude.{◌≡◌, ◌≤◌, IfOk, OnOk, length};
-ghost use Rattle.std.specs.Option.{option_copied};
 ghost use Rattle.s360_store.specs.Cells.{AreCellsOf, after_exchange};
 ghost use Rattle.s360_store.specs.Plans.{IsPlanOf};
-ghost use Rattle.s360_machine.specs.IoChanges.{change_of_unit, media_changes_of, unit_changes_of};
-ghost use Rattle.s360_machine.specs.IoChanges.{units_after_swap};
+ghost use Rattle.s360_model.specs.Exchanges.{after_if_any};
+ghost use Rattle.s360_channel.specs.UnitChanges.{units_after_swap};
+ghost use Rattle.s360_machine.specs.IoChanges.{media_change_of, unit_change_of};
 ghost use Rattle.s360_machine.specs.Loading.{after_loading, core_after_loading, has_loaded};
 ghost use Rattle.s360_machine.specs.Machine.{Machine as Seen, seen};
 ghost use Rattle.s360_machine.specs.Planned.{IsPlanOfMachine};
-ghost use Rattle.s360_machine.specs.Units.{control_of, with_control_of};
+ghost use Rattle.s360_channel.specs.ConfiguredUnits.{control_of, with_control_of};
 ghost use Rattle.s360_channel.specs.declared.unit_state.UnitState.{UnitState as States};
 
-use crate::configured_unit::ConfiguredUnit;
 use crate::core_state::Core;
 use crate::machine::{Machine, PlannedEvent};
-use crate::media::MediaChanges;
+use crate::media::MediaChange;
 use crate::run_state::RunState;
-use s360_channel::{UnitControl, UnitState, status_halfword};
+use s360_channel::{ConfiguredUnit, UnitControl, UnitState, Units, status_halfword};
 use s360_psw::Psw;
 use s360_store::{LEAST_SIZE, Plan};
 use std::alloc::AllocError;
@@ -43,48 +42,39 @@ impl Core {
 }
 
 impl PlannedEvent {
-    /// What becomes of a unit, if it does not stay as it is.
-    fn change_of_unit(&self, unit: ConfiguredUnit) -> Option<&UnitControl>
-        ensures { option_copied result ≡ change_of_unit (unit_changes_of self.now.io) unit }
+    /// What a channel then does for a unit.
+    fn state_after<'a>(&'a self, units: &'a Units, unit: ConfiguredUnit) -> &'a UnitState
+        ensures { result.now ≡ (control_of (after_if_any units_after_swap units.now (unit_change_of self.now.io)) unit).state }
     {
         match &self.io {
-            Some(io) => io.units.get(unit),
-            None => None,
+            Some(io) => units.state_after(&io.units, unit),
+            None => &units.control(unit).state,
         }
     }
 
-    /// What becomes of the devices.
-    fn into_media(self) -> MediaChanges
-        ensures { result ≡ media_changes_of self.io }
+    /// What becomes of its device.
+    fn into_media(self) -> Option<MediaChange>
+        ensures { result ≡ media_change_of self.io }
     {
-        match self.io {
-            Some(io) => Box::into_inner(io).media,
-            None => MediaChanges::none(),
-        }
+        Box::into_inner(self.io?).media
     }
 }
 
 impl Machine {
     /// Whether a channel event that was planned ends loading from a unit.
     fn has_loaded(&self, unit: ConfiguredUnit, planned: &PlannedEvent) -> bool
-        ensures { result ≡ has_loaded self.now.whole.control.run_state unit (control_of self.now.whole.units unit).state (control_of (units_after_swap self.now.whole.units (unit_changes_of planned.now.io)) unit).state }
+        ensures { result ≡ has_loaded self.now.whole.control.run_state unit (control_of self.now.whole.units unit).state (control_of (after_if_any units_after_swap self.now.whole.units (unit_change_of planned.now.io)) unit).state }
     {
         if self.control.run_state() != RunState::Loading(unit.unit()) {
             return false;
         }
         match (
             &self.units.control(unit).state,
-            planned.change_of_unit(unit),
+            planned.state_after(&self.units, unit),
         ) {
-            (
-                UnitState::Active(_),
-                Some(
-                    UnitControl {
-                        state: UnitState::Waiting(csw),
-                        ..
-                    },
-                ),
-            ) => status_halfword(&csw.unit, &csw.channel) == CLEAN_END,
+            (UnitState::Active(_), UnitState::Waiting(csw)) => {
+                status_halfword(&csw.unit, &csw.channel) == CLEAN_END
+            }
             _ => false,
         }
     }
@@ -108,7 +98,7 @@ impl Machine {
             state: UnitState::Idle,
             attention: self.units.control(unit).attention,
         };
-        let units = self.units.changes_of(unit, idle);
+        let units = self.units.change_of(unit, idle);
         let control = planned.control.operating();
         let done = self.planned_with(control, units, planned.into_media())?;
         Ok(done)

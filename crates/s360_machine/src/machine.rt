@@ -11,23 +11,21 @@ ghost use Rattle.s360_machine.specs.Change.{HasRoom, NeedsNoRoom};
 ghost use Rattle.s360_machine.specs.Step.{after};
 ghost use Rattle.s360_tape.specs.WholeTape.{TapeWithRoom, seen as seen_tape};
 ghost use Rattle.s360_machine.specs.Media.{tape_of};
-ghost use Rattle.s360_machine.specs.Units.{attention_at, state_at, unit_at};
+ghost use Rattle.s360_channel.specs.ConfiguredUnits.{attention_at, state_at, unit_at};
 ghost use Rattle.s360_machine.specs.Refusals.{refusal_of};
 ghost use Rattle.s360_machine.specs.Planned.{IsChangeTo, IsPlanOfMachine, LeavesUnits, PlansIo};
 ghost use Rattle.s360_machine.specs.declared.refusal.Refusal.TheVariants.{Memory};
 
 use crate::changes::Changes;
-use crate::configured_unit::ConfiguredUnit;
 use crate::control::Control;
 use crate::core_state::Core;
 use crate::event::Event;
 use crate::external::ExternalConditions;
 use crate::io_change::{IoChange, exchange_io};
-use crate::media::{Devices, MediaChanges};
+use crate::media::{Devices, MediaChange};
 use crate::refusal::Refusal;
 use crate::run_state::RunState;
-use crate::units::{UnitChanges, Units};
-use s360_channel::UnitState;
+use s360_channel::{ConfiguredUnit, UnitChange, UnitState, Units};
 use s360_device::{Deck, Punch, Reader};
 use s360_print::{Console, Printer};
 use s360_psw::Psw;
@@ -62,9 +60,9 @@ impl Model for Machine {
 
     ghost Value = { WithRoom };
 
-    ghost use Rattle.s360_machine.specs.Media.{media_of};
+    ghost use Rattle.s360_machine.specs.Media.{media_of, room_of};
 
-    ghost view = { λ m. record { whole = record { core = m.core; control = m.control; units = m.units; media = media_of m.devices }; spare = record { reader = m.devices.reader.room; punch = m.devices.punch.room; printer = m.devices.printer.room; console = m.devices.console.room; tape0 = m.devices.tape0.room; tape1 = m.devices.tape1.room } } };
+    ghost view = { λ m. record { whole = record { core = m.core; control = m.control; units = m.units; media = media_of m.devices }; spare = room_of m.devices } };
 }
 
 impl Machine {
@@ -219,8 +217,8 @@ impl Machine {
     pub(crate) fn planned_with(
         &self,
         control: Control,
-        units: UnitChanges,
-        media: MediaChanges,
+        units: Option<UnitChange>,
+        media: Option<MediaChange>,
     ) -> Result<PlannedEvent, AllocError>
         ensures { IfOk result (λ planned. PlansIo planned control units media) }
     {
@@ -254,7 +252,10 @@ impl Machine {
         ensures ok { OnOk result (HasRoom self.new.spare changes.now) }
     {
         match &changes.io {
-            Some(io) => self.devices.make_room(&io.media),
+            Some(io) => match &io.media {
+                Some(change) => self.devices.make_room(change),
+                None => Ok(()),
+            },
             None => Ok(()),
         }
     }

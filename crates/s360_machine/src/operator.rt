@@ -1,12 +1,15 @@
 //! The keys of the operator. Source: GA22-6821, "System Control Panel", and the component
 //! description of the 1052.
 ghost use Rattle.std.specs.Prelude.{◌≡◌, [], None, IfOk};
+ghost use Rattle.s360_channel.specs.UnitChanges.{IsUnitsChangeTo};
+ghost use Rattle.s360_machine.specs.Loading.{units_after_reset};
 ghost use Rattle.s360_machine.specs.Machine.{seen};
-ghost use Rattle.s360_machine.specs.Operator.{after_key};
+ghost use Rattle.s360_machine.specs.Operator.{after_key, units_after_key};
 ghost use Rattle.s360_machine.specs.Planned.{IsPlanOfMachine};
 ghost use Rattle.s360_machine.specs.Refusals.{refusal_of_key};
 
 use crate::machine::{Machine, PlannedEvent};
+use s360_channel::{ConfiguredUnit, Program, UnitChange, UnitControl, UnitState, Units};
 use s360_store::Bytes;
 use s360_word::Unit;
 use std::alloc::AllocError;
@@ -34,7 +37,37 @@ pub enum Key {
     Load(Unit),
 }
 
+/// The units after a reset, from one of which the machine may load then.
+fn after_reset(loading: Option<ConfiguredUnit>) -> Units
+    ensures { result ≡ units_after_reset loading }
+{
+    let idle = Units::idle();
+    let Some(unit) = loading else {
+        return idle;
+    };
+    let control = UnitControl {
+        state: UnitState::Active(Program::loading()),
+        attention: false,
+    };
+    idle.with(unit, control)
+}
+
 impl Machine {
+    /// What a key makes of the units.
+    fn change_of_key(&self, key: &Key) -> Result<Option<UnitChange>, AllocError>
+        ensures { IfOk result (λ change. IsUnitsChangeTo self.now.whole.units change (units_after_key key.now self.now.whole.units)) }
+    {
+        match key {
+            Key::Reset => self.units.change_to(self.alloc, after_reset(None)),
+            Key::Load(unit) => {
+                let next = after_reset(ConfiguredUnit::at(*unit));
+                self.units.change_to(self.alloc, next)
+            }
+            Key::Request => Ok(self.units.change_of_attention(ConfiguredUnit::Console)),
+            Key::Start | Key::Stop | Key::Interrupt | Key::EndOfFile | Key::Enter(_) => Ok(None),
+        }
+    }
+
     /// Plans that a key is pressed.
     #[inline(never)]
     pub(crate) fn plan_key(&self, key: &Key) -> Result<PlannedEvent, AllocError>
@@ -42,8 +75,8 @@ impl Machine {
         ensures { IfOk result (λ planned. IsPlanOfMachine self.now.whole [] planned (after_key (seen self.now.whole) key.now)) }
     {
         let control = self.control.after_key(key);
-        let units = self.units.changes_of_key(self.alloc, key)?;
-        let media = self.devices.changes_of_key(key)?;
+        let units = self.change_of_key(key)?;
+        let media = self.devices.change_of_key(key)?;
         let planned = self.planned_with(control, units, media)?;
         Ok(planned)
     }

@@ -4,10 +4,10 @@ ghost use Rattle.s360_machine.specs.declared.refusal.Refusal.TheVariants.{Memory
 ghost use Rattle.s360_machine.specs.Machine.{seen, storage_size};
 ghost use Rattle.s360_machine.specs.Refusals.{number_of_refusal, refusal_of};
 
-use crate::configured_unit::ConfiguredUnit;
 use crate::event::{Event, Patch};
 use crate::machine::Machine;
 use crate::operator::Key;
+use s360_channel::ConfiguredUnit;
 use s360_print::LINE_LIMIT;
 use std::alloc::AllocError;
 use thiserror::Error;

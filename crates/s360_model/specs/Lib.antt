@@ -11,3 +11,4 @@ pub mod Packed
 pub mod Products
 pub mod Shifts
 pub mod Tables
+pub mod Exchanges

@@ -1,6 +1,6 @@
 //! Channel programs over the device of the tests, which cannot begin its input at first: chained data,
 //! and lengths that are wrong. No unit of the machine is such a device.
-ghost use Rattle.s360_machine.specs.IoChanges.{CanIfAny};
+ghost use Rattle.s360_model.specs.Exchanges.{CanIfAny};
 
 use crate::rows::{Subject, Words, assert_no_fault, fault_of_rows};
 use crate::slate::Slate;

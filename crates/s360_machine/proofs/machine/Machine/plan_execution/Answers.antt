@@ -6,42 +6,42 @@ use Rattle.s360_machine.proofs.machine.Machine.plan_execution.Goals as goal
 
 pub returns-in_ok-step-in-Reader-clause-plan : goal.returns-in_ok-step-in-Reader-clause-plan
 returns-in_ok-step-in-Reader-clause-plan c =
-    let run = rw (c.storage-storage.ensures, c.control-control.ensures) at c.in_ok-step-in-Reader.ensures
-    in let io = rw c.of_reader.ensures at c.planned_step.ensures
+    let run = rw (c.storage-storage.ensures, c.control-control.ensures.control) at c.in_ok-step-in-Reader.ensures
+    in let io = rw c.map.ensures at c.planned_step.ensures
     in let media = IsMediaChangeTo-reader (media_of c.self.inside.devices) _ _ (reader-change c.self.inside.devices.reader _ _ _ _ run)
-    in channel-event _ _ _ _ _ _ _ _ _ _ _ _ c.self.view_is run io media (rw c.in-Reader.is refl)
+    in channel-event _ _ _ _ _ _ _ _ _ _ _ c.self.view_is c.control-control.ensures.each run io (rw c.in-Reader.is refl) (rw c.in-Reader.is media)
 
 pub returns-in_ok-step-in-Punch-clause-plan : goal.returns-in_ok-step-in-Punch-clause-plan
 returns-in_ok-step-in-Punch-clause-plan c =
-    let run = rw (c.storage-storage.ensures, c.control-control.ensures) at c.in_ok-step-in-Punch.ensures
-    in let io = rw c.of_punch.ensures at c.planned_step-in-Punch.ensures
+    let run = rw (c.storage-storage.ensures, c.control-control.ensures.control) at c.in_ok-step-in-Punch.ensures
+    in let io = rw c.map-in-Punch.ensures at c.planned_step-in-Punch.ensures
     in let media = IsMediaChangeTo-punch (media_of c.self.inside.devices) _ _ (punch-change c.self.inside.devices.punch _ _ _ _ run)
-    in channel-event _ _ _ _ _ _ _ _ _ _ _ _ c.self.view_is run io media (rw c.in-Punch.is refl)
+    in channel-event _ _ _ _ _ _ _ _ _ _ _ c.self.view_is c.control-control.ensures.each run io (rw c.in-Punch.is refl) (rw c.in-Punch.is media)
 
 pub returns-in_ok-step-in-Printer-clause-plan : goal.returns-in_ok-step-in-Printer-clause-plan
 returns-in_ok-step-in-Printer-clause-plan c =
-    let run = rw (c.storage-storage.ensures, c.control-control.ensures) at c.in_ok-step-in-Printer.ensures
-    in let io = rw c.of_printer.ensures at c.planned_step-in-Printer.ensures
+    let run = rw (c.storage-storage.ensures, c.control-control.ensures.control) at c.in_ok-step-in-Printer.ensures
+    in let io = rw c.map-in-Printer.ensures at c.planned_step-in-Printer.ensures
     in let media = IsMediaChangeTo-printer (media_of c.self.inside.devices) _ _ (printer-change c.self.inside.devices.printer _ _ _ _ run)
-    in channel-event _ _ _ _ _ _ _ _ _ _ _ _ c.self.view_is run io media (rw c.in-Printer.is refl)
+    in channel-event _ _ _ _ _ _ _ _ _ _ _ c.self.view_is c.control-control.ensures.each run io (rw c.in-Printer.is refl) (rw c.in-Printer.is media)
 
 pub returns-in_ok-step-in-Console-clause-plan : goal.returns-in_ok-step-in-Console-clause-plan
 returns-in_ok-step-in-Console-clause-plan c =
-    let run = rw (c.storage-storage.ensures, c.control-control.ensures) at c.in_ok-step-in-Console.ensures
-    in let io = rw c.of_console.ensures at c.planned_step-in-Console.ensures
+    let run = rw (c.storage-storage.ensures, c.control-control.ensures.control) at c.in_ok-step-in-Console.ensures
+    in let io = rw c.map-in-Console.ensures at c.planned_step-in-Console.ensures
     in let media = IsMediaChangeTo-console (media_of c.self.inside.devices) _ _ (console-change c.self.inside.devices.console _ _ _ _ run)
-    in channel-event _ _ _ _ _ _ _ _ _ _ _ _ c.self.view_is run io media (rw c.in-Console.is refl)
+    in channel-event _ _ _ _ _ _ _ _ _ _ _ c.self.view_is c.control-control.ensures.each run io (rw c.in-Console.is refl) (rw c.in-Console.is media)
 
 pub returns-in_ok-step-in-Tape0-clause-plan : goal.returns-in_ok-step-in-Tape0-clause-plan
 returns-in_ok-step-in-Tape0-clause-plan c =
-    let run = rw (c.storage-storage.ensures, c.control-control.ensures) at c.in_ok-step-in-Tape0.ensures
-    in let io = rw c.of_tape0.ensures at c.planned_step-in-Tape0.ensures
+    let run = rw (c.storage-storage.ensures, c.control-control.ensures.control) at c.in_ok-step-in-Tape0.ensures
+    in let io = rw c.map-in-Tape0.ensures at c.planned_step-in-Tape0.ensures
     in let media = IsMediaChangeTo-tape0 (media_of c.self.inside.devices) _ _ (tape-change c.self.inside.devices.tape0 _ _ _ _ run)
-    in channel-event _ _ _ _ _ _ _ _ _ _ _ _ c.self.view_is run io media (rw c.in-Tape0.is refl)
+    in channel-event _ _ _ _ _ _ _ _ _ _ _ c.self.view_is c.control-control.ensures.each run io (rw c.in-Tape0.is refl) (rw c.in-Tape0.is media)
 
 pub returns-in_ok-step-in-Tape1-clause-plan : goal.returns-in_ok-step-in-Tape1-clause-plan
 returns-in_ok-step-in-Tape1-clause-plan c =
-    let run = rw (c.storage-storage.ensures, c.control-control.ensures) at c.in_ok-step-in-Tape1.ensures
-    in let io = rw c.of_tape1.ensures at c.planned_step-in-Tape1.ensures
+    let run = rw (c.storage-storage.ensures, c.control-control.ensures.control) at c.in_ok-step-in-Tape1.ensures
+    in let io = rw c.map-in-Tape1.ensures at c.planned_step-in-Tape1.ensures
     in let media = IsMediaChangeTo-tape1 (media_of c.self.inside.devices) _ _ (tape-change c.self.inside.devices.tape1 _ _ _ _ run)
-    in channel-event _ _ _ _ _ _ _ _ _ _ _ _ c.self.view_is run io media (rw c.in-Tape1.is refl)
+    in channel-event _ _ _ _ _ _ _ _ _ _ _ c.self.view_is c.control-control.ensures.each run io (rw c.in-Tape1.is refl) (rw c.in-Tape1.is media)

@@ -3,6 +3,7 @@ use Rattle.s360_machine.specs.InputOutput.{after_io, io_result}
 use Rattle.s360_machine.specs.Machine.{Whole, WithRoom, seen}
 use Rattle.s360_machine.specs.Media.{media_of}
 use Rattle.s360_machine.specs.Planned.{IsPlanOfMachine}
+use Rattle.s360_machine.proofs.IoLemmas.{media-stay}
 use Rattle.s360_machine.proofs.StepLemmas.{IsPlanOfMachine-from, whole_with}
 use Rattle.s360_machine.proofs.machine.Machine.plan_io.Goals as goal
 
@@ -12,4 +13,4 @@ returns c =
     in let done : c.io_result-done.result ≡ io_result c.args.operation c.args.unit (seen w)
     = subst (λ (k : WithRoom). c.io_result-done.result ≡ io_result c.args.operation c.args.unit (seen k.whole)) (sym c.self.view_is) c.io_result-done.ensures
     in subst (λ (k : WithRoom). IsPlanOfMachine k.whole c.plan_io.new.plan c.in_ok-planned.planned (after_io c.args.operation c.args.unit c.args.next_address (seen k.whole))) c.self.view_is
-    (IsPlanOfMachine-from w (after_io c.args.operation c.args.unit c.args.next_address (seen w)) _ _ _ _ (rw done at c.in_ok-plan_io.ensures) c.in_ok-planned.ensures (rw (c.of_result-unit.ensures, c.at.ensures, done) at c.changes_with-units.ensures) c.unchanged.ensures.same)
+    (IsPlanOfMachine-from w (after_io c.args.operation c.args.unit c.args.next_address (seen w)) _ _ _ _ (rw done at c.in_ok-plan_io.ensures) c.in_ok-planned.ensures (rw done at c.change_after_io-units.ensures) (media-stay w.media))

@@ -1,5 +1,6 @@
 use Rattle.std.proofs.Common.{refl}
-use Rattle.s360_machine.proofs.IoLemmas.{media-stay, units-stay}
+use Rattle.s360_channel.proofs.UnitChangeLemmas.{units-stay}
+use Rattle.s360_machine.proofs.IoLemmas.{media-stay}
 use Rattle.s360_machine.proofs.machine.Machine.planned.Goals as goal
 
 pub returns : goal.returns

@@ -4,7 +4,7 @@ use Rattle.s360_machine.specs.Machine.{Whole, WithRoom}
 use Rattle.s360_machine.specs.Media.{media_of}
 use Rattle.s360_machine.specs.Change.{Change, CanSwap, NeedsNoRoom, after_swap, change_after_swap}
 use Rattle.s360_machine.specs.ControlCells.{control_cells}
-use Rattle.s360_machine.specs.IoChanges.{media_changes_of, unit_changes_of}
+use Rattle.s360_machine.specs.IoChanges.{media_change_of, unit_change_of}
 use Rattle.s360_machine.proofs.SwapLemmas.{IsSwap, IsSwap-from}
 use Rattle.s360_machine.proofs.machine.Machine.swap_all.Goals as goal
 use Rattle.s360_machine.proofs.machine.Machine.swap_all.Goals.{After-exchange_io}
@@ -19,22 +19,22 @@ abbrev change_before : After-exchange_io → Change
 change_before c = record {
   cells = c.changes.inside.cells.items;
   control = control_cells c.changes.inside.control;
-  units = unit_changes_of c.changes.inside.io;
-  media = media_changes_of c.changes.inside.io;
+  units = unit_change_of c.changes.inside.io;
+  media = media_change_of c.changes.inside.io;
 }
 
 abbrev change_after : After-exchange_io → Change
 change_after c = record {
   cells = c.exchange.new.cells;
   control = control_cells c.exchange-2.new.change;
-  units = unit_changes_of c.exchange_io.new.io;
-  media = media_changes_of c.exchange_io.new.io;
+  units = unit_change_of c.exchange_io.new.io;
+  media = media_change_of c.exchange_io.new.io;
 }
 
 change_is : (c : After-exchange_io) → change_after c ≡ change_after_swap (whole_before c) (change_before c)
 change_is c =
     let cells = rw c.as_mut_slice.ensures.value at c.exchange.ensures.cells
-    in rw (cells, c.exchange-2.ensures.cells, c.exchange_io.ensures.unit_changes, c.exchange_io.ensures.media_changes) refl
+    in rw (cells, c.exchange-2.ensures.cells, c.exchange_io.ensures.unit_change, c.exchange_io.ensures.media_change) refl
 
 whole_is : (c : After-exchange_io) → whole_after c ≡ after_swap (whole_before c) (change_before c)
 whole_is c =

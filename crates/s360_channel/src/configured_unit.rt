@@ -1,16 +1,24 @@
 //! The units that the machine has. Source: GA22-6821, "Input/Output Operations", unit address;
 //! which units there are, and their addresses, is the own profile.
 ghost use Rattle.std.specs.Prelude.{◌≡◌, ◌<◌};
-ghost use Rattle.s360_machine.specs.InputOutput.{kind_of};
-ghost use Rattle.s360_machine.specs.Units.{address_of_unit, channel_of, unit_at};
+ghost use Rattle.s360_channel.specs.ConfiguredUnits.{address_of_unit, channel_of, index_of, kind_of, unit_at};
 
-use s360_channel::ChannelKind;
 use s360_word::Unit;
 
-/// A unit of the machine.
+/// How a channel serves its units.
 #[derive(Clone, Copy, Debug, PartialEq, Eq)]
+pub enum ChannelKind {
+    /// It executes the programs of all its units side by side.
+    Multiplexer,
+    /// It executes one program at a time.
+    Selector,
+}
+
+/// A unit of the machine.
+#[derive(Clone, Copy, Debug, Default, PartialEq, Eq)]
 pub enum ConfiguredUnit {
     /// The card reader of the 2540, 00C.
+    #[default]
     Reader,
     /// The card punch of the 2540, 00D.
     Punch,
@@ -61,6 +69,21 @@ impl ConfiguredUnit {
             ConfiguredUnit::Console => Unit::new(0x01F),
             ConfiguredUnit::Tape0 => Unit::new(0x180),
             ConfiguredUnit::Tape1 => Unit::new(0x181),
+        }
+    }
+
+    /// Its place among all of them.
+    pub(crate) fn index(self) -> usize
+        ensures index { result ≡ index_of self }
+        ensures inside { result < 6 }
+    {
+        match self {
+            ConfiguredUnit::Reader => 0,
+            ConfiguredUnit::Punch => 1,
+            ConfiguredUnit::Printer => 2,
+            ConfiguredUnit::Console => 3,
+            ConfiguredUnit::Tape0 => 4,
+            ConfiguredUnit::Tape1 => 5,
         }
     }
 

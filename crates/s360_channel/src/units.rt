@@ -1,0 +1,195 @@
+//! The units as the channels have them. Source: GA22-6821, "Input/Output Operations", states of the input/output
+//! system.
+ghost use Rattle.std.specs.Prelude.{◌≡◌, true, IfOk};
+ghost use Rattle.s360_model.specs.Exchanges.{after_if_any};
+ghost use Rattle.s360_channel.specs.Units.{is_active};
+ghost use Rattle.s360_channel.specs.ConfiguredUnits.{HasEachUnit, active_beside, control_of, idle_units};
+ghost use Rattle.s360_channel.specs.ConfiguredUnits.{interrupting_unit, is_occupied, pending_unit, with_control_of};
+ghost use Rattle.s360_channel.specs.UnitChanges.{IsUnitsChangeTo, altered_units};
+ghost use Rattle.s360_channel.specs.UnitChanges.{unit_change_after_swap, units_after_swap};
+
+use crate::configured_unit::ConfiguredUnit;
+use crate::unit_change::{SeveralUnits, UnitChange};
+use crate::unit_control::UnitControl;
+use crate::unit_state::UnitState;
+use arrayvec::ArrayVec;
+use s360_psw::Psw;
+use s360_word::Unit;
+use std::alloc::{AllocError, Global};
+use std::marker::Model;
+use std::mem;
+
+/// How each unit stands on its channel. A contract sees them one after another, in the order of their addresses.
+#[derive(Debug, Drop)]
+pub struct Units {
+    controls: [UnitControl; 6],
+}
+
+impl Model for Units {
+    ghost use Rattle.s360_channel.specs.ConfiguredUnits.{HasEachUnit, Units as Controls};
+
+    ghost Value = { Controls };
+
+    ghost view = { λ u. u.controls };
+
+    ghost invariant = { λ u. HasEachUnit u.controls };
+}
+
+impl Units {
+    /// The units of a new machine, which are idle.
+    pub fn idle() -> Units
+        ensures { result ≡ idle_units }
+    {
+        Units {
+            controls: [
+                UnitControl::idle(),
+                UnitControl::idle(),
+                UnitControl::idle(),
+                UnitControl::idle(),
+                UnitControl::idle(),
+                UnitControl::idle(),
+            ],
+        }
+    }
+
+    /// The units with one that stands so.
+    pub fn with(mut self, unit: ConfiguredUnit, control: UnitControl) -> Units
+        ensures { result ≡ with_control_of self unit control }
+    {
+        self.controls[unit.index()] = control;
+        self
+    }
+
+    /// How a unit stands.
+    pub fn control(&self, unit: ConfiguredUnit) -> &UnitControl
+        ensures control { result.now ≡ control_of self.now unit }
+        ensures each { HasEachUnit self.now }
+    {
+        &self.controls[unit.index()]
+    }
+
+    /// The lowest unit of a channel that has a condition for an interruption, by its address.
+    pub fn pending_unit(&self, channel: u8) -> Option<Unit>
+        ensures { result ≡ pending_unit self.now channel }
+    {
+        let unit = ConfiguredUnit::ALL.iter().find(|unit| unit.channel() == channel
+            && self.control(**unit).is_pending())?;
+        Some(unit.unit())
+    }
+
+    /// The lowest unit with such a condition whose channel the PSW lets interrupt.
+    pub fn interrupting_unit(&self, psw: Psw) -> Option<ConfiguredUnit>
+        ensures { result ≡ interrupting_unit psw self.now }
+    {
+        ConfiguredUnit::ALL.iter().copied().find(|unit| psw.channel_mask(unit.channel())
+            && self.control(*unit).is_pending())
+    }
+
+    /// Whether a channel executes a program for a unit.
+    fn is_active(&self, unit: ConfiguredUnit) -> bool
+        ensures { result ≡ is_active (control_of self.now unit).state }
+    {
+        self.control(unit).state.is_active()
+    }
+
+    /// The other tape, where a unit is a tape and the other is active.
+    pub(crate) fn active_beside(&self, unit: ConfiguredUnit) -> Option<ConfiguredUnit>
+        ensures { result ≡ active_beside self.now unit }
+    {
+        match unit {
+            ConfiguredUnit::Tape0 if self.is_active(ConfiguredUnit::Tape1) => Some(ConfiguredUnit::Tape1),
+            ConfiguredUnit::Tape1 if self.is_active(ConfiguredUnit::Tape0) => Some(ConfiguredUnit::Tape0),
+            _ => None,
+        }
+    }
+
+    /// Whether the channel of a unit executes another program, and one at a time.
+    pub(crate) fn is_occupied(&self, unit: ConfiguredUnit) -> bool
+        ensures { result ≡ is_occupied self.now unit }
+    {
+        self.active_beside(unit).is_some()
+    }
+
+    /// What a channel does for a unit once a change is made, if there is one.
+    pub fn state_after<'a>(
+        &'a self,
+        change: &'a Option<UnitChange>,
+        unit: ConfiguredUnit,
+    ) -> &'a UnitState
+        ensures { result.now ≡ (control_of (after_if_any units_after_swap self.now change.now) unit).state }
+    {
+        let now = self.control(unit);
+        match change {
+            Some(UnitChange::One(altered, next)) if *altered == unit => &next.state,
+            Some(UnitChange::Several(several)) => &several.units().control(unit).state,
+            Some(UnitChange::One(..) | UnitChange::Attention(..)) | None => &now.state,
+        }
+    }
+
+    /// What makes a unit stand so, where it does not.
+    pub fn change_of(&self, unit: ConfiguredUnit, next: UnitControl) -> Option<UnitChange>
+        ensures { IsUnitsChangeTo self.now result (with_control_of self.now unit next) }
+    {
+        if self.control(unit).is(&next) {
+            None
+        } else {
+            Some(UnitChange::One(unit, next))
+        }
+    }
+
+    /// What makes a unit ask for attention, where it does not. It takes no memory.
+    pub fn change_of_attention(&self, unit: ConfiguredUnit) -> Option<UnitChange>
+        ensures { IsUnitsChangeTo self.now result (with_control_of self.now unit (record (control_of self.now unit) { attention = true })) }
+    {
+        if self.control(unit).attention {
+            None
+        } else {
+            Some(UnitChange::Attention(unit, true))
+        }
+    }
+
+    /// The units that stand otherwise than others do.
+    fn altered(&self, next: &Units) -> ArrayVec<ConfiguredUnit, 6>
+        ensures { result.items ≡ altered_units self.now next.now }
+    {
+        let mut altered = ArrayVec::new();
+        for unit in &ConfiguredUnit::ALL {
+            if !self.control(*unit).is(next.control(*unit)) {
+                altered.push(*unit);
+            }
+        }
+        altered
+    }
+
+    /// What makes all of them stand so.
+    pub fn change_to(
+        &self,
+        alloc: Global,
+        next: Units,
+    ) -> Result<Option<UnitChange>, AllocError>
+        ensures { IfOk result (λ change. IsUnitsChangeTo self.now change next) }
+    {
+        let altered = self.altered(&next);
+        if altered.is_empty() {
+            return Ok(None);
+        }
+        let several = SeveralUnits::new(alloc, next, altered)?;
+        Ok(Some(UnitChange::Several(several)))
+    }
+
+    /// Exchanges the units with what they become.
+    pub fn exchange(&mut self, change: &mut UnitChange)
+        ensures units { self.new ≡ units_after_swap self.old change.old }
+        ensures change { change.new ≡ unit_change_after_swap self.old change.old }
+    {
+        match change {
+            UnitChange::One(unit, control) => {
+                mem::swap(&mut self.controls[unit.index()], control);
+            }
+            UnitChange::Attention(unit, asks) => {
+                mem::swap(&mut self.controls[unit.index()].attention, asks);
+            }
+            UnitChange::Several(several) => several.exchange(self),
+        }
+    }
+}
