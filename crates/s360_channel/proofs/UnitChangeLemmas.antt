@@ -1,7 +1,10 @@
 -- What an event alters of the units: done twice, the exchange restores both; and what is planned makes the units of it.
-use Rattle.std.proofs.Common.{◌≡◌, ◌≢◌, ◌<◌, ℕ, zero, suc, Bool, true, false, cond, not, nat_eq, filter, List, [], ◌∷◌, length, map, get_or, refl, sym, ap, subst, ◌∙◌, arith, get_or-set_same, get_or-set_other, set-set, length-set, ext_get_or, if◌then◌else◌}
+use Rattle.std.proofs.Common.{◌≡◌, ◌≢◌, ◌<◌, ◌+◌, ◌++◌, ℕ, zero, suc, Bool, true, false, cond, not, nat_eq, ◌==◌, filter, List, [], ◌∷◌, length, map, take, get_or, refl, sym, ap, subst, ◌∙◌, arith, get_or-set_same, get_or-set_other, set-set, length-set, ext_get_or, if◌then◌else◌}
 use Rattle.std.proofs.lemmas.Bool.Decides.{Decides-eqb}
+use Rattle.std.proofs.lemmas.List.{append-nil}
+use Rattle.std.proofs.lemmas.List.Elements.{filter_more}
 use Rattle.std.proofs.Math.Seq.{set-get_or}
+use Rattle.std.proofs.SliceLists.{any-default}
 use Rattle.std.specs.Prelude.{Option, Some, None}
 use Rattle.s360_model.specs.Exchanges.{back_if_any}
 use Rattle.s360_channel.specs.declared.configured_unit.ConfiguredUnit.{ConfiguredUnit}
@@ -26,6 +29,12 @@ inside Printer = omega arith
 inside Console = omega arith
 inside Tape0 = omega arith
 inside Tape1 = omega arith
+
+-- what stands at a unit's place
+pub control-at : (us : Units) (u : ConfiguredUnit) (c : UnitControl) → HasEachUnit us → c ≡ get_or us (index_of u) c → c ≡ control_of us u
+control-at us u c h is =
+    let below : index_of u < length us = omega (arith, h, inside u)
+    in is ∙ any-default us (index_of u) c idle_unit below
 
 pub control-set : (us : Units) (u : ConfiguredUnit) (v : UnitControl) → HasEachUnit us → control_of (with_control_of us u v) u ≡ v
 control-set us u v h =
@@ -204,6 +213,33 @@ IsUnitsChangeTo-several us x each all h = record {
   makes = refl;
   lists = ap (λ (ws : List ConfiguredUnit). map (λ w. state_place w) ws) h;
 }
+
+-- the units that stand otherwise, one after another
+abbrev pub altered_among : Units → Units → List ConfiguredUnit → List ConfiguredUnit
+altered_among us vs ws = filter (λ (u : ConfiguredUnit). not (same_unit (control_of us u) (control_of vs u))) ws
+
+pub altered-other : (us vs : Units) (i : ℕ) (ws : List ConfiguredUnit) → i < 6 → ws ≡ altered_among us vs (take i configured_units)
+    → same_unit (control_of us (get_or configured_units i Reader)) (control_of vs (get_or configured_units i Reader)) ≡ false
+    → ws ++ get_or configured_units i Reader ∷ [] ≡ altered_among us vs (take (i + 1) configured_units)
+altered-other us vs i ws within h test =
+    let u : ConfiguredUnit = get_or configured_units i Reader
+    in let more : altered_among us vs (take (i + 1) configured_units) ≡ altered_among us vs (take i configured_units) ++ u ∷ []
+    = rw test at (filter_more (λ (w : ConfiguredUnit). not (same_unit (control_of us w) (control_of vs w))) configured_units i Reader within)
+    in ap (λ (xs : List ConfiguredUnit). xs ++ u ∷ []) h ∙ sym more
+
+pub altered-same : (us vs : Units) (i : ℕ) (ws : List ConfiguredUnit) → i < 6 → ws ≡ altered_among us vs (take i configured_units)
+    → same_unit (control_of us (get_or configured_units i Reader)) (control_of vs (get_or configured_units i Reader)) ≡ true
+    → ws ≡ altered_among us vs (take (i + 1) configured_units)
+altered-same us vs i ws within h test =
+    let more : altered_among us vs (take (i + 1) configured_units) ≡ altered_among us vs (take i configured_units) ++ []
+    = rw test at (filter_more (λ (w : ConfiguredUnit). not (same_unit (control_of us w) (control_of vs w))) configured_units i Reader within)
+    in h ∙ sym (append-nil (altered_among us vs (take i configured_units))) ∙ sym more
+
+pub is-empty : (ws : List ConfiguredUnit) → true ≡ (length ws == 0) → ws ≡ []
+is-empty [] h = refl
+is-empty (w ∷ ws) h =
+    let e : length (w ∷ ws) ≡ 0 = (Decides-eqb (length (w ∷ ws)) 0).0 (sym h)
+    in absurd (omega (arith, e))
 
 -- where none stands otherwise, all are the same
 none_first : (b : Bool) (u : ConfiguredUnit) (ws : List ConfiguredUnit) → cond b (u ∷ ws) ws ≡ [] → (b ≡ false) × (ws ≡ [])

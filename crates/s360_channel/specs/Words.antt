@@ -8,9 +8,16 @@ use Rattle.s360_channel.specs.declared.csw.Csw.{Csw}
 use Rattle.s360_channel.specs.declared.csw.UnitStatus.{UnitStatus}
 use Rattle.s360_channel.specs.declared.csw.ChannelStatus.{ChannelStatus}
 
+-- what a bit counts that is one or zero
+abbrev pub weight_of : Bool → ℕ → ℕ
+weight_of one weight = if one then weight else 0
+
 -- the channel address word: key in bits 0 to 3, zeros in 4 to 7, address in 8 to 31
 abbrev pub caw_of : ℕ → Caw
 caw_of word = record { key = word / 2 ^ 28; reserved = word / 2 ^ 24 % 16; address = word % 2 ^ 24 }
+
+abbrev pub caw_word : Caw → ℕ
+caw_word c = c.key * 2 ^ 28 + c.reserved % 16 * 2 ^ 24 + c.address % 2 ^ 24
 
 -- the address is that of a doubleword
 abbrev pub is_doubleword_address : ℕ → Bool
@@ -40,6 +47,14 @@ ccw_of doubleword = record {
   count = doubleword % 2 ^ 16;
 }
 
+abbrev pub ccw_flags_byte : CcwFlags → ℕ
+ccw_flags_byte f =
+    weight_of f.chain_data 0x80 + weight_of f.chain_command 0x40 + weight_of f.suppress_length 0x20 + weight_of f.skip 0x10
+    + weight_of f.program_controlled 0x08
+
+abbrev pub ccw_doubleword : Ccw → ℕ
+ccw_doubleword c = c.command * 2 ^ 56 + c.address % 2 ^ 24 * 2 ^ 32 + (ccw_flags_byte c.flags + c.reserved % 8) * 2 ^ 24 + c.count
+
 -- transfer in channel: the low four bits of the command are 1000
 abbrev pub is_transfer : Ccw → Bool
 is_transfer c = nat_eq (c.command % 16) 0x8
@@ -49,10 +64,7 @@ abbrev pub reads_backward : ℕ → Bool
 reads_backward command = nat_eq (command % 16) 0xC
 
 -- the channel status word: key in bits 0 to 3, address in 8 to 31, unit status in 32 to 39, channel status in 40
--- to 47, residual count in 48 to 63
-abbrev pub weight_of : Bool → ℕ → ℕ
-weight_of one weight = if one then weight else 0
-
+-- to 47, residual count in 48 to 63; bits 4 to 7 are zero, and so are bits 44 to 47, of which this channel has none
 abbrev pub unit_status_byte : UnitStatus → ℕ
 unit_status_byte s =
     weight_of s.attention 0x80 + weight_of s.status_modifier 0x40 + weight_of s.control_unit_end 0x20 + weight_of s.busy 0x10
@@ -68,6 +80,35 @@ status_halfword unit channel = unit_status_byte unit * 2 ^ 8 + channel_status_by
 
 abbrev pub csw_doubleword : Csw → ℕ
 csw_doubleword c = c.key * 2 ^ 60 + c.address % 2 ^ 24 * 2 ^ 32 + status_halfword c.unit c.channel * 2 ^ 16 + c.count
+
+abbrev pub unit_status_of : ℕ → UnitStatus
+unit_status_of byte = record {
+  attention = nat_eq (byte / 0x80 % 2) 1;
+  status_modifier = nat_eq (byte / 0x40 % 2) 1;
+  control_unit_end = nat_eq (byte / 0x20 % 2) 1;
+  busy = nat_eq (byte / 0x10 % 2) 1;
+  channel_end = nat_eq (byte / 0x08 % 2) 1;
+  device_end = nat_eq (byte / 0x04 % 2) 1;
+  unit_check = nat_eq (byte / 0x02 % 2) 1;
+  unit_exception = nat_eq (byte % 2) 1;
+}
+
+abbrev pub channel_status_of : ℕ → ChannelStatus
+channel_status_of byte = record {
+  program_controlled = nat_eq (byte / 0x80 % 2) 1;
+  incorrect_length = nat_eq (byte / 0x40 % 2) 1;
+  program_check = nat_eq (byte / 0x20 % 2) 1;
+  protection_check = nat_eq (byte / 0x10 % 2) 1;
+}
+
+abbrev pub csw_of : ℕ → Csw
+csw_of doubleword = record {
+  key = doubleword / 2 ^ 60;
+  address = doubleword / 2 ^ 32 % 2 ^ 24;
+  unit = unit_status_of (doubleword / 2 ^ 24 % 2 ^ 8);
+  channel = channel_status_of (doubleword / 2 ^ 16 % 2 ^ 8);
+  count = doubleword % 2 ^ 16;
+}
 
 -- nothing to tell
 abbrev pub no_unit_status : UnitStatus

@@ -1,6 +1,6 @@
 //! The channel address word. Source: GA22-6821, "Input/Output Operations", channel address word.
 ghost use Rattle.std.specs.Prelude.{◌≡◌};
-ghost use Rattle.s360_channel.specs.Words.{caw_of, is_whole_caw};
+ghost use Rattle.s360_channel.specs.Words.{caw_of, caw_word, is_whole_caw};
 
 use s360_word::{ProtectionKey, Word};
 
@@ -25,6 +25,15 @@ impl Caw {
             reserved: (word / (1 << 24) % 16) as u8,
             address: word % (1 << 24),
         }
+    }
+
+    /// The word of its fields, of the reserved bits the low four and of the address the low 24.
+    pub fn to_word(&self) -> Word
+        ensures { result ≡ caw_word self.now }
+    {
+        Word::from(self.key.number()) * (1 << 28)
+            + Word::from(self.reserved % 16) * (1 << 24)
+            + self.address % (1 << 24)
     }
 
     /// Whether a program can start from it: bits 4 to 7 are zero, and the address is that of a

@@ -1,6 +1,9 @@
 //! Channel command words. Source: GA22-6821, "Input/Output Operations", channel command word.
-ghost use Rattle.std.specs.Prelude.{◌≡◌, ◌<◌, ◌^◌};
-ghost use Rattle.s360_channel.specs.Words.{ccw_of, ccw_flags_of, is_transfer, reads_backward};
+ghost use Rattle.std.specs.Prelude.{◌≡◌, ◌<◌, ◌≤◌, ◌^◌};
+ghost use Rattle.s360_channel.specs.Words.{ccw_doubleword, ccw_flags_byte, ccw_flags_of, ccw_of};
+ghost use Rattle.s360_channel.specs.Words.{is_transfer, reads_backward};
+
+use crate::csw::weight_of;
 
 /// The flags of a channel command word, bits 32 to 36.
 #[derive(Clone, Copy, Debug, PartialEq, Eq)]
@@ -45,9 +48,34 @@ impl CcwFlags {
             program_controlled: doubleword / (1 << 27) % 2 == 1,
         }
     }
+
+    /// The byte of its bits, of which the last three are zero.
+    fn byte(&self) -> u8
+        ensures byte { result ≡ ccw_flags_byte self.now }
+        ensures below { result ≤ 0xF8 }
+    {
+        weight_of(self.chain_data, 0x80)
+            + weight_of(self.chain_command, 0x40)
+            + weight_of(self.suppress_length, 0x20)
+            + weight_of(self.skip, 0x10)
+            + weight_of(self.program_controlled, 0x08)
+    }
 }
 
 impl Ccw {
+    /// The doubleword of its fields, of the address the low 24 bits and of the reserved bits the low three. Bits 40
+    /// to 47 are zero.
+    pub fn to_u64(&self) -> u64
+        ensures { result ≡ ccw_doubleword self.now }
+    {
+        // Fields are known to be of so many bits once they are read.
+        let (command, count) = (self.command, self.count);
+        u64::from(command) * (1 << 56)
+            + u64::from(self.address % (1 << 24)) * (1 << 32)
+            + u64::from(self.flags.byte() + self.reserved % 8) * (1 << 24)
+            + u64::from(count)
+    }
+
     /// The fields of a doubleword.
     pub fn from_u64(doubleword: u64) -> Ccw
         ensures fields { result ≡ ccw_of doubleword }

@@ -1,6 +1,7 @@
 //! The channel status word. Source: GA22-6821, "Input/Output Operations", channel status word.
 ghost use Rattle.std.specs.Prelude.{◌≡◌, ◌≤◌};
-ghost use Rattle.s360_channel.specs.Words.{channel_status_byte, csw_doubleword, unit_status_byte};
+ghost use Rattle.s360_channel.specs.Words.{channel_status_byte, channel_status_of, csw_doubleword, csw_of};
+ghost use Rattle.s360_channel.specs.Words.{unit_status_byte, unit_status_of};
 ghost use Rattle.s360_channel.specs.Words.{asks_attention, device_has_ended, meets_program_check};
 ghost use Rattle.s360_channel.specs.Words.{no_channel_status, no_unit_status, status_halfword};
 ghost use Rattle.s360_channel.specs.Words.{weight_of};
@@ -57,7 +58,7 @@ pub struct Csw {
 }
 
 /// What a bit counts that is one or zero.
-fn weight_of(one: bool, weight: u8) -> u8
+pub(crate) fn weight_of(one: bool, weight: u8) -> u8
     ensures weight { result ≡ weight_of one weight }
     ensures below { result ≤ weight }
 {
@@ -102,6 +103,22 @@ impl UnitStatus {
         }
     }
 
+    /// The bits of a byte.
+    fn from_byte(byte: u8) -> UnitStatus
+        ensures { result ≡ unit_status_of byte }
+    {
+        UnitStatus {
+            attention: byte / 0x80 % 2 == 1,
+            status_modifier: byte / 0x40 % 2 == 1,
+            control_unit_end: byte / 0x20 % 2 == 1,
+            busy: byte / 0x10 % 2 == 1,
+            channel_end: byte / 0x08 % 2 == 1,
+            device_end: byte / 0x04 % 2 == 1,
+            unit_check: byte / 0x02 % 2 == 1,
+            unit_exception: byte % 2 == 1,
+        }
+    }
+
     /// The byte of its bits.
     fn byte(&self) -> u8
         ensures { result ≡ unit_status_byte self.now }
@@ -140,6 +157,18 @@ impl ChannelStatus {
         }
     }
 
+    /// The first four bits of a byte.
+    fn from_byte(byte: u8) -> ChannelStatus
+        ensures { result ≡ channel_status_of byte }
+    {
+        ChannelStatus {
+            program_controlled: byte / 0x80 % 2 == 1,
+            incorrect_length: byte / 0x40 % 2 == 1,
+            program_check: byte / 0x20 % 2 == 1,
+            protection_check: byte / 0x10 % 2 == 1,
+        }
+    }
+
     /// The byte of its bits.
     fn byte(&self) -> u8
         ensures { result ≡ channel_status_byte self.now }
@@ -159,6 +188,19 @@ pub fn status_halfword(unit: &UnitStatus, channel: &ChannelStatus) -> u16
 }
 
 impl Csw {
+    /// The fields of a doubleword. Bits 4 to 7 and 44 to 47 are no part of them.
+    pub fn from_u64(doubleword: u64) -> Csw
+        ensures { result ≡ csw_of doubleword }
+    {
+        Csw {
+            key: ProtectionKey::new((doubleword / (1 << 60)) as u8),
+            address: (doubleword / (1 << 32) % (1 << 24)) as u32,
+            unit: UnitStatus::from_byte((doubleword / (1 << 24) % (1 << 8)) as u8),
+            channel: ChannelStatus::from_byte((doubleword / (1 << 16) % (1 << 8)) as u8),
+            count: (doubleword % (1 << 16)) as u16,
+        }
+    }
+
     /// The doubleword of its fields, of the address the low 24 bits.
     pub fn to_u64(&self) -> u64
         ensures { result ≡ csw_doubleword self.now }

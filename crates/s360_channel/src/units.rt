@@ -68,6 +68,14 @@ impl Units {
         &self.controls[unit.index()]
     }
 
+    /// All of them, in the order of their addresses.
+    fn as_slice(&self) -> &[UnitControl]
+        ensures controls { result.now ≡ self.now }
+        ensures each { HasEachUnit self.now }
+    {
+        &self.controls
+    }
+
     /// The lowest unit of a channel that has a condition for an interruption, by its address.
     pub fn pending_unit(&self, channel: u8) -> Option<Unit>
         ensures { result ≡ pending_unit self.now channel }
@@ -150,11 +158,15 @@ impl Units {
 
     /// The units that stand otherwise than others do.
     fn altered(&self, next: &Units) -> ArrayVec<ConfiguredUnit, 6>
-        ensures { result.items ≡ altered_units self.now next.now }
+        ensures altered { result.items ≡ altered_units self.now next.now }
+        ensures each { HasEachUnit self.now }
+        ensures all { HasEachUnit next.now }
     {
+        let (now, then) = (self.as_slice(), next.as_slice());
         let mut altered = ArrayVec::new();
         for unit in &ConfiguredUnit::ALL {
-            if !self.control(*unit).is(next.control(*unit)) {
+            let at = unit.index();
+            if !now[at].is(&then[at]) {
                 altered.push(*unit);
             }
         }

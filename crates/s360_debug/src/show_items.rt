@@ -59,7 +59,7 @@ fn card_of_punch(alloc: Global, punch: &Punch, number: u32) -> Result<Text, Allo
     ensures { IfOk result (λ text. text ≡ punched_card punch.now.punch number) }
 {
     match punch.card(number as usize) {
-        Some(punched) => line_of_item(alloc, name_of_stacker(punched.stacker), &punched.card),
+        Some(punched) => line_of_item(alloc, name_of_stacker(punched.stacker), punched.card.as_slice()),
         None => line_of_none(alloc),
     }
 }
@@ -131,7 +131,7 @@ fn line_of_record(alloc: Global, printed: &Record) -> Result<Text, AllocError>
     text.push_decimal(u64::from(printed.page))?;
     text.push_text(" line ")?;
     text.push_decimal(u64::from(printed.line))?;
-    push_item(&mut text, &printed.bytes)?;
+    push_item(&mut text, printed.bytes.as_slice())?;
     Ok(text)
 }
 

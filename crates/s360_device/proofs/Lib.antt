@@ -1,6 +1,5 @@
 pub mod ChunkLemmas
 pub mod AlterationLemmas
-pub mod ReaderLemmas
 pub mod KnownDevices
 pub mod EqualityLemmas
 pub mod DifferenceLemmas

@@ -19,7 +19,7 @@ mod reader_change;
 mod reader_command;
 mod sense;
 
-pub use card::{COLUMNS, Card, PunchStacker, PunchedCard, ReadStacker};
+pub use card::{COLUMNS, Card, PunchStacker, Punched, PunchedCard, ReadStacker};
 pub use command_code::CommandCode;
 pub use deck::{Deck, deck_from};
 pub use device::{Begin, Device, Planned};

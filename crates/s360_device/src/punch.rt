@@ -1,11 +1,14 @@
 //! The card punch of the 2540. Its cards never run out. Source: A21-9033, "2540 Card Read Punch".
-ghost use Rattle.std.specs.Prelude.{◌≡◌, length, take};
+ghost use Rattle.std.specs.Prelude.{◌≡◌, false, length, take};
+ghost use Rattle.std.specs.Bool.{MatchBool};
 ghost use Rattle.std.specs.Option.{option_copied};
 ghost use Rattle.s360_device.specs.Items.{item_in};
 ghost use Rattle.s360_model.specs.Tables.{entry_in};
+ghost use Rattle.s360_device.specs.Motions.{CanMove};
 ghost use Rattle.s360_device.specs.Punch.{new_punch, punch_commands};
+ghost use Rattle.s360_device.specs.PunchChanges.{punch_after_swap};
 
-use crate::card::{COLUMNS, PunchStacker, PunchedCard, card_of};
+use crate::card::{COLUMNS, PunchStacker, Punched, PunchedCard};
 use crate::command_code::CommandCode;
 use crate::device::{Begin, Device, Planned};
 use crate::motion::Motion;
@@ -77,6 +80,20 @@ impl Punch {
     {
         self.cards.get(number.checked_sub(1)?)
     }
+
+    /// A command's change.
+    fn planned(&self, sense: [u8; 6], motion: Motion<PunchedCard>) -> Planned<PunchChange>
+        requires can { CanMove self.now.punch.media motion }
+        ensures change { result.change ≡ record { sense = sense; motion = motion } }
+        ensures alters { MatchBool result.alters (self.now.punch ≡ punch_after_swap self.now.punch result.change → ⊥) (self.now.punch ≡ punch_after_swap self.now.punch result.change) }
+        ensures exception { result.exception ≡ false }
+    {
+        Planned {
+            alters: sense != self.sense || motion.moves(),
+            change: PunchChange { sense, motion },
+            exception: false,
+        }
+    }
 }
 
 impl Device for Punch {
@@ -139,20 +156,17 @@ impl Device for Punch {
     }
 
     fn plan(&self, command: u8, bytes: &[u8]) -> Result<Planned<PunchChange>, AllocError> {
-        let (sense, motion) = match CommandCode::new(command) {
-            CommandCode::NoOperation | CommandCode::Sense => (self.sense, Motion::Stay),
+        Ok(match CommandCode::new(command) {
+            CommandCode::NoOperation | CommandCode::Sense => {
+                self.planned(self.sense, Motion::Stay)
+            }
             CommandCode::Own(code) => match stacker_of(code) {
                 Some(stacker) => {
-                    let card = card_of(bytes);
-                    (NO_SENSE, Motion::Put(PunchedCard { card, stacker }))
+                    let card = Punched::new(*self.cards.allocator(), bytes)?;
+                    self.planned(NO_SENSE, Motion::Put(PunchedCard { card, stacker }))
                 }
-                None => (COMMAND_REJECT, Motion::Stay),
+                None => self.planned(COMMAND_REJECT, Motion::Stay),
             },
-        };
-        Ok(Planned {
-            alters: sense != self.sense || motion.moves(),
-            change: PunchChange { sense, motion },
-            exception: false,
         })
     }
 

@@ -3,7 +3,7 @@ use crate::card::PunchedCard;
 use crate::motion::Motion;
 
 /// What is exchanged with a punch.
-#[derive(Clone, Copy, Debug, PartialEq, Eq)]
+#[derive(Debug, Drop)]
 pub struct PunchChange {
     /// The sense bytes.
     pub sense: [u8; 6],

@@ -19,7 +19,7 @@ pub use carriage::{CarriageMotion, Position};
 pub use console::Console;
 pub use console_change::ConsoleChange;
 pub use laws::{same_printers_and_consoles_are_equal, signs_invert, skip_goes_to_first_line};
-pub use paper::{LINE_WIDTH, Record};
+pub use paper::{LINE_WIDTH, PrintedLine, Record};
 pub use printer::Printer;
 pub use printer_change::PrinterChange;
 pub use signs::{ascii_to_ebcdic, ebcdic_to_ascii};

@@ -1,5 +1,5 @@
 //! The 1403 printer. Source: the component description of the 1403.
-ghost use Rattle.std.specs.Prelude.{◌≡◌, ◌≤◌, length, take};
+ghost use Rattle.std.specs.Prelude.{◌≡◌, ◌≤◌, IfOk, length, take};
 ghost use Rattle.std.specs.Bool.{MatchBool};
 ghost use Rattle.std.specs.Option.{option_copied};
 ghost use Rattle.s360_device.specs.Items.{item_in};
@@ -9,7 +9,7 @@ ghost use Rattle.s360_print.specs.Printer.{new_printer, record_at};
 ghost use Rattle.s360_print.specs.PrinterChanges.{printer_after_swap};
 
 use crate::carriage::Position;
-use crate::paper::{LINE_WIDTH, Record, print_line};
+use crate::paper::{LINE_WIDTH, PrintedLine, Record};
 use crate::printer_change::PrinterChange;
 use crate::printer_command::PrinterCommand;
 use s360_device::{Begin, COMMAND_REJECT, CommandCode, Device, Motion, NO_SENSE, Planned};
@@ -78,15 +78,16 @@ impl Printer {
     }
 
     /// The line that a command prints.
-    fn record_of(&self, bytes: &[u8]) -> Record
+    fn record_of(&self, bytes: &[u8]) -> Result<Record, AllocError>
         requires fits { length bytes.now ≤ line_width }
-        ensures { result ≡ record_at self.now.printer.media.position bytes.now }
+        ensures { IfOk result (λ printed. printed ≡ record_at self.now.printer.media.position bytes.now) }
     {
-        Record {
+        let bytes = PrintedLine::new(*self.records.allocator(), bytes)?;
+        Ok(Record {
             page: self.position.page(),
             line: self.position.line(),
-            bytes: print_line(bytes),
-        }
+            bytes,
+        })
     }
 
     /// A command's change.
@@ -182,7 +183,7 @@ impl Device for Printer {
             CommandCode::Own(code) => match PrinterCommand::new(code) {
                 Some(PrinterCommand::Print(motion)) => {
                     let position = self.position.after(motion);
-                    let line = Motion::Put(self.record_of(bytes));
+                    let line = Motion::Put(self.record_of(bytes)?);
                     self.planned(NO_SENSE, position, line, self.position.passes_end(motion))
                 }
                 Some(PrinterCommand::Move(motion)) => {

@@ -4,7 +4,7 @@ use crate::paper::Record;
 use s360_device::Motion;
 
 /// What is exchanged with a printer.
-#[derive(Clone, Copy, Debug, PartialEq, Eq)]
+#[derive(Debug, Drop)]
 pub struct PrinterChange {
     /// The sense bytes.
     pub sense: [u8; 6],

@@ -1,9 +1,9 @@
-//! Scripts over readers and writers that are slow or fail, and commands one by one.
+//! Scripts over readers and writers that are slow or fail.
 use crate::held::{Lent, lend};
 use crate::machine::are_same;
 use crate::rows::{Subject, Words, assert_no_fault, fault_of_rows};
-use s360_debug::{ScriptFault, answer, read_command, run_script};
-use s360_journal::{Breaks, Session};
+use s360_debug::{ScriptFault, run_script};
+use s360_journal::Session;
 use std::alloc::Global;
 use std::io::{self, Read, Write};
 
@@ -263,43 +263,12 @@ impl Subject for Scripts {
     }
 }
 
-/// Commands one by one, in a session where no breakpoint is set at first.
-#[derive(Drop)]
-struct Lines<'a> {
-    session: &'a mut Session,
-    breaks: Breaks,
-}
-
-impl<'a> Subject for Lines<'a> {
-    fn answer(&mut self, alloc: Global, words: &mut Words<'_>) -> Option<String> {
-        let command = read_command(alloc, words.whole().as_bytes()).ok()?;
-        let text = answer(alloc, self.session, &mut self.breaks, command).ok()?;
-        quoted(alloc, text.as_bytes())
-    }
-}
-
-/// The commands of a table.
-#[derive(Drop)]
-struct Commands;
-
-impl Lent for Commands {
-    fn use_session(&mut self, alloc: Global, session: &mut Session) -> Option<String> {
-        let breaks = Breaks::new();
-        fault_of_rows(alloc, &mut Lines { session, breaks }, LINES)
-    }
-}
-
 #[test]
 fn slow_streams_that_fail(rt: HostRuntime) {
     for room in 0..ADD_ANSWERS.len() {
         assert_no_fault(&rt, fault_of_write(rt.alloc(), room));
     }
     assert_no_fault(&rt, fault_of_rows(rt.alloc(), &mut Scripts, STREAMS));
-}
-
-#[test]
-fn lines_one_by_one(rt: HostRuntime) {
-    assert_no_fault(&rt, lend(rt.alloc(), 10, &mut Commands));
 }
 
 /// More ticks than may stand where one change may, and more patches.
@@ -322,13 +291,4 @@ long -> Ok(7) 18E true true
 * a session where one change may stand
 limit -> "1 changed 4 s000050 s000051 s000052 ext\nrefused 6 journal full\nrun 0 refused 6 journal full\nstanding 1\n"
 full -> "1 changed 1 r1\nrefused 6 journal full\n"
-"#;
-
-/// Commands one by one, and their answers.
-const LINES: &str = r#"
-patch r 1 2A -> "1 changed 1 r1\n"
-patch r 1 2A -> "2 idle\n"
-break 200 -> "breaks 1\n"
-until -> "until 0\n"
-standing -> "standing 0\n"
 "#;
