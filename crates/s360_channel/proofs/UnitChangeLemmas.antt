@@ -258,6 +258,6 @@ none-altered us vs each all h =
     in let e = none_first _ _ _ d.1
     in let f = none_first _ _ _ e.1
     in let at : (i : ℕ) → i < 6 → get_or us i idle_unit ≡ get_or vs i idle_unit = λ i l. six (λ k. get_or us k idle_unit ≡ get_or vs k idle_unit)
-        (same-from _ _ a.0) (same-from _ _ b.0) (same-from _ _ c.0) (same-from _ _ d.0) (same-from _ _ e.0) (same-from _ _ f.0) i l
+    (same-from _ _ a.0) (same-from _ _ b.0) (same-from _ _ c.0) (same-from _ _ d.0) (same-from _ _ e.0) (same-from _ _ f.0) i l
     in let same : us ≡ vs = ext_get_or idle_unit us vs (each ∙ sym all) (λ i l. at i (omega (arith, each, l)))
     in subst (λ (ws : Units). IsUnitsChangeTo us None ws) same (units-stay us)

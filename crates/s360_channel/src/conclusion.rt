@@ -61,4 +61,3 @@ impl Conclusion {
         !self.unit.unit_check && !self.unit.unit_exception && !self.incorrect_length
     }
 }
-

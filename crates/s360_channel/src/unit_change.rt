@@ -8,8 +8,7 @@ use crate::units::Units;
 use arrayvec::ArrayVec;
 use std::alloc::{AllocError, Global};
 use std::marker::Model;
-use std::mem;
-use std::slice;
+use std::{mem, slice};
 
 /// What becomes of units that do not stay as they are.
 #[derive(Debug, Drop)]

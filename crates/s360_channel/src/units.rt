@@ -105,8 +105,12 @@ impl Units {
         ensures { result ≡ active_beside self.now unit }
     {
         match unit {
-            ConfiguredUnit::Tape0 if self.is_active(ConfiguredUnit::Tape1) => Some(ConfiguredUnit::Tape1),
-            ConfiguredUnit::Tape1 if self.is_active(ConfiguredUnit::Tape0) => Some(ConfiguredUnit::Tape0),
+            ConfiguredUnit::Tape0 if self.is_active(ConfiguredUnit::Tape1) => Some(
+                ConfiguredUnit::Tape1,
+            ),
+            ConfiguredUnit::Tape1 if self.is_active(ConfiguredUnit::Tape0) => Some(
+                ConfiguredUnit::Tape0,
+            ),
             _ => None,
         }
     }
@@ -174,11 +178,7 @@ impl Units {
     }
 
     /// What makes all of them stand so.
-    pub fn change_to(
-        &self,
-        alloc: Global,
-        next: Units,
-    ) -> Result<Option<UnitChange>, AllocError>
+    pub fn change_to(&self, alloc: Global, next: Units) -> Result<Option<UnitChange>, AllocError>
         ensures { IfOk result (λ change. IsUnitsChangeTo self.now change next) }
     {
         let altered = self.altered(&next);

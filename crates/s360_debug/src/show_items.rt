@@ -59,7 +59,11 @@ fn card_of_punch(alloc: Global, punch: &Punch, number: u32) -> Result<Text, Allo
     ensures { IfOk result (λ text. text ≡ punched_card punch.now.punch number) }
 {
     match punch.card(number as usize) {
-        Some(punched) => line_of_item(alloc, name_of_stacker(punched.stacker), punched.card.as_slice()),
+        Some(punched) => line_of_item(
+            alloc,
+            name_of_stacker(punched.stacker),
+            punched.card.as_slice(),
+        ),
         None => line_of_none(alloc),
     }
 }

@@ -212,7 +212,9 @@ channel-event k w spare unit plan d Becomes Stays step ms (Ok planned) view each
     = subst (λ (m : WithRoom). PlansIo planned m.whole.control (option_map (λ c. One unit c) step.control) ms) (sym view) io
     in let units : IsUnitsChangeTo w.units (option_map (λ c. One unit c) step.control) (with_control_of w.units unit v)
     = one-altered w.units unit v step.control each run.control
+    in let devices : IsMediaChangeTo w.media ms (media_after unit e.ending (seen_media w.media))
+    = subst (λ (x : Execution). IsMediaChangeTo w.media ms (media_after unit x.ending (seen_media w.media))) (sym is) media
     in let plans : IsPlanOfMachine w plan planned (after_execution e unit (seen w))
-    = IsPlanOfMachine-from w (after_execution e unit (seen w)) plan planned _ _ (run.stores w.core refl) mine units (rw (← is) media)
+    = IsPlanOfMachine-from w (after_execution e unit (seen w)) plan planned _ _ (run.stores w.core refl) mine units devices
     in subst (λ (m : WithRoom). IsPlanOfMachine m.whole plan planned (after_channel unit (seen m.whole))) view
     (subst (λ (x : Execution). IsPlanOfMachine w plan planned (after_execution x unit (seen w))) is plans)

@@ -5,7 +5,8 @@ use Rattle.std.specs.Option.{option_map_or}
 use Rattle.s360_model.specs.Storage.{Storage}
 use Rattle.s360_word.specs.declared.unit.Unit.{Unit}
 use Rattle.s360_device.specs.Commands.{command_of}
-use Rattle.s360_device.specs.Punch.{PunchMedia, punch_table}
+use Rattle.s360_device.specs.declared.card.PunchedCard.{PunchedCard}
+use Rattle.s360_device.specs.Punch.{punch_table}
 use Rattle.s360_device.specs.Reader.{ReaderMedia, reader_table}
 use Rattle.s360_device.specs.Rows.{DeviceWith, Table, after_command, begin_of, exception_of, input_of}
 use Rattle.s360_print.specs.Console.{ConsoleMedia, console_table}
@@ -51,7 +52,7 @@ execution_of t d s state = execution_with (view_of t d) s state
 -- which device is a unit's: with its table, and the devices with another in its place
 abbrev pub at_device : {R : Type 0} → ConfiguredUnit → Media → ((M : Type 0) → Table M → DeviceWith M → (DeviceWith M → Media) → R) → R
 at_device Reader m f = f ReaderMedia reader_table m.reader (λ d. record m { reader = d })
-at_device Punch m f = f PunchMedia punch_table m.punch (λ d. record m { punch = d })
+at_device Punch m f = f (List PunchedCard) punch_table m.punch (λ d. record m { punch = d })
 at_device Printer m f = f PrinterMedia printer_table m.printer (λ d. record m { printer = d })
 at_device Console m f = f ConsoleMedia console_table m.console (λ d. record m { console = d })
 at_device Tape0 m f = f TapeMedia tape_table m.tape0 (λ d. record m { tape0 = d })

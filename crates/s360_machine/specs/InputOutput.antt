@@ -1,12 +1,10 @@
 -- What the CPU does with the channels: the input/output instructions, and the input/output
 -- interruption (GA22-6821, "Input/Output Operations").
-use Rattle.std.specs.Prelude.{ℕ, ◌/◌, Bool, false, ◌&&◌, ◌||◌, nat_eq, if◌then◌else◌, Option, Some, None, is_some, unwrap_or, List}
+use Rattle.std.specs.Prelude.{ℕ, ◌/◌, List}
 use Rattle.std.specs.Int.{bytes_high_first}
-use Rattle.std.specs.List.{find}
-use Rattle.std.specs.Option.{option_map, option_map_or}
+use Rattle.std.specs.Option.{option_map_or}
 use Rattle.s360_model.specs.Core.{Core, core_with_bytes, core_with_psw}
-use Rattle.s360_model.specs.Psw.{channel_mask_of, with_condition_code, with_instruction_address}
-use Rattle.s360_model.specs.Storage.{Storage}
+use Rattle.s360_model.specs.Psw.{with_condition_code, with_instruction_address}
 use Rattle.s360_word.specs.declared.unit.Unit.{Unit}
 use Rattle.s360_store.specs.declared.place.Cell.{Cell}
 use Rattle.s360_store.specs.Plans.{IsPlanOf}
@@ -14,22 +12,17 @@ use Rattle.s360_psw.specs.declared.class.Class.TheVariants.{InputOutput}
 use Rattle.s360_psw.specs.declared.instruction_length.InstructionLength.TheVariants.{NotAvailable}
 use Rattle.s360_fixed.specs.declared.ended.IoOperation.{IoOperation}
 use Rattle.s360_fixed.specs.declared.ended.IoOperation.TheVariants.{Start, Test, Halt, TestChannel}
-use Rattle.s360_channel.specs.declared.configured_unit.ChannelKind.{ChannelKind}
-use Rattle.s360_channel.specs.declared.configured_unit.ChannelKind.TheVariants.{Multiplexer, Selector}
 use Rattle.s360_channel.specs.declared.io_instructions.CswStore.{CswStore}
 use Rattle.s360_channel.specs.declared.io_instructions.CswStore.TheVariants.{Nothing, Status, Csw as whole}
 use Rattle.s360_channel.specs.declared.io_instructions.IoResult.{IoResult}
 use Rattle.s360_channel.specs.declared.unit_control.Condition.{Condition}
-use Rattle.s360_channel.specs.declared.unit_control.UnitControl.{UnitControl}
-use Rattle.s360_channel.specs.IoInstructions.{condition_alone, csw_location, halt_io, not_operational, start_io, test_channel_condition, test_io}
-use Rattle.s360_channel.specs.Units.{condition_of, is_active, is_pending, is_waiting}
+use Rattle.s360_channel.specs.IoInstructions.{csw_location, halt_io, start_io, test_channel, test_io, units_after_io}
+use Rattle.s360_channel.specs.Units.{condition_of}
 use Rattle.s360_channel.specs.Words.{csw_doubleword, status_halfword}
 use Rattle.s360_channel.specs.declared.configured_unit.ConfiguredUnit.{ConfiguredUnit}
-use Rattle.s360_channel.specs.declared.configured_unit.ConfiguredUnit.TheVariants.{Tape0, Tape1}
-use Rattle.s360_channel.specs.ConfiguredUnits.{Units}
 use Rattle.s360_machine.specs.Interruptions.{after_interruption}
 use Rattle.s360_machine.specs.Machine.{Machine}
-use Rattle.s360_channel.specs.ConfiguredUnits.{address_of_unit, channel_of, configured_units, control_of, unit_at, with_control_of}
+use Rattle.s360_channel.specs.ConfiguredUnits.{address_of_unit, control_of, interrupting_unit, with_control_of}
 
 -- bits 32 to 47 of the channel status word are the third halfword of its doubleword
 abbrev pub status_location : ℕ

@@ -1,13 +1,15 @@
 //! What an event alters, ready to be exchanged with the machine.
-ghost use Rattle.std.specs.Prelude.{◌≡◌, ◌<◌, ◌≤◌, ◌+◌, ◌++◌, [], ◌∷◌, length, Some, slice_get, IfOk};
+ghost use Rattle.std.specs.Prelude.{◌≡◌, ◌<◌, ◌≤◌, ◌+◌, ◌++◌, [], ◌∷◌, length, map, Some, slice_get, IfOk};
 ghost use Rattle.std.specs.Prelude.{if◌then◌else◌};
 ghost use Rattle.std.specs.List.{list_any};
 ghost use Rattle.s360_store.specs.Places.{same_place};
+ghost use Rattle.s360_channel.specs.UnitChanges.{state_place};
 ghost use Rattle.s360_machine.specs.Change.{places_beside_core, places_of_change};
 
 use crate::control_change::ControlChange;
 use crate::io_change::IoChange;
 use arrayvec::ArrayVec;
+use s360_channel::ConfiguredUnit;
 use s360_store::{Cell, Place};
 use smallvec::SmallVec;
 use std::alloc::AllocError;
@@ -55,6 +57,17 @@ fn push_if(places: &mut ArrayVec<Place, BESIDE>, altered: bool, place: Place)
     }
 }
 
+/// Adds the places of units on their channels.
+fn push_states(places: &mut ArrayVec<Place, BESIDE>, units: &[ConfiguredUnit])
+    requires room { length places.old.items + length units.now ≤ 9 }
+    ensures places { places.new.items ≡ places.old.items ++ map (λ u. state_place u) units.now }
+    ensures count { length places.new.items ≡ length places.old.items + length units.now }
+{
+    for unit in units {
+        places.push(Place::UnitState(unit.unit()));
+    }
+}
+
 impl Changes {
     /// The places beside those of the core, in their order.
     #[inline(always)]
@@ -68,9 +81,7 @@ impl Changes {
             return places;
         };
         if let Some(change) = &io.units {
-            for unit in change.altered() {
-                places.push(Place::UnitState(unit.unit()));
-            }
+            push_states(&mut places, change.altered());
         }
         if let Some(change) = &io.media {
             places.push(Place::UnitMedia(change.unit().unit()));

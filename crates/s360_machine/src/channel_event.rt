@@ -11,9 +11,7 @@ ghost use Rattle.s360_machine.specs.Planned.{IsPlanOfMachine, PlansIo};
 
 use crate::machine::{Machine, PlannedEvent};
 use crate::media::MediaChange;
-use s360_channel::{
-    ChannelStep, ConfiguredUnit, UnitChange, UnitControl, UnitState, channel_plan,
-};
+use s360_channel::{ChannelStep, ConfiguredUnit, UnitChange, UnitControl, UnitState, channel_plan};
 use s360_device::Device;
 use s360_store::{Plan, Storage};
 use s360_word::Unit;

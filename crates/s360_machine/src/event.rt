@@ -73,18 +73,13 @@ impl Core {
     }
 
     /// Plans a storage key of the block that an address lies in.
-    fn plan_key(
-        &self,
-        at: u32,
-        key: ProtectionKey,
-        plan: &mut Plan,
-    ) -> Result<(), AllocError>
+    fn plan_key(&self, at: u32, key: ProtectionKey, plan: &mut Plan) -> Result<(), AllocError>
         requires empty { plan.old ≡ [] }
         requires inside { at < length self.now.storage.bytes }
         ensures { OnOk result (IsPlanOf self.now plan.new (core_with_key (at / block_size) key self.now)) }
     {
         // So each byte of storage is in a block.
-        prove!(self.storage.size() % BLOCK_SIZE == 0);
+        prove!(self.storage().size() % BLOCK_SIZE == 0);
         plan.put_key(at / BLOCK_SIZE, key)?;
         Ok(())
     }

@@ -37,6 +37,28 @@ impl IoChange {
     }
 }
 
+/// Exchanges the units with what becomes of them, if they do not all stay as they are.
+fn exchange_units(change: &mut Option<UnitChange>, units: &mut Units)
+    ensures units { units.new ≡ after_if_any units_after_swap units.old change.old }
+    ensures change { change.new ≡ back_if_any unit_change_after_swap units.old change.old }
+{
+    if let Some(change) = change {
+        units.exchange(change);
+    }
+}
+
+/// Exchanges a device with its change, if there is one, for which there is room.
+fn exchange_media(change: &mut Option<MediaChange>, devices: &mut Devices)
+    requires can { CanIfAny CanSwapMedia (media_of devices.old) change.old }
+    requires room { IfSome change.old (λ x. media_needs x ≤ room_for (room_of devices.old) (unit_of_change x)) }
+    ensures media { media_of devices.new ≡ after_if_any media_after_swap (media_of devices.old) change.old }
+    ensures change { change.new ≡ back_if_any media_change_after_swap (media_of devices.old) change.old }
+{
+    if let Some(change) = change {
+        devices.exchange(change);
+    }
+}
+
 /// Exchanges the units and their devices with what an event alters of them, for which there is
 /// room.
 pub(crate) fn exchange_io(io: &mut Option<Box<IoChange>>, units: &mut Units, devices: &mut Devices)
@@ -47,11 +69,8 @@ pub(crate) fn exchange_io(io: &mut Option<Box<IoChange>>, units: &mut Units, dev
     ensures media { media_of devices.new ≡ after_if_any media_after_swap (media_of devices.old) (media_change_of io.old) }
     ensures media_change { media_change_of io.new ≡ back_if_any media_change_after_swap (media_of devices.old) (media_change_of io.old) }
 {
-    let Some(io) = io else { return };
-    if let Some(change) = &mut io.units {
-        units.exchange(change);
-    }
-    if let Some(change) = &mut io.media {
-        devices.exchange(change);
+    if let Some(io) = io {
+        exchange_units(&mut io.units, units);
+        exchange_media(&mut io.media, devices);
     }
 }

@@ -75,7 +75,8 @@ impl Devices {
                 let change = self.change_of_line(line.as_slice())?;
                 Ok(Some(change))
             }
-            Key::Start | Key::Stop | Key::Reset | Key::Interrupt | Key::Request | Key::Load(_) => Ok(None),
+            Key::Start | Key::Stop | Key::Reset | Key::Interrupt | Key::Request | Key::Load(_) =>
+                Ok(None),
         }
     }
 
