@@ -23,7 +23,7 @@ use Rattle.s360_channel.specs.declared.program.Program.{Program}
 use Rattle.s360_channel.specs.declared.unit_control.Condition.{Condition}
 use Rattle.s360_channel.specs.declared.unit_control.UnitControl.{UnitControl}
 use Rattle.s360_channel.specs.declared.unit_state.UnitState.{UnitState}
-use Rattle.s360_channel.specs.declared.unit_state.UnitState.TheVariants.{Idle, Active, Waiting}
+use Rattle.s360_channel.specs.declared.unit_state.UnitState.TheVariants.{Active, Waiting}
 use Rattle.s360_channel.specs.ConfiguredUnits.{Units, active_beside, control_of, is_occupied, kind_of, unit_at, with_control_of}
 use Rattle.s360_channel.specs.Programs.{next_ccw, program_at}
 use Rattle.s360_channel.specs.Units.{condition_of, idle_unit, is_active, is_waiting}

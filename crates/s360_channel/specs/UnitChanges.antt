@@ -1,6 +1,6 @@
 -- What an event alters of the units: it is exchanged with what stands there, and the same exchange done again takes it
 -- back. A change alone tells which units it alters.
-use Rattle.std.specs.Prelude.{◌≡◌, Bool, not, Option, Some, None, List, [], ◌∷◌, map}
+use Rattle.std.specs.Prelude.{◌≡◌, not, Option, Some, None, List, [], ◌∷◌, map}
 use Rattle.std.specs.List.{filter}
 use Rattle.s360_model.specs.Exchanges.{CanIfAny, after_if_any}
 use Rattle.s360_store.specs.declared.place.Place.{Place}
@@ -8,10 +8,8 @@ use Rattle.s360_store.specs.declared.place.Place.TheVariants.{UnitState as state
 use Rattle.s360_channel.specs.declared.configured_unit.ConfiguredUnit.{ConfiguredUnit}
 use Rattle.s360_channel.specs.declared.unit_change.UnitChange.{UnitChange}
 use Rattle.s360_channel.specs.declared.unit_change.UnitChange.TheVariants.{One, Attention, Several}
-use Rattle.s360_channel.specs.declared.unit_control.UnitControl.{UnitControl}
 use Rattle.s360_channel.specs.Differences.{same_unit}
 use Rattle.s360_channel.specs.ConfiguredUnits.{Units, HasEachUnit, address_of_unit, configured_units, control_of, with_control_of}
-use Rattle.s360_channel.specs.SeveralUnits.{SeveralUnits}
 
 -- it can be exchanged with the units
 abbrev pub CanSwapUnits : Units → UnitChange → Type 0

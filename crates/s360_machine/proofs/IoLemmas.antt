@@ -31,7 +31,6 @@ use Rattle.s360_tape.proofs.DifferenceLemmas.{same_tape-Decides}
 use Rattle.s360_channel.specs.declared.configured_unit.ConfiguredUnit.{ConfiguredUnit}
 use Rattle.s360_channel.specs.declared.configured_unit.ConfiguredUnit.TheVariants.{Reader as reader_unit, Punch as punch_unit, Printer as printer_unit, Console as console_unit, Tape0 as tape0_unit, Tape1 as tape1_unit}
 use Rattle.s360_channel.proofs.UnitChangeLemmas.{just, only}
-use Rattle.s360_machine.specs.declared.media.MediaChange.{MediaChange}
 use Rattle.s360_machine.specs.declared.media.MediaChange.TheVariants.{Reader as of_reader, Punch as of_punch, Printer as of_printer, Console as of_console, Tape0 as of_tape0, Tape1 as of_tape1}
 use Rattle.s360_machine.specs.Differences.{altered_devices}
 use Rattle.s360_machine.specs.IoChanges.{media_place}

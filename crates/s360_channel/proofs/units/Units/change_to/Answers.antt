@@ -1,4 +1,4 @@
-use Rattle.std.proofs.Common.{◌≡◌, [], rules}
+use Rattle.std.proofs.Common.{◌≡◌, []}
 use Rattle.s360_channel.specs.UnitChanges.{altered_units}
 use Rattle.s360_channel.proofs.UnitChangeLemmas.{IsUnitsChangeTo-several, is-empty, none-altered}
 use Rattle.s360_channel.proofs.units.Units.change_to.Goals as goal
