@@ -1,6 +1,7 @@
-use Rattle.std.proofs.Common.{rules, tests, ◌≡◌, ◌+◌, ◌∙◌, ap, length, length-append, None, [], ◌∷◌}
+use Rattle.std.proofs.Common.{rules, tests, ◌≡◌, ◌≢◌, ◌+◌, ◌∙◌, ap, length, length-append, None, Some, [], ◌∷◌}
+use Rattle.s360_machine.specs.declared.refusal.Refusal.TheVariants.{Memory}
 use Rattle.s360_journal.specs.Standing.{Standing, refusal_in}
-use Rattle.s360_journal.proofs.RunningLemmas.{accepted-None}
+use Rattle.s360_journal.proofs.RunningLemmas.{accepted-None, refused-Some}
 use Rattle.s360_debug.proofs.ReportLemmas.{accepted-text}
 use Rattle.s360_debug.proofs.answering.answer_event.Goals as goal
 
@@ -14,7 +15,12 @@ returns-in_ok-text-in-Ok-clause-text c =
     in c.in_ok-text-in-Ok.ensures ∙ accepted-text s e c.in-Ok.report c.standing.result none c.in-Ok.ensures.report count
 
 pub returns-in-Err-clause-text : goal.returns-in-Err-clause-text
-returns-in-Err-clause-text c = search (tests, rules)
+returns-in-Err-clause-text c =
+    let s = c.args.session.now
+    in let e = c.args.event
+    in let other : c.in-Err.refusal ≢ Memory = λ same. search rules
+    in let refused : refusal_in s e ≡ Some c.in-Err.refusal = refused-Some (refusal_in s e) c.forward.result c.in-Err.refusal c.in-Err.is other c.forward.ensures.refused
+    in rw refused c.refusal_text.ensures
 
 pub returns-in-Err-clause-state : goal.returns-in-Err-clause-state
 returns-in-Err-clause-state c = search (tests, rules)
