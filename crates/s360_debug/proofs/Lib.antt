@@ -1,7 +1,5 @@
-pub mod WordLemmas
 pub mod DecimalLemmas
 pub mod PlaceNameLemmas
-pub mod ShownLemmas
 pub mod LineLemmas
 pub mod StandingLemmas
 pub mod ReportLemmas

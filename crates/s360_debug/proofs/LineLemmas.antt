@@ -2,8 +2,8 @@
 use Rattle.std.proofs.Common.{◌≡◌, ◌<◌, ◌≤◌, ◌+◌, ◌++◌, ℕ, zero, suc, Some, None, List, [], ◌∷◌, true, false, refl, ap, ◌∙◌, take, drop, get_or, length, nat_eq, arith, append_assoc}
 use Rattle.std.proofs.lemmas.List.{append-nil, take_all, drop_all, drop_more}
 use Rattle.std.specs.List.{position}
+use Rattle.s360_language.proofs.WordLemmas.{IsFirst, IsFirst-position, NonePasses-position}
 use Rattle.s360_debug.specs.Lines.{without_return, lines_from, lines_of}
-use Rattle.s360_debug.proofs.WordLemmas.{IsFirst, IsFirst-position, NonePasses-position}
 
 -- bytes that are no line feeds go to the line that was begun
 gather : (l xs : List ℕ) (n : ℕ) → n ≤ length xs → ((k : ℕ) → k < n → nat_eq (get_or xs k 0) 10 ≡ false)

@@ -2,7 +2,7 @@
 use Rattle.std.proofs.Common.{◌≡◌, ◌++◌, List, [], ◌∷◌, ap, sym, ◌∙◌, append_assoc, codes}
 use Rattle.std.proofs.lemmas.List.{append-nil}
 use Rattle.s360_store.specs.declared.place.Place.{Place}
-use Rattle.s360_debug.specs.Names.{place_name}
+use Rattle.s360_language.specs.Names.{place_name}
 use Rattle.s360_debug.specs.Answers.{place_names}
 
 pub place_names-push : (ps : List Place) (p : Place) → place_names (ps ++ p ∷ []) ≡ place_names ps ++ (codes " " ++ place_name p)

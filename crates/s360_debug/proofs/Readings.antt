@@ -1,11 +1,11 @@
 -- What the answer to a line tells of its reading.
 use Rattle.std.proofs.Common.{◌≡◌, ◌≢◌, sym, refl, Result, Ok, Err, IfOk, OnOk, OnErr, inl, inr, List, ℕ}
-use Rattle.s360_debug.specs.declared.command.Command.{Command}
-use Rattle.s360_debug.specs.declared.command.LineFault.{LineFault}
-use Rattle.s360_debug.specs.declared.command.LineFault.TheVariants.{Memory}
+use Rattle.s360_language.specs.declared.command.Command.{Command}
+use Rattle.s360_language.specs.declared.command.LineFault.{LineFault}
+use Rattle.s360_language.specs.declared.command.LineFault.TheVariants.{Memory}
+use Rattle.s360_language.specs.Reading.{Reading, Reads}
 use Rattle.s360_debug.specs.Debugger.{Debugger}
 use Rattle.s360_debug.specs.Answers.{fault_text}
-use Rattle.s360_debug.specs.Reading.{Reading, Reads}
 use Rattle.s360_debug.specs.Script.{answer_to_reading, state_after_reading, StandsAfterReading}
 use Rattle.s360_debug.proofs.StandingLemmas.{StandsPartly-unmoved}
 

@@ -3,8 +3,8 @@ use Rattle.std.proofs.Common.{◌≡◌, ◌≤◌, ◌+◌, ◌++◌, ◌∷◌
 use Rattle.std.proofs.lemmas.List.{append-nil, length-append}
 use Rattle.std.specs.Io.KnownBytes.{Appends}
 use Rattle.s360_journal.specs.Standing.{Standing}
+use Rattle.s360_language.specs.Reading.{reading_of}
 use Rattle.s360_debug.specs.Debugger.{Debugger}
-use Rattle.s360_debug.specs.Reading.{reading_of}
 use Rattle.s360_debug.specs.Lines.{lines_from, lines_of, is_skipped, without_return}
 use Rattle.s360_debug.specs.Script.{answer_to_reading, state_after_reading, answer_to_line, state_after_line, answers_to_lines, state_after_lines, command_lines, StandsAfterReading, IsStopped, IsCut}
 use Rattle.s360_text.specs.Writing.{IsPartWritten}

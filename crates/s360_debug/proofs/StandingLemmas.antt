@@ -1,7 +1,7 @@
 -- Sessions in which more events stand.
 use Rattle.std.proofs.Common.{sym}
 use Rattle.s360_journal.proofs.RunningLemmas.{with_events-none}
-use Rattle.s360_debug.specs.declared.command.Command.{Command}
+use Rattle.s360_language.specs.declared.command.Command.{Command}
 use Rattle.s360_debug.specs.Debugger.{Debugger}
 use Rattle.s360_debug.specs.Answers.{StandsPartly}
 

@@ -4,7 +4,6 @@ use Rattle.std.specs.Prelude.{◌≡◌, ℕ, ◌+◌, if◌then◌else◌, nat_
 use Rattle.s360_model.specs.Text.{decimal}
 use Rattle.s360_store.specs.declared.place.Place.{Place}
 use Rattle.s360_machine.specs.declared.event.Event.{Event}
-use Rattle.s360_machine.specs.declared.event.Event.TheVariants.{Cpu, Channel as channel, Tick as tick, Key as key_event, Patch as patch}
 use Rattle.s360_machine.specs.declared.refusal.Refusal.{Refusal}
 use Rattle.s360_machine.specs.Machine.{seen}
 use Rattle.s360_journal.specs.declared.report.Report.{Report}
@@ -15,14 +14,15 @@ use Rattle.s360_journal.specs.Breakpoints.{has_room_for, with_address, without_a
 use Rattle.s360_journal.specs.Stops.{stop_of}
 use Rattle.s360_journal.specs.Offers.{unless_refused, with_events}
 use Rattle.s360_journal.specs.Running.{run_of}
+use Rattle.s360_language.specs.declared.command.Command.{Command}
+use Rattle.s360_language.specs.declared.command.Command.TheVariants.{Back, Standing as standing, Last, Show, Break, Clear, Until, Run}
+use Rattle.s360_language.specs.declared.command.LineFault.{LineFault}
+use Rattle.s360_language.specs.declared.command.LineFault.TheVariants.{LineTooLong, Unknown, Argument, Memory}
+use Rattle.s360_language.specs.Commands.{event_of}
+use Rattle.s360_language.specs.Names.{place_name, event_name, refused_text}
+use Rattle.s360_language.specs.Shown.{shown_text}
 use Rattle.s360_debug.specs.Debugger.{Debugger}
-use Rattle.s360_debug.specs.declared.command.Command.{Command}
-use Rattle.s360_debug.specs.declared.command.Command.TheVariants.{Step, Channel, Tick, Key, Patch, Back, Standing as standing, Last, Show, Break, Clear, Until, Run}
-use Rattle.s360_debug.specs.declared.command.LineFault.{LineFault}
-use Rattle.s360_debug.specs.declared.command.LineFault.TheVariants.{LineTooLong, Unknown, Argument, Memory}
-use Rattle.s360_debug.specs.Names.{place_name, event_name, refused_text}
 use Rattle.s360_debug.specs.Running.{run_text}
-use Rattle.s360_debug.specs.Shown.{shown_text}
 
 -- the names of places, each after a blank
 abbrev pub place_names : List Place → List ℕ
@@ -55,15 +55,6 @@ text_of_event s e = text_of_outcome (refusal_in s e) s e
 abbrev pub back_text : ℕ → Option Event → List ℕ
 back_text number None = codes "nothing stands" ++ codes "\n"
 back_text number (Some e) = codes "back " ++ decimal number ++ codes " " ++ event_name e ++ codes "\n"
-
--- the one event that a command offers, if it offers one
-abbrev pub event_of : Command → Option Event
-event_of Step = Some Cpu
-event_of (Channel unit) = Some (channel unit)
-event_of Tick = Some tick
-event_of (Key k) = Some (key_event k)
-event_of (Patch p) = Some (patch p)
-event_of c = None
 
 abbrev pub text_of_offer : Standing → Option Event → List ℕ
 text_of_offer s (Some e) = text_of_event s e

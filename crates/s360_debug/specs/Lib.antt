@@ -1,14 +1,6 @@
-pub mod Words
-pub mod Digits
-pub mod Names
-pub mod ShownUnits
-pub mod ShownItems
-pub mod ShownImages
-pub mod Shown
 pub mod Debugger
 pub mod Running
 pub mod Answers
-pub mod Reading
 pub mod Lines
 pub mod LinesLeft
 pub mod Script

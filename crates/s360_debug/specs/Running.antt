@@ -3,7 +3,7 @@ use Rattle.std.specs.Prelude.{ℕ, List, ◌++◌, codes}
 use Rattle.s360_model.specs.Text.{decimal}
 use Rattle.s360_journal.specs.declared.running.RunEnd.{RunEnd}
 use Rattle.s360_journal.specs.declared.running.RunEnd.TheVariants.{Refused, Idle, Break, Done}
-use Rattle.s360_debug.specs.Names.{refused_text}
+use Rattle.s360_language.specs.Names.{refused_text}
 
 -- why a run ended, in a word; of a refusal its number and its name
 abbrev pub end_text : RunEnd → List ℕ

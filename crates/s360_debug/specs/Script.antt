@@ -2,9 +2,9 @@
 use Rattle.std.specs.Prelude.{◌≡◌, ◌<◌, ℕ, ◌+◌, if◌then◌else◌, Ok, Err, Option, List, [], ◌∷◌, ◌++◌, length, take}
 use Rattle.std.specs.Io.KnownBytes.{Appends}
 use Rattle.s360_journal.specs.Standing.{Standing}
+use Rattle.s360_language.specs.Reading.{Reading, reading_of}
 use Rattle.s360_debug.specs.Debugger.{Debugger, new_debugger}
 use Rattle.s360_debug.specs.Answers.{answer_to, state_after, fault_text, StandsPartly}
-use Rattle.s360_debug.specs.Reading.{Reading, reading_of}
 use Rattle.s360_debug.specs.Lines.{lines_of, is_skipped}
 use Rattle.s360_text.specs.declared.reading.ReadFault.{ReadFault}
 use Rattle.s360_text.specs.declared.reading.ReadFault.TheVariants as read

@@ -1,8 +1,8 @@
 //! A script, read whole and then answered line by line.
 ghost use Rattle.std.specs.Prelude.{◌≡◌, ◌≢◌, ◌⊎◌, ◌≤◌, ◌<◌, length, IfOk, IfSome, OnOk, OnErr, Ok, Err};
 ghost use Rattle.std.specs.Io.KnownBytes.{Appends};
+ghost use Rattle.s360_language.specs.Reading.{reading_of};
 ghost use Rattle.s360_debug.specs.Debugger.{new_debugger};
-ghost use Rattle.s360_debug.specs.Reading.{reading_of};
 ghost use Rattle.s360_debug.specs.Lines.{lines_of};
 ghost use Rattle.s360_debug.specs.Script.{answer_to_reading, state_after_reading, StandsAfterReading};
 ghost use Rattle.s360_debug.specs.Script.{answers_of, lines_of_script, state_after_lines, IsStopped, IsCut};
@@ -11,9 +11,9 @@ ghost use Rattle.s360_debug.specs.declared.bytes.ScriptFault.TheVariants.{Write 
 
 use crate::answering::{answer, text_of_fault};
 use crate::bytes::ScriptFault;
-use crate::command_reader::read_command;
 use crate::lines::{Lines, skips};
 use s360_journal::{Breaks, Session};
+use s360_language::read_command;
 use s360_text::{Text, read_whole, write_whole};
 use std::alloc::{AllocError, Global};
 use std::io::{Read, Write};

@@ -4,8 +4,8 @@ ghost use Rattle.s360_journal.specs.Offers.{with_events};
 ghost use Rattle.s360_journal.specs.Running.{run_of};
 ghost use Rattle.s360_debug.specs.Running.{end_text, run_text};
 
-use crate::names::push_refusal;
 use s360_journal::{Breaks, RunEnd, Session};
+use s360_language::push_refusal;
 use s360_text::Text;
 use std::alloc::{AllocError, Global};
 

@@ -1,6 +1,6 @@
+use Rattle.s360_language.specs.Reading.{reading_of}
 use Rattle.s360_debug.proofs.Readings.{ok_reading, IsFaultAnswered, answer_to_fault}
 use Rattle.s360_debug.specs.Debugger.{Debugger}
-use Rattle.s360_debug.specs.Reading.{reading_of}
 use Rattle.s360_debug.proofs.run.answer_line.Goals as goal
 
 pub returns-in-Ok-clause-memory : goal.returns-in-Ok-clause-memory

@@ -1,0 +1,9 @@
+pub mod Commands
+pub mod Words
+pub mod Digits
+pub mod Names
+pub mod ShownUnits
+pub mod ShownItems
+pub mod ShownImages
+pub mod Shown
+pub mod Reading

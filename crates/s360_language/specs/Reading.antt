@@ -1,0 +1,263 @@
+-- The reading of a line as a command (own profile). Words are judged from left to right, and the first
+-- that is wrong, missing or too many is named by its number, the first word of the line being 0.
+use Rattle.std.specs.Prelude.{◌≡◌, ◌⊎◌, ◌/◌, ℕ, Bool, nat_eq, nat_lt, if◌then◌else◌, Option, None, Some, Result, Ok, Err, List, [], ◌∷◌, codes, drop, length, ⊤}
+use Rattle.std.specs.Cmp.Lexicographic.{pointwise}
+use Rattle.std.specs.List.{filter_map, list_all}
+use Rattle.std.specs.Option.{is_some, ok_or}
+use Rattle.std.specs.Result.{result_ok}
+use Rattle.hex.specs.Hex.{decode_of}
+use Rattle.s360_model.specs.Storage.{block_size}
+use Rattle.s360_store.specs.declared.place.Place.TheVariants.{Psw, Register, Byte, Key as key_place, Run as run_place, External, UnitState, UnitMedia}
+use Rattle.s360_word.specs.declared.unit.Unit.{Unit as UnitAddress}
+use Rattle.s360_print.specs.Signs.{ebcdic_of}
+use Rattle.s360_machine.specs.declared.event.Patch.TheVariants.{Bytes as bytes_patch, Register as register_patch, StorageKey as storage_key_patch, Psw as psw_patch}
+use Rattle.s360_machine.specs.declared.operator.Key.{Key as OperatorKey}
+use Rattle.s360_machine.specs.declared.operator.Key.TheVariants.{Start, Stop, Reset, Interrupt, EndOfFile, Request, Enter, Load}
+use Rattle.s360_language.specs.declared.command.Command.{Command}
+use Rattle.s360_language.specs.declared.command.Command.TheVariants.{Step, Channel, Tick, Key, Patch, Back, Standing, Last, Show, Break, Clear, Until, Run}
+use Rattle.s360_language.specs.declared.command.Shown.TheVariants.{Registers, Psw as psw, Storage, StorageKey, External as external, UnitState as unit_state, Device as device, Item as item, Image as image}
+use Rattle.s360_language.specs.declared.command.LineFault.{LineFault}
+use Rattle.s360_language.specs.declared.command.LineFault.TheVariants.{LineTooLong, Unknown, Argument, Memory}
+use Rattle.s360_language.specs.Words.{text_behind, words_of}
+use Rattle.s360_language.specs.Digits.{hex_number, doubleword_of, count_of}
+
+abbrev pub Reading : Type 0
+Reading = Result Command LineFault
+
+-- the longest line, and the most storage that one line shows, in bytes
+abbrev pub longest_line : ℕ
+longest_line = 1024
+
+abbrev pub most_shown : ℕ
+most_shown = 256
+
+-- the greatest count of events, and number of an item
+abbrev pub most_count : ℕ
+most_count = 10000000
+
+abbrev pub is_word : List ℕ → List ℕ → Bool
+is_word word name = pointwise nat_eq word name
+
+-- what follows an argument that is right
+abbrev pub and_then : {V : Type 0} → Result V LineFault → (V → Reading) → Reading
+and_then (Ok v) next = next v
+and_then (Err f) next = Err f
+
+-- the first of the words as an argument
+abbrev pub argument : {V : Type 0} → ℕ → (List ℕ → Option V) → List (List ℕ) → Result V LineFault
+argument place value [] = Err (Argument place)
+argument place value (word ∷ words) = ok_or (value word) (Argument place)
+
+-- a number of at most so many hexadecimal digits
+abbrev pub number_argument : ℕ → ℕ → List (List ℕ) → Result ℕ LineFault
+number_argument place most words = argument place (hex_number most) words
+
+-- the address of a unit
+abbrev pub as_unit : Result ℕ LineFault → Result UnitAddress LineFault
+as_unit (Ok n) = Ok (record { 0 = n })
+as_unit (Err f) = Err f
+
+abbrev pub unit_argument : ℕ → List (List ℕ) → Result UnitAddress LineFault
+unit_argument place words = as_unit (number_argument place 3 words)
+
+-- bytes of two digits each, at least one byte
+abbrev pub bytes_in : List ℕ → Option (List ℕ)
+bytes_in word = if nat_eq (length word) 0 then None else result_ok (decode_of word)
+
+-- no word is left
+abbrev pub finished : ℕ → Command → List (List ℕ) → Reading
+finished place command [] = Ok command
+finished place command (word ∷ words) = Err (Argument place)
+
+-- `patch s A BYTES`, after its first two words
+abbrev pub storage_patch : List (List ℕ) → Reading
+storage_patch words =
+    and_then (number_argument 2 6 words) (λ at.
+    and_then (argument 3 bytes_in (drop 1 words)) (λ bytes.
+    finished 4 (Patch (bytes_patch at bytes)) (drop 2 words)))
+
+-- `patch r R W`, after its first two words
+abbrev pub word_patch : List (List ℕ) → Reading
+word_patch words =
+    and_then (number_argument 2 1 words) (λ n.
+    and_then (number_argument 3 8 (drop 1 words)) (λ word.
+    finished 4 (Patch (register_patch n word)) (drop 2 words)))
+
+-- `patch k A K`, after its first two words
+abbrev pub key_patch : List (List ℕ) → Reading
+key_patch words =
+    and_then (number_argument 2 6 words) (λ at.
+    and_then (number_argument 3 1 (drop 1 words)) (λ storage_key.
+    finished 4 (Patch (storage_key_patch at storage_key)) (drop 2 words)))
+
+-- `patch p Q`, after its first two words
+abbrev pub doubleword_patch : List (List ℕ) → Reading
+doubleword_patch words = and_then (argument 2 doubleword_of words) (λ q. finished 3 (Patch (psw_patch q)) (drop 1 words))
+
+-- `patch` with a kind
+abbrev pub patch_reading : List (List ℕ) → Reading
+patch_reading [] = Err (Argument 1)
+patch_reading (kind ∷ words) =
+    if is_word kind (codes "s") then storage_patch words
+    else (if is_word kind (codes "r") then word_patch words
+    else (if is_word kind (codes "k") then key_patch words
+    else (if is_word kind (codes "p") then doubleword_patch words
+    else Err (Argument 1))))
+
+-- the operator's key of a name
+abbrev pub key_of : List ℕ → Option OperatorKey
+key_of word =
+    if is_word word (codes "start") then Some Start
+    else (if is_word word (codes "stop") then Some Stop
+    else (if is_word word (codes "reset") then Some Reset
+    else (if is_word word (codes "interrupt") then Some Interrupt
+    else (if is_word word (codes "eof") then Some EndOfFile
+    else (if is_word word (codes "request") then Some Request
+    else None)))))
+
+-- `channel U`, after its first word
+abbrev pub channel_reading : List (List ℕ) → Reading
+channel_reading words = and_then (unit_argument 1 words) (λ unit. finished 2 (Channel unit) (drop 1 words))
+
+-- `break A` and `clear A`, after their first word
+abbrev pub break_reading : List (List ℕ) → Reading
+break_reading words = and_then (number_argument 1 6 words) (λ at. finished 2 (Break at) (drop 1 words))
+
+abbrev pub clear_reading : List (List ℕ) → Reading
+clear_reading words = and_then (number_argument 1 6 words) (λ at. finished 2 (Clear at) (drop 1 words))
+
+-- `run N`, after its first word
+abbrev pub run_reading : List (List ℕ) → Reading
+run_reading words = and_then (argument 1 (count_of most_count) words) (λ most. finished 2 (Run most) (drop 1 words))
+
+-- `key` with a name
+abbrev pub key_reading : List (List ℕ) → Reading
+key_reading words = and_then (argument 1 key_of words) (λ k. finished 2 (Key k) (drop 1 words))
+
+-- the EBCDIC bytes of a text in ASCII, if each of its signs has one
+abbrev pub ebcdic_text : List ℕ → Option (List ℕ)
+ebcdic_text text = if list_all (λ sign. is_some (ebcdic_of sign)) text then Some (filter_map ebcdic_of text) else None
+
+-- `enter TEXT`
+abbrev pub enter_reading : List ℕ → Reading
+enter_reading text = and_then (ok_or (ebcdic_text text) (Argument 1)) (λ bytes. Ok (Key (Enter bytes)))
+
+-- `load U`, after its first word
+abbrev pub load_reading : List (List ℕ) → Reading
+load_reading words = and_then (unit_argument 1 words) (λ unit. finished 2 (Key (Load unit)) (drop 1 words))
+
+-- `last s A`, `last r R` and `last k A`, after their first two words
+abbrev pub last_byte : List (List ℕ) → Reading
+last_byte words = and_then (number_argument 2 6 words) (λ at. finished 3 (Last (Byte at)) (drop 1 words))
+
+abbrev pub last_register : List (List ℕ) → Reading
+last_register words = and_then (number_argument 2 1 words) (λ n. finished 3 (Last (Register n)) (drop 1 words))
+
+abbrev pub last_key : List (List ℕ) → Reading
+last_key words = and_then (number_argument 2 6 words) (λ at. finished 3 (Last (key_place (at / block_size))) (drop 1 words))
+
+-- `last u U` and `last d U`, after their first two words
+abbrev pub last_state : List (List ℕ) → Reading
+last_state words = and_then (unit_argument 2 words) (λ unit. finished 3 (Last (UnitState unit)) (drop 1 words))
+
+abbrev pub last_media : List (List ℕ) → Reading
+last_media words = and_then (unit_argument 2 words) (λ unit. finished 3 (Last (UnitMedia unit)) (drop 1 words))
+
+-- `last` with a kind
+abbrev pub last_reading : List (List ℕ) → Reading
+last_reading [] = Err (Argument 1)
+last_reading (kind ∷ words) =
+    if is_word kind (codes "s") then last_byte words
+    else (if is_word kind (codes "r") then last_register words
+    else (if is_word kind (codes "k") then last_key words
+    else (if is_word kind (codes "p") then finished 2 (Last Psw) words
+    else (if is_word kind (codes "run") then finished 2 (Last run_place) words
+    else (if is_word kind (codes "ext") then finished 2 (Last External) words
+    else (if is_word kind (codes "u") then last_state words
+    else (if is_word kind (codes "d") then last_media words
+    else Err (Argument 1))))))))
+
+-- `show s A N`, after its first two words
+abbrev pub show_storage : List (List ℕ) → Reading
+show_storage words =
+    and_then (number_argument 2 6 words) (λ at.
+    and_then (argument 3 (count_of most_shown) (drop 1 words)) (λ count.
+    finished 4 (Show (Storage at count)) (drop 2 words)))
+
+-- `show k A`, after its first two words
+abbrev pub show_key : List (List ℕ) → Reading
+show_key words = and_then (number_argument 2 6 words) (λ at. finished 3 (Show (StorageKey at)) (drop 1 words))
+
+-- `show u U` and `show d U`, after their first two words
+abbrev pub show_unit : List (List ℕ) → Reading
+show_unit words = and_then (unit_argument 2 words) (λ unit. finished 3 (Show (unit_state unit)) (drop 1 words))
+
+abbrev pub show_device : List (List ℕ) → Reading
+show_device words = and_then (unit_argument 2 words) (λ unit. finished 3 (Show (device unit)) (drop 1 words))
+
+-- `show m U N`, after its first two words
+abbrev pub show_item : List (List ℕ) → Reading
+show_item words =
+    and_then (unit_argument 2 words) (λ unit.
+    and_then (argument 3 (count_of most_count) (drop 1 words)) (λ number.
+    finished 4 (Show (item unit number)) (drop 2 words)))
+
+-- `show image U`, after its first two words
+abbrev pub show_image : List (List ℕ) → Reading
+show_image words = and_then (unit_argument 2 words) (λ unit. finished 3 (Show (image unit)) (drop 1 words))
+
+-- `show` with a kind
+abbrev pub show_reading : List (List ℕ) → Reading
+show_reading [] = Err (Argument 1)
+show_reading (kind ∷ words) =
+    if is_word kind (codes "regs") then finished 2 (Show Registers) words
+    else (if is_word kind (codes "psw") then finished 2 (Show psw) words
+    else (if is_word kind (codes "s") then show_storage words
+    else (if is_word kind (codes "k") then show_key words
+    else (if is_word kind (codes "ext") then finished 2 (Show external) words
+    else (if is_word kind (codes "u") then show_unit words
+    else (if is_word kind (codes "d") then show_device words
+    else (if is_word kind (codes "m") then show_item words
+    else (if is_word kind (codes "image") then show_image words
+    else Err (Argument 1)))))))))
+
+-- a row for each first word; the text is what follows it in the line
+abbrev pub reading_of_words : List ℕ → List (List ℕ) → Reading
+reading_of_words text [] = Err Unknown
+reading_of_words text (name ∷ words) =
+    if is_word name (codes "step") then finished 1 Step words
+    else (if is_word name (codes "channel") then channel_reading words
+    else (if is_word name (codes "tick") then finished 1 Tick words
+    else (if is_word name (codes "key") then key_reading words
+    else (if is_word name (codes "enter") then enter_reading text
+    else (if is_word name (codes "load") then load_reading words
+    else (if is_word name (codes "back") then finished 1 Back words
+    else (if is_word name (codes "standing") then finished 1 Standing words
+    else (if is_word name (codes "patch") then patch_reading words
+    else (if is_word name (codes "last") then last_reading words
+    else (if is_word name (codes "show") then show_reading words
+    else (if is_word name (codes "break") then break_reading words
+    else (if is_word name (codes "clear") then clear_reading words
+    else (if is_word name (codes "until") then finished 1 Until words
+    else (if is_word name (codes "run") then run_reading words
+    else Err Unknown))))))))))))))
+
+-- a line that is too long comes first
+abbrev pub reading_of : List ℕ → Reading
+reading_of line = if nat_lt longest_line (length line) then Err LineTooLong else reading_of_words (text_behind line) (words_of line)
+
+-- the command holds bytes of its line, which want memory: a text that is entered, or bytes of storage
+abbrev pub TakesMemory : Command → Type 0
+TakesMemory (Key (Enter bytes)) = ⊤
+TakesMemory (Patch (bytes_patch at bytes)) = ⊤
+TakesMemory c = ⊥
+
+-- what may answer a reading: the fault whatever memory there is; the command, or want of memory where it takes some
+abbrev pub Reads : Reading → Reading → Type 0
+Reads (Err f) result = result ≡ Err f
+Reads (Ok c) result = (result ≡ Ok c) ⊎ (TakesMemory c × (result ≡ Err Memory))
+
+-- a word that is left is refused by its number
+abbrev pub AtEnd : ℕ → List (List ℕ) → Result (Unit {0}) LineFault → Type 0
+AtEnd place [] result = result ≡ Ok tt
+AtEnd place (word ∷ words) result = result ≡ Err (Argument place)

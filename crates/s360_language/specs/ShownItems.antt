@@ -1,0 +1,108 @@
+-- What is shown of an item of a unit's media (own profile). Each line is ended by one line feed.
+use Rattle.std.specs.Prelude.{ℕ, Option, Some, None, List, [], ◌∷◌, ◌++◌, codes, length, map, take}
+use Rattle.std.specs.Option.{option_map_or, unwrap_or}
+use Rattle.s360_model.specs.Text.{decimal, hex_bytes}
+use Rattle.s360_word.specs.declared.unit.Unit.{Unit}
+use Rattle.s360_device.specs.declared.card.PunchStacker.{PunchStacker}
+use Rattle.s360_device.specs.declared.card.PunchStacker.TheVariants.{P1, P2, Rp3 as punch_rp3}
+use Rattle.s360_device.specs.declared.card.ReadStacker.{ReadStacker}
+use Rattle.s360_device.specs.declared.card.ReadStacker.TheVariants.{R1, R2, Rp3 as read_rp3}
+use Rattle.s360_device.specs.Items.{item_in}
+use Rattle.s360_device.specs.Punch.{Punch}
+use Rattle.s360_device.specs.Reader.{Reader}
+use Rattle.s360_print.specs.declared.paper.Record.{Record}
+use Rattle.s360_print.specs.declared.typed_line.TypedItem.{TypedItem}
+use Rattle.s360_print.specs.declared.typed_line.TypedItem.TheVariants.{Text, Return, Alarm}
+use Rattle.s360_print.specs.Console.{Console}
+use Rattle.s360_print.specs.Printer.{Printer}
+use Rattle.s360_print.specs.Signs.{ascii_of}
+use Rattle.s360_tape.specs.declared.item.Item.{Item}
+use Rattle.s360_tape.specs.declared.item.Item.TheVariants.{Block, Mark}
+use Rattle.s360_tape.specs.Tape.{Tape}
+use Rattle.s360_channel.specs.declared.configured_unit.ConfiguredUnit.{ConfiguredUnit}
+use Rattle.s360_channel.specs.declared.configured_unit.ConfiguredUnit.TheVariants.{Reader as reader_unit, Punch as punch_unit, Printer as printer_unit, Console as console_unit, Tape0, Tape1}
+use Rattle.s360_machine.specs.declared.refusal.Refusal.TheVariants.{NoSuchUnit}
+use Rattle.s360_machine.specs.Machine.{Machine}
+use Rattle.s360_channel.specs.ConfiguredUnits.{unit_at}
+use Rattle.s360_text.specs.Blanks.{without_blanks}
+use Rattle.s360_language.specs.Names.{refused_text}
+
+-- the sign of an EBCDIC byte, or a period where it has none
+unfoldable pub sign_of : ℕ → ℕ
+sign_of byte = unwrap_or (ascii_of byte) 46
+
+-- the line of an item: what the line begins with, and the item's bytes as signs, without the blanks at the end
+abbrev pub item_line : List ℕ → List ℕ → List ℕ
+item_line begun bytes = without_blanks (begun ++ codes " " ++ map sign_of bytes) ++ codes "\n"
+
+-- there is no such item
+abbrev pub no_item : List ℕ
+no_item = codes "none" ++ codes "\n"
+
+-- what has a card of the reader: the stacker to which it was fed, else the hopper
+abbrev pub holder_name : Option ReadStacker → List ℕ
+holder_name None = codes "hopper"
+holder_name (Some R1) = codes "R1"
+holder_name (Some R2) = codes "R2"
+holder_name (Some read_rp3) = codes "RP3"
+
+-- the stackers of the punch
+abbrev pub stacker_name : PunchStacker → List ℕ
+stacker_name P1 = codes "P1"
+stacker_name P2 = codes "P2"
+stacker_name punch_rp3 = codes "RP3"
+
+-- a card of the reader's deck, and a card that was punched, by its number
+abbrev pub deck_card : Reader → ℕ → List ℕ
+deck_card r number = option_map_or (item_line (holder_name (item_in r.media.stackers number))) (item_in r.media.cards number) no_item
+
+abbrev pub punched_card : Punch → ℕ → List ℕ
+punched_card p number = option_map_or (λ c. item_line (stacker_name c.stacker) c.card) (item_in p.media number) no_item
+
+-- where a line was printed
+abbrev pub place_of_record : Record → List ℕ
+place_of_record r = codes "page " ++ decimal r.page ++ codes " line " ++ decimal r.line
+
+-- a line that was printed
+abbrev pub record_line : Record → List ℕ
+record_line r = item_line (place_of_record r) r.bytes
+
+-- what the console typed: a line without or with a return after it, or an alarm
+abbrev pub typed_line : TypedItem → List ℕ
+typed_line (Text line) = item_line (codes "type") line
+typed_line (Return line) = item_line (codes "return") line
+typed_line Alarm = codes "alarm" ++ codes "\n"
+
+-- a line that was printed, and an item that was typed, by its number
+abbrev pub printed_record : Printer → ℕ → List ℕ
+printed_record p number = option_map_or record_line (item_in p.media.records number) no_item
+
+abbrev pub typed_item : Console → ℕ → List ℕ
+typed_item c number = option_map_or typed_line (item_in c.media.typed number) no_item
+
+-- the first bytes of a block, if it has any
+abbrev pub block_begin : List ℕ → List ℕ
+block_begin [] = []
+block_begin (byte ∷ bytes) = codes " " ++ hex_bytes (take 32 (byte ∷ bytes))
+
+-- a block, with the number of its bytes, or a mark
+abbrev pub tape_item_line : Item → List ℕ
+tape_item_line (Block bytes) = codes "block " ++ decimal (length bytes) ++ block_begin bytes ++ codes "\n"
+tape_item_line Mark = codes "mark" ++ codes "\n"
+
+-- a block or mark of a tape, by its number
+abbrev pub tape_item : Tape → ℕ → List ℕ
+tape_item t number = option_map_or tape_item_line (item_in t.media.items number) no_item
+
+-- an item of a unit's media, if the machine has the unit
+abbrev pub item_of_unit : Machine → Option ConfiguredUnit → ℕ → List ℕ
+item_of_unit m (Some reader_unit) number = deck_card m.media.reader number
+item_of_unit m (Some punch_unit) number = punched_card m.media.punch number
+item_of_unit m (Some printer_unit) number = printed_record m.media.printer number
+item_of_unit m (Some console_unit) number = typed_item m.media.console number
+item_of_unit m (Some Tape0) number = tape_item m.media.tape0 number
+item_of_unit m (Some Tape1) number = tape_item m.media.tape1 number
+item_of_unit m None number = refused_text NoSuchUnit
+
+abbrev pub item_text : Machine → Unit → ℕ → List ℕ
+item_text m unit number = item_of_unit m (unit_at unit.0) number

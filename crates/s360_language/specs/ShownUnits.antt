@@ -1,0 +1,97 @@
+-- What is shown of the units and their devices (own profile). Each line is ended by one line feed.
+use Rattle.std.specs.Prelude.{ℕ, ◌+◌, ◌*◌, ◌/◌, ◌%◌, ◌^◌, Bool, if◌then◌else◌, Option, Some, None, List, [], ◌++◌, codes, length, slice_index}
+use Rattle.s360_model.specs.Text.{decimal, hex_bytes, hex_text}
+use Rattle.s360_word.specs.declared.unit.Unit.{Unit}
+use Rattle.s360_device.specs.Punch.{Punch}
+use Rattle.s360_device.specs.Reader.{Reader}
+use Rattle.s360_print.specs.Console.{Console}
+use Rattle.s360_print.specs.Printer.{Printer}
+use Rattle.s360_tape.specs.Tape.{Tape}
+use Rattle.s360_channel.specs.declared.program.Program.{Program}
+use Rattle.s360_channel.specs.declared.unit_state.UnitState.{UnitState}
+use Rattle.s360_channel.specs.declared.unit_state.UnitState.TheVariants.{Idle, Active, Waiting}
+use Rattle.s360_channel.specs.Words.{csw_doubleword}
+use Rattle.s360_channel.specs.declared.configured_unit.ConfiguredUnit.{ConfiguredUnit}
+use Rattle.s360_channel.specs.declared.configured_unit.ConfiguredUnit.TheVariants.{Reader as reader_unit, Punch as punch_unit, Printer as printer_unit, Console as console_unit, Tape0, Tape1}
+use Rattle.s360_machine.specs.declared.refusal.Refusal.TheVariants.{NoSuchUnit}
+use Rattle.s360_machine.specs.Machine.{Machine}
+use Rattle.s360_channel.specs.ConfiguredUnits.{attention_at, state_at, unit_at}
+use Rattle.s360_language.specs.Names.{refused_text}
+
+-- of a program its key, zeros and the address of its next channel command word, as a channel address word has them
+abbrev pub program_word : Program → ℕ
+program_word p = p.key * 2 ^ 28 + p.address % 2 ^ 24
+
+-- the two words of a channel status word
+unfoldable pub csw_words : ℕ → List ℕ
+csw_words doubleword = hex_text 8 (doubleword / 2 ^ 32) ++ (codes " " ++ hex_text 8 (doubleword % 2 ^ 32))
+
+abbrev pub state_name : UnitState → List ℕ
+state_name Idle = codes " idle"
+state_name (Active p) = codes " active " ++ hex_text 8 (program_word p)
+state_name (Waiting csw) = codes " waiting " ++ csw_words (csw_doubleword csw)
+
+abbrev pub attention_name : Bool → List ℕ
+attention_name attention = if attention then codes " attention" else []
+
+abbrev pub unit_line : Unit → UnitState → Bool → List ℕ
+unit_line unit state attention = hex_text 3 unit.0 ++ state_name state ++ attention_name attention ++ codes "\n"
+
+-- a unit's state, if the machine has it
+abbrev pub text_of_state : Unit → Option UnitState → Bool → List ℕ
+text_of_state unit None attention = refused_text NoSuchUnit
+text_of_state unit (Some state) attention = unit_line unit state attention
+
+abbrev pub unit_text : Machine → Unit → List ℕ
+unit_text m unit = text_of_state unit (state_at m.units unit) (attention_at m.units unit)
+
+-- the first sense byte, which is all that the devices of channel 0 have
+abbrev pub sense_text : List ℕ → List ℕ
+sense_text sense = codes " sense " ++ hex_text 2 (slice_index sense 0)
+
+abbrev pub key_text : Bool → List ℕ
+key_text pressed = if pressed then codes "on" else codes "off"
+
+-- the cards that were fed, of all, and the end-of-file key
+abbrev pub reader_line : Reader → List ℕ
+reader_line r =
+    codes "00C" ++ sense_text r.sense ++ codes " next " ++ decimal (length r.media.stackers) ++ codes " of " ++ decimal (length r.media.cards)
+    ++ codes " eof " ++ key_text r.media.end_of_file ++ codes "\n"
+
+-- the cards that were punched
+abbrev pub punch_line : Punch → List ℕ
+punch_line p = codes "00D" ++ sense_text p.sense ++ codes " cards " ++ decimal (length p.media) ++ codes "\n"
+
+-- where the carriage stands, and the lines that were printed
+abbrev pub printer_line : Printer → List ℕ
+printer_line p =
+    codes "00E" ++ sense_text p.sense ++ codes " page " ++ decimal p.media.position.page ++ codes " line " ++ decimal p.media.position.line
+    ++ codes " records " ++ decimal (length p.media.records) ++ codes "\n"
+
+-- the items that were typed, the lines that were entered, and how many of these were taken
+abbrev pub console_line : Console → List ℕ
+console_line c =
+    codes "01F" ++ sense_text c.sense ++ codes " typed " ++ decimal (length c.media.typed) ++ codes " entered " ++ decimal (length c.media.entered)
+    ++ codes " taken " ++ decimal c.media.taken ++ codes "\n"
+
+-- the sense bytes, the position among the blocks and marks, and whether the tape is loaded
+abbrev pub loaded_text : Bool → List ℕ
+loaded_text unloaded = if unloaded then codes " unloaded" else codes " loaded"
+
+abbrev pub tape_line : Unit → Tape → List ℕ
+tape_line unit t =
+    hex_text 3 unit.0 ++ codes " sense " ++ hex_bytes t.sense ++ codes " position " ++ decimal t.media.position ++ codes " of " ++ decimal (length t.media.items)
+    ++ loaded_text t.media.unloaded ++ codes "\n"
+
+-- a unit's device, if the machine has it
+abbrev pub text_of_device : Machine → Unit → Option ConfiguredUnit → List ℕ
+text_of_device m unit (Some reader_unit) = reader_line m.media.reader
+text_of_device m unit (Some punch_unit) = punch_line m.media.punch
+text_of_device m unit (Some printer_unit) = printer_line m.media.printer
+text_of_device m unit (Some console_unit) = console_line m.media.console
+text_of_device m unit (Some Tape0) = tape_line unit m.media.tape0
+text_of_device m unit (Some Tape1) = tape_line unit m.media.tape1
+text_of_device m unit None = refused_text NoSuchUnit
+
+abbrev pub device_text : Machine → Unit → List ℕ
+device_text m unit = text_of_device m unit (unit_at unit.0)

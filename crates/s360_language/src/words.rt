@@ -1,0 +1,81 @@
+//! The words of a line: what stands between its blanks.
+ghost use Rattle.std.specs.Prelude.{◌≡◌, ◌≤◌, ◌+◌, ◌∷◌, [], MatchOption, IfSome, length, nat_eq, not};
+ghost use Rattle.std.specs.List.{position};
+ghost use Rattle.s360_language.specs.Words.{behind_word, text_behind, words_of};
+
+use std::marker::Model;
+
+/// The words that are left of a line of at most 1,024 bytes, which a contract sees as their list.
+#[derive(Drop)]
+pub(crate) struct Words<'a> {
+    rest: &'a [u8],
+}
+
+impl<'a> Model for Words<'a> {
+    ghost use Rattle.std.specs.Prelude.{List, ℕ, ◌≤◌, length};
+    ghost use Rattle.s360_language.specs.Words.{words_of};
+
+    ghost Value = { List (List ℕ) };
+
+    ghost view = { λ w. words_of w.rest.now };
+
+    ghost invariant = { λ w. length w.rest.now ≤ 1024 };
+}
+
+impl<'a> Words<'a> {
+    /// The words of a line, which is not too long.
+    pub(crate) fn new(line: &'a [u8]) -> Words<'a>
+        requires { length line.now ≤ 1024 }
+        ensures { result ≡ words_of line.now }
+    {
+        Words { rest: line }
+    }
+
+    /// The next word, if there is one.
+    pub(crate) fn next_word(&mut self) -> Option<&'a [u8]>
+        ensures word { MatchOption result ((self.old ≡ []) × (self.new ≡ [])) (λ word. self.old ≡ word.now ∷ self.new) }
+        ensures short { IfSome result (λ word. length word.now ≤ 1024) }
+    {
+        let (word, rest) = split_word(self.rest)?;
+        self.rest = rest;
+        Some(word)
+    }
+}
+
+/// Where the first byte stands that is no blank.
+fn first_other(line: &[u8]) -> Option<usize>
+    ensures { result ≡ position (λ b. not (nat_eq b 32)) line.now }
+{
+    line.iter().position(|byte| *byte != b' ')
+}
+
+/// Where the first blank stands.
+fn first_blank(line: &[u8]) -> Option<usize>
+    ensures { result ≡ position (λ b. nat_eq b 32) line.now }
+{
+    line.iter().position(|byte| *byte == b' ')
+}
+
+/// The first word of a line, and what follows it.
+fn split_word(line: &[u8]) -> Option<(&[u8], &[u8])>
+    ensures word { MatchOption result (words_of line.now ≡ []) (λ r. words_of line.now ≡ r.0.now ∷ words_of r.1.now) }
+    ensures rest { MatchOption result (behind_word line.now ≡ []) (λ r. behind_word line.now ≡ r.1.now) }
+    ensures short { IfSome result (λ r. length r.0.now + length r.1.now ≤ length line.now) }
+{
+    let start = first_other(line)?;
+    let line = &line[start..];
+    match first_blank(line) {
+        Some(end) => Some(line.split_at(end)),
+        None => Some((line, &[])),
+    }
+}
+
+/// The text of a line: what follows its first word and one blank.
+pub(crate) fn text_behind(line: &[u8]) -> &[u8]
+    ensures { result.now ≡ text_behind line.now }
+{
+    match split_word(line) {
+        Some((_, [_, text @ ..])) => text,
+        _ => &[],
+    }
+}
