@@ -12,6 +12,7 @@ import itertools
 import os
 import pathlib
 import pty
+import resource
 import subprocess
 import sys
 import tempfile
@@ -187,6 +188,21 @@ MARK_IS_STARTED = b"""1 changed 1 p
 5 changed 2 p u180
 """
 MANY = 10_000
+# An output to 180 of one word of one byte, which a transfer chains to itself: each event gathers a byte
+# more, up to the longest block. The states before it are kept, so none may have a copy of the others' bytes.
+CHAINED_TO_ITSELF = b"""patch p 0000000000000200
+patch s 48 00000400
+patch s 200 9C000180
+patch s 400 0100060080000001
+patch s 408 0800040000000000
+step
+run 100000
+show d 180
+"""
+CHAIN_ENDS = b"""run 65539 idle
+180 sense 000000000000 position 1 of 1 loaded
+"""
+CHAIN_MEMORY = 60_000_000
 
 
 def loaded(count):
@@ -440,6 +456,18 @@ def fault_of_read_back(writing, folder):
     return None if right else (done.returncode, done.stdout, done.stderr)
 
 
+def fault_of_chain(folder):
+    """What is wrong with a data chain of the most words, in memory that is in proportion to its bytes."""
+
+    def limit_memory():
+        resource.setrlimit(resource.RLIMIT_DATA, (CHAIN_MEMORY, CHAIN_MEMORY))
+
+    how = {"capture_output": True, "timeout": SECONDS, "cwd": folder, "preexec_fn": limit_memory}
+    done = subprocess.run([PROGRAM], input=CHAINED_TO_ITSELF, **how)
+    right = done.returncode == 0 and done.stdout.endswith(CHAIN_ENDS) and not done.stderr
+    return None if right else (done.returncode, done.stdout[-200:], done.stderr)
+
+
 def fault_at_a_terminal(folder):
     """What is wrong with a script that is typed: a person is told once what is waited for."""
     terminal, typed = pty.openpty()
@@ -486,6 +514,7 @@ def main():
         folder = pathlib.Path(name)
         make_files(folder)
         faults = [(case.what, fault_of(case, folder)) for case in CASES]
+        faults.append(("a data chain of the most words", fault_of_chain(folder)))
         faults.append(("a script that is typed at a terminal", fault_at_a_terminal(folder)))
         faults.append(("a write that fails once", fault_of_failed_writes(folder)))
         for what, writing in WRITINGS.items():

@@ -5,7 +5,7 @@ use crate::workload::{Filling, START, Workload};
 use s360_device::{COLUMNS, Deck, deck_from};
 use s360_journal::Session;
 use s360_machine::{Bytes, Event, Machine, Patch};
-use s360_tape::Tape;
+use s360_tape::blank_tape;
 use s360_word::{RegisterNumber, Word};
 use std::alloc::Global;
 use std::fs;
@@ -79,7 +79,7 @@ fn make_ready(session: &mut Session, alloc: Global, workload: Workload) -> Resul
 /// A session over a new machine of so many bytes, with so many cards in its reader.
 fn new_session(alloc: Global, cards: u32, size: u32) -> Result<Session, BenchFault> {
     let deck = deck_of(alloc, cards)?;
-    let machine = Machine::new(alloc, size, deck, Tape::blank(alloc), Tape::blank(alloc))?;
+    let machine = Machine::new(alloc, size, deck, blank_tape(alloc), blank_tape(alloc))?;
     Ok(Session::new(alloc, machine, LIMIT))
 }
 

@@ -1,3 +1,4 @@
+pub mod GatheredLemmas
 pub mod DifferenceLemmas
 pub mod UnitChangeLemmas
 pub mod KnownChannels

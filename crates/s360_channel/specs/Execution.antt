@@ -66,6 +66,11 @@ abbrev pub moved_before : Progress → ℕ
 moved_before (InputChained command moved) = moved
 moved_before other = 0
 
+-- none where there are no words before
+abbrev pub gathered_if : Option (List ℕ) → List ℕ
+gathered_if None = []
+gathered_if (Some bytes) = bytes
+
 abbrev pub gathered_before : Progress → List ℕ
 gathered_before (OutputChained command gathered) = gathered
 gathered_before other = []

@@ -1,12 +1,12 @@
 //! One channel event: a channel command word executed over a device. Source: GA22-6821,
 //! "Input/Output Operations", execution of input/output operations.
-ghost use Rattle.std.specs.Prelude.{◌≡◌, ◌≤◌, ◌<◌, ◌+◌, ◌-◌, ◌^◌};
+ghost use Rattle.std.specs.Prelude.{◌≡◌, ◌≤◌, ◌<◌, ◌+◌, ◌-◌, ◌^◌, ◌++◌};
 ghost use Rattle.std.specs.Prelude.{Some, None, [], IfOk, length};
 ghost use Rattle.s360_device.specs.Transfers.{CanEndWith};
 ghost use Rattle.s360_device.specs.declared.device.Begin.TheVariants.{Input, Output};
-ghost use Rattle.s360_channel.specs.Execution.{channel_execution, command_with, execute_begun};
+ghost use Rattle.s360_channel.specs.Execution.{channel_execution, execute_begun};
 ghost use Rattle.s360_channel.specs.Execution.{execute_input, execute_output, input_with};
-ghost use Rattle.s360_channel.specs.Execution.{after_conclusion, after_transfer, moved_before};
+ghost use Rattle.s360_channel.specs.Execution.{after_conclusion, after_transfer, gathered_within, moved_before};
 ghost use Rattle.s360_channel.specs.Execution.{stored_bytes};
 ghost use Rattle.s360_channel.specs.Execution.{execute_without_bytes, ended_unit, refused_unit};
 ghost use Rattle.s360_channel.specs.Steps.{AltersDevice, IsDeviceChange, KeepsDevice};
@@ -17,12 +17,12 @@ use crate::ccw::{Ccw, reads_backward};
 use crate::conclusion::{Conclusion, ended_unit, protection_check, refused_unit};
 use crate::csw::{ChannelStatus, Csw, UnitStatus};
 use crate::fetching::{Fetched, next_ccw};
-use crate::gathering::{gathered_with, input_in_order};
+use crate::gathering::{fetched, gathered_with, input_in_order, output_of};
 use crate::program::{Program, Progress};
 use crate::storing::put_run;
 use crate::transfer::{Transfer, access_of, input_transfer, lowest_address, output_transfer};
 use s360_device::{Begin, Device};
-use s360_store::{Access, Bytes, Checked, Plan, Storage};
+use s360_store::{Access, Checked, Plan, Storage};
 use std::alloc::{AllocError, Global};
 
 /// What one channel event makes of a unit that executes a program.
@@ -249,29 +249,35 @@ fn plan_input<D: Device>(
     Ok(step)
 }
 
-/// A word of an output for which these bytes are gathered with its own.
-fn plan_gathered_output<D: Device>(
+/// What follows a word of an output that has fetched its bytes.
+fn after_output<D: Device>(
+    alloc: Global,
     program: &Program,
     device: &D,
     word: &Word,
+    limit: u32,
     transfer: &Transfer,
-    gathered: Vec<u8>,
+    bytes: &[u8],
 ) -> Result<ChannelStep<D::Change>, AllocError>
-    requires can { CanEndWith (D.begin_of device.now word.now.command) gathered.items }
-    ensures state { IfOk result (λ step. state_after_step program.now step ≡ (after_transfer (record { begin = D.begin_of device.now; input = D.input_of device.now; exception = D.exception_of device.now }) program.now word.now.at word.now.ccw transfer.now None (OutputChained word.now.command gathered.items) (record { command = word.now.command; output = gathered.items })).state) }
-    ensures change { IfOk result (λ step. IsDeviceChange (AltersDevice D.can_swap D.after_swap D.change_after_swap D.needs D.bare D.is_after device.now) (KeepsDevice D.is_after device.now) (after_transfer (record { begin = D.begin_of device.now; input = D.input_of device.now; exception = D.exception_of device.now }) program.now word.now.at word.now.ccw transfer.now None (OutputChained word.now.command gathered.items) (record { command = word.now.command; output = gathered.items })).ending (change_of_step step)) }
+    requires can { CanEndWith (D.begin_of device.now word.now.command) (gathered_within limit program.now.progress ++ bytes.now) }
+    requires few { length bytes.now ≤ 65535 }
+    ensures state { IfOk result (λ step. state_after_step program.now step ≡ (after_transfer (record { begin = D.begin_of device.now; input = D.input_of device.now; exception = D.exception_of device.now }) program.now word.now.at word.now.ccw transfer.now None (OutputChained word.now.command (gathered_within limit program.now.progress ++ bytes.now)) (record { command = word.now.command; output = gathered_within limit program.now.progress ++ bytes.now })).state) }
+    ensures change { IfOk result (λ step. IsDeviceChange (AltersDevice D.can_swap D.after_swap D.change_after_swap D.needs D.bare D.is_after device.now) (KeepsDevice D.is_after device.now) (after_transfer (record { begin = D.begin_of device.now; input = D.input_of device.now; exception = D.exception_of device.now }) program.now word.now.at word.now.ccw transfer.now None (OutputChained word.now.command (gathered_within limit program.now.progress ++ bytes.now)) (record { command = word.now.command; output = gathered_within limit program.now.progress ++ bytes.now })).ending (change_of_step step)) }
 {
+    let before = program.progress.gathered_before();
     if transfer.goes_on {
+        let gathered = gathered_with(alloc, before, limit, bytes)?;
         let progress = Progress::OutputChained {
             command: word.command,
-            gathered: Bytes::new(gathered),
+            gathered,
         };
         return Ok(ChannelStep::GoesOn {
             program: program.going_on_after(word.at, progress),
             change: None,
         });
     }
-    let step = end_of(program, device, word, transfer, gathered.as_slice())?;
+    let output = output_of(alloc, before, limit, bytes)?;
+    let step = end_of(program, device, word, transfer, output.as_slice())?;
     Ok(step)
 }
 
@@ -290,8 +296,8 @@ fn plan_output<D: Device>(
     ensures { IfOk result (PlansExecution storage.now program.now plan.now (execute_output (record { begin = D.begin_of device.now; input = D.input_of device.now; exception = D.exception_of device.now }) storage.now program.now word.now.at word.now.ccw word.now.command limit) (AltersDevice D.can_swap D.after_swap D.change_after_swap D.needs D.bare D.is_after device.now) (KeepsDevice D.is_after device.now)) }
 {
     let address = word.ccw.address;
-    let before = program.progress.gathered_within(limit);
-    let transfer = output_transfer(&word.ccw, limit - before.len() as u32);
+    let before = program.progress.count_within(limit);
+    let transfer = output_transfer(&word.ccw, limit - before);
     match access_of(
         storage,
         program.key,
@@ -303,8 +309,8 @@ fn plan_output<D: Device>(
         Checked::Addressing => return Ok(program.checked(word.at, ChannelStatus::program_check())),
         Checked::Protection => return Ok(program.checked(word.at, protection_check())),
     }
-    let gathered = gathered_with(alloc, before, storage, address, transfer.count)?;
-    let step = plan_gathered_output(program, device, word, &transfer, gathered)?;
+    let bytes = fetched(storage, address, transfer.count);
+    let step = after_output(alloc, program, device, word, limit, &transfer, bytes)?;
     Ok(step)
 }
 

@@ -1,7 +1,7 @@
 //! The channel command word with which a program goes on. Source: GA22-6821, "Input/Output
 //! Operations", channel command word and transfer in channel, and "System Control Panel", initial
 //! program loading.
-ghost use Rattle.std.specs.Prelude.{◌≡◌, ◌<◌, ◌≤◌, ◌^◌, ◌+◌, length, IfSome};
+ghost use Rattle.std.specs.Prelude.{◌≡◌, ◌+◌};
 ghost use Rattle.s360_channel.specs.Programs.{ccw_at, executed_at, next_ccw, is_executable};
 ghost use Rattle.s360_channel.specs.Programs.{transferred_to};
 

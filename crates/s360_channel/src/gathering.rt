@@ -2,10 +2,12 @@
 //! Source: GA22-6821, "Input/Output Operations", read, read backward, write, and skipping.
 ghost use Rattle.std.specs.Prelude.{◌≡◌, ◌≤◌, ◌<◌, ◌+◌, ◌-◌, ◌^◌, ◌++◌, ◌⊎◌, IfOk, length, take, drop};
 ghost use Rattle.std.specs.List.{slice_range};
-ghost use Rattle.s360_channel.specs.Execution.{in_order};
+ghost use Rattle.std.specs.Option.{option_copied};
+ghost use Rattle.s360_channel.specs.Execution.{gathered_if, in_order};
 ghost use Rattle.s360_channel.specs.Words.{reads_backward};
 
 use crate::ccw::reads_backward;
+use crate::gathered::Gathered;
 use s360_device::Device;
 use s360_store::Storage;
 use std::alloc::{AllocError, Global};
@@ -49,25 +51,51 @@ pub(crate) fn input_in_order<D: Device>(
     Ok(bytes)
 }
 
-/// Bytes gathered for an output, with so many more from an address on. Where none move, the address
-/// may be outside storage.
-pub(crate) fn gathered_with(
-    alloc: Global,
-    gathered: &[u8],
-    storage: &Storage,
-    address: u32,
-    count: u16,
-) -> Result<Vec<u8>, AllocError>
+/// So many bytes of storage from an address on. Where there are none, the address may be outside.
+pub(crate) fn fetched(storage: &Storage, address: u32, count: u16) -> &[u8]
     requires inside { (count ≡ 0) ⊎ (address + count ≤ length storage.now.bytes) }
-    ensures { IfOk result (λ bytes. bytes.items ≡ gathered.now ++ slice_range storage.now.bytes address (address + count)) }
+    ensures bytes { result.now ≡ slice_range storage.now.bytes address (address + count) }
+    ensures few { length result.now ≤ 65535 }
 {
-    let fetched = if count == 0 {
+    if count == 0 {
         &[]
     } else {
         storage.bytes(address, u32::from(count))
+    }
+}
+
+/// The bytes of an output: the first of those gathered before, at most so many, and one word's.
+pub(crate) fn output_of(
+    alloc: Global,
+    before: Option<&Gathered>,
+    limit: u32,
+    bytes: &[u8],
+) -> Result<Vec<u8>, AllocError>
+    ensures { IfOk result (λ output. output.items ≡ take limit (gathered_if (option_copied before.entry)) ++ bytes.now) }
+{
+    let mut output = match before {
+        Some(gathered) => gathered.to_vec(alloc)?,
+        None => Vec::with_capacity(alloc, bytes.len())?,
     };
-    let mut bytes = Vec::with_capacity(alloc, gathered.len() + fetched.len())?;
-    bytes.extend_from_slice(gathered)?;
-    bytes.extend_from_slice(fetched)?;
-    Ok(bytes)
+    output.truncate(limit as usize);
+    output.extend_from_slice(bytes)?;
+    Ok(output)
+}
+
+/// The same where the output goes on, at the cost of that word's bytes.
+pub(crate) fn gathered_with(
+    alloc: Global,
+    before: Option<&Gathered>,
+    limit: u32,
+    bytes: &[u8],
+) -> Result<Gathered, AllocError>
+    requires few { length bytes.now ≤ 65535 }
+    ensures { IfOk result (λ gathered. gathered ≡ take limit (gathered_if (option_copied before.entry)) ++ bytes.now) }
+{
+    match before {
+        Some(gathered) if gathered.count() <= limit as usize => {
+            gathered.followed_by(alloc, bytes.to_vec(alloc)?)
+        }
+        _ => Gathered::first(alloc, output_of(alloc, before, limit, bytes)?),
+    }
 }

@@ -2,7 +2,6 @@
 //! word, and which unit becomes what; none takes memory. Source: GA22-6821, "Input/Output
 //! Operations", START I/O, TEST I/O, HALT I/O and TEST CHANNEL.
 ghost use Rattle.std.specs.Prelude.{◌≡◌};
-ghost use Rattle.s360_channel.specs.ConfiguredUnits.{control_of};
 ghost use Rattle.s360_channel.specs.IoInstructions.{becomes, condition_alone, halt_io, halt_unit, halted_unit};
 ghost use Rattle.s360_channel.specs.IoInstructions.{is_immediate, not_operational, result_of_halt, start_io};
 ghost use Rattle.s360_channel.specs.IoInstructions.{start_program, start_unit, test_channel, test_io, test_unit};

@@ -2,8 +2,10 @@
 //! GA22-6821, "Input/Output Operations", execution of input/output operations, and "System Control Panel",
 //! initial program loading.
 ghost use Rattle.std.specs.Prelude.{◌≡◌, ◌≤◌, IfOk, None, length};
+ghost use Rattle.std.specs.Option.{option_copied};
 ghost use Rattle.s360_channel.specs.Execution.{after_check, after_conclusion, command_with, ends_with};
-ghost use Rattle.s360_channel.specs.Execution.{gathered_before, gathered_within, goes_on_after, moved_before};
+ghost use Rattle.s360_channel.specs.Execution.{gathered_before, gathered_if, gathered_within, goes_on_after};
+ghost use Rattle.s360_channel.specs.Execution.{moved_before};
 ghost use Rattle.s360_channel.specs.Programs.{goes_on_with_record, is_first, is_loading, loading_program};
 ghost use Rattle.s360_channel.specs.Steps.{change_of_step, state_after_step};
 ghost use Rattle.s360_channel.specs.declared.unit_state.UnitState.TheVariants.{Active, Waiting};
@@ -12,9 +14,9 @@ use crate::ccw::Ccw;
 use crate::conclusion::{Conclusion, address_after};
 use crate::csw::{ChannelStatus, Csw, UnitStatus};
 use crate::engine::ChannelStep;
-use s360_store::Bytes;
+use crate::gathered::Gathered;
 use s360_word::ProtectionKey;
-use std::alloc::{AllocError, Global};
+use std::alloc::AllocError;
 
 /// How the next channel command word follows what went before it.
 #[derive(Debug, PartialEq, Eq, Drop)]
@@ -29,12 +31,12 @@ pub enum Progress {
     InputChained { command: u8, moved: u32 },
     /// It is chained to data: the output of this command goes on, for which these bytes were
     /// gathered.
-    OutputChained { command: u8, gathered: Bytes },
+    OutputChained { command: u8, gathered: Gathered },
 }
 
 impl Progress {
-    /// The same in memory of its own.
-    fn copy(&self, alloc: Global) -> Result<Progress, AllocError>
+    /// The same. The bytes that were gathered are shared.
+    fn copy(&self) -> Result<Progress, AllocError>
         ensures { IfOk result (λ copy. copy ≡ self.now) }
     {
         Ok(match self {
@@ -45,13 +47,10 @@ impl Progress {
                 command: *command,
                 moved: *moved,
             },
-            Progress::OutputChained { command, gathered } => {
-                let gathered = gathered.as_slice().to_vec(alloc)?;
-                Progress::OutputChained {
-                    command: *command,
-                    gathered: Bytes::new(gathered),
-                }
-            }
+            Progress::OutputChained { command, gathered } => Progress::OutputChained {
+                command: *command,
+                gathered: gathered.shared()?,
+            },
         })
     }
 
@@ -101,23 +100,23 @@ impl Progress {
         }
     }
 
-    /// The bytes that the words before have gathered for the output.
-    fn gathered_before(&self) -> &[u8]
-        ensures { result.now ≡ gathered_before self.now }
+    /// What the words before have gathered for the output, if there are any.
+    pub(crate) fn gathered_before(&self) -> Option<&Gathered>
+        ensures { gathered_if (option_copied result) ≡ gathered_before self.now }
     {
         match self {
-            Progress::OutputChained { gathered, .. } => gathered.as_slice(),
-            _ => &[],
+            Progress::OutputChained { gathered, .. } => Some(gathered),
+            _ => None,
         }
     }
 
-    /// The same for a device that takes at most so many.
-    pub(crate) fn gathered_within(&self, limit: u32) -> &[u8]
-        ensures bytes { result.now ≡ gathered_within limit self.now }
-        ensures count { length result.now ≤ limit }
+    /// How many bytes that is, for a device that takes at most so many.
+    pub(crate) fn count_within(&self, limit: u32) -> u32
+        ensures count { result ≡ length (gathered_within limit self.now) }
+        ensures few { result ≤ limit }
     {
-        let gathered = self.gathered_before();
-        &gathered[..gathered.len().min(limit as usize)]
+        let count = self.gathered_before().map_or(0, Gathered::count);
+        count.min(limit as usize) as u32
     }
 }
 
@@ -159,11 +158,11 @@ impl Program {
         self.address
     }
 
-    /// The same in memory of its own.
-    pub(crate) fn copy(&self, alloc: Global) -> Result<Program, AllocError>
+    /// The same. The bytes that were gathered are shared.
+    pub(crate) fn copy(&self) -> Result<Program, AllocError>
         ensures { IfOk result (λ copy. copy ≡ self.now) }
     {
-        let progress = self.progress.copy(alloc)?;
+        let progress = self.progress.copy()?;
         Ok(Program {
             key: self.key,
             address: self.address,

@@ -5,7 +5,7 @@ ghost use Rattle.s360_channel.specs.Units.{is_active, is_waiting};
 
 use crate::csw::Csw;
 use crate::program::Program;
-use std::alloc::{AllocError, Global};
+use std::alloc::AllocError;
 
 /// What a channel does for a unit.
 #[derive(Debug, PartialEq, Eq, Drop)]
@@ -33,13 +33,13 @@ impl UnitState {
         matches!(self, UnitState::Waiting(_))
     }
 
-    /// The same in memory of its own.
-    pub fn copy(&self, alloc: Global) -> Result<UnitState, AllocError>
+    /// The same. The bytes that its program has gathered are shared.
+    pub fn copy(&self) -> Result<UnitState, AllocError>
         ensures { IfOk result (λ copy. copy ≡ self.now) }
     {
         Ok(match self {
             UnitState::Idle => UnitState::Idle,
-            UnitState::Active(program) => UnitState::Active(program.copy(alloc)?),
+            UnitState::Active(program) => UnitState::Active(program.copy()?),
             UnitState::Waiting(csw) => UnitState::Waiting(*csw),
         })
     }

@@ -1,5 +1,5 @@
 //! What a command answers. Each command has its row in `answer`; those that offer an event share one.
-ghost use Rattle.std.specs.Prelude.{◌≡◌, ◌≢◌, ◌⊎◌, ◌++◌, length, take, ◌-◌, ◌<◌, IfOk, OnErr, OnOk, Some, codes};
+ghost use Rattle.std.specs.Prelude.{◌≡◌, ◌≢◌, ◌⊎◌, ◌++◌, length, take, ◌-◌, IfOk, OnErr, OnOk, Some, codes};
 ghost use Rattle.std.specs.Option.{option_copied};
 ghost use Rattle.s360_model.specs.Text.{decimal};
 ghost use Rattle.s360_journal.specs.Breakpoints.{with_address, without_address};

@@ -1,5 +1,4 @@
 pub mod ChunkLemmas
-pub mod AlterationLemmas
 pub mod KnownDevices
 pub mod EqualityLemmas
 pub mod DifferenceLemmas

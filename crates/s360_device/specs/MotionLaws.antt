@@ -5,7 +5,9 @@ use Rattle.std.proofs.lemmas.List.{take_at, get_or_at, take_more, take_all}
 use Rattle.std.proofs.lemmas.Option.{slice_get-get_or}
 use Rattle.s360_device.specs.declared.motion.Motion.{Motion}
 use Rattle.s360_device.specs.declared.motion.Motion.TheVariants.{Stay, Put, Take}
-use Rattle.s360_device.specs.Motions.{CanMove, after_motion, motion_back}
+use Rattle.s360_device.specs.Kinds.{RestoresBoth}
+use Rattle.s360_device.specs.Motions.{CanMove, after_motion, motion_back, motion_kind}
+use Rattle.s360_device.specs.Rows.{Table}
 
 -- the last item of a list at whose end one was put
 pub slice_get-push : {T : Type 0} (items : List T) (x : T) → slice_get (items ++ x ∷ []) (length (items ++ x ∷ []) - 1) ≡ Some x
@@ -50,3 +52,6 @@ pub motion_back-twice : {T : Type 0} (items : List T) (m : Motion T) → CanMove
 motion_back-twice items Stay h = refl
 motion_back-twice items (Put x) h = rw (slice_get-push items x) refl
 motion_back-twice items Take h = let l : HasLast items = last_of items h in rw l.last refl
+
+pub motion_restores_both : {T : Type 0} (table : Table (List T)) → RestoresBoth (motion_kind table)
+motion_restores_both table = record { again = CanMove-again; media = after_motion-twice; change = motion_back-twice }

@@ -7,7 +7,11 @@ use Rattle.s360_device.specs.declared.card.PunchStacker.{PunchStacker}
 use Rattle.s360_device.specs.declared.card.PunchStacker.TheVariants.{P1, P2, Rp3}
 use Rattle.s360_device.specs.declared.card.PunchedCard.{PunchedCard}
 use Rattle.s360_device.specs.Sense.{no_sense, command_reject}
-use Rattle.s360_device.specs.Rows.{DeviceWith, Row, refused, output, Table}
+use Rattle.s360_device.specs.declared.device_with.DeviceWith.{DeviceWith}
+use Rattle.s360_device.specs.declared.motion.Motion.{Motion}
+use Rattle.s360_device.specs.Kinds.{Kind}
+use Rattle.s360_device.specs.Motions.{motion_kind}
+use Rattle.s360_device.specs.Rows.{Row, refused, output, Table}
 use Rattle.s360_model.specs.Tables.{entry_in}
 
 -- the cards punched, in their order, each with its stacker
@@ -32,7 +36,6 @@ punch_row cards code = option_map_or (λ stacker. output columns (punched cards 
 abbrev pub punch_table : Table (List PunchedCard)
 punch_table = record { rows = punch_row; sense_bytes = 1 }
 
--- a punch with the number of cards beside it for which there is room
-pub record PunchWithRoom : Type 0 where
-  pub punch : Punch
-  pub room : ℕ
+-- what a command does to the cards punched
+abbrev pub punch_kind : Kind (List PunchedCard) (List PunchedCard) (Motion PunchedCard)
+punch_kind = motion_kind punch_table

@@ -6,7 +6,8 @@ use Rattle.s360_device.specs.declared.card.ReadStacker.{ReadStacker}
 use Rattle.s360_device.specs.declared.reader_command.ReaderCommand.{ReaderCommand}
 use Rattle.s360_device.specs.declared.reader_command.ReaderCommand.TheVariants.{Read, Feed}
 use Rattle.s360_device.specs.Sense.{no_sense, command_reject, intervention_required}
-use Rattle.s360_device.specs.Rows.{DeviceWith, Row, refused, input, control, Table}
+use Rattle.s360_device.specs.declared.device_with.DeviceWith.{DeviceWith}
+use Rattle.s360_device.specs.Rows.{Row, refused, input, control, Table}
 use Rattle.s360_model.specs.Tables.{entry_in}
 use Rattle.s360_device.specs.ReaderCommands.{reader_commands}
 
@@ -59,8 +60,3 @@ reader_table = record { rows = reader_row; sense_bytes = 1 }
 -- the reader with its end-of-file key pressed
 abbrev pub with_end_key : Reader → Reader
 with_end_key r = record r { media = record r.media { end_of_file = true } }
-
--- a reader with the number of cards beside it for the feeding of which there is room
-pub record ReaderWithRoom : Type 0 where
-  pub reader : Reader
-  pub room : ℕ

@@ -1,9 +1,7 @@
 -- The codes of the card reader's own commands (A21-9033, "2540 Card Read Punch").
-use Rattle.std.specs.Prelude.{ℕ, Some, None, List, [], ◌∷◌}
+use Rattle.std.specs.Prelude.{ℕ, Option, Some, None, List, [], ◌∷◌}
 use Rattle.s360_device.specs.declared.card.ReadStacker.{ReadStacker}
 use Rattle.s360_device.specs.declared.card.ReadStacker.TheVariants.{R1, R2, Rp3}
-use Rattle.s360_device.specs.declared.motion.Motion.{Motion}
-use Rattle.s360_device.specs.declared.motion.Motion.TheVariants.{Stay, Put}
 use Rattle.s360_device.specs.declared.reader_command.ReaderCommand.{ReaderCommand}
 use Rattle.s360_device.specs.declared.reader_command.ReaderCommand.TheVariants.{Read, Feed}
 
@@ -19,8 +17,7 @@ reader_commands =
     ∷ (0xA3, Feed Rp3)
     ∷ []
 
--- what each does with the next card
-abbrev pub motion_of_command : ReaderCommand → Motion ReadStacker
-motion_of_command (Read (Some stacker)) = Put stacker
-motion_of_command (Read None) = Stay
-motion_of_command (Feed stacker) = Put stacker
+-- the stacker to which each feeds the next card, if it feeds it
+abbrev pub stacker_of_command : ReaderCommand → Option ReadStacker
+stacker_of_command (Read stacker) = stacker
+stacker_of_command (Feed stacker) = Some stacker

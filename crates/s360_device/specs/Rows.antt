@@ -4,14 +4,10 @@
 use Rattle.std.specs.Prelude.{ℕ, Bool, false, List, [], take, length}
 use Rattle.s360_device.specs.declared.device.Begin.{Begin}
 use Rattle.s360_device.specs.declared.device.Begin.TheVariants.{Input, Output, Control, NotYet, Refused}
+use Rattle.s360_device.specs.declared.device_with.DeviceWith.{DeviceWith}
 use Rattle.s360_device.specs.declared.command_code.CommandCode.{CommandCode}
 use Rattle.s360_device.specs.declared.command_code.CommandCode.TheVariants.{NoOperation, Sense, Own}
 use Rattle.s360_device.specs.Sense.{no_sense}
-
--- a device as the written rules have it
-pub record DeviceWith (M : Type 0) : Type 0 where
-  pub sense : List ℕ
-  pub media : M
 
 -- a command of a device's own, as the device stands
 pub data Row (M : Type 0) : Type 0 where
@@ -45,12 +41,24 @@ row_exception row = false
 
 -- the device afterwards: a command of its own that is refused sets the sense bytes and leaves the media, and
 -- any other clears the sense bytes
+abbrev pub sense_after_row : {M : Type 0} → List ℕ → Row M → List ℕ
+sense_after_row before (refused sense) = sense
+sense_after_row before not_yet = before
+sense_after_row before row = no_sense
+
+abbrev pub media_after_row : {M : Type 0} → M → Row M → List ℕ → M
+media_after_row before (input given media exception) bytes = media
+media_after_row before (output limit media exception) bytes = media bytes
+media_after_row before (control media exception) bytes = media
+media_after_row before row bytes = before
+
+-- the media after it where it is an output with these bytes; any other command writes nothing
+abbrev pub media_written : {M : Type 0} → M → Row M → List ℕ → M
+media_written before (output limit media exception) bytes = media bytes
+media_written before row bytes = before
+
 abbrev pub after_row : {M : Type 0} → DeviceWith M → Row M → List ℕ → DeviceWith M
-after_row d (refused sense) bytes = record { sense = sense; media = d.media }
-after_row d not_yet bytes = d
-after_row d (input given media exception) bytes = record { sense = no_sense; media = media }
-after_row d (output limit media exception) bytes = record { sense = no_sense; media = media bytes }
-after_row d (control media exception) bytes = record { sense = no_sense; media = media }
+after_row d row bytes = record { sense = sense_after_row d.sense row; media = media_after_row d.media row bytes }
 
 -- Every device has two commands more, which change nothing, not the sense bytes either: no-operation is a control,
 -- and sense gives the first of the sense bytes, so many as the device has.

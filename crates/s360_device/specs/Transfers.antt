@@ -2,6 +2,7 @@
 use Rattle.std.specs.Prelude.{◌≡◌, ◌≤◌, ℕ, List, [], length}
 use Rattle.s360_device.specs.declared.device.Begin.{Begin}
 use Rattle.s360_device.specs.declared.device.Begin.TheVariants.{Input, Output, NotYet}
+use Rattle.s360_device.specs.Rows.{Row, output}
 
 -- the bytes of a command's input are as many as its beginning says, and none where it is no input
 abbrev pub IsInputOf : Begin → List ℕ → Type 0
@@ -13,3 +14,8 @@ abbrev pub CanEndWith : Begin → List ℕ → Type 0
 CanEndWith (Output limit) bytes = length bytes ≤ limit
 CanEndWith NotYet bytes = ⊥
 CanEndWith begin bytes = bytes ≡ []
+
+-- an output may end with these bytes
+abbrev pub CanWrite : {M : Type 0} → Row M → List ℕ → Type 0
+CanWrite (output limit media exception) bytes = length bytes ≤ limit
+CanWrite row bytes = Unit {0}

@@ -1,7 +1,7 @@
 //! What a command does at the end of a device's list of items, such as the cards that were punched, and
 //! what takes it back.
-ghost use Rattle.std.specs.Prelude.{◌≡◌, ◌≤◌, ◌-◌, ◌+◌, vec_len, vec_capacity, OnOk};
-ghost use Rattle.s360_device.specs.Motions.{CanMove, moves, items_put, after_motion};
+ghost use Rattle.std.specs.Prelude.{◌≡◌, ◌≤◌, ◌+◌, vec_len, vec_capacity, OnOk};
+ghost use Rattle.s360_device.specs.Motions.{CanMove, items_put, after_motion};
 ghost use Rattle.s360_device.specs.Motions.{motion_back};
 
 use std::alloc::AllocError;
@@ -19,13 +19,6 @@ pub enum Motion<T> {
 }
 
 impl<T: Drop> Motion<T> {
-    /// Whether it does something.
-    pub fn moves(&self) -> bool
-        ensures { result ≡ moves self.now }
-    {
-        !matches!(self, Motion::Stay)
-    }
-
     /// Makes room for it, after which it takes no memory.
     pub fn make_room(&self, items: &mut Vec<T>) -> Result<(), AllocError>
         ensures items { items.new.items ≡ items.old.items }

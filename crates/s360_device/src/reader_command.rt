@@ -1,10 +1,9 @@
 //! The card reader's own commands. Source: A21-9033, "2540 Card Read Punch".
 ghost use Rattle.std.specs.Prelude.{◌≡◌};
 ghost use Rattle.s360_model.specs.Tables.{entry_in};
-ghost use Rattle.s360_device.specs.ReaderCommands.{reader_commands, motion_of_command};
+ghost use Rattle.s360_device.specs.ReaderCommands.{reader_commands, stacker_of_command};
 
 use crate::card::ReadStacker;
-use crate::motion::Motion;
 
 /// What a command of the reader's own does with the next card.
 #[derive(Clone, Copy, Debug, PartialEq, Eq)]
@@ -32,15 +31,13 @@ impl ReaderCommand {
         }
     }
 
-    /// What it does with the next card, if one is left.
-    pub(crate) fn motion(self) -> Motion<ReadStacker>
-        ensures { result ≡ motion_of_command self }
+    /// The stacker to which it feeds the next card, if it feeds it.
+    pub(crate) fn stacker(self) -> Option<ReadStacker>
+        ensures { result ≡ stacker_of_command self }
     {
         match self {
-            ReaderCommand::Read(Some(stacker)) | ReaderCommand::Feed(stacker) => {
-                Motion::Put(stacker)
-            }
-            ReaderCommand::Read(None) => Motion::Stay,
+            ReaderCommand::Read(stacker) => stacker,
+            ReaderCommand::Feed(stacker) => Some(stacker),
         }
     }
 }

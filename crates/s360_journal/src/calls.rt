@@ -1,7 +1,7 @@
 //! Lists of session calls. The contract of `run_calls` is what the whole stands for: after any list of
 //! calls, whatever each answered, the machine is its start with the standing events run again, none of
 //! which is refused on the way.
-ghost use Rattle.std.specs.Prelude.{◌≡◌, ◌≤◌, IfOk, OnErr, length, []};
+ghost use Rattle.std.specs.Prelude.{◌≡◌, ◌≤◌, IfOk, OnErr, []};
 ghost use Rattle.s360_machine.specs.Machine.{seen};
 ghost use Rattle.s360_journal.specs.Rerun.{rerun, AreAccepted};
 ghost use Rattle.s360_journal.specs.Calls.{IsAnswer, IsRun, standing_events};

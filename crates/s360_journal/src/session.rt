@@ -7,7 +7,7 @@ ghost use Rattle.s360_journal.specs.Reports.{IsReport};
 ghost use Rattle.s360_journal.specs.Rerun.{rerun, AreAccepted, last_change_of};
 ghost use Rattle.s360_journal.specs.Stops.{stop_of};
 ghost use Rattle.std.specs.Option.{option_copied};
-ghost use Rattle.s360_journal.specs.Standing.{machine_of, refusal_in, alteration, last_of};
+ghost use Rattle.s360_journal.specs.Standing.{refusal_in, alteration, last_of};
 
 use crate::breaks::Breaks;
 use crate::entry::Entry;

@@ -2,6 +2,7 @@
 ghost use Rattle.std.specs.Prelude.{◌≡◌, ◌++◌, IfOk, OnOk};
 ghost use Rattle.s360_machine.specs.Machine.{seen};
 ghost use Rattle.s360_language.specs.ShownImages.{file_lines, file_text, image_text, tape_image};
+ghost use Rattle.s360_device.specs.DeviceChanges.{bare};
 ghost use Rattle.s360_tape.specs.WholeTape.{seen as seen_tape};
 
 use crate::names::refusal_text;
@@ -27,7 +28,7 @@ pub(crate) fn image_of(alloc: Global, machine: &Machine, unit: Unit) -> Result<T
 
 /// The file of a tape.
 fn image_of_tape(alloc: Global, tape: &Tape) -> Result<Text, AllocError>
-    ensures { IfOk result (λ text. text ≡ tape_image (seen_tape tape.now.tape)) }
+    ensures { IfOk result (λ text. text ≡ tape_image (seen_tape (bare tape.now))) }
 {
     text_of_file(alloc, &s360_tape::image_of(alloc, tape)?)
 }

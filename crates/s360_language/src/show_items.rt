@@ -6,6 +6,7 @@ ghost use Rattle.s360_language.specs.ShownItems.{deck_card, item_line, item_text
 ghost use Rattle.s360_language.specs.ShownItems.{holder_name, printed_record, punched_card};
 ghost use Rattle.s360_language.specs.ShownItems.{record_line, sign_of, stacker_name, typed_item};
 ghost use Rattle.s360_language.specs.ShownItems.{block_begin, tape_item, tape_item_line, typed_line};
+ghost use Rattle.s360_device.specs.DeviceChanges.{bare};
 ghost use Rattle.s360_tape.specs.WholeTape.{seen as seen_tape};
 
 use crate::names::refusal_text;
@@ -45,20 +46,20 @@ pub(crate) fn item_of(
 
 /// A card of the reader's deck, with where it is.
 fn card_of_deck(alloc: Global, reader: &Reader, number: u32) -> Result<Text, AllocError>
-    ensures { IfOk result (λ text. text ≡ deck_card reader.now.reader number) }
+    ensures { IfOk result (λ text. text ≡ deck_card (bare reader.now) number) }
 {
     let number = number as usize;
-    match reader.card(number) {
-        Some(card) => line_of_item(alloc, name_of_holder(reader.stacker(number)), card),
+    match reader.media().card(number) {
+        Some(card) => line_of_item(alloc, name_of_holder(reader.media().stacker(number)), card),
         None => line_of_none(alloc),
     }
 }
 
 /// A card that was punched, with where it is.
 fn card_of_punch(alloc: Global, punch: &Punch, number: u32) -> Result<Text, AllocError>
-    ensures { IfOk result (λ text. text ≡ punched_card punch.now.punch number) }
+    ensures { IfOk result (λ text. text ≡ punched_card (bare punch.now) number) }
 {
-    match punch.card(number as usize) {
+    match punch.media().card(number as usize) {
         Some(punched) => line_of_item(
             alloc,
             name_of_stacker(punched.stacker),
@@ -70,9 +71,9 @@ fn card_of_punch(alloc: Global, punch: &Punch, number: u32) -> Result<Text, Allo
 
 /// A line that was printed, with where it is.
 fn line_of_printer(alloc: Global, printer: &Printer, number: u32) -> Result<Text, AllocError>
-    ensures { IfOk result (λ text. text ≡ printed_record printer.now.printer number) }
+    ensures { IfOk result (λ text. text ≡ printed_record (bare printer.now) number) }
 {
-    match printer.record(number as usize) {
+    match printer.media().record(number as usize) {
         Some(printed) => line_of_record(alloc, printed),
         None => line_of_none(alloc),
     }
@@ -80,9 +81,9 @@ fn line_of_printer(alloc: Global, printer: &Printer, number: u32) -> Result<Text
 
 /// What the console typed.
 fn item_of_console(alloc: Global, console: &Console, number: u32) -> Result<Text, AllocError>
-    ensures { IfOk result (λ text. text ≡ typed_item console.now.console number) }
+    ensures { IfOk result (λ text. text ≡ typed_item (bare console.now) number) }
 {
-    match console.typed(number as usize) {
+    match console.media().typed(number as usize) {
         Some(item) => line_of_typed(alloc, item),
         None => line_of_none(alloc),
     }
@@ -90,9 +91,9 @@ fn item_of_console(alloc: Global, console: &Console, number: u32) -> Result<Text
 
 /// A block or mark of a tape.
 fn item_of_tape(alloc: Global, tape: &Tape, number: u32) -> Result<Text, AllocError>
-    ensures { IfOk result (λ text. text ≡ tape_item (seen_tape tape.now.tape) number) }
+    ensures { IfOk result (λ text. text ≡ tape_item (seen_tape (bare tape.now)) number) }
 {
-    match tape.item(number as usize) {
+    match tape.media().item(number as usize) {
         Some(item) => line_of_tape_item(alloc, item),
         None => line_of_none(alloc),
     }

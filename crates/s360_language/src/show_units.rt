@@ -1,10 +1,11 @@
 //! What is shown of the units and their devices.
-ghost use Rattle.std.specs.Prelude.{◌≡◌, ◌++◌, IfOk, OnOk, length};
+ghost use Rattle.std.specs.Prelude.{◌≡◌, ◌++◌, IfOk, OnOk};
 ghost use Rattle.s360_machine.specs.Machine.{seen};
 ghost use Rattle.s360_language.specs.ShownUnits.{console_line, csw_words, device_text, printer_line};
 ghost use Rattle.s360_language.specs.ShownUnits.{program_word, punch_line, reader_line, sense_text};
 ghost use Rattle.s360_language.specs.ShownUnits.{state_name, tape_line, unit_line, unit_text};
 ghost use Rattle.s360_model.specs.Text.{hex_bytes};
+ghost use Rattle.s360_device.specs.DeviceChanges.{bare};
 ghost use Rattle.s360_tape.specs.WholeTape.{seen as seen_tape};
 
 use crate::names::{push_numbered, refusal_text};
@@ -107,39 +108,43 @@ fn push_sense(text: &mut Text, sense: &[u8; 6]) -> Result<(), AllocError>
 
 /// The line of the card reader.
 fn line_of_reader(alloc: Global, reader: &Reader) -> Result<Text, AllocError>
-    ensures { IfOk result (λ text. text ≡ reader_line reader.now.reader) }
+    ensures { IfOk result (λ text. text ≡ reader_line (bare reader.now)) }
 {
     let mut text = Text::new(alloc);
     text.push_text("00C")?;
     push_sense(&mut text, &reader.sense())?;
     text.push_text(" next ")?;
-    text.push_decimal(reader.fed() as u64)?;
+    text.push_decimal(reader.media().fed() as u64)?;
     text.push_text(" of ")?;
-    text.push_decimal(reader.cards() as u64)?;
+    text.push_decimal(reader.media().cards() as u64)?;
     text.push_text(" eof ")?;
-    text.push_text(if reader.end_of_file() { "on" } else { "off" })?;
+    text.push_text(if reader.media().end_of_file() {
+        "on"
+    } else {
+        "off"
+    })?;
     text.push_text("\n")?;
     Ok(text)
 }
 
 /// The line of the card punch.
 fn line_of_punch(alloc: Global, punch: &Punch) -> Result<Text, AllocError>
-    ensures { IfOk result (λ text. text ≡ punch_line punch.now.punch) }
+    ensures { IfOk result (λ text. text ≡ punch_line (bare punch.now)) }
 {
     let mut text = Text::new(alloc);
     text.push_text("00D")?;
     push_sense(&mut text, &punch.sense())?;
     text.push_text(" cards ")?;
-    text.push_decimal(punch.cards() as u64)?;
+    text.push_decimal(punch.media().cards() as u64)?;
     text.push_text("\n")?;
     Ok(text)
 }
 
 /// The line of the printer.
 fn line_of_printer(alloc: Global, printer: &Printer) -> Result<Text, AllocError>
-    ensures { IfOk result (λ text. text ≡ printer_line printer.now.printer) }
+    ensures { IfOk result (λ text. text ≡ printer_line (bare printer.now)) }
 {
-    let position = printer.position();
+    let position = printer.media().position();
     let mut text = Text::new(alloc);
     text.push_text("00E")?;
     push_sense(&mut text, &printer.sense())?;
@@ -148,41 +153,41 @@ fn line_of_printer(alloc: Global, printer: &Printer) -> Result<Text, AllocError>
     text.push_text(" line ")?;
     text.push_decimal(u64::from(position.line()))?;
     text.push_text(" records ")?;
-    text.push_decimal(printer.records() as u64)?;
+    text.push_decimal(printer.media().records() as u64)?;
     text.push_text("\n")?;
     Ok(text)
 }
 
 /// The line of the console.
 fn line_of_console(alloc: Global, console: &Console) -> Result<Text, AllocError>
-    ensures { IfOk result (λ text. text ≡ console_line console.now.console) }
+    ensures { IfOk result (λ text. text ≡ console_line (bare console.now)) }
 {
     let mut text = Text::new(alloc);
     text.push_text("01F")?;
     push_sense(&mut text, &console.sense())?;
     text.push_text(" typed ")?;
-    text.push_decimal(console.typed_count() as u64)?;
+    text.push_decimal(console.media().typed_count() as u64)?;
     text.push_text(" entered ")?;
-    text.push_decimal(console.entered_count() as u64)?;
+    text.push_decimal(console.media().entered_count() as u64)?;
     text.push_text(" taken ")?;
-    text.push_decimal(console.taken() as u64)?;
+    text.push_decimal(console.media().taken() as u64)?;
     text.push_text("\n")?;
     Ok(text)
 }
 
 /// The line of a magnetic tape.
 fn line_of_tape(alloc: Global, unit: Unit, tape: &Tape) -> Result<Text, AllocError>
-    ensures { IfOk result (λ text. text ≡ tape_line unit (seen_tape tape.now.tape)) }
+    ensures { IfOk result (λ text. text ≡ tape_line unit (seen_tape (bare tape.now))) }
 {
     let mut text = Text::new(alloc);
     text.push_hex(u64::from(unit.address()), 3)?;
     text.push_text(" sense ")?;
     push_digits(&mut text, &tape.sense())?;
     text.push_text(" position ")?;
-    text.push_decimal(tape.position() as u64)?;
+    text.push_decimal(tape.media().position() as u64)?;
     text.push_text(" of ")?;
-    text.push_decimal(tape.items() as u64)?;
-    text.push_text(if tape.unloaded() {
+    text.push_decimal(tape.media().items() as u64)?;
+    text.push_text(if tape.media().unloaded() {
         " unloaded"
     } else {
         " loaded"

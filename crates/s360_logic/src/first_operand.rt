@@ -1,6 +1,5 @@
 //! Storage as an instruction has it so far, which stores into its first operand alone.
 ghost use Rattle.std.specs.Prelude.{◌≡◌, ◌<◌, ◌≤◌, ◌+◌, [], IfOk, length, slice_set};
-ghost use Rattle.s360_model.specs.Storage.{Storage as Contents};
 ghost use Rattle.s360_fixed.specs.Plans.{PlansOutcome};
 ghost use Rattle.s360_logic.specs.Bytes.{byte_at, completed_with, operand_bytes};
 ghost use Rattle.s360_logic.specs.Operands.{first_operand, stored_in};

@@ -3,7 +3,6 @@
 //! Switching", and "Branching", EXECUTE.
 ghost use Rattle.std.specs.Prelude.{◌≡◌, ◌<◌, ◌≤◌, ◌^◌, [], None, IfOk, length, slice_index};
 ghost use Rattle.s360_fixed.specs.Plans.{PlansOutcome};
-ghost use Rattle.s360_fixed.specs.Table.{form_of};
 ghost use Rattle.s360_logic.specs.Logic.{address_of, by_row, execute_outcome, logic_outcome};
 ghost use Rattle.s360_logic.specs.Logic.{outcome_of, row_outcome, status_outcome};
 ghost use Rattle.s360_logic.specs.Logic.{storage_outcome, subject_of, with_ored_byte};

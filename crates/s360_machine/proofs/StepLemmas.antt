@@ -4,25 +4,13 @@ use Rattle.std.specs.Option.{option_map}
 use Rattle.std.specs.Prelude.{Option, Some, None, Result, Ok, Err, IfOk}
 use Rattle.s360_model.specs.Core.{Core}
 use Rattle.s360_model.specs.Storage.{Storage}
-use Rattle.s360_device.specs.declared.reader_change.ReaderChange.{ReaderChange}
-use Rattle.s360_device.specs.declared.punch_change.PunchChange.{PunchChange}
 use Rattle.s360_device.specs.Commands.{command_of}
-use Rattle.s360_device.specs.Motions.{items_put}
-use Rattle.s360_device.specs.Punch.{PunchWithRoom, punch_table}
-use Rattle.s360_device.specs.PunchChanges.{CanSwapPunch, punch_after_swap, punch_change_after_swap}
-use Rattle.s360_device.specs.Reader.{ReaderWithRoom, reader_table}
-use Rattle.s360_device.specs.ReaderChanges.{CanSwapReader, reader_after_swap, reader_change_after_swap}
-use Rattle.s360_device.specs.Rows.{DeviceWith, Table, after_command}
-use Rattle.s360_print.specs.declared.console_change.ConsoleChange.{ConsoleChange}
-use Rattle.s360_print.specs.declared.printer_change.PrinterChange.{PrinterChange}
-use Rattle.s360_print.specs.Console.{ConsoleWithRoom, console_table}
-use Rattle.s360_print.specs.ConsoleChanges.{CanSwapConsole, console_after_swap, console_change_after_swap, console_needs}
-use Rattle.s360_print.specs.Printer.{PrinterWithRoom, printer_table}
-use Rattle.s360_print.specs.PrinterChanges.{CanSwapPrinter, printer_after_swap, printer_change_after_swap}
-use Rattle.s360_tape.specs.declared.tape_change.TapeChange.{TapeChange}
-use Rattle.s360_tape.specs.Slots.{slots_put}
-use Rattle.s360_tape.specs.Tape.{tape_table}
-use Rattle.s360_tape.specs.WholeTape.{CanSwapTape, TapeWithRoom, seen as seen_tape, tape_after_swap, tape_change_after_swap}
+use Rattle.s360_device.specs.declared.device_with.DeviceChange.{DeviceChange}
+use Rattle.s360_device.specs.declared.device_with.DeviceWith.{DeviceWith}
+use Rattle.s360_device.specs.DeviceChanges.{CanSwapDevice, bare, device_after_swap, device_change_after_swap, device_needs, seen_device, with_part}
+use Rattle.s360_device.specs.Differences.{DecidesEquality}
+use Rattle.s360_device.specs.Kinds.{Kind, MediaWithRoom}
+use Rattle.s360_device.specs.Rows.{Table, after_command}
 use Rattle.s360_store.specs.declared.place.Cell.{Cell}
 use Rattle.s360_store.specs.Plans.{IsPlanOf}
 use Rattle.s360_channel.specs.declared.engine.ChannelStep.{ChannelStep}
@@ -48,8 +36,7 @@ use Rattle.s360_machine.specs.Machine.{Control, Machine, Spare, Whole, WholeMedi
 use Rattle.s360_machine.specs.Planned.{IsMediaChangeTo, IsPlanOfMachine, PlansIo}
 use Rattle.s360_channel.specs.ConfiguredUnits.{control_of, with_control_of}
 use Rattle.s360_channel.proofs.UnitChangeLemmas.{IsUnitsChangeTo-one}
-use Rattle.s360_machine.proofs.IoLemmas.{IsConsoleChange, IsPrinterChange, IsPunchChange, IsReaderChange, IsTapeChange}
-use Rattle.s360_machine.proofs.IoLemmas.{console-becomes, console-stays, printer-becomes, printer-stays, punch-becomes, punch-stays, reader-becomes, reader-stays, tape-becomes, tape-stays}
+use Rattle.s360_machine.proofs.IoLemmas.{IsDeviceStep, device-becomes, device-stays}
 
 -- a whole of its parts
 abbrev pub whole_with : Core → Control → Units → WholeMedia → Whole
@@ -117,71 +104,20 @@ device-change t d IsChange Becomes Stays None (Some y) stays keeps becomes h = a
 device-change t d IsChange Becomes Stays (Some e) None stays keeps becomes h = subst (λ u. IsChange u None) (keeps e h) stays
 device-change t d IsChange Becomes Stays (Some e) (Some y) stays keeps becomes h = becomes e y h
 
--- the change of each device, by the contract of every device
-abbrev ReaderEnds : ReaderWithRoom → ℕ → List ℕ → ReaderWithRoom → Type 0
-ReaderEnds d code bytes e = e.reader ≡ after_command reader_table d.reader (command_of code) bytes
+-- what a command makes of a device with room in it, by the contract of every device
+abbrev Ends : {S M C : Type 0} → Kind S M C → DeviceWith (MediaWithRoom S) → ℕ → List ℕ → DeviceWith (MediaWithRoom S) → Type 0
+Ends k d code bytes e = seen_device k (bare e) ≡ after_command k.table (seen_device k (bare d)) (command_of code) bytes
 
-abbrev AltersReader : ReaderWithRoom → Ending → ReaderChange → Type 0
-AltersReader d = AltersDevice (λ e x. CanSwapReader e.reader x) (λ e x. record e { reader = reader_after_swap e.reader x }) (λ e x. reader_change_after_swap e.reader x) (λ x. items_put x.motion) (λ e. record e { room = 0 }) ReaderEnds d
+abbrev Alters : {S M C : Type 0} → Kind S M C → DeviceWith (MediaWithRoom S) → Ending → DeviceChange C → Type 0
+Alters k d = AltersDevice (λ e x. CanSwapDevice k (bare e) x) (λ e x. with_part (λ s. record { media = s; room = e.media.room }) (device_after_swap k (bare e) x)) (λ e x. device_change_after_swap k (bare e) x)
+    (λ x. device_needs k x) (λ e. with_part (λ m. record { media = m.media; room = 0 }) e) (Ends k) d
 
-pub reader-change : (d : ReaderWithRoom) (s : Storage) (u : UnitControl) (plan : List Cell) (step : UnitStep ReaderChange)
-    → ExecutesProgram s u plan (view_of reader_table d.reader) (AltersReader d) (KeepsDevice ReaderEnds d) step
-    → IsReaderChange d.reader (after_ending reader_table d.reader (execution_of reader_table d.reader s u.state).ending) step.change
-reader-change d s u plan step run =
-    device-change reader_table d.reader (λ e x. IsReaderChange d.reader e x) (AltersReader d) (KeepsDevice ReaderEnds d) (execution_of reader_table d.reader s u.state).ending step.change
-    (reader-stays d.reader) (λ e k. k) (λ e x a. reader-becomes d.reader (after_command reader_table d.reader (command_of e.command) e.output) x a.can a.row a.back a.alters) run.change
-
-abbrev PunchEnds : PunchWithRoom → ℕ → List ℕ → PunchWithRoom → Type 0
-PunchEnds d code bytes e = e.punch ≡ after_command punch_table d.punch (command_of code) bytes
-
-abbrev AltersPunch : PunchWithRoom → Ending → PunchChange → Type 0
-AltersPunch d = AltersDevice (λ e x. CanSwapPunch e.punch x) (λ e x. record e { punch = punch_after_swap e.punch x }) (λ e x. punch_change_after_swap e.punch x) (λ x. items_put x.motion) (λ e. record e { room = 0 }) PunchEnds d
-
-pub punch-change : (d : PunchWithRoom) (s : Storage) (u : UnitControl) (plan : List Cell) (step : UnitStep PunchChange)
-    → ExecutesProgram s u plan (view_of punch_table d.punch) (AltersPunch d) (KeepsDevice PunchEnds d) step
-    → IsPunchChange d.punch (after_ending punch_table d.punch (execution_of punch_table d.punch s u.state).ending) step.change
-punch-change d s u plan step run =
-    device-change punch_table d.punch (λ e x. IsPunchChange d.punch e x) (AltersPunch d) (KeepsDevice PunchEnds d) (execution_of punch_table d.punch s u.state).ending step.change
-    (punch-stays d.punch) (λ e k. k) (λ e x a. punch-becomes d.punch (after_command punch_table d.punch (command_of e.command) e.output) x a.can a.row a.back a.alters) run.change
-
-abbrev PrinterEnds : PrinterWithRoom → ℕ → List ℕ → PrinterWithRoom → Type 0
-PrinterEnds d code bytes e = e.printer ≡ after_command printer_table d.printer (command_of code) bytes
-
-abbrev AltersPrinter : PrinterWithRoom → Ending → PrinterChange → Type 0
-AltersPrinter d = AltersDevice (λ e x. CanSwapPrinter e.printer x) (λ e x. record e { printer = printer_after_swap e.printer x }) (λ e x. printer_change_after_swap e.printer x) (λ x. items_put x.motion) (λ e. record e { room = 0 }) PrinterEnds d
-
-pub printer-change : (d : PrinterWithRoom) (s : Storage) (u : UnitControl) (plan : List Cell) (step : UnitStep PrinterChange)
-    → ExecutesProgram s u plan (view_of printer_table d.printer) (AltersPrinter d) (KeepsDevice PrinterEnds d) step
-    → IsPrinterChange d.printer (after_ending printer_table d.printer (execution_of printer_table d.printer s u.state).ending) step.change
-printer-change d s u plan step run =
-    device-change printer_table d.printer (λ e x. IsPrinterChange d.printer e x) (AltersPrinter d) (KeepsDevice PrinterEnds d) (execution_of printer_table d.printer s u.state).ending step.change
-    (printer-stays d.printer) (λ e k. k) (λ e x a. printer-becomes d.printer (after_command printer_table d.printer (command_of e.command) e.output) x a.can a.row a.back a.alters) run.change
-
-abbrev ConsoleEnds : ConsoleWithRoom → ℕ → List ℕ → ConsoleWithRoom → Type 0
-ConsoleEnds d code bytes e = e.console ≡ after_command console_table d.console (command_of code) bytes
-
-abbrev AltersConsole : ConsoleWithRoom → Ending → ConsoleChange → Type 0
-AltersConsole d = AltersDevice (λ e x. CanSwapConsole e.console x) (λ e x. record e { console = console_after_swap e.console x }) (λ e x. console_change_after_swap e.console x) (λ x. console_needs x) (λ e. record e { room = 0 }) ConsoleEnds d
-
-pub console-change : (d : ConsoleWithRoom) (s : Storage) (u : UnitControl) (plan : List Cell) (step : UnitStep ConsoleChange)
-    → ExecutesProgram s u plan (view_of console_table d.console) (AltersConsole d) (KeepsDevice ConsoleEnds d) step
-    → IsConsoleChange d.console (after_ending console_table d.console (execution_of console_table d.console s u.state).ending) step.change
-console-change d s u plan step run =
-    device-change console_table d.console (λ e x. IsConsoleChange d.console e x) (AltersConsole d) (KeepsDevice ConsoleEnds d) (execution_of console_table d.console s u.state).ending step.change
-    (console-stays d.console) (λ e k. k) (λ e x a. console-becomes d.console (after_command console_table d.console (command_of e.command) e.output) x a.can a.row a.back a.alters) run.change
-
-abbrev TapeEnds : TapeWithRoom → ℕ → List ℕ → TapeWithRoom → Type 0
-TapeEnds d code bytes e = seen_tape e.tape ≡ after_command tape_table (seen_tape d.tape) (command_of code) bytes
-
-abbrev AltersTape : TapeWithRoom → Ending → TapeChange → Type 0
-AltersTape d = AltersDevice (λ e x. CanSwapTape e.tape x) (λ e x. record e { tape = tape_after_swap e.tape x }) (λ e x. tape_change_after_swap e.tape x) (λ x. slots_put x.slot) (λ e. record e { room = 0 }) TapeEnds d
-
-pub tape-change : (d : TapeWithRoom) (s : Storage) (u : UnitControl) (plan : List Cell) (step : UnitStep TapeChange)
-    → ExecutesProgram s u plan (view_of tape_table (seen_tape d.tape)) (AltersTape d) (KeepsDevice TapeEnds d) step
-    → IsTapeChange d.tape (after_ending tape_table (seen_tape d.tape) (execution_of tape_table (seen_tape d.tape) s u.state).ending) step.change
-tape-change d s u plan step run =
-    device-change tape_table (seen_tape d.tape) (λ e x. IsTapeChange d.tape e x) (AltersTape d) (KeepsDevice TapeEnds d) (execution_of tape_table (seen_tape d.tape) s u.state).ending step.change
-    (tape-stays d.tape) (λ e k. k) (λ e x a. tape-becomes d.tape (after_command tape_table (seen_tape d.tape) (command_of e.command) e.output) x a.can a.row a.back a.alters) run.change
+pub device-step : {S M C : Type 0} (k : Kind S M C) (same : DeviceWith M → DeviceWith M → Bool) → DecidesEquality same → (d : DeviceWith (MediaWithRoom S)) (s : Storage) (u : UnitControl) (plan : List Cell) (step : UnitStep (DeviceChange C))
+    → ExecutesProgram s u plan (view_of k.table (seen_device k (bare d))) (Alters k d) (KeepsDevice (Ends k) d) step
+    → IsDeviceStep k same (bare d) (after_ending k.table (seen_device k (bare d)) (execution_of k.table (seen_device k (bare d)) s u.state).ending) step.change
+device-step k same decides d s u plan step run =
+    device-change k.table (seen_device k (bare d)) (λ e x. IsDeviceStep k same (bare d) e x) (Alters k d) (KeepsDevice (Ends k) d) (execution_of k.table (seen_device k (bare d)) s u.state).ending step.change
+    (device-stays k same decides (bare d)) (λ e h. h) (λ e x a. device-becomes k same decides (bare d) (after_command k.table (seen_device k (bare d)) (command_of e.command) e.output) x a.can a.row a.back a.alters) run.change
 
 -- what was planned of one unit makes it stand so
 one-altered-by : (us : Units) (u : ConfiguredUnit) (v : UnitControl) (x : Option UnitControl) (b : Bool) → x ≡ (if b then None else Some v)

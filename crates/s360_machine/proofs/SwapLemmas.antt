@@ -1,12 +1,19 @@
 -- An exchange of a change done twice restores the whole machine and the change.
 use Rattle.std.proofs.Common.{◌≡◌, ap, ◌∙◌, refl, [], ◌∷◌}
 use Rattle.std.specs.Prelude.{Option, Some, None}
-use Rattle.s360_model.specs.Exchanges.{CanIfAny, after_if_any, back_if_any}
-use Rattle.s360_device.specs.PunchLaws.{CanSwapPunch-again, punch_after_swap-twice, punch_change_after_swap-twice}
-use Rattle.s360_device.specs.ReaderLaws.{CanSwapReader-again, reader_after_swap-twice, reader_change_after_swap-twice}
-use Rattle.s360_print.specs.ConsoleLaws.{CanSwapConsole-again, console_after_swap-twice, console_change_after_swap-twice}
-use Rattle.s360_print.specs.PrinterLaws.{CanSwapPrinter-again, printer_after_swap-twice, printer_change_after_swap-twice}
-use Rattle.s360_tape.specs.TapeLaws.{CanSwapTape-again, tape_after_swap-twice, tape_change_after_swap-twice}
+use Rattle.s360_model.specs.Exchanges.{back_if_any}
+use Rattle.s360_model.specs.ExchangeLaws.{CanIfAny-again, after_if_any-twice, back_if_any-twice}
+use Rattle.s360_device.specs.DeviceLaws.{CanSwapDevice-again, device_after_swap-twice, device_change_after_swap-twice}
+use Rattle.s360_device.specs.MotionLaws.{motion_restores_both}
+use Rattle.s360_device.specs.Punch.{punch_kind, punch_table}
+use Rattle.s360_device.specs.ReaderChanges.{reader_kind}
+use Rattle.s360_device.specs.ReaderLaws.{reader_change_restores_both}
+use Rattle.s360_print.specs.ConsoleChanges.{console_kind}
+use Rattle.s360_print.specs.ConsoleLaws.{console_change_restores_both}
+use Rattle.s360_print.specs.PrinterChanges.{printer_kind}
+use Rattle.s360_print.specs.PrinterLaws.{printer_change_restores_both}
+use Rattle.s360_tape.specs.TapeLaws.{tape_change_restores_both}
+use Rattle.s360_tape.specs.WholeTape.{tape_kind}
 use Rattle.s360_store.specs.Cells.{cells_after_exchange, AllFit}
 use Rattle.s360_store.proofs.ExchangeLemmas.{after_exchange-twice, cells_after_exchange-twice, AreCellsOf-again, places_of_cells-cells_after_exchange}
 use Rattle.s360_channel.specs.UnitChanges.{CanSwapUnits, unit_change_after_swap, units_after_swap}
@@ -18,49 +25,30 @@ use Rattle.s360_machine.specs.Machine.{Whole, WholeMedia}
 use Rattle.s360_machine.specs.Change.{Change, CanSwap, after_swap, change_after_swap, places_of_change}
 use Rattle.s360_machine.proofs.ControlLemmas.{control_after_exchange-twice, control_cells_after_exchange-twice, HasEachControlOnce-after, places_of_control-after}
 
--- the laws of an exchange, of a change that may be there
-CanIfAny-again : {D C : Type 0} (Can : D → C → Type 0) (after : D → C → D) (back : D → C → C)
-    → ((d : D) (x : C) → Can d x → Can (after d x) (back d x))
-    → (d : D) (x : Option C) → CanIfAny Can d x → CanIfAny Can (after_if_any after d x) (back_if_any back d x)
-CanIfAny-again Can after back law d None h = tt
-CanIfAny-again Can after back law d (Some x) h = law d x h
-
-after_if_any-twice : {D C : Type 0} (Can : D → C → Type 0) (after : D → C → D) (back : D → C → C)
-    → ((d : D) (x : C) → Can d x → after (after d x) (back d x) ≡ d)
-    → (d : D) (x : Option C) → CanIfAny Can d x → after_if_any after (after_if_any after d x) (back_if_any back d x) ≡ d
-after_if_any-twice Can after back law d None h = refl
-after_if_any-twice Can after back law d (Some x) h = law d x h
-
-back_if_any-twice : {D C : Type 0} (Can : D → C → Type 0) (after : D → C → D) (back : D → C → C)
-    → ((d : D) (x : C) → Can d x → back (after d x) (back d x) ≡ x)
-    → (d : D) (x : Option C) → CanIfAny Can d x → back_if_any back (after_if_any after d x) (back_if_any back d x) ≡ x
-back_if_any-twice Can after back law d None h = refl
-back_if_any-twice Can after back law d (Some x) h = ap (λ y. Some y) (law d x h)
-
 -- the devices
 CanSwapMedia-again : (m : WholeMedia) (x : MediaChange) → CanSwapMedia m x → CanSwapMedia (media_after_swap m x) (media_change_after_swap m x)
-CanSwapMedia-again m (Reader x) h = CanSwapReader-again m.reader x h
-CanSwapMedia-again m (Punch x) h = CanSwapPunch-again m.punch x h
-CanSwapMedia-again m (Printer x) h = CanSwapPrinter-again m.printer x h
-CanSwapMedia-again m (Console x) h = CanSwapConsole-again m.console x h
-CanSwapMedia-again m (Tape0 x) h = CanSwapTape-again m.tape0 x h
-CanSwapMedia-again m (Tape1 x) h = CanSwapTape-again m.tape1 x h
+CanSwapMedia-again m (Reader x) h = CanSwapDevice-again reader_kind reader_change_restores_both m.reader x h
+CanSwapMedia-again m (Punch x) h = CanSwapDevice-again punch_kind (motion_restores_both punch_table) m.punch x h
+CanSwapMedia-again m (Printer x) h = CanSwapDevice-again printer_kind printer_change_restores_both m.printer x h
+CanSwapMedia-again m (Console x) h = CanSwapDevice-again console_kind console_change_restores_both m.console x h
+CanSwapMedia-again m (Tape0 x) h = CanSwapDevice-again tape_kind tape_change_restores_both m.tape0 x h
+CanSwapMedia-again m (Tape1 x) h = CanSwapDevice-again tape_kind tape_change_restores_both m.tape1 x h
 
 media_after_swap-twice : (m : WholeMedia) (x : MediaChange) → CanSwapMedia m x → media_after_swap (media_after_swap m x) (media_change_after_swap m x) ≡ m
-media_after_swap-twice m (Reader x) h = ap (λ k. record m { reader = k }) (reader_after_swap-twice m.reader x h)
-media_after_swap-twice m (Punch x) h = ap (λ k. record m { punch = k }) (punch_after_swap-twice m.punch x h)
-media_after_swap-twice m (Printer x) h = ap (λ k. record m { printer = k }) (printer_after_swap-twice m.printer x h)
-media_after_swap-twice m (Console x) h = ap (λ k. record m { console = k }) (console_after_swap-twice m.console x h)
-media_after_swap-twice m (Tape0 x) h = ap (λ k. record m { tape0 = k }) (tape_after_swap-twice m.tape0 x h)
-media_after_swap-twice m (Tape1 x) h = ap (λ k. record m { tape1 = k }) (tape_after_swap-twice m.tape1 x h)
+media_after_swap-twice m (Reader x) h = ap (λ k. record m { reader = k }) (device_after_swap-twice reader_kind reader_change_restores_both m.reader x h)
+media_after_swap-twice m (Punch x) h = ap (λ k. record m { punch = k }) (device_after_swap-twice punch_kind (motion_restores_both punch_table) m.punch x h)
+media_after_swap-twice m (Printer x) h = ap (λ k. record m { printer = k }) (device_after_swap-twice printer_kind printer_change_restores_both m.printer x h)
+media_after_swap-twice m (Console x) h = ap (λ k. record m { console = k }) (device_after_swap-twice console_kind console_change_restores_both m.console x h)
+media_after_swap-twice m (Tape0 x) h = ap (λ k. record m { tape0 = k }) (device_after_swap-twice tape_kind tape_change_restores_both m.tape0 x h)
+media_after_swap-twice m (Tape1 x) h = ap (λ k. record m { tape1 = k }) (device_after_swap-twice tape_kind tape_change_restores_both m.tape1 x h)
 
 media_change_after_swap-twice : (m : WholeMedia) (x : MediaChange) → CanSwapMedia m x → media_change_after_swap (media_after_swap m x) (media_change_after_swap m x) ≡ x
-media_change_after_swap-twice m (Reader x) h = ap (λ y. Reader y) (reader_change_after_swap-twice m.reader x h)
-media_change_after_swap-twice m (Punch x) h = ap (λ y. Punch y) (punch_change_after_swap-twice m.punch x h)
-media_change_after_swap-twice m (Printer x) h = ap (λ y. Printer y) (printer_change_after_swap-twice m.printer x h)
-media_change_after_swap-twice m (Console x) h = ap (λ y. Console y) (console_change_after_swap-twice m.console x h)
-media_change_after_swap-twice m (Tape0 x) h = ap (λ y. Tape0 y) (tape_change_after_swap-twice m.tape0 x h)
-media_change_after_swap-twice m (Tape1 x) h = ap (λ y. Tape1 y) (tape_change_after_swap-twice m.tape1 x h)
+media_change_after_swap-twice m (Reader x) h = ap (λ y. Reader y) (device_change_after_swap-twice reader_kind reader_change_restores_both m.reader x h)
+media_change_after_swap-twice m (Punch x) h = ap (λ y. Punch y) (device_change_after_swap-twice punch_kind (motion_restores_both punch_table) m.punch x h)
+media_change_after_swap-twice m (Printer x) h = ap (λ y. Printer y) (device_change_after_swap-twice printer_kind printer_change_restores_both m.printer x h)
+media_change_after_swap-twice m (Console x) h = ap (λ y. Console y) (device_change_after_swap-twice console_kind console_change_restores_both m.console x h)
+media_change_after_swap-twice m (Tape0 x) h = ap (λ y. Tape0 y) (device_change_after_swap-twice tape_kind tape_change_restores_both m.tape0 x h)
+media_change_after_swap-twice m (Tape1 x) h = ap (λ y. Tape1 y) (device_change_after_swap-twice tape_kind tape_change_restores_both m.tape1 x h)
 
 -- an exchange keeps the place
 unit_of_change-back : (m : WholeMedia) (x : MediaChange) → unit_of_change (media_change_after_swap m x) ≡ unit_of_change x

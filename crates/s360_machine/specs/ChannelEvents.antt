@@ -8,7 +8,8 @@ use Rattle.s360_device.specs.Commands.{command_of}
 use Rattle.s360_device.specs.declared.card.PunchedCard.{PunchedCard}
 use Rattle.s360_device.specs.Punch.{punch_table}
 use Rattle.s360_device.specs.Reader.{ReaderMedia, reader_table}
-use Rattle.s360_device.specs.Rows.{DeviceWith, Table, after_command, begin_of, exception_of, input_of}
+use Rattle.s360_device.specs.declared.device_with.DeviceWith.{DeviceWith}
+use Rattle.s360_device.specs.Rows.{Table, after_command, begin_of, exception_of, input_of}
 use Rattle.s360_print.specs.Console.{ConsoleMedia, console_table}
 use Rattle.s360_print.specs.Printer.{PrinterMedia, printer_table}
 use Rattle.s360_tape.specs.Tape.{TapeMedia, tape_table}

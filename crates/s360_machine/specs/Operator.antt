@@ -43,7 +43,7 @@ units_after_key other us = us
 -- the end-of-file key stays pressed (own profile). A line that is entered is the console's
 abbrev pub media_after_key : Key → Media → Media
 media_after_key EndOfFile m = record m { reader = with_end_key m.reader }
-media_after_key (Enter line) m = record m { console = with_line m.console line }
+media_after_key (Enter line) m = record m { console = record m.console { media = with_line m.console.media line } }
 media_after_key other m = m
 
 abbrev pub after_key : Machine → Key → Machine

@@ -1,5 +1,5 @@
 //! What the operator's panel works on beside the core. Source: GA22-6821, "System Control Panel".
-ghost use Rattle.std.specs.Prelude.{◌≡◌, true};
+ghost use Rattle.std.specs.Prelude.{◌≡◌};
 ghost use Rattle.s360_machine.specs.ControlCells.{control_after_exchange, control_cells};
 ghost use Rattle.s360_machine.specs.ControlCells.{control_cells_after_exchange};
 ghost use Rattle.s360_machine.specs.Machine.{no_external};

@@ -5,10 +5,9 @@ ghost use Rattle.s360_store.specs.Plans.{IsPlanOf};
 ghost use Rattle.s360_channel.specs.IoInstructions.{units_after_io};
 ghost use Rattle.s360_channel.specs.UnitChanges.{IsUnitsChangeTo};
 ghost use Rattle.s360_machine.specs.InputOutput.{after_input_output, after_io, after_taking};
-ghost use Rattle.s360_machine.specs.InputOutput.{core_after_io, core_with_csw, io_result};
+ghost use Rattle.s360_machine.specs.InputOutput.{core_after_io, io_result};
 ghost use Rattle.s360_machine.specs.Machine.{seen};
 ghost use Rattle.s360_machine.specs.Planned.{IsPlanOfMachine};
-ghost use Rattle.s360_store.specs.Cells.{AreCellsOf, after_exchange};
 ghost use Rattle.s360_machine.specs.InputOutput.{PlansCsw};
 
 use crate::core_state::Core;

@@ -9,7 +9,8 @@ ghost use Rattle.s360_machine.specs.Machine.{Machine as Seen, new_machine, stora
 ghost use Rattle.s360_machine.specs.Change.{CanSwap, after_swap, change_after_swap};
 ghost use Rattle.s360_machine.specs.Change.{HasRoom, NeedsNoRoom};
 ghost use Rattle.s360_machine.specs.Step.{after};
-ghost use Rattle.s360_tape.specs.WholeTape.{TapeWithRoom, seen as seen_tape};
+ghost use Rattle.s360_device.specs.DeviceChanges.{bare};
+ghost use Rattle.s360_tape.specs.WholeTape.{seen as seen_tape};
 ghost use Rattle.s360_machine.specs.Media.{tape_of};
 ghost use Rattle.s360_channel.specs.ConfiguredUnits.{attention_at, state_at, unit_at};
 ghost use Rattle.s360_machine.specs.Refusals.{refusal_of};
@@ -27,7 +28,7 @@ use crate::refusal::Refusal;
 use crate::run_state::RunState;
 use s360_channel::{ConfiguredUnit, UnitChange, UnitState, Units};
 use s360_device::{Deck, Punch, Reader};
-use s360_print::{Console, Printer};
+use s360_print::{Console, ConsoleMedia, Printer, PrinterMedia};
 use s360_psw::Psw;
 use s360_store::{Plan, Storage, StoreFault};
 use s360_tape::Tape;
@@ -75,7 +76,7 @@ impl Machine {
         tape0: Tape,
         tape1: Tape,
     ) -> Result<Machine, StoreFault>
-        ensures new { IfOk result (λ m. seen m.whole ≡ new_machine size deck (seen_tape tape0.tape) (seen_tape tape1.tape)) }
+        ensures new { IfOk result (λ m. seen m.whole ≡ new_machine size deck (seen_tape (bare tape0)) (seen_tape (bare tape1))) }
         ensures refused { MatchBool (is_storage_size size) (IsOkUnless result no_memory) (result ≡ Err Size) }
     {
         let core = Core::new(alloc, size)?;
@@ -86,8 +87,8 @@ impl Machine {
             devices: Devices {
                 reader: Reader::new(alloc, deck),
                 punch: Punch::new(alloc),
-                printer: Printer::new(alloc),
-                console: Console::new(alloc),
+                printer: Printer::with(PrinterMedia::new(alloc)),
+                console: Console::with(ConsoleMedia::new(alloc)),
                 tape0,
                 tape1,
             },
@@ -150,35 +151,35 @@ impl Machine {
 
     /// The card reader.
     pub fn reader(&self) -> &Reader
-        ensures { result.now.reader ≡ self.now.whole.media.reader }
+        ensures { bare result.now ≡ self.now.whole.media.reader }
     {
         &self.devices.reader
     }
 
     /// The card punch.
     pub fn punch(&self) -> &Punch
-        ensures { result.now.punch ≡ self.now.whole.media.punch }
+        ensures { bare result.now ≡ self.now.whole.media.punch }
     {
         &self.devices.punch
     }
 
     /// The printer.
     pub fn printer(&self) -> &Printer
-        ensures { result.now.printer ≡ self.now.whole.media.printer }
+        ensures { bare result.now ≡ self.now.whole.media.printer }
     {
         &self.devices.printer
     }
 
     /// The console.
     pub fn console(&self) -> &Console
-        ensures { result.now.console ≡ self.now.whole.media.console }
+        ensures { bare result.now ≡ self.now.whole.media.console }
     {
         &self.devices.console
     }
 
     /// The tape of a unit, if the machine has one there.
     pub fn tape(&self, unit: Unit) -> Option<&Tape>
-        ensures { option_map (λ (t : TapeWithRoom). t.tape) (option_copied result) ≡ tape_of self.now.whole.media (unit_at unit.0) }
+        ensures { option_map (λ t. bare t) (option_copied result) ≡ tape_of self.now.whole.media (unit_at unit.0) }
     {
         match ConfiguredUnit::at(unit)? {
             ConfiguredUnit::Tape0 => Some(&self.devices.tape0),

@@ -13,7 +13,7 @@ ghost use Rattle.s360_machine.specs.declared.operator.Key.TheVariants.{EndOfFile
 
 use crate::operator::Key;
 use s360_channel::ConfiguredUnit;
-use s360_device::{Device, Punch, PunchChange, Reader, ReaderChange};
+use s360_device::{Device, DeviceChange, Motion, Punch, PunchedCard, Reader, ReaderChange};
 use s360_print::{Console, ConsoleChange, Printer, PrinterChange};
 use s360_tape::{Tape, TapeChange};
 use std::alloc::AllocError;
@@ -33,17 +33,17 @@ pub(crate) struct Devices {
 #[derive(Debug, Drop)]
 pub(crate) enum MediaChange {
     /// The card reader's change.
-    Reader(ReaderChange),
+    Reader(DeviceChange<ReaderChange>),
     /// The card punch's.
-    Punch(PunchChange),
+    Punch(DeviceChange<Motion<PunchedCard>>),
     /// The printer's.
-    Printer(PrinterChange),
+    Printer(DeviceChange<PrinterChange>),
     /// The console's.
-    Console(ConsoleChange),
+    Console(DeviceChange<ConsoleChange>),
     /// That of the first magnetic tape.
-    Tape0(TapeChange),
+    Tape0(DeviceChange<TapeChange>),
     /// That of the second.
-    Tape1(TapeChange),
+    Tape1(DeviceChange<TapeChange>),
 }
 
 impl MediaChange {
@@ -85,14 +85,15 @@ impl Devices {
         requires fits { length line.now ≤ line_limit }
         ensures { IfOk result (λ change. IsMediaChangeTo (media_of self.now) (Some change) (media_after_key (Enter line.now) (seen_media (media_of self.now)))) }
     {
-        Ok(MediaChange::Console(self.console.plan_line(line)?))
+        let change = self.console.media().plan_line(line)?;
+        Ok(MediaChange::Console(self.console.change_by(change)))
     }
 
     /// What the end-of-file key does, which stays pressed.
     fn change_of_end_key(&self) -> Option<MediaChange>
         ensures { IsMediaChangeTo (media_of self.now) result (media_after_key EndOfFile (seen_media (media_of self.now))) }
     {
-        if self.reader.end_of_file() {
+        if self.reader.media().end_of_file() {
             return None;
         }
         Some(MediaChange::Reader(self.reader.plan_end_key()))

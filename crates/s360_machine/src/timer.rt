@@ -1,6 +1,6 @@
 //! The timer: a signed word in storage, which counts down. Source: GA22-6821, "System Structure",
 //! interval timer.
-ghost use Rattle.std.specs.Prelude.{◌≡◌, ◌+◌, ◌≤◌, [], IfOk, OnOk, length};
+ghost use Rattle.std.specs.Prelude.{◌≡◌, [], IfOk, OnOk};
 ghost use Rattle.s360_store.specs.Plans.{HasBytes, IsPlanOf};
 ghost use Rattle.s360_machine.specs.Machine.{seen};
 ghost use Rattle.s360_machine.specs.Planned.{IsPlanOfMachine};

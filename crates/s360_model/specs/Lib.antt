@@ -12,3 +12,4 @@ pub mod Products
 pub mod Shifts
 pub mod Tables
 pub mod Exchanges
+pub mod ExchangeLaws

@@ -122,7 +122,7 @@ sounds_the_alarm = refl
 pub waits : begin_of console_table new_console (command_of 0x0A) ≡ NotYet
 waits = refl
 
-pub enters : with_line (with_line new_console (0xC1 ∷ [])) [] ≡ console [] ((0xC1 ∷ []) ∷ [] ∷ []) 0
+pub enters : with_line (with_line new_console.media (0xC1 ∷ [])) [] ≡ (console [] ((0xC1 ∷ []) ∷ [] ∷ []) 0).media
 enters = refl
 
 pub reads_the_first : input_of console_table (console [] ((0xC1 ∷ []) ∷ [] ∷ []) 0) (command_of 0x0A) ≡ 0xC1 ∷ []

@@ -3,5 +3,3 @@ pub mod CarriageLemmas
 pub mod SignLemmas
 pub mod SkipLemmas
 pub mod DifferenceLemmas
-pub mod PrinterLemmas
-pub mod ConsoleLemmas

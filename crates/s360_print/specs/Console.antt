@@ -3,7 +3,8 @@
 use Rattle.std.specs.Prelude.{ℕ, false, List, [], ◌∷◌, ◌++◌, ◌+◌, slice_get}
 use Rattle.std.specs.Option.{option_map_or}
 use Rattle.s360_device.specs.Sense.{no_sense, command_reject}
-use Rattle.s360_device.specs.Rows.{DeviceWith, Row, refused, not_yet, input, output, control, Table}
+use Rattle.s360_device.specs.declared.device_with.DeviceWith.{DeviceWith}
+use Rattle.s360_device.specs.Rows.{Row, refused, not_yet, input, output, control, Table}
 use Rattle.s360_model.specs.Tables.{entry_in}
 use Rattle.s360_print.specs.declared.typed_line.TypedItem.{TypedItem}
 use Rattle.s360_print.specs.declared.typed_line.TypedItem.TheVariants.{Text, Return, Alarm}
@@ -33,9 +34,14 @@ with_item m item = record m { typed = m.typed ++ item ∷ [] }
 abbrev pub read_row : ConsoleMedia → Row ConsoleMedia
 read_row m = option_map_or (λ line. input line (record m { taken = m.taken + 1 }) false) (slice_get m.entered m.taken) not_yet
 
+-- a line is typed, and the carriage may be returned
+abbrev pub typed_by : ConsoleMedia → ConsoleCommand → List ℕ → ConsoleMedia
+typed_by m WriteAndReturn bytes = with_item m (Return bytes)
+typed_by m command bytes = with_item m (Text bytes)
+
 abbrev pub row_of_console_command : ConsoleMedia → ConsoleCommand → Row ConsoleMedia
-row_of_console_command m Write = output line_limit (λ bytes. with_item m (Text bytes)) false
-row_of_console_command m WriteAndReturn = output line_limit (λ bytes. with_item m (Return bytes)) false
+row_of_console_command m Write = output line_limit (typed_by m Write) false
+row_of_console_command m WriteAndReturn = output line_limit (typed_by m WriteAndReturn) false
 row_of_console_command m Read = read_row m
 row_of_console_command m SoundAlarm = control (with_item m Alarm) false
 
@@ -45,11 +51,6 @@ console_row m code = option_map_or (row_of_console_command m) (entry_in console_
 abbrev pub console_table : Table ConsoleMedia
 console_table = record { rows = console_row; sense_bytes = 1 }
 
--- the console with a line more that the operator entered
-abbrev pub with_line : Console → List ℕ → Console
-with_line c line = record c { media = record c.media { entered = c.media.entered ++ line ∷ [] } }
-
--- a console with the number beside it of items, and likewise of lines, for which there is room
-pub record ConsoleWithRoom : Type 0 where
-  pub console : Console
-  pub room : ℕ
+-- a line more is entered by the operator
+abbrev pub with_line : ConsoleMedia → List ℕ → ConsoleMedia
+with_line m line = record m { entered = m.entered ++ line ∷ [] }

@@ -1,33 +1,43 @@
--- What a command or the operator does to the console, exchanged with it.
-use Rattle.std.specs.Prelude.{ℕ, max}
+-- What a command or the operator does to the console's media, exchanged with them.
+use Rattle.std.specs.Prelude.{ℕ, List}
+use Rattle.s360_device.specs.Kinds.{Kind}
 use Rattle.s360_device.specs.Motions.{CanMove, items_put, after_motion, motion_back}
 use Rattle.s360_print.specs.declared.console_change.ConsoleChange.{ConsoleChange}
-use Rattle.s360_print.specs.Console.{Console}
+use Rattle.s360_print.specs.declared.console_change.ListChange.{ListChange}
+use Rattle.s360_print.specs.declared.console_change.ListChange.TheVariants.{Typed, Entered}
+use Rattle.s360_print.specs.declared.typed_line.TypedItem.{TypedItem}
+use Rattle.s360_print.specs.Console.{ConsoleMedia, console_table}
 
--- it can be exchanged with the console
-abbrev pub CanSwapConsole : Console → ConsoleChange → Type 0
-CanSwapConsole c x = CanMove c.media.typed x.typed × CanMove c.media.entered x.entered
+-- what is done to one of its lists: what was typed, or the lines entered. It can be done
+abbrev pub CanChangeList : List TypedItem → List (List ℕ) → ListChange → Type 0
+CanChangeList typed entered (Typed motion) = CanMove typed motion
+CanChangeList typed entered (Entered motion) = CanMove entered motion
 
--- the console after the exchange
-abbrev pub console_after_swap : Console → ConsoleChange → Console
-console_after_swap c x = record {
-  sense = x.sense;
-  media = record {
-    typed = after_motion c.media.typed x.typed;
-    entered = after_motion c.media.entered x.entered;
-    taken = x.taken;
-  };
-}
+-- the lists after it
+abbrev pub typed_after : List TypedItem → ListChange → List TypedItem
+typed_after typed (Typed motion) = after_motion typed motion
+typed_after typed (Entered motion) = typed
 
--- the change after the exchange
-abbrev pub console_change_after_swap : Console → ConsoleChange → ConsoleChange
-console_change_after_swap c x = record {
-  sense = c.sense;
-  taken = c.media.taken;
-  typed = motion_back c.media.typed x.typed;
-  entered = motion_back c.media.entered x.entered;
-}
+abbrev pub entered_after : List (List ℕ) → ListChange → List (List ℕ)
+entered_after entered (Typed motion) = entered
+entered_after entered (Entered motion) = after_motion entered motion
+
+-- what takes it back
+abbrev pub list_change_back : List TypedItem → List (List ℕ) → ListChange → ListChange
+list_change_back typed entered (Typed motion) = Typed (motion_back typed motion)
+list_change_back typed entered (Entered motion) = Entered (motion_back entered motion)
 
 -- the number of items, and likewise of lines, for which it needs room
-abbrev pub console_needs : ConsoleChange → ℕ
-console_needs x = max (items_put x.typed) (items_put x.entered)
+abbrev pub items_needed : ListChange → ℕ
+items_needed (Typed motion) = items_put motion
+items_needed (Entered motion) = items_put motion
+
+abbrev pub console_kind : Kind ConsoleMedia ConsoleMedia ConsoleChange
+console_kind = record {
+  see = λ c. c;
+  table = console_table;
+  can = λ c x. CanChangeList c.typed c.entered x.list;
+  after = λ c x. record { typed = typed_after c.typed x.list; entered = entered_after c.entered x.list; taken = x.taken };
+  back = λ c x. record { list = list_change_back c.typed c.entered x.list; taken = c.taken };
+  needs = λ x. items_needed x.list;
+}

@@ -1,24 +1,33 @@
--- The exchange of the console with a change, done twice.
-use Rattle.std.proofs.Common.{◌≡◌, ◌∙◌, List, ℕ, ap}
+-- The exchange of the console's media with a change, done twice.
+use Rattle.std.proofs.Common.{◌≡◌, List, ℕ, ap}
 use Rattle.s360_device.specs.declared.motion.Motion.{Motion}
-use Rattle.s360_device.specs.Motions.{after_motion, motion_back}
+use Rattle.s360_device.specs.Kinds.{RestoresBoth}
 use Rattle.s360_device.specs.MotionLaws.{CanMove-again, after_motion-twice, motion_back-twice}
 use Rattle.s360_print.specs.declared.typed_line.TypedItem.{TypedItem}
-use Rattle.s360_print.specs.declared.console_change.ConsoleChange.{ConsoleChange}
-use Rattle.s360_print.specs.Console.{Console}
-use Rattle.s360_print.specs.ConsoleChanges.{CanSwapConsole, console_after_swap, console_change_after_swap}
+use Rattle.s360_print.specs.declared.console_change.ListChange.{ListChange}
+use Rattle.s360_print.specs.declared.console_change.ListChange.TheVariants.{Typed, Entered}
+use Rattle.s360_print.specs.ConsoleChanges.{CanChangeList, entered_after, list_change_back, typed_after}
+use Rattle.s360_print.specs.ConsoleChanges.{console_kind}
 
-pub CanSwapConsole-again : (c : Console) (x : ConsoleChange) → CanSwapConsole c x → CanSwapConsole (console_after_swap c x) (console_change_after_swap c x)
-CanSwapConsole-again c x h = (CanMove-again c.media.typed x.typed h.0, CanMove-again c.media.entered x.entered h.1)
+CanChangeList-again : (typed : List TypedItem) (entered : List (List ℕ)) (x : ListChange) → CanChangeList typed entered x
+    → CanChangeList (typed_after typed x) (entered_after entered x) (list_change_back typed entered x)
+CanChangeList-again typed entered (Typed motion) h = CanMove-again typed motion h
+CanChangeList-again typed entered (Entered motion) h = CanMove-again entered motion h
 
-pub console_after_swap-twice : (c : Console) (x : ConsoleChange) → CanSwapConsole c x → console_after_swap (console_after_swap c x) (console_change_after_swap c x) ≡ c
-console_after_swap-twice c x h =
-    let typed : List TypedItem = after_motion (after_motion c.media.typed x.typed) (motion_back c.media.typed x.typed)
-    in ap (λ (entered : List (List ℕ)). record c { media = record c.media { typed = typed; entered = entered } }) (after_motion-twice c.media.entered x.entered h.1)
-    ∙ ap (λ (items : List TypedItem). record c { media = record c.media { typed = items } }) (after_motion-twice c.media.typed x.typed h.0)
+-- the lists, in a value that is made of both
+lists-twice : {A : Type 0} (of : List TypedItem → List (List ℕ) → A) (typed : List TypedItem) (entered : List (List ℕ)) (x : ListChange) → CanChangeList typed entered x
+    → of (typed_after (typed_after typed x) (list_change_back typed entered x)) (entered_after (entered_after entered x) (list_change_back typed entered x)) ≡ of typed entered
+lists-twice of typed entered (Typed motion) h = ap (λ items. of items entered) (after_motion-twice typed motion h)
+lists-twice of typed entered (Entered motion) h = ap (λ lines. of typed lines) (after_motion-twice entered motion h)
 
-pub console_change_after_swap-twice : (c : Console) (x : ConsoleChange) → CanSwapConsole c x → console_change_after_swap (console_after_swap c x) (console_change_after_swap c x) ≡ x
-console_change_after_swap-twice c x h =
-    let typed : Motion TypedItem = motion_back (after_motion c.media.typed x.typed) (motion_back c.media.typed x.typed)
-    in ap (λ (m : Motion (List ℕ)). record x { typed = typed; entered = m }) (motion_back-twice c.media.entered x.entered h.1)
-    ∙ ap (λ (m : Motion TypedItem). record x { typed = m }) (motion_back-twice c.media.typed x.typed h.0)
+list_change_back-twice : (typed : List TypedItem) (entered : List (List ℕ)) (x : ListChange) → CanChangeList typed entered x
+    → list_change_back (typed_after typed x) (entered_after entered x) (list_change_back typed entered x) ≡ x
+list_change_back-twice typed entered (Typed motion) h = ap (λ (m : Motion TypedItem). Typed m) (motion_back-twice typed motion h)
+list_change_back-twice typed entered (Entered motion) h = ap (λ (m : Motion (List ℕ)). Entered m) (motion_back-twice entered motion h)
+
+pub console_change_restores_both : RestoresBoth console_kind
+console_change_restores_both = record {
+  again = λ c x can. CanChangeList-again c.typed c.entered x.list can;
+  media = λ c x can. lists-twice (λ typed entered. record c { typed = typed; entered = entered }) c.typed c.entered x.list can;
+  change = λ c x can. ap (λ (list : ListChange). record x { list = list }) (list_change_back-twice c.typed c.entered x.list can);
+}

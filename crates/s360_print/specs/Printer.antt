@@ -3,8 +3,10 @@
 use Rattle.std.specs.Prelude.{ℕ, List, [], ◌∷◌, ◌++◌}
 use Rattle.std.specs.Option.{option_map_or}
 use Rattle.s360_device.specs.Sense.{no_sense, command_reject}
-use Rattle.s360_device.specs.Rows.{DeviceWith, Row, refused, output, control, Table}
+use Rattle.s360_device.specs.declared.device_with.DeviceWith.{DeviceWith}
+use Rattle.s360_device.specs.Rows.{Row, refused, output, control, Table}
 use Rattle.s360_model.specs.Tables.{entry_in}
+use Rattle.s360_print.specs.declared.carriage.CarriageMotion.{CarriageMotion}
 use Rattle.s360_print.specs.declared.paper.Record.{Record}
 use Rattle.s360_print.specs.declared.printer_command.PrinterCommand.{PrinterCommand}
 use Rattle.s360_print.specs.declared.printer_command.PrinterCommand.TheVariants.{Print, Move}
@@ -30,11 +32,11 @@ abbrev pub record_at : Position → List ℕ → Record
 record_at p bytes = record { page = p.page; line = p.line; bytes = print_line bytes }
 
 -- it prints before it moves the carriage
+abbrev pub printed : PrinterMedia → CarriageMotion → List ℕ → PrinterMedia
+printed m motion bytes = record { records = m.records ++ record_at m.position bytes ∷ []; position = position_after m.position motion }
+
 abbrev pub row_of_printer_command : PrinterMedia → PrinterCommand → Row PrinterMedia
-row_of_printer_command m (Print motion) = output
-    line_width
-    (λ bytes. record { records = m.records ++ record_at m.position bytes ∷ []; position = position_after m.position motion })
-    (passes_end m.position motion)
+row_of_printer_command m (Print motion) = output line_width (printed m motion) (passes_end m.position motion)
 row_of_printer_command m (Move motion) = control (record m { position = position_after m.position motion }) (passes_end m.position motion)
 
 abbrev pub printer_row : PrinterMedia → ℕ → Row PrinterMedia
@@ -42,8 +44,3 @@ printer_row m code = option_map_or (row_of_printer_command m) (entry_in printer_
 
 abbrev pub printer_table : Table PrinterMedia
 printer_table = record { rows = printer_row; sense_bytes = 1 }
-
--- a printer with the number of lines beside it for which there is room
-pub record PrinterWithRoom : Type 0 where
-  pub printer : Printer
-  pub room : ℕ

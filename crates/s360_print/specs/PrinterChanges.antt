@@ -1,26 +1,15 @@
--- What a command does to the printer, exchanged with it.
-use Rattle.s360_device.specs.Motions.{CanMove, after_motion, motion_back}
+-- What a command does to the printer's media, exchanged with them.
+use Rattle.s360_device.specs.Kinds.{Kind}
+use Rattle.s360_device.specs.Motions.{CanMove, items_put, after_motion, motion_back}
 use Rattle.s360_print.specs.declared.printer_change.PrinterChange.{PrinterChange}
-use Rattle.s360_print.specs.Printer.{Printer}
+use Rattle.s360_print.specs.Printer.{PrinterMedia, printer_table}
 
--- it can be exchanged with the printer
-abbrev pub CanSwapPrinter : Printer → PrinterChange → Type 0
-CanSwapPrinter p x = CanMove p.media.records x.motion
-
--- the printer after the exchange
-abbrev pub printer_after_swap : Printer → PrinterChange → Printer
-printer_after_swap p x = record {
-  sense = x.sense;
-  media = record {
-    records = after_motion p.media.records x.motion;
-    position = x.position;
-  };
-}
-
--- the change after the exchange
-abbrev pub printer_change_after_swap : Printer → PrinterChange → PrinterChange
-printer_change_after_swap p x = record {
-  sense = p.sense;
-  position = p.media.position;
-  motion = motion_back p.media.records x.motion;
+abbrev pub printer_kind : Kind PrinterMedia PrinterMedia PrinterChange
+printer_kind = record {
+  see = λ p. p;
+  table = printer_table;
+  can = λ p x. CanMove p.records x.motion;
+  after = λ p x. record { records = after_motion p.records x.motion; position = x.position };
+  back = λ p x. record { motion = motion_back p.records x.motion; position = p.position };
+  needs = λ x. items_put x.motion;
 }

@@ -16,11 +16,11 @@ mod signs;
 mod typed_line;
 
 pub use carriage::{CarriageMotion, Position};
-pub use console::Console;
+pub use console::{Console, ConsoleMedia};
 pub use console_change::ConsoleChange;
 pub use laws::{same_printers_and_consoles_are_equal, signs_invert, skip_goes_to_first_line};
 pub use paper::{LINE_WIDTH, PrintedLine, Record};
-pub use printer::Printer;
+pub use printer::{Printer, PrinterMedia};
 pub use printer_change::PrinterChange;
 pub use signs::{ascii_to_ebcdic, ebcdic_to_ascii};
 pub use typed_line::{LINE_LIMIT, Line, TypedItem};

@@ -1,15 +1,13 @@
-//! What a command does to the printer.
+//! What a command does to the printer's media.
 use crate::carriage::Position;
 use crate::paper::Record;
 use s360_device::Motion;
 
-/// What is exchanged with a printer.
+/// What is exchanged with the media of a printer.
 #[derive(Debug, Drop)]
 pub struct PrinterChange {
-    /// The sense bytes.
-    pub sense: [u8; 6],
-    /// Where the carriage stands.
-    pub position: Position,
     /// A line that is printed, or taken back.
-    pub motion: Motion<Record>,
+    pub(crate) motion: Motion<Record>,
+    /// Where the carriage stands.
+    pub(crate) position: Position,
 }

@@ -1,5 +1,5 @@
 //! The signs of EBCDIC bytes: letters, digits and special characters, and their bytes in ASCII.
-ghost use Rattle.std.specs.Prelude.{◌≡◌, length};
+ghost use Rattle.std.specs.Prelude.{◌≡◌};
 ghost use Rattle.std.specs.List.{zip};
 ghost use Rattle.s360_model.specs.Tables.{entry_in};
 ghost use Rattle.s360_print.specs.Signs.{ascii_of, ebcdic_of};

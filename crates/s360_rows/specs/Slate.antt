@@ -5,7 +5,8 @@ use Rattle.std.proofs.Common.{ap}
 use Rattle.s360_device.specs.declared.motion.Motion.{Motion}
 use Rattle.s360_device.specs.Motions.{CanMove, after_motion, motion_back}
 use Rattle.s360_device.specs.MotionLaws.{CanMove-again, after_motion-twice, motion_back-twice}
-use Rattle.s360_device.specs.Rows.{DeviceWith, Row, Table, refused, not_yet, input, output}
+use Rattle.s360_device.specs.declared.device_with.DeviceWith.{DeviceWith}
+use Rattle.s360_device.specs.Rows.{Row, Table, refused, not_yet, input, output}
 use Rattle.s360_device.specs.Sense.{command_reject}
 
 -- whether a line was put on it that was not read, and the lines written

@@ -4,7 +4,7 @@
 use s360_device::deck_from;
 use s360_journal::Session;
 use s360_machine::Machine;
-use s360_tape::Tape;
+use s360_tape::{Tape, blank_tape};
 use std::alloc::Global;
 
 /// What a session is lent to.
@@ -22,7 +22,7 @@ pub(crate) fn lend_with_tape<L: Lent>(
     lent: &mut L,
 ) -> Option<String> {
     let deck = deck_from(alloc, &[]).ok()?;
-    let machine = Machine::new(alloc, size, deck, tape, Tape::blank(alloc)).ok()?;
+    let machine = Machine::new(alloc, size, deck, tape, blank_tape(alloc)).ok()?;
     let mut session = Session::new(alloc, machine, u32::from(limit));
     let text = lent.use_session(alloc, &mut session);
     session.end();
@@ -31,5 +31,5 @@ pub(crate) fn lend_with_tape<L: Lent>(
 
 /// Lends a session over a machine of 65,536 bytes.
 pub(crate) fn lend<L: Lent>(alloc: Global, limit: u8, lent: &mut L) -> Option<String> {
-    lend_with_tape(alloc, 65_536, Tape::blank(alloc), limit, lent)
+    lend_with_tape(alloc, 65_536, blank_tape(alloc), limit, lent)
 }

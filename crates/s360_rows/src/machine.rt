@@ -39,28 +39,28 @@ fn have_like_units(first: &Machine, second: &Machine) -> bool {
 
 /// Whether two card readers have fed as many cards, and stand alike.
 fn are_like_readers(one: &Reader, other: &Reader) -> bool {
-    one.fed() == other.fed()
-        && one.end_of_file() == other.end_of_file()
+    one.media().fed() == other.media().fed()
+        && one.media().end_of_file() == other.media().end_of_file()
         && one.sense() == other.sense()
 }
 
 /// Whether two card punches have punched as many cards, and stand alike.
 fn are_like_punches(one: &Punch, other: &Punch) -> bool {
-    one.cards() == other.cards() && one.sense() == other.sense()
+    one.media().cards() == other.media().cards() && one.sense() == other.sense()
 }
 
 /// Whether two printers have printed as many lines, and stand alike.
 fn are_like_printers(one: &Printer, other: &Printer) -> bool {
-    one.records() == other.records()
-        && one.position() == other.position()
+    one.media().records() == other.media().records()
+        && one.media().position() == other.media().position()
         && one.sense() == other.sense()
 }
 
 /// Whether two consoles have typed as many items and got as many lines, and stand alike.
 fn are_like_consoles(one: &Console, other: &Console) -> bool {
-    one.typed_count() == other.typed_count()
-        && one.entered_count() == other.entered_count()
-        && one.taken() == other.taken()
+    one.media().typed_count() == other.media().typed_count()
+        && one.media().entered_count() == other.media().entered_count()
+        && one.media().taken() == other.media().taken()
         && one.sense() == other.sense()
 }
 
@@ -69,9 +69,9 @@ fn are_like_tapes(one: Option<&Tape>, other: Option<&Tape>) -> bool {
     let (Some(one), Some(other)) = (one, other) else {
         return one.is_none() && other.is_none();
     };
-    one.items() == other.items()
-        && one.position() == other.position()
-        && one.unloaded() == other.unloaded()
+    one.media().items() == other.media().items()
+        && one.media().position() == other.media().position()
+        && one.media().unloaded() == other.media().unloaded()
         && one.sense() == other.sense()
 }
 

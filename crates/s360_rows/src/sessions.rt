@@ -7,7 +7,7 @@ use s360_journal::{Answer, Outcome, Places, Session, run_calls};
 use s360_machine::{Machine, Refusal};
 use s360_psw::InstructionLength;
 use s360_store::Place;
-use s360_tape::Tape;
+use s360_tape::blank_tape;
 use s360_word::{RegisterNumber, Unit, Word};
 use std::alloc::Global;
 
@@ -106,7 +106,7 @@ impl Lent for Table {
 
 /// Lends a session over such a machine, where at most so many changes may stand.
 fn lend<L: Lent>(alloc: Global, limit: u8, lent: &mut L) -> Option<String> {
-    lend_with_tape(alloc, STORAGE, Tape::blank(alloc), limit, lent)
+    lend_with_tape(alloc, STORAGE, blank_tape(alloc), limit, lent)
 }
 
 #[test]
@@ -319,7 +319,7 @@ fn text_of_end(alloc: Global, answers: &[Answer], machine: &Machine) -> Option<S
 fn run(alloc: Global) -> Option<String> {
     let calls = calls(alloc, EACH_KIND)?;
     let deck = deck_from(alloc, &[]).ok()?;
-    let (first, second) = (Tape::blank(alloc), Tape::blank(alloc));
+    let (first, second) = (blank_tape(alloc), blank_tape(alloc));
     let machine = Machine::new(alloc, STORAGE, deck, first, second).ok()?;
     let Ok(outcome) = run_calls(alloc, machine, 6, calls) else {
         return None;

@@ -1,6 +1,7 @@
 //! Decks and tapes from files.
 ghost use Rattle.std.specs.Prelude.{◌≡◌, [], None, IfOk, IfErr};
 ghost use Rattle.s360_model.specs.Cards.{IsDeckFile};
+ghost use Rattle.s360_device.specs.DeviceChanges.{bare};
 ghost use Rattle.s360_tape.specs.WholeTape.{seen as seen_tape};
 ghost use Rattle.s360_setup.specs.Beginning.{IsTapeFor};
 ghost use Rattle.s360_setup.specs.Failures.{IsFailureOf, IsDeckFailure, IsTapeFailure};
@@ -38,7 +39,7 @@ pub(crate) fn read_tape(
     part: Part,
     options: TapeOptions<'_>,
 ) -> Result<Tape, Failure>
-    ensures tape { IfOk result (λ t. IsTapeFor options.entry (seen_tape t.tape)) }
+    ensures tape { IfOk result (λ t. IsTapeFor options.entry (seen_tape (bare t))) }
     ensures failure { IfErr result (IsTapeFailure part) }
 {
     let file = read_image(rt, alloc, part, options.file)?;

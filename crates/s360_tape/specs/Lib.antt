@@ -5,7 +5,6 @@ pub mod SlotLaws
 pub mod TapeCommands
 pub mod Tape
 pub mod WholeTape
-pub mod Attempts
 pub mod TapeLaws
 pub mod Differences
 pub mod Parts

@@ -4,7 +4,8 @@
 use Rattle.std.specs.Prelude.{ℕ, ◌+◌, ◌-◌, Bool, true, false, ◌&&◌, if◌then◌else◌, List, [], ◌∷◌, ◌++◌, take, drop, reverse, nat_eq, slice_get}
 use Rattle.std.specs.Option.{option_map_or}
 use Rattle.s360_device.specs.Sense.{no_sense, command_reject, intervention_required}
-use Rattle.s360_device.specs.Rows.{DeviceWith, Row, refused, input, output, control, Table}
+use Rattle.s360_device.specs.declared.device_with.DeviceWith.{DeviceWith}
+use Rattle.s360_device.specs.Rows.{Row, refused, input, output, control, Table}
 use Rattle.s360_model.specs.Tables.{entry_in}
 use Rattle.s360_device.specs.Items.{item_in}
 use Rattle.s360_tape.specs.declared.item.Item.{Item}

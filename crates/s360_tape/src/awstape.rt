@@ -1,5 +1,6 @@
 //! Tapes in AWSTAPE files: read from a file, and written as one.
 ghost use Rattle.std.specs.Prelude.{◌≡◌, ◌≤◌, ◌+◌, ◌++◌, List, length, Err, IfOk, IfErr, OnOk, IsOkUnless};
+ghost use Rattle.s360_device.specs.DeviceChanges.{bare};
 ghost use Rattle.s360_tape.specs.declared.fault.TapeFault.{TapeFault};
 ghost use Rattle.s360_tape.specs.declared.fault.TapeFault.TheVariants.{Memory};
 ghost use Rattle.s360_tape.specs.declared.item.Item.{Item};
@@ -15,7 +16,7 @@ use crate::fault::TapeFault;
 use crate::item::Item;
 use crate::part::{HEADER_LENGTH, Part, part_at};
 use crate::part_kind::PartKind;
-use crate::tape::Tape;
+use crate::tape::{Tape, tape_with};
 use byteorder::{ByteOrder, LittleEndian};
 use std::alloc::{AllocError, Global};
 use std::mem;
@@ -77,20 +78,20 @@ fn items_of(alloc: Global, file: &[u8]) -> Result<Vec<Item>, TapeFault>
 
 /// The tape that is in a file, or why there is none.
 fn read_tape(alloc: Global, file: &[u8], protected: bool) -> Result<Tape, TapeFault>
-    ensures tape { IfOk result (λ t. IsTapeFile file.now (seen t.tape).media.items) }
-    ensures fresh { IfOk result (λ t. seen t.tape ≡ new_tape (seen t.tape).media.items protected) }
+    ensures tape { IfOk result (λ t. IsTapeFile file.now (seen (bare t)).media.items) }
+    ensures fresh { IfOk result (λ t. seen (bare t) ≡ new_tape (seen (bare t)).media.items protected) }
     ensures refused { IfErr result (λ fault. IsRefusal file.now fault) }
 {
     check_file(file)?;
     let items = items_of(alloc, file)?;
-    Ok(Tape::new(items, protected))
+    Ok(tape_with(items, protected))
 }
 
 /// The tape that is in a file, at its load point. A file that is no tape's is refused with its first
 /// fault, whatever memory there is.
 pub fn tape_from(alloc: Global, file: &[u8], protected: bool) -> Result<Tape, TapeFault>
-    ensures tape { IfOk result (λ t. IsTapeFile file.now (seen t.tape).media.items) }
-    ensures fresh { IfOk result (λ t. seen t.tape ≡ new_tape (seen t.tape).media.items protected) }
+    ensures tape { IfOk result (λ t. IsTapeFile file.now (seen (bare t)).media.items) }
+    ensures fresh { IfOk result (λ t. seen (bare t) ≡ new_tape (seen (bare t)).media.items protected) }
     ensures refused { IfErr result (λ fault. IsRefusal file.now fault) }
     ensures accepted { (items : List Item) → IsTapeFile file.now items → IsOkUnless result Memory }
     ensures faulty { (fault : TapeFault) → HasFault file.now fault → result ≡ Err fault }
@@ -113,11 +114,11 @@ fn put_item(file: &mut Vec<u8>, previous: u16, item: &Item) -> Result<(), AllocE
 
 /// The file of a tape: whole blocks and marks.
 pub fn image_of(alloc: Global, tape: &Tape) -> Result<Vec<u8>, AllocError>
-    ensures { IfOk result (λ file. file.items ≡ tape_file (seen tape.now.tape).media.items) }
+    ensures { IfOk result (λ file. file.items ≡ tape_file (seen (bare tape.now)).media.items) }
 {
     let mut file = Vec::new(alloc);
     let mut previous = 0;
-    for item in tape.as_slice() {
+    for item in tape.media().as_slice() {
         put_item(&mut file, previous, item)?;
         previous = item.bytes().len() as u16;
     }

@@ -3,7 +3,6 @@
 //! Source: GA22-6821, "Input/Output Operations", and GA22-6866, "2400-Series Magnetic Tape Units".
 #![tactic(auto)]
 
-mod attempt;
 mod awstape;
 mod block;
 mod fault;
@@ -17,6 +16,7 @@ mod slot_change;
 mod tape;
 mod tape_change;
 mod tape_command;
+mod tape_row;
 
 pub use awstape::{image_of, tape_from};
 pub use block::Block;
@@ -25,5 +25,5 @@ pub use item::Item;
 pub use laws::{fault_is_the_first, image_is_read_back, same_tapes_are_equal};
 pub use sense::{AT_LOAD_POINT, WRITE_PROTECTED};
 pub use slot_change::SlotChange;
-pub use tape::Tape;
+pub use tape::{Tape, TapeMedia, blank_tape};
 pub use tape_change::TapeChange;

@@ -1,17 +1,15 @@
-//! What a command does to a tape.
+//! What a command does to a tape's media.
 use crate::slot_change::SlotChange;
 
-/// What is exchanged with a tape.
+/// What is exchanged with the media of a tape.
 #[derive(Debug, Drop)]
 pub struct TapeChange {
-    /// The sense bytes.
-    pub sense: [u8; 6],
-    /// The number of items before the position.
-    pub position: usize,
-    /// Whether the tape is unloaded.
-    pub unloaded: bool,
-    /// The number of slots whose items can be seen.
-    pub visible: usize,
     /// An item that is written, or taken back.
-    pub slot: SlotChange,
+    pub(crate) slot: SlotChange,
+    /// The number of items before the position.
+    pub(crate) position: usize,
+    /// The number of slots whose items can be seen.
+    pub(crate) visible: usize,
+    /// Whether the tape is unloaded.
+    pub(crate) unloaded: bool,
 }

@@ -1,9 +1,20 @@
 use Rattle.std.proofs.Common.{◌≡◌, refl, rules}
 use Rattle.std.specs.Option.{option_map}
+use Rattle.s360_device.specs.Differences.{same_punch, same_reader}
+use Rattle.s360_device.specs.Punch.{punch_kind}
+use Rattle.s360_device.specs.ReaderChanges.{reader_kind}
+use Rattle.s360_device.proofs.DifferenceLemmas.{same_punch-Decides, same_reader-Decides}
+use Rattle.s360_print.specs.ConsoleChanges.{console_kind}
+use Rattle.s360_print.specs.Differences.{same_console, same_printer}
+use Rattle.s360_print.specs.PrinterChanges.{printer_kind}
+use Rattle.s360_print.proofs.DifferenceLemmas.{same_console-Decides, same_printer-Decides}
+use Rattle.s360_tape.specs.Differences.{same_tape}
+use Rattle.s360_tape.specs.WholeTape.{tape_kind}
+use Rattle.s360_tape.proofs.DifferenceLemmas.{same_tape-Decides}
 use Rattle.s360_machine.specs.declared.media.MediaChange.TheVariants.{Reader, Punch, Printer, Console, Tape0, Tape1}
 use Rattle.s360_machine.specs.Media.{media_of}
 use Rattle.s360_machine.proofs.IoLemmas.{IsMediaChangeTo-console, IsMediaChangeTo-printer, IsMediaChangeTo-punch, IsMediaChangeTo-reader, IsMediaChangeTo-tape0, IsMediaChangeTo-tape1}
-use Rattle.s360_machine.proofs.StepLemmas.{channel-event, console-change, printer-change, punch-change, reader-change, tape-change}
+use Rattle.s360_machine.proofs.StepLemmas.{channel-event, device-step}
 use Rattle.s360_machine.proofs.machine.Machine.plan_execution.Goals as goal
 
 pub returns-in_ok-step-in-Reader-clause-plan : goal.returns-in_ok-step-in-Reader-clause-plan
@@ -11,7 +22,7 @@ returns-in_ok-step-in-Reader-clause-plan c =
     let run = rw (c.storage-storage.ensures, c.control-control.ensures.control) at c.in_ok-step-in-Reader.ensures
     in let change : c.map.result ≡ option_map (λ x. Reader x) c.in_ok-step-in-Reader.step.change = search rules
     in let io = rw change at c.planned_step.ensures
-    in let media = IsMediaChangeTo-reader (media_of c.self.inside.devices) _ _ (reader-change c.self.inside.devices.reader _ _ _ _ run)
+    in let media = IsMediaChangeTo-reader (media_of c.self.inside.devices) _ _ (device-step reader_kind same_reader same_reader-Decides c.self.inside.devices.reader _ _ _ _ run)
     in channel-event _ _ _ _ _ _ _ _ _ _ _ c.self.view_is c.control-control.ensures.each run io (rw c.in-Reader.is refl) (rw c.in-Reader.is (rw c.in-Reader.is at media))
 
 pub returns-in_ok-step-in-Punch-clause-plan : goal.returns-in_ok-step-in-Punch-clause-plan
@@ -19,7 +30,7 @@ returns-in_ok-step-in-Punch-clause-plan c =
     let run = rw (c.storage-storage.ensures, c.control-control.ensures.control) at c.in_ok-step-in-Punch.ensures
     in let change : c.map-in-Punch.result ≡ option_map (λ x. Punch x) c.in_ok-step-in-Punch.step.change = search rules
     in let io = rw change at c.planned_step-in-Punch.ensures
-    in let media = IsMediaChangeTo-punch (media_of c.self.inside.devices) _ _ (punch-change c.self.inside.devices.punch _ _ _ _ run)
+    in let media = IsMediaChangeTo-punch (media_of c.self.inside.devices) _ _ (device-step punch_kind same_punch same_punch-Decides c.self.inside.devices.punch _ _ _ _ run)
     in channel-event _ _ _ _ _ _ _ _ _ _ _ c.self.view_is c.control-control.ensures.each run io (rw c.in-Punch.is refl) (rw c.in-Punch.is (rw c.in-Punch.is at media))
 
 pub returns-in_ok-step-in-Printer-clause-plan : goal.returns-in_ok-step-in-Printer-clause-plan
@@ -27,7 +38,7 @@ returns-in_ok-step-in-Printer-clause-plan c =
     let run = rw (c.storage-storage.ensures, c.control-control.ensures.control) at c.in_ok-step-in-Printer.ensures
     in let change : c.map-in-Printer.result ≡ option_map (λ x. Printer x) c.in_ok-step-in-Printer.step.change = search rules
     in let io = rw change at c.planned_step-in-Printer.ensures
-    in let media = IsMediaChangeTo-printer (media_of c.self.inside.devices) _ _ (printer-change c.self.inside.devices.printer _ _ _ _ run)
+    in let media = IsMediaChangeTo-printer (media_of c.self.inside.devices) _ _ (device-step printer_kind same_printer same_printer-Decides c.self.inside.devices.printer _ _ _ _ run)
     in channel-event _ _ _ _ _ _ _ _ _ _ _ c.self.view_is c.control-control.ensures.each run io (rw c.in-Printer.is refl) (rw c.in-Printer.is (rw c.in-Printer.is at media))
 
 pub returns-in_ok-step-in-Console-clause-plan : goal.returns-in_ok-step-in-Console-clause-plan
@@ -35,7 +46,7 @@ returns-in_ok-step-in-Console-clause-plan c =
     let run = rw (c.storage-storage.ensures, c.control-control.ensures.control) at c.in_ok-step-in-Console.ensures
     in let change : c.map-in-Console.result ≡ option_map (λ x. Console x) c.in_ok-step-in-Console.step.change = search rules
     in let io = rw change at c.planned_step-in-Console.ensures
-    in let media = IsMediaChangeTo-console (media_of c.self.inside.devices) _ _ (console-change c.self.inside.devices.console _ _ _ _ run)
+    in let media = IsMediaChangeTo-console (media_of c.self.inside.devices) _ _ (device-step console_kind same_console same_console-Decides c.self.inside.devices.console _ _ _ _ run)
     in channel-event _ _ _ _ _ _ _ _ _ _ _ c.self.view_is c.control-control.ensures.each run io (rw c.in-Console.is refl) (rw c.in-Console.is (rw c.in-Console.is at media))
 
 pub returns-in_ok-step-in-Tape0-clause-plan : goal.returns-in_ok-step-in-Tape0-clause-plan
@@ -43,7 +54,7 @@ returns-in_ok-step-in-Tape0-clause-plan c =
     let run = rw (c.storage-storage.ensures, c.control-control.ensures.control) at c.in_ok-step-in-Tape0.ensures
     in let change : c.map-in-Tape0.result ≡ option_map (λ x. Tape0 x) c.in_ok-step-in-Tape0.step.change = search rules
     in let io = rw change at c.planned_step-in-Tape0.ensures
-    in let media = IsMediaChangeTo-tape0 (media_of c.self.inside.devices) _ _ (tape-change c.self.inside.devices.tape0 _ _ _ _ run)
+    in let media = IsMediaChangeTo-tape0 (media_of c.self.inside.devices) _ _ (device-step tape_kind same_tape same_tape-Decides c.self.inside.devices.tape0 _ _ _ _ run)
     in channel-event _ _ _ _ _ _ _ _ _ _ _ c.self.view_is c.control-control.ensures.each run io (rw c.in-Tape0.is refl) (rw c.in-Tape0.is (rw c.in-Tape0.is at media))
 
 pub returns-in_ok-step-in-Tape1-clause-plan : goal.returns-in_ok-step-in-Tape1-clause-plan
@@ -51,5 +62,5 @@ returns-in_ok-step-in-Tape1-clause-plan c =
     let run = rw (c.storage-storage.ensures, c.control-control.ensures.control) at c.in_ok-step-in-Tape1.ensures
     in let change : c.map-in-Tape1.result ≡ option_map (λ x. Tape1 x) c.in_ok-step-in-Tape1.step.change = search rules
     in let io = rw change at c.planned_step-in-Tape1.ensures
-    in let media = IsMediaChangeTo-tape1 (media_of c.self.inside.devices) _ _ (tape-change c.self.inside.devices.tape1 _ _ _ _ run)
+    in let media = IsMediaChangeTo-tape1 (media_of c.self.inside.devices) _ _ (device-step tape_kind same_tape same_tape-Decides c.self.inside.devices.tape1 _ _ _ _ run)
     in channel-event _ _ _ _ _ _ _ _ _ _ _ c.self.view_is c.control-control.ensures.each run io (rw c.in-Tape1.is refl) (rw c.in-Tape1.is (rw c.in-Tape1.is at media))

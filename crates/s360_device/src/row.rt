@@ -1,0 +1,74 @@
+//! What a command of a device's own is to it. Source: GA22-6821, "Input/Output Operations".
+ghost use Rattle.std.specs.Prelude.{◌≡◌, ◌<◌, [], length, reverse, slice_index};
+ghost use Rattle.s360_device.specs.DeviceRows.{bytes_given};
+
+/// The row of a device's own command, as the device stands. Its change is what it does to the media, where they do
+/// not stay as they are. There may be unit exception.
+#[derive(Debug, Drop)]
+pub enum Row<C> {
+    /// It is refused, with these sense bytes.
+    Refused([u8; 6]),
+    /// It is not answered yet.
+    NotYet,
+    /// It gives bytes.
+    Input { change: Option<C>, exception: bool },
+    /// It takes at most so many bytes.
+    Output { limit: u32, exception: bool },
+    /// It moves no byte.
+    Control { change: Option<C>, exception: bool },
+}
+
+/// The bytes that a command gives: the first of them first, or backward the last.
+#[derive(Clone, Copy, Debug)]
+pub struct Given<'a> {
+    bytes: &'a [u8],
+    backward: bool,
+}
+
+impl<'a> Given<'a> {
+    /// These bytes.
+    pub fn forward(bytes: &'a [u8]) -> Given<'a>
+        ensures { bytes_given result ≡ bytes.now }
+    {
+        Given {
+            bytes,
+            backward: false,
+        }
+    }
+
+    /// These bytes from the last to the first.
+    pub fn backward(bytes: &'a [u8]) -> Given<'a>
+        ensures { bytes_given result ≡ reverse bytes.now }
+    {
+        Given {
+            bytes,
+            backward: true,
+        }
+    }
+
+    /// None.
+    pub fn nothing() -> Given<'a>
+        ensures { bytes_given result ≡ [] }
+    {
+        Given::forward(&[])
+    }
+
+    /// How many they are.
+    pub(crate) fn count(self) -> usize
+        ensures { result ≡ length (bytes_given self.entry) }
+    {
+        self.bytes.len()
+    }
+
+    /// One of them, counted from 0.
+    pub(crate) fn byte(self, i: usize) -> u8
+        requires inside { i < length (bytes_given self) }
+        ensures { result ≡ slice_index (bytes_given self.entry) i }
+    {
+        if self.backward {
+            self.bytes[self.bytes.len() - 1 - i]
+        } else {
+            self.bytes[i]
+        }
+    }
+}

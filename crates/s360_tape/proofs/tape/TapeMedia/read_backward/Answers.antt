@@ -1,0 +1,13 @@
+use Rattle.std.proofs.Common.{◌≡◌, ◌-◌, Some, refl, reverse, rules}
+use Rattle.s360_device.specs.Items.{item_in}
+use Rattle.s360_tape.specs.Items.{bytes_of}
+use Rattle.s360_tape.specs.Tape.{moved_to}
+use Rattle.s360_tape.specs.WholeTape.{seen_media}
+use Rattle.s360_tape.proofs.tape.TapeMedia.read_backward.Goals as goal
+
+pub returns-in-Some : goal.returns-in-Some
+returns-in-Some c =
+    let tape = seen_media c.args.self.now.media
+    in let found : item_in tape.items tape.position ≡ Some c.in-Some.item.now = search rules
+    in let moving = rw (c.position-in-Some.ensures.place, c.unloaded.ensures) at c.moving.ensures
+    in (reverse (bytes_of c.in-Some.item.now), (moved_to tape (tape.position - 1), (rw (found, c.is_mark.ensures) refl, moving)))
