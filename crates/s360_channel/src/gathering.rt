@@ -24,10 +24,11 @@ fn input_bytes<D: Device>(
     requires short { length (D.input_of device.now command) < 2 ^ 32 }
     ensures { IfOk result (λ bytes. bytes.items ≡ take count (drop first (D.input_of device.now command))) }
 {
-    let mut bytes = Vec::with_capacity(alloc, usize::from(count))?;
-    for i in 0..count {
-        bytes.push(device.input_byte(command, first + u32::from(i)))?;
+    if count == 0 {
+        return Ok(Vec::new(alloc));
     }
+    let mut bytes = vec![in alloc; 0u8; usize::from(count)]?;
+    device.input_bytes(command, first, bytes.as_mut_slice());
     Ok(bytes)
 }
 

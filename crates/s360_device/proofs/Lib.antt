@@ -3,3 +3,4 @@ pub mod KnownDevices
 pub mod EqualityLemmas
 pub mod DifferenceLemmas
 pub mod DeckLemmas
+pub mod GivenLemmas

@@ -1,5 +1,6 @@
 //! What every device is to a channel. Source: GA22-6821, "Input/Output Operations".
-ghost use Rattle.std.specs.Prelude.{◌≡◌, ◌<◌, ◌≤◌, ℕ, Bool, List, length, slice_index, IfOk, OnOk};
+ghost use Rattle.std.specs.Prelude.{◌≡◌, ◌<◌, ◌≤◌, ◌+◌, ◌^◌, ℕ, Bool, List, length, slice_index, IfOk, OnOk};
+ghost use Rattle.std.specs.List.{slice_range};
 ghost use Rattle.std.specs.Bool.{MatchBool};
 ghost use Rattle.s360_device.specs.declared.device.Begin.{Begin};
 ghost use Rattle.s360_device.specs.Transfers.{IsInputOf, CanEndWith};
@@ -77,6 +78,17 @@ pub trait Device {
     fn input_byte(&self, command: u8, i: u32) -> u8
         requires inside { i < length (input_of self.now command) }
         ensures { result ≡ slice_index (input_of self.now command) i };
+
+    /// The bytes that a command gives from the one at `first` on, as many as there are places. It takes no memory.
+    fn input_bytes(&self, command: u8, first: u32, into: &mut [u8])
+        requires inside { first + length into.old ≤ length (input_of self.now command) }
+        requires short { length (input_of self.now command) < 2 ^ 32 }
+        ensures { into.new ≡ slice_range (input_of self.now command) first (first + length into.old) }
+    {
+        for (i, place) in into.iter_mut().enumerate() {
+            *place = self.input_byte(command, first + i as u32);
+        }
+    }
 
     /// What a command will do that ends with these bytes of output.
     fn plan(&self, command: u8, bytes: &[u8]) -> Result<Planned<Self::Change>, AllocError>

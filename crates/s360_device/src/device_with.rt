@@ -9,7 +9,7 @@ ghost use Rattle.s360_device.specs.Sense.{no_sense};
 use crate::command_code::CommandCode;
 use crate::device::{Begin, Device, Planned};
 use crate::media::Media;
-use crate::row::Row;
+use crate::row::{Given, Row};
 use crate::sense::{NO_SENSE, SenseBytes};
 use std::alloc::AllocError;
 use std::mem;
@@ -138,6 +138,17 @@ impl<M: Media> Device for DeviceWith<M> {
             CommandCode::NoOperation => unreachable!(),
             CommandCode::Sense => self.sense.first(M::sense_bytes())[i as usize],
             CommandCode::Own(code) => self.media.input(code).byte(i as usize),
+        }
+    }
+
+    fn input_bytes(&self, command: u8, first: u32, into: &mut [u8]) {
+        match CommandCode::new(command) {
+            CommandCode::NoOperation => {}
+            CommandCode::Sense => {
+                let sense = self.sense.first(M::sense_bytes());
+                Given::forward(sense).copy_to(first as usize, into);
+            }
+            CommandCode::Own(code) => self.media.input(code).copy_to(first as usize, into),
         }
     }
 

@@ -1,5 +1,6 @@
 //! What a command of a device's own is to it. Source: GA22-6821, "Input/Output Operations".
-ghost use Rattle.std.specs.Prelude.{◌≡◌, ◌<◌, [], length, reverse, slice_index};
+ghost use Rattle.std.specs.Prelude.{◌≡◌, ◌<◌, ◌≤◌, ◌+◌, [], length, reverse, slice_index};
+ghost use Rattle.std.specs.List.{slice_range};
 ghost use Rattle.s360_device.specs.DeviceRows.{bytes_given};
 
 /// The row of a device's own command, as the device stands. Its change is what it does to the media, where they do
@@ -69,6 +70,20 @@ impl<'a> Given<'a> {
             self.bytes[self.bytes.len() - 1 - i]
         } else {
             self.bytes[i]
+        }
+    }
+
+    /// Those from the one at `first` on, as many as there are places.
+    pub(crate) fn copy_to(self, first: usize, into: &mut [u8])
+        requires inside { first + length into.old ≤ length (bytes_given self) }
+        ensures { into.new ≡ slice_range (bytes_given self.entry) first (first + length into.old) }
+    {
+        if self.backward {
+            let end = self.bytes.len() - first;
+            into.copy_from_slice(&self.bytes[end - into.len()..end]);
+            into.reverse();
+        } else {
+            into.copy_from_slice(&self.bytes[first..first + into.len()]);
         }
     }
 }

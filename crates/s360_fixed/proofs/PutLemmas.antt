@@ -1,5 +1,5 @@
 -- What the puts of an instruction add to a plan.
-use Rattle.std.proofs.Common.{◌≡◌, ◌<◌, ◌≤◌, ◌+◌, ◌*◌, ◌%◌, zero, suc, None, ap, slice_index, ℕ, List, [], length, arith, refl}
+use Rattle.std.proofs.Common.{◌≡◌, ◌<◌, ◌≤◌, ◌+◌, ◌*◌, ◌%◌, zero, suc, ap, slice_index, ℕ, List, [], length, arith, refl}
 use Rattle.std.specs.Int.{bytes_high_first}
 use Rattle.s360_model.specs.Core.{Core, core_with_bytes, core_with_psw, core_with_word}
 use Rattle.s360_model.specs.Storage.{word_at}
@@ -9,10 +9,9 @@ use Rattle.s360_store.proofs.PutLemmas.{AddsToPlan-then}
 use Rattle.s360_store.proofs.PlannedLemmas.{IsPlanOf-none}
 use Rattle.s360_fixed.specs.declared.ended.Ended.TheVariants.{Done}
 use Rattle.s360_fixed.specs.declared.effect.Effect.{Effect}
-use Rattle.s360_fixed.specs.Outcomes.{after_effect, core_after_effect, unless_met}
+use Rattle.s360_fixed.specs.Outcomes.{after_effect, core_after_effect}
 use Rattle.s360_fixed.specs.Settings.{ended_with}
 use Rattle.s360_fixed.specs.Plans.{PlansOutcome}
-use Rattle.s360_fixed.specs.ProgramCodes.{Conditions, program_code}
 use Rattle.s360_fixed.specs.Storing.{completed, next_psw, with_registers_loaded, with_registers_stored}
 use Rattle.s360_fixed.specs.View.{View}
 
@@ -61,17 +60,17 @@ PlansOutcome-effect m r1 e address q r empty sixteen u =
       few = let x : length r ≤ 3 = all.few in omega arith;
     }
 
--- the PSW and then puts that leave it, where nothing keeps the instruction from being done
-pub PlansOutcome-completed : (v : View) (k : Conditions) (q r s : List Cell) (count : ℕ) (P : Core → Type 0) (f : Core → Core) → ((p : ℕ) (n : Core) → f (core_with_psw p n) ≡ core_with_psw p (f n))
-    → count ≤ 256 → None ≡ program_code k → q ≡ [] → P v.core
-    → AddsToPlan q r 1 HasPsw (core_with_psw (next_psw v)) → AddsToPlan r s count P f → PlansOutcome v.core s (unless_met k v.core (completed v (f v.core))) Done
-PlansOutcome-completed v k q r s count P f leaves l h e p u w =
+-- the PSW and then puts that leave it
+pub PlansOutcome-completed : (v : View) (q r s : List Cell) (count : ℕ) (P : Core → Type 0) (f : Core → Core) → ((p : ℕ) (n : Core) → f (core_with_psw p n) ≡ core_with_psw p (f n))
+    → count ≤ 256 → q ≡ [] → P v.core
+    → AddsToPlan q r 1 HasPsw (core_with_psw (next_psw v)) → AddsToPlan r s count P f → PlansOutcome v.core s (completed v (f v.core)) Done
+PlansOutcome-completed v q r s count P f leaves l e p u w =
     let first : AddsToPlan [] r 1 HasPsw (core_with_psw (next_psw v)) = rw e at u
-    in rw (← h) (record {
+    in record {
       ends = refl;
       makes = rw (← leaves (next_psw v) v.core) (w.makes v.core (core_with_psw (next_psw v) v.core) p (first.makes v.core v.core tt (IsPlanOf-none v.core)));
       few = let x : length r ≤ 1 = first.few in let y : length s ≤ length r + count = w.few in omega arith;
-    })
+    }
 
 -- registers that are stored or loaded leave the PSW
 pub with_registers_stored-psw : (registers : List ℕ) (r1 address count p : ℕ) (n : Core) → with_registers_stored registers r1 address count (core_with_psw p n) ≡ core_with_psw p (with_registers_stored registers r1 address count n)

@@ -1,27 +1,25 @@
 //! What instructions with a first operand in a register and a second operand make of the two.
 //! Source: GA22-6821, "Fixed-Point Arithmetic" and "Logical Operations".
-ghost use Rattle.std.specs.Prelude.{◌≡◌, [], IfOk, IsNone};
+ghost use Rattle.std.specs.Prelude.{◌≡◌, IsNone};
+ghost use Rattle.s360_fixed.specs.Made.{IsWithin, outcome_of_made};
 ghost use Rattle.s360_fixed.specs.Outcomes.{combination_outcome, effect_of, pair_outcome, single};
 ghost use Rattle.s360_fixed.specs.Operands.{word_operand};
-ghost use Rattle.s360_fixed.specs.Plans.{PlansOutcome};
 ghost use Rattle.s360_model.specs.ConditionCodes.{bits_code};
 ghost use Rattle.s360_fixed.specs.declared.setting.Setting.TheVariants.{Code, SignedCode};
 ghost use Rattle.s360_fixed.specs.Rows.{meaning_of};
 ghost use Rattle.s360_fixed.specs.declared.row.PairCombination.TheVariants.{Product, Quotient};
 
 use crate::effect::Effect;
-use crate::ended::Ended;
+use crate::making::Made;
 use crate::program_code::ProgramCode;
 use crate::registers::odd_partner;
 use crate::row::{Combination, PairCombination};
 use crate::setting::Setting;
 use crate::view::View;
-use s360_store::Plan;
 use s360_word::{
     Cc, RegisterNumber, Word, absolute, add_logical, add_signed, bits_condition, compare_logical,
     compare_signed, complement, divide, multiply, negative_absolute, sub_logical, sub_signed, test,
 };
-use std::alloc::AllocError;
 
 /// A word, with a condition code of which 3 is an overflow.
 fn signed(outcome: (Word, Cc)) -> Effect
@@ -71,76 +69,62 @@ fn effect_on(combination: Combination, first: Word, second: Word) -> Effect
     }
 }
 
-/// Plans what is made of R1 and a second operand that can be used.
-pub(crate) fn plan_combination(
+/// What is made of R1 and a second operand that can be used.
+pub(crate) fn combined(
     view: &View,
     combination: Combination,
     r1: RegisterNumber,
     second: Word,
-    plan: &mut Plan,
-) -> Result<Ended, AllocError>
-    requires empty { plan.old ≡ [] }
-    ensures { IfOk result (PlansOutcome view.now.core plan.new (combination_outcome combination view.now r1 (word_operand second))) }
+) -> Made
+    ensures outcome { outcome_of_made view.now result ≡ combination_outcome combination view.now r1 (word_operand second) }
+    ensures within { IsWithin view.now.core result }
 {
     let effect = effect_on(combination, view.register(r1), second);
-    effect.plan(view, r1, view.next_address(), plan)
+    Made::effect(view, r1, effect)
 }
 
-/// Plans the product of the register after R1 and the second operand, for the pair.
-fn plan_product(
-    view: &View,
-    r1: RegisterNumber,
-    second: Word,
-    plan: &mut Plan,
-) -> Result<Ended, AllocError>
-    requires empty { plan.old ≡ [] }
-    ensures { IfOk result (PlansOutcome view.now.core plan.new (pair_outcome Product view.now r1 (word_operand second))) }
+/// The product of the register after R1 and the second operand, for the pair.
+fn product(view: &View, r1: RegisterNumber, second: Word) -> Made
+    ensures outcome { outcome_of_made view.now result ≡ pair_outcome Product view.now r1 (word_operand second) }
+    ensures within { IsWithin view.now.core result }
 {
     let Some(next) = odd_partner(r1) else {
-        return Ok(Ended::Program(ProgramCode::Specification));
+        return Made::Refused(ProgramCode::Specification);
     };
     let words = multiply(view.register(next), second);
-    Effect::double(words, Setting::Kept).plan(view, r1, view.next_address(), plan)
+    Made::effect(view, r1, Effect::double(words, Setting::Kept))
 }
 
-/// Plans the division of the pair by the second operand: the remainder for R1, the quotient for the
+/// The division of the pair by the second operand: the remainder for R1, the quotient for the
 /// register after it.
-fn plan_quotient(
-    view: &View,
-    r1: RegisterNumber,
-    second: Word,
-    plan: &mut Plan,
-) -> Result<Ended, AllocError>
-    requires empty { plan.old ≡ [] }
-    ensures { IfOk result (PlansOutcome view.now.core plan.new (pair_outcome Quotient view.now r1 (word_operand second))) }
+fn quotient(view: &View, r1: RegisterNumber, second: Word) -> Made
+    ensures outcome { outcome_of_made view.now result ≡ pair_outcome Quotient view.now r1 (word_operand second) }
+    ensures within { IsWithin view.now.core result }
 {
     let Some(next) = odd_partner(r1) else {
-        return Ok(Ended::Program(ProgramCode::Specification));
+        return Made::Refused(ProgramCode::Specification);
     };
     match divide(view.register(r1), view.register(next), second) {
-        Some((quotient, remainder)) => Effect::double((remainder, quotient), Setting::Kept).plan(
-            view,
-            r1,
-            view.next_address(),
-            plan,
-        ),
-        None => Ok(Ended::Program(ProgramCode::FixedPointDivide)),
+        Some((quotient, remainder)) => {
+            let effect = Effect::double((remainder, quotient), Setting::Kept);
+            Made::effect(view, r1, effect)
+        }
+        None => Made::Refused(ProgramCode::FixedPointDivide),
     }
 }
 
-/// Plans what is made of the pair and a second operand that can be used.
-pub(crate) fn plan_pair(
+/// What is made of the pair and a second operand that can be used.
+pub(crate) fn pair_combined(
     view: &View,
     pair: PairCombination,
     r1: RegisterNumber,
     second: Word,
-    plan: &mut Plan,
-) -> Result<Ended, AllocError>
-    requires empty { plan.old ≡ [] }
-    ensures { IfOk result (PlansOutcome view.now.core plan.new (pair_outcome pair view.now r1 (word_operand second))) }
+) -> Made
+    ensures outcome { outcome_of_made view.now result ≡ pair_outcome pair view.now r1 (word_operand second) }
+    ensures within { IsWithin view.now.core result }
 {
     match pair {
-        PairCombination::Product => plan_product(view, r1, second, plan),
-        PairCombination::Quotient => plan_quotient(view, r1, second, plan),
+        PairCombination::Product => product(view, r1, second),
+        PairCombination::Quotient => quotient(view, r1, second),
     }
 }

@@ -1,21 +1,19 @@
 //! Branches. The branch address is taken before the link, the count or the sum is stored. Source:
 //! GA22-6821, "Branching".
-ghost use Rattle.std.specs.Prelude.{◌≡◌, [], IfOk};
+ghost use Rattle.std.specs.Prelude.{◌≡◌};
 ghost use Rattle.s360_model.specs.Numbers.{signed};
 ghost use Rattle.s360_fixed.specs.Branching.{address_after, branch_outcome, comparand_of};
 ghost use Rattle.s360_fixed.specs.Branching.{index_outcome, is_selected, link_of, register_target};
-ghost use Rattle.s360_fixed.specs.Plans.{PlansOutcome};
+ghost use Rattle.s360_fixed.specs.Made.{IsWithin, outcome_of_made};
 ghost use Rattle.s360_fixed.specs.Rows.{is_taken};
 
 use crate::effect::Effect;
-use crate::ended::Ended;
+use crate::making::Made;
 use crate::registers::odd_partner;
 use crate::row::{Branch, IndexBranch};
 use crate::setting::Setting;
 use crate::view::View;
-use s360_store::Plan;
 use s360_word::{Cc, RegisterNumber, Word, add_signed, compare_signed};
-use std::alloc::AllocError;
 
 /// The branch address in a register; none in register 0.
 pub(crate) fn register_target(view: &View, r2: RegisterNumber) -> Option<u32>
@@ -53,16 +51,10 @@ fn link_of(view: &View) -> Word
     (psw.stored(0, view.instruction_length()) % 0x1_0000_0000) as u32
 }
 
-/// Plans a branch on condition, a branch and link or a branch on count.
-pub(crate) fn plan_branch(
-    view: &View,
-    branch: Branch,
-    r1: RegisterNumber,
-    target: Option<u32>,
-    plan: &mut Plan,
-) -> Result<Ended, AllocError>
-    requires empty { plan.old ≡ [] }
-    ensures { IfOk result (PlansOutcome view.now.core plan.new (branch_outcome branch view.now r1 target)) }
+/// A branch on condition, a branch and link or a branch on count.
+pub(crate) fn branched(view: &View, branch: Branch, r1: RegisterNumber, target: Option<u32>) -> Made
+    ensures outcome { outcome_of_made view.now result ≡ branch_outcome branch view.now r1 target }
+    ensures within { IsWithin view.now.core result }
 {
     let (effect, is_taken) = match branch {
         Branch::OnCondition => (Effect::none(), is_selected(r1, view.psw().condition_code())),
@@ -72,7 +64,11 @@ pub(crate) fn plan_branch(
             (Effect::single(count, Setting::Kept), count != 0)
         }
     };
-    effect.plan(view, r1, address_after(view, is_taken, target), plan)
+    Made::Effect {
+        r1,
+        effect,
+        next_address: address_after(view, is_taken, target),
+    }
 }
 
 /// The comparand of a branch on index: in R3 where its number is odd, else in the next register.
@@ -96,20 +92,22 @@ fn is_taken(branch: IndexBranch, sum: Word, comparand: Word) -> bool
     }
 }
 
-/// Plans a branch on index high, or low or equal.
-pub(crate) fn plan_branch_on_index(
+/// A branch on index high, or low or equal.
+pub(crate) fn branched_on_index(
     view: &View,
     branch: IndexBranch,
     r1: RegisterNumber,
     r3: RegisterNumber,
     address: u32,
-    plan: &mut Plan,
-) -> Result<Ended, AllocError>
-    requires empty { plan.old ≡ [] }
-    ensures { IfOk result (PlansOutcome view.now.core plan.new (index_outcome branch view.now r1 r3 address)) }
+) -> Made
+    ensures outcome { outcome_of_made view.now result ≡ index_outcome branch view.now r1 r3 address }
+    ensures within { IsWithin view.now.core result }
 {
     let (sum, _) = add_signed(view.register(r1), view.register(r3));
     let is_taken = is_taken(branch, sum, comparand_of(view, r3));
-    let address = address_after(view, is_taken, Some(address));
-    Effect::single(sum, Setting::Kept).plan(view, r1, address, plan)
+    Made::Effect {
+        r1,
+        effect: Effect::single(sum, Setting::Kept),
+        next_address: address_after(view, is_taken, Some(address)),
+    }
 }

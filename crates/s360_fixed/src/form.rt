@@ -70,30 +70,3 @@ pub enum Form {
         d2: u16,
     },
 }
-
-impl Form {
-    ghost use Rattle.std.specs.Prelude.{◌≡◌, is_some};
-    ghost use Rattle.s360_fixed.specs.Fixed.{fixed_outcome};
-
-    /// Whether it is a fixed-point, branch or shift instruction, which `plan_fixed` plans.
-    #[inline(always)]
-    pub fn is_fixed(&self) -> bool
-        ensures { result ≡ is_some (fixed_outcome self.now) }
-    {
-        match *self {
-            Form::Rr { operation, .. } => match operation.row() {
-                Some(row) => row.is_rr(),
-                None => false,
-            },
-            Form::Rx { operation, .. } => match operation.row() {
-                Some(row) => row.is_rx(),
-                None => false,
-            },
-            Form::Rs { operation, .. } => match operation.row() {
-                Some(row) => row.is_rs(),
-                None => false,
-            },
-            Form::Si { .. } | Form::Ss { .. } => false,
-        }
-    }
-}

@@ -1,20 +1,23 @@
 //! Operands in storage: fetching one, and storing and loading registers. Source: GA22-6821,
 //! "Fixed-Point Arithmetic" and "Logical Operations".
-ghost use Rattle.std.specs.Prelude.{◌≡◌, ◌≤◌, ◌<◌, ◌+◌, [], IfOk, length};
+ghost use Rattle.std.specs.Prelude.{◌≡◌, ◌≤◌, ◌<◌, ◌+◌, ◌*◌, [], IfOk, IsOk, Err, MatchOption, length};
 ghost use Rattle.s360_store.specs.declared.protection.Access.{Access};
-ghost use Rattle.s360_fixed.specs.Operands.{bytes_of_width, extended_halfword};
+ghost use Rattle.s360_fixed.specs.Operands.{access_conditions, bytes_of_width, extended_halfword};
 ghost use Rattle.s360_fixed.specs.Operands.{fetched, storage_operand, word_in};
+ghost use Rattle.s360_fixed.specs.Made.{HasWords, IsWithin, outcome_of_made};
 ghost use Rattle.s360_fixed.specs.Plans.{PlansOutcome};
+ghost use Rattle.s360_fixed.specs.ProgramCodes.{program_code};
 ghost use Rattle.s360_fixed.specs.Storing.{bytes_outcome, load_multiple_outcome, register_count};
 ghost use Rattle.s360_fixed.specs.Storing.{store_multiple_outcome};
 
 use crate::ended::Ended;
+use crate::making::{Made, RegisterWords};
 use crate::operand::operand_exception;
 use crate::program_code::ProgramCode;
-use crate::puts::{put_next_psw, put_registers, put_words};
 use crate::second_operand::{SecondOperand, Width};
 use crate::view::View;
-use s360_store::{Access, GREATEST_SIZE, Plan};
+use arrayvec::ArrayVec;
+use s360_store::{Access, Plan};
 use s360_word::{RegisterNumber, Word};
 use std::alloc::AllocError;
 
@@ -53,6 +56,23 @@ pub(crate) fn fetch(view: &View, operand: SecondOperand, address: u32) -> Result
     }
 }
 
+/// A store of bytes, on the boundary of their number.
+pub(crate) fn stored(view: &View, address: u32, bytes: &[u8]) -> Made
+    requires some { 0 < length bytes.now }
+    requires few { length bytes.now ≤ 8 }
+    ensures outcome { outcome_of_made view.now result ≡ bytes_outcome bytes.now view.now address }
+    ensures within { IsWithin view.now.core result }
+{
+    let count = bytes.len() as u32;
+    match operand_exception(view, address, count, count, Access::Store) {
+        Some(code) => Made::Refused(code),
+        None => Made::Bytes {
+            address,
+            bytes: ArrayVec::try_from(bytes).unwrap(),
+        },
+    }
+}
+
 /// Plans a store of bytes, on the boundary of their number.
 pub fn plan_store(
     view: &View,
@@ -65,15 +85,7 @@ pub fn plan_store(
     requires few { length bytes.now ≤ 8 }
     ensures { IfOk result (PlansOutcome view.now.core plan.new (bytes_outcome bytes.now view.now address)) }
 {
-    let count = bytes.len() as u32;
-    if let Some(code) = operand_exception(view, address, count, count, Access::Store) {
-        return Ok(Ended::Program(code));
-    }
-    // So no address of the run passes 32 bits.
-    prove!(view.storage().size() <= GREATEST_SIZE);
-    put_next_psw(view, plan)?;
-    plan.put_bytes(address, bytes)?;
-    Ok(Ended::Done)
+    stored(view, address, bytes).plan(view, plan)
 }
 
 /// How many registers there are from R1 up to R3, 15 followed by 0.
@@ -84,44 +96,53 @@ fn register_count(r1: RegisterNumber, r3: RegisterNumber) -> u8
     (r3.number() + 16 - r1.number()) % 16 + 1
 }
 
-/// Plans the loads of registers R1 up to R3 from successive words.
-pub(crate) fn plan_load_multiple(
+/// Registers R1 up to R3 with successive words, or what keeps the words from being used.
+fn register_words(
     view: &View,
     r1: RegisterNumber,
     r3: RegisterNumber,
     address: u32,
-    plan: &mut Plan,
-) -> Result<Ended, AllocError>
-    requires empty { plan.old ≡ [] }
-    ensures { IfOk result (PlansOutcome view.now.core plan.new (load_multiple_outcome view.now r1 r3 address)) }
+    kind: Access,
+) -> Result<RegisterWords, ProgramCode>
+    ensures code { MatchOption (program_code (access_conditions view.now.core address 4 (4 * register_count r1 r3) kind)) (IsOk result) (λ code. result ≡ Err code) }
+    ensures words { IfOk result (λ words. words ≡ record { r1 = r1; count = register_count r1 r3; address = address }) }
+    ensures within { IfOk result (λ words. HasWords view.now.core words) }
 {
     let count = register_count(r1, r3);
-    if let Some(code) = operand_exception(view, address, 4, 4 * u32::from(count), Access::Fetch) {
-        return Ok(Ended::Program(code));
+    match operand_exception(view, address, 4, 4 * u32::from(count), kind) {
+        Some(code) => Err(code),
+        None => Ok(RegisterWords { r1, count, address }),
     }
-    // Looked at, since its clauses have that there are sixteen registers.
-    let _ = view.register(r1);
-    put_next_psw(view, plan)?;
-    put_registers(view, r1, count, address, plan)?;
-    Ok(Ended::Done)
 }
 
-/// Plans the stores of registers R1 up to R3 at successive words.
-pub(crate) fn plan_store_multiple(
+/// The loads of registers R1 up to R3 from successive words.
+pub(crate) fn registers_loaded(
     view: &View,
     r1: RegisterNumber,
     r3: RegisterNumber,
     address: u32,
-    plan: &mut Plan,
-) -> Result<Ended, AllocError>
-    requires empty { plan.old ≡ [] }
-    ensures { IfOk result (PlansOutcome view.now.core plan.new (store_multiple_outcome view.now r1 r3 address)) }
+) -> Made
+    ensures outcome { outcome_of_made view.now result ≡ load_multiple_outcome view.now r1 r3 address }
+    ensures within { IsWithin view.now.core result }
 {
-    let count = register_count(r1, r3);
-    if let Some(code) = operand_exception(view, address, 4, 4 * u32::from(count), Access::Store) {
-        return Ok(Ended::Program(code));
+    match register_words(view, r1, r3, address, Access::Fetch) {
+        Ok(words) => Made::Loaded(words),
+        Err(code) => Made::Refused(code),
     }
-    put_next_psw(view, plan)?;
-    put_words(view, r1, count, address, plan)?;
-    Ok(Ended::Done)
+}
+
+/// The stores of registers R1 up to R3 at successive words.
+pub(crate) fn registers_stored(
+    view: &View,
+    r1: RegisterNumber,
+    r3: RegisterNumber,
+    address: u32,
+) -> Made
+    ensures outcome { outcome_of_made view.now result ≡ store_multiple_outcome view.now r1 r3 address }
+    ensures within { IsWithin view.now.core result }
+{
+    match register_words(view, r1, r3, address, Access::Store) {
+        Ok(words) => Made::Stored(words),
+        Err(code) => Made::Refused(code),
+    }
 }

@@ -1,8 +1,7 @@
 //! The rows of the instruction table: what the operations of these chapters do. A row has what its
 //! kind needs and no more, so that each kind is planned by a call that knows no other. Source:
 //! GA22-6821, "Fixed-Point Arithmetic", "Logical Operations" and "Branching".
-ghost use Rattle.std.specs.Prelude.{◌≡◌, is_some};
-ghost use Rattle.s360_fixed.specs.Fixed.{rr_outcome, rs_outcome, rx_outcome};
+ghost use Rattle.std.specs.Prelude.{◌≡◌};
 ghost use Rattle.s360_fixed.specs.Rows.{on_halfword, on_word, row_of};
 
 use crate::operation::Operation;
@@ -109,45 +108,6 @@ pub(crate) enum Row {
     ShiftPair(Shift),
     /// R3 is added to R1, and the program may go on elsewhere.
     BranchOnIndex(IndexBranch),
-}
-
-impl Row {
-    /// Whether the format RR has such rows.
-    #[inline(always)]
-    pub(crate) fn is_rr(self) -> bool
-        ensures { result ≡ is_some (rr_outcome self) }
-    {
-        matches!(
-            self,
-            Row::Combine(..) | Row::CombinePair(_) | Row::Branch(_)
-        )
-    }
-
-    /// Whether the format RX has such rows.
-    #[inline(always)]
-    pub(crate) fn is_rx(self) -> bool
-        ensures { result ≡ is_some (rx_outcome self) }
-    {
-        matches!(
-            self,
-            Row::Combine(..) | Row::CombinePair(_) | Row::Branch(_) | Row::StoreBytes(_)
-        )
-    }
-
-    /// Whether the format RS has such rows.
-    #[inline(always)]
-    pub(crate) fn is_rs(self) -> bool
-        ensures { result ≡ is_some (rs_outcome self) }
-    {
-        matches!(
-            self,
-            Row::StoreRegisters
-                | Row::LoadRegisters
-                | Row::Shift(_)
-                | Row::ShiftPair(_)
-                | Row::BranchOnIndex(_)
-        )
-    }
 }
 
 /// A row of R1 and a word.

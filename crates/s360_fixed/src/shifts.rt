@@ -1,24 +1,22 @@
 //! Shifts of a register or of a pair. Source: GA22-6821, "Fixed-Point Arithmetic" and "Logical
 //! Operations".
-ghost use Rattle.std.specs.Prelude.{◌≡◌, ◌<◌, [], IfOk, IsNone};
+ghost use Rattle.std.specs.Prelude.{◌≡◌, ◌<◌, IsNone};
 ghost use Rattle.s360_fixed.specs.Shifting.{pair_shift_effect, pair_shift_outcome, shift_effect};
 ghost use Rattle.s360_fixed.specs.Shifting.{shift_outcome};
-ghost use Rattle.s360_fixed.specs.Plans.{PlansOutcome};
+ghost use Rattle.s360_fixed.specs.Made.{IsWithin, outcome_of_made};
 
 use crate::effect::Effect;
-use crate::ended::Ended;
+use crate::making::Made;
 use crate::program_code::ProgramCode;
 use crate::registers::odd_partner;
 use crate::row::Shift;
 use crate::setting::Setting;
 use crate::view::View;
-use s360_store::Plan;
 use s360_word::{
     RegisterNumber, Word, shift_left, shift_left_double, shift_logical_left,
     shift_logical_left_double, shift_logical_right, shift_logical_right_double, shift_right,
     shift_right_double,
 };
-use std::alloc::AllocError;
 
 /// A word shifted by a count of 0 to 63.
 fn shifted(shift: Shift, word: Word, count: u8) -> Effect
@@ -40,20 +38,14 @@ fn shifted(shift: Shift, word: Word, count: u8) -> Effect
     }
 }
 
-/// Plans a shift of R1 by a count of 0 to 63.
-pub(crate) fn plan_shift(
-    view: &View,
-    shift: Shift,
-    r1: RegisterNumber,
-    count: u8,
-    plan: &mut Plan,
-) -> Result<Ended, AllocError>
+/// A shift of R1 by a count of 0 to 63.
+pub(crate) fn register_shifted(view: &View, shift: Shift, r1: RegisterNumber, count: u8) -> Made
     requires count { count < 64 }
-    requires empty { plan.old ≡ [] }
-    ensures { IfOk result (PlansOutcome view.now.core plan.new (shift_outcome shift view.now r1 count)) }
+    ensures outcome { outcome_of_made view.now result ≡ shift_outcome shift view.now r1 count }
+    ensures within { IsWithin view.now.core result }
 {
     let effect = shifted(shift, view.register(r1), count);
-    effect.plan(view, r1, view.next_address(), plan)
+    Made::effect(view, r1, effect)
 }
 
 /// A pair of words shifted by a count of 0 to 63.
@@ -79,21 +71,15 @@ fn pair_shifted(shift: Shift, high: Word, low: Word, count: u8) -> Effect
     }
 }
 
-/// Plans a shift of the pair R1, R1 + 1 by a count of 0 to 63.
-pub(crate) fn plan_pair_shift(
-    view: &View,
-    shift: Shift,
-    r1: RegisterNumber,
-    count: u8,
-    plan: &mut Plan,
-) -> Result<Ended, AllocError>
+/// A shift of the pair R1, R1 + 1 by a count of 0 to 63.
+pub(crate) fn registers_shifted(view: &View, shift: Shift, r1: RegisterNumber, count: u8) -> Made
     requires count { count < 64 }
-    requires empty { plan.old ≡ [] }
-    ensures { IfOk result (PlansOutcome view.now.core plan.new (pair_shift_outcome shift view.now r1 count)) }
+    ensures outcome { outcome_of_made view.now result ≡ pair_shift_outcome shift view.now r1 count }
+    ensures within { IsWithin view.now.core result }
 {
     let Some(next) = odd_partner(r1) else {
-        return Ok(Ended::Program(ProgramCode::Specification));
+        return Made::Refused(ProgramCode::Specification);
     };
     let effect = pair_shifted(shift, view.register(r1), view.register(next), count);
-    effect.plan(view, r1, view.next_address(), plan)
+    Made::effect(view, r1, effect)
 }

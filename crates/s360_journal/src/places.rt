@@ -7,7 +7,7 @@ ghost use Rattle.s360_machine.specs.Change.{places_of_change};
 use arrayvec::ArrayVec;
 use s360_machine::Changes;
 use s360_store::Place;
-use std::alloc::AllocError;
+use std::alloc::{AllocError, Global};
 use std::marker::Model;
 
 /// So many places stand within a report.
@@ -50,11 +50,11 @@ impl Places {
 
     /// The places of a change. Up to eight take no memory.
     #[inline(always)]
-    pub(crate) fn of_change(changes: &Changes) -> Result<Places, AllocError>
+    pub(crate) fn of_change(alloc: Global, changes: &Changes) -> Result<Places, AllocError>
         ensures { IfOk result (λ places. places ≡ places_of_change changes.now) }
     {
         if changes.len() as usize > WITHIN {
-            return Ok(Places::new(changes.places()?));
+            return Ok(Places::new(changes.places(alloc)?));
         }
         let mut few = ArrayVec::new();
         for i in 0..changes.len() {

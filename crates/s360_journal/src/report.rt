@@ -5,7 +5,7 @@ ghost use Rattle.s360_journal.specs.Reports.{IsReport};
 
 use crate::places::Places;
 use s360_machine::Changes;
-use std::alloc::AllocError;
+use std::alloc::{AllocError, Global};
 
 /// What an accepted event altered.
 #[derive(Debug, Drop)]
@@ -19,12 +19,12 @@ pub enum Report {
 impl Report {
     /// The report of an event that made a change.
     #[inline(always)]
-    pub(crate) fn of(changes: &Changes) -> Result<Report, AllocError>
+    pub(crate) fn of(alloc: Global, changes: &Changes) -> Result<Report, AllocError>
         ensures { IfOk result (λ report. IsReport report (places_of_change changes.now)) }
     {
         if changes.len() == 0 {
             return Ok(Report::Idle);
         }
-        Ok(Report::Changed(Places::of_change(changes)?))
+        Ok(Report::Changed(Places::of_change(alloc, changes)?))
     }
 }

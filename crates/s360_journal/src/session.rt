@@ -147,7 +147,7 @@ impl Session {
         };
         self.machine.room(&changes)?;
         self.entries.reserve(1)?;
-        let report = Report::of(&changes)?;
+        let report = Report::of(self.alloc, &changes)?;
         // Nothing can fail from here on.
         self.machine.swap_all(&mut changes);
         self.entries.push_reserved(Entry { event, changes });

@@ -1,22 +1,23 @@
--- The instruction that was fetched and has a code of no instruction.
-use Rattle.std.proofs.Common.{arith, ◌≡◌, ◌+◌, ℕ, Bool, true, false, refl, [], Some, None, ap, sym, subst}
+-- The instruction that was fetched.
+use Rattle.std.proofs.Common.{◌≡◌, ◌∙◌, ℕ, Bool, true, false, refl, List, Option, Some, None, IfSome, ap, sym}
+use Rattle.std.specs.Option.{option_map}
 use Rattle.s360_model.specs.Core.{Core}
 use Rattle.s360_model.specs.Psw.{instruction_address_of}
-use Rattle.s360_store.proofs.PlannedLemmas.{IsPlanOf-none}
+use Rattle.s360_store.specs.declared.place.Cell.{Cell}
+use Rattle.s360_fixed.specs.declared.ended.Ended.{Ended}
 use Rattle.s360_fixed.specs.declared.ended.Ended.TheVariants.{Program}
+use Rattle.s360_fixed.specs.declared.form.Form.{Form}
+use Rattle.s360_fixed.specs.declared.making.Made.{Made}
 use Rattle.s360_fixed.specs.declared.program_code.ProgramCode.TheVariants.{Operation}
-use Rattle.s360_fixed.specs.Fetching.{instruction_bytes, length_at}
+use Rattle.s360_fixed.specs.Fetching.{instruction_bytes}
+use Rattle.s360_fixed.specs.Fixed.{fixed_outcome}
+use Rattle.s360_fixed.specs.Made.{outcome_of_made}
+use Rattle.s360_fixed.specs.Plans.{PlansOutcome}
 use Rattle.s360_fixed.specs.ProgramCodes.{Conditions, no_conditions, program_code}
 use Rattle.s360_fixed.specs.Table.{form_of}
-use Rattle.s360_fixed.specs.View.{View}
-use Rattle.s360_logic.specs.Instruction.{PlansInstruction, conditions_at, instruction, instruction_at, instruction_of, length_of_bytes, view_at}
-
--- the view of an instruction that was fetched
-abbrev pub fetched_view : Core → ℕ → View
-fetched_view m a = record { core = m; next_address = a + length_at m.storage a; instruction_length = length_of_bytes (length_at m.storage a) }
-
-view_at-fetched : (m : Core) (a : ℕ) → program_code (conditions_at m a) ≡ None → view_at m a ≡ fetched_view m a
-view_at-fetched m a h = rw h refl
+use Rattle.s360_fixed.specs.View.{Outcome, View}
+use Rattle.s360_logic.specs.Instruction.{Fetched, IsFetched, PlansInstruction, conditions_at, fetched_outcome, instruction, instruction_at, instruction_of, view_at}
+use Rattle.s360_logic.specs.Logic.{by_row, logic_outcome, status_outcome, subject_of}
 
 -- a code that no instruction has is found where nothing keeps the instruction from being fetched
 operation-met : (odd outside_first protected_first outside_rest protected_rest : Bool)
@@ -29,19 +30,53 @@ operation-met false false false true q h = cc
 operation-met false false false false true h = cc
 operation-met false false false false false h = refl
 
-instruction_of-unknown : (m : Core) (a : ℕ) → program_code (conditions_at m a) ≡ None → instruction_of m a None ≡ record { ended = Program Operation; core = m }
+abbrev unknown_outcome : Core → Outcome
+unknown_outcome m = record { ended = Program Operation; core = m }
+
+instruction_of-unknown : (m : Core) (a : ℕ) → program_code (conditions_at m a) ≡ None → instruction_of m a None ≡ unknown_outcome m
 instruction_of-unknown m a h =
     let c : Conditions = conditions_at m a
     in rw (operation-met c.odd_address c.outside_first c.protected_first c.outside_rest c.protected_rest h) refl
 
+-- the outcome of an instruction that was fetched
+outcome-of-form : (m : Core) (a : ℕ) (form : Option Form) → program_code (conditions_at m a) ≡ None → instruction_of m a form ≡ fetched_outcome (view_at m a) form
+outcome-of-form m a None h =
+    let late : unknown_outcome m ≡ fetched_outcome (view_at m a) None = rw h refl
+    in instruction_of-unknown m a h ∙ late
+outcome-of-form m a (Some form) h = rw h refl
+
+pub outcome-fetched : (f : Fetched) → IsFetched f → (instruction_at f.view.core (instruction_address_of f.view.core.psw)).outcome ≡ fetched_outcome f.view f.form
+outcome-fetched f h =
+    let a : ℕ = instruction_address_of f.view.core.psw
+    in outcome-of-form f.view.core a (form_of (instruction_bytes f.view.core.storage a)) h.can
+    ∙ ap (λ v. fetched_outcome v (form_of (instruction_bytes f.view.core.storage a))) (sym h.view)
+    ∙ ap (λ x. fetched_outcome f.view x) (sym h.form)
+
 -- what is planned of it
-pub PlansInstruction-unknown : (m : Core) (a : ℕ) → a ≡ instruction_address_of m.psw → program_code (conditions_at m a) ≡ None
-    → form_of (instruction_bytes m.storage a) ≡ None
-    → PlansInstruction m [] (instruction m) (record { ended = Program Operation; next_address = a + length_at m.storage a; instruction_length = length_of_bytes (length_at m.storage a) })
+pub PlansInstruction-fetched : (f : Fetched) (plan : List Cell) (ended : Ended) → IsFetched f → PlansOutcome f.view.core plan (fetched_outcome f.view f.form) ended
+    → PlansInstruction f.view.core plan (instruction f.view.core) (record { ended = ended; next_address = f.view.next_address; instruction_length = f.view.instruction_length })
 unfolding instruction
-PlansInstruction-unknown m a e h n =
-    subst (λ b. PlansInstruction m [] (instruction_at m b) (record { ended = Program Operation; next_address = a + length_at m.storage a; instruction_length = length_of_bytes (length_at m.storage a) })) e (record {
-      plans = rw (n, instruction_of-unknown m a h) (record { ends = refl; makes = IsPlanOf-none m; few = omega arith });
-      next = ap (λ (v : View). v.next_address) (sym (view_at-fetched m a h));
-      length = ap (λ (v : View). v.instruction_length) (sym (view_at-fetched m a h));
-    })
+PlansInstruction-fetched f plan ended h p =
+    let a : ℕ = instruction_address_of f.view.core.psw
+    in let outcome : (instruction_at f.view.core a).outcome ≡ fetched_outcome f.view f.form = outcome-fetched f h
+    in record {
+      plans = rw outcome p;
+      next = ap (λ (v : View). v.next_address) h.view;
+      length = ap (λ (v : View). v.instruction_length) h.view;
+    }
+
+-- what it does by its row of fixed-point, branch and shift instructions
+by_row-fixed : (fixed logic status : Option (View → Outcome)) (v : View) (o : Outcome) → Some o ≡ option_map (λ f. f v) fixed → by_row fixed logic status v ≡ o
+by_row-fixed None logic status v o e = absurd (cc)
+by_row-fixed (Some f) logic status v o e = (let same : o ≡ f v = cc in sym same)
+
+pub made-outcome : (f : Fetched) (form : Form) (o : Outcome) → IsFetched f → f.form ≡ Some form → subject_of f.view form ≡ None → Some o ≡ option_map (λ x. x f.view) (fixed_outcome form)
+    → (instruction f.view.core).outcome ≡ o
+unfolding instruction
+made-outcome f form o h e s r = outcome-fetched f h ∙ rw (e, s) (by_row-fixed (fixed_outcome form) (logic_outcome form) (status_outcome form) f.view o r)
+
+pub if-made : (f : Fetched) (form : Form) (result : Option Made) → IsFetched f → f.form ≡ Some form → subject_of f.view form ≡ None
+    → option_map (λ m. outcome_of_made f.view m) result ≡ option_map (λ x. x f.view) (fixed_outcome form)
+    → IfSome result (λ m. (instruction f.view.core).outcome ≡ outcome_of_made f.view m)
+if-made f form None h e s r = tt
+if-made f form (Some m) h e s r = made-outcome f form (outcome_of_made f.view m) h e s r

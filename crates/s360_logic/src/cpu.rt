@@ -1,15 +1,22 @@
-//! The plan of the instruction at the instruction address. Source: GA22-6821, "System Structure",
-//! program execution.
-ghost use Rattle.std.specs.Prelude.{◌≡◌, [], IfOk};
+//! The instruction at the instruction address: fetched, what it makes, and its plan. Source:
+//! GA22-6821, "System Structure", program execution.
+ghost use Rattle.std.specs.Prelude.{◌≡◌, [], IfErr, IfOk, IfSome, Some};
+ghost use Rattle.s360_model.specs.Psw.{instruction_address_of};
+ghost use Rattle.s360_fixed.specs.Made.{IsWithin, outcome_of_made};
+ghost use Rattle.s360_fixed.specs.Plans.{PlansOutcome};
+ghost use Rattle.s360_fixed.specs.ProgramCodes.{program_code};
 ghost use Rattle.s360_fixed.specs.View.{core_with};
-ghost use Rattle.s360_logic.specs.Instruction.{PlansInstruction, instruction, length_of_bytes};
+ghost use Rattle.s360_psw.specs.declared.instruction_length.InstructionLength.TheVariants.{NotAvailable};
+ghost use Rattle.s360_fixed.specs.declared.ended.Ended.TheVariants.{Program};
+ghost use Rattle.s360_logic.specs.Instruction.{PlansInstruction, conditions_at, fetched_outcome, instruction, length_of_bytes};
 
-use crate::logic::plan_logic;
-use s360_fixed::{Ended, ProgramCode, View, decode_bytes, fetch_instruction};
+use crate::logic::{plan_logic, subject_of};
+use s360_fixed::{Ended, Form, Made, ProgramCode, View, decode_bytes, fetch_instruction, made};
 use s360_psw::{InstructionLength, Psw};
 use s360_store::{Plan, Storage};
 use s360_word::Word;
 use std::alloc::AllocError;
+use std::marker::Model;
 
 /// An instruction as it was planned: how it ends, and what an interruption that follows stores of
 /// it. Where it could not be fetched, or its address is odd, the length is not available and the
@@ -24,6 +31,24 @@ pub struct PlannedInstruction {
     pub instruction_length: InstructionLength,
 }
 
+/// An instruction that was fetched. A contract sees what it works on, and its form where its code is
+/// that of an operation.
+#[derive(Drop)]
+pub struct Fetched<'a> {
+    view: View<'a>,
+    form: Option<Form>,
+}
+
+impl<'a> Model for Fetched<'a> {
+    ghost use Rattle.s360_logic.specs.Instruction.{Fetched as Seen, IsFetched};
+
+    ghost Value = { Seen };
+
+    ghost view = { λ f. record { view = f.view; form = f.form } };
+
+    ghost invariant = { λ f. IsFetched (record { view = f.view; form = f.form }) };
+}
+
 /// The length of an instruction of 2, 4 or 6 bytes.
 fn length_of_bytes(bytes: usize) -> InstructionLength
     ensures { result ≡ length_of_bytes bytes }
@@ -32,6 +57,82 @@ fn length_of_bytes(bytes: usize) -> InstructionLength
         2 => InstructionLength::OneHalfword,
         4 => InstructionLength::TwoHalfwords,
         _ => InstructionLength::ThreeHalfwords,
+    }
+}
+
+/// Fetches the instruction at the instruction address, or says what keeps it from being fetched.
+pub fn fetch<'a>(
+    psw: Psw,
+    registers: &'a [Word; 16],
+    storage: &'a Storage,
+) -> Result<Fetched<'a>, ProgramCode>
+    ensures ok { IfOk result (λ f. f.view.core ≡ core_with psw registers.now storage.now) }
+    ensures err { IfErr result (λ code. program_code (conditions_at (core_with psw registers.now storage.now) (instruction_address_of psw)) ≡ Some code) }
+{
+    let address = psw.instruction_address();
+    let bytes = fetch_instruction(storage, address, psw.protection_key())?;
+    let next_address = address + bytes.len() as u32;
+    let length = length_of_bytes(bytes.len());
+    Ok(Fetched {
+        view: View::new(psw, registers, storage, next_address, length),
+        form: decode_bytes(bytes),
+    })
+}
+
+/// An instruction that could not be fetched, which ends with this code.
+fn not_fetched(psw: Psw, code: ProgramCode) -> PlannedInstruction
+    ensures { result ≡ record { ended = Program code; next_address = instruction_address_of psw; instruction_length = NotAvailable } }
+{
+    PlannedInstruction {
+        ended: Ended::Program(code),
+        next_address: psw.instruction_address(),
+        instruction_length: InstructionLength::NotAvailable,
+    }
+}
+
+impl<'a> Fetched<'a> {
+    /// What it works on.
+    pub fn view(&self) -> &View<'a>
+        ensures { result.now ≡ self.now.view }
+    {
+        &self.view
+    }
+
+    /// What it makes, if it is a fixed-point, branch or shift instruction.
+    pub fn made(&self) -> Option<Made>
+        ensures outcome { IfSome result (λ m. (instruction self.now.view.core).outcome ≡ outcome_of_made self.now.view m) }
+        ensures within { IfSome result (λ m. IsWithin self.now.view.core m) }
+    {
+        let form = self.form?;
+        if subject_of(&form, &self.view).is_some() {
+            return None;
+        }
+        made(&form, &self.view)
+    }
+
+    /// Plans what it does by its form, if it has one.
+    fn plan_form(&self, plan: &mut Plan) -> Result<Ended, AllocError>
+        requires empty { plan.old ≡ [] }
+        ensures { IfOk result (PlansOutcome self.now.view.core plan.new (fetched_outcome self.now.view self.now.form)) }
+    {
+        match &self.form {
+            Some(form) => plan_logic(form, &self.view, plan),
+            None => Ok(Ended::Program(ProgramCode::Operation)),
+        }
+    }
+
+    /// Plans it: how it ends, and the values that it puts. Where memory is wanting, the plan is to be
+    /// dropped.
+    pub fn plan(&self, plan: &mut Plan) -> Result<PlannedInstruction, AllocError>
+        requires empty { plan.old ≡ [] }
+        ensures { IfOk result (PlansInstruction self.now.view.core plan.new (instruction self.now.view.core)) }
+    {
+        let ended = self.plan_form(plan)?;
+        Ok(PlannedInstruction {
+            ended,
+            next_address: self.view.next_address(),
+            instruction_length: self.view.instruction_length(),
+        })
     }
 }
 
@@ -48,27 +149,8 @@ pub fn plan_instruction(
     ensures { let core = core_with psw registers.now storage.now
         in IfOk result (PlansInstruction core plan.new (instruction core)) }
 {
-    let address = psw.instruction_address();
-    let bytes = match fetch_instruction(storage, address, psw.protection_key()) {
-        Ok(bytes) => bytes,
-        Err(code) => {
-            return Ok(PlannedInstruction {
-                ended: Ended::Program(code),
-                next_address: address,
-                instruction_length: InstructionLength::NotAvailable,
-            });
-        }
-    };
-    let instruction_length = length_of_bytes(bytes.len());
-    let next_address = address + bytes.len() as u32;
-    let view = View::new(psw, registers, storage, next_address, instruction_length);
-    let ended = match decode_bytes(bytes) {
-        Some(form) => plan_logic(&form, &view, plan)?,
-        None => Ended::Program(ProgramCode::Operation),
-    };
-    Ok(PlannedInstruction {
-        ended,
-        next_address,
-        instruction_length,
-    })
+    match fetch(psw, registers, storage) {
+        Ok(fetched) => fetched.plan(plan),
+        Err(code) => Ok(not_fetched(psw, code)),
+    }
 }

@@ -20,8 +20,7 @@ use crate::row::{
 use crate::status::{plan_register_status, plan_storage_status};
 use arrayvec::ArrayVec;
 use s360_fixed::{
-    Ended, Form, Operation, ProgramCode, View, decode, fetch_instruction, operand_address,
-    plan_fixed,
+    Ended, Form, Operation, ProgramCode, View, decode, fetch_instruction, made, operand_address,
 };
 use s360_store::Plan;
 use s360_word::RegisterNumber;
@@ -128,15 +127,14 @@ fn plan_row(form: &Form, view: &View, plan: &mut Plan) -> Result<Ended, AllocErr
     requires empty { plan.old ≡ [] }
     ensures { IfOk result (PlansOutcome view.now.core plan.new (row_outcome view.now form.now)) }
 {
-    if form.is_fixed() {
-        plan_fixed(form, view, plan)
-    } else {
-        plan_own(form, view, plan)
+    match made(form, view) {
+        Some(made) => made.plan(view, plan),
+        None => plan_own(form, view, plan),
     }
 }
 
 /// The field R1 of an execute, and the address of its subject.
-fn subject_of(form: &Form, view: &View) -> Option<(RegisterNumber, u32)>
+pub(crate) fn subject_of(form: &Form, view: &View) -> Option<(RegisterNumber, u32)>
     ensures { result ≡ subject_of view.now form.now }
 {
     match *form {

@@ -1,17 +1,18 @@
 -- Changes of the whole machine.
 use Rattle.std.proofs.Common.{◌≡◌, List, arith, refl}
-use Rattle.std.specs.Prelude.{Option, Some, None}
+use Rattle.std.specs.Prelude.{Option, Some, None, Result, Ok, Err, IfOk}
 use Rattle.s360_model.specs.Exchanges.{need_if_any}
 use Rattle.s360_store.specs.declared.place.Cell.{Cell}
 use Rattle.s360_store.specs.Differences.{IsCoreChangeTo}
 use Rattle.s360_channel.specs.declared.unit_change.UnitChange.{UnitChange}
 use Rattle.s360_channel.specs.UnitChanges.{IsUnitsChangeTo}
+use Rattle.s360_machine.specs.declared.machine.PlannedEvent.{PlannedEvent}
 use Rattle.s360_machine.specs.declared.media.MediaChange.{MediaChange}
 use Rattle.s360_machine.specs.Change.{Change, NeedsNoRoom, change_after_swap}
 use Rattle.s360_machine.specs.ControlCells.{ControlCell}
 use Rattle.s360_machine.specs.IoChanges.{media_needs}
 use Rattle.s360_machine.specs.Machine.{Machine, Whole}
-use Rattle.s360_machine.specs.Planned.{IsChangeTo, IsControlChangeTo, IsMediaChangeTo}
+use Rattle.s360_machine.specs.Planned.{IsChangeTo, IsControlChangeTo, IsMediaChangeTo, IsPlanOfMachine}
 
 -- a change that needs room for nothing needs no room
 needs-nothing : (x : Change) (media : Option MediaChange) → x.media ≡ media → need_if_any media_needs media ≡ 0 → NeedsNoRoom x
@@ -28,3 +29,9 @@ IsChangeTo-parts w cs xs us ms n h k u m = record {
   lists = rw (h.lists, k.lists, u.lists, m.lists) refl;
   back = needs-nothing (change_after_swap w (record { cells = cs; control = xs; units = us; media = ms })) _ refl m.back;
 }
+
+-- what a plan makes of a machine is what its changes make
+pub planned-changes : {E : Type 0} (r : Result Change E) (w : Whole) (plan : List Cell) (planned : PlannedEvent) (n : Machine)
+    → IfOk r (λ x. (k : Machine) → IsPlanOfMachine w plan planned k → IsChangeTo w x k) → IsPlanOfMachine w plan planned n → IfOk r (λ x. IsChangeTo w x n)
+planned-changes (Ok x) w plan planned n h p = h n p
+planned-changes (Err e) w plan planned n h p = tt

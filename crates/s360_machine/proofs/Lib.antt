@@ -2,6 +2,7 @@ pub mod ControlLemmas
 pub mod SwapLemmas
 pub mod ChangeLemmas
 pub mod IoLemmas
+pub mod AlteredLemmas
 pub mod StepLemmas
 pub mod CswLemmas
 pub mod InterruptionLemmas

@@ -13,5 +13,6 @@ pub mod Refusals
 pub mod Step
 pub mod IoChanges
 pub mod Change
+pub mod Altered
 pub mod Differences
 pub mod Planned

@@ -1,8 +1,9 @@
 //! What an instruction works on: the current PSW, the general registers and main storage. Source:
 //! GA22-6821, "System Structure".
-ghost use Rattle.std.specs.Prelude.{◌≡◌, ◌≢◌, ◌≤◌, ◌+◌, [], length, slice_index, Err, IfOk, IsOkUnless, IsTrue, OnOk};
+ghost use Rattle.std.specs.Prelude.{◌≡◌, ◌≢◌, ◌<◌, ◌≤◌, ◌+◌, ◌^◌, [], length, slice_index, Err, IfOk, IsOkUnless, IsTrue, OnOk};
 ghost use Rattle.std.specs.Bool.{MatchBool};
-ghost use Rattle.s360_model.specs.Core.{zero_core, core_with_bytes};
+ghost use Rattle.s360_model.specs.Core.{zero_core, core_with_bytes, core_with_psw, core_with_word};
+ghost use Rattle.s360_model.specs.Psw.{IsCurrentPsw};
 ghost use Rattle.s360_model.specs.Storage.{is_storage_size};
 ghost use Rattle.s360_store.specs.Cells.{AreCellsOf, AllFit, places_of_cells};
 ghost use Rattle.s360_store.specs.Cells.{after_exchange, cells_after_exchange};
@@ -10,18 +11,23 @@ ghost use Rattle.s360_store.specs.Places.{IsPlaceOf, Fits, value_at, with_value}
 ghost use Rattle.s360_store.specs.declared.fault.StoreFault.TheVariants.{Size, Memory};
 ghost use Rattle.s360_store.specs.Differences.{IsCoreChangeTo};
 ghost use Rattle.s360_store.specs.Order.{IsAscending};
+ghost use Rattle.s360_store.specs.PlanParts.{byte_cells};
 ghost use Rattle.s360_store.specs.Plans.{IsPlanOf};
 ghost use Rattle.s360_logic.specs.Instruction.{PlansInstruction, instruction};
 ghost use Rattle.s360_store.specs.Differences.{AreKept};
+ghost use Rattle.s360_machine.specs.Altered.{IsWhole, cells_of, change_of};
 
-use crate::changes::WITHIN;
-use s360_logic::PlannedInstruction;
+use crate::changes::{Altered, WITHIN};
+use crate::short_run::ShortRun;
+use s360_fixed::ProgramCode;
+use s360_logic::{Fetched, PlannedInstruction};
 use s360_psw::{InstructionLength, Psw};
 use s360_store::{Cell, GREATEST_SIZE, Place, Plan, Storage, StoreFault};
 use s360_word::{RegisterNumber, Word};
 use smallvec::SmallVec;
 use std::alloc::{AllocError, Global};
 use std::marker::Model;
+use std::mem;
 
 /// The current PSW, the sixteen general registers and main storage.
 #[derive(Drop)]
@@ -90,12 +96,27 @@ impl Core {
         &self.storage
     }
 
-    /// Plans the instruction at the instruction address.
-    pub(crate) fn plan_instruction(&self, plan: &mut Plan) -> Result<PlannedInstruction, AllocError>
+    /// Fetches the instruction at the instruction address.
+    pub(crate) fn fetch(&self) -> Result<Fetched<'_>, ProgramCode>
+        ensures { IfOk result (λ f. f.view.core ≡ self.now) }
+    {
+        s360_logic::fetch(self.psw, &self.registers, &self.storage)
+    }
+
+    /// Plans the instruction at the instruction address, if it was fetched or not.
+    pub(crate) fn plan_fetched(
+        &self,
+        fetched: &Result<Fetched<'_>, ProgramCode>,
+        plan: &mut Plan,
+    ) -> Result<PlannedInstruction, AllocError>
+        requires fetched { IfOk fetched.now (λ f. f.view.core ≡ self.now) }
         requires empty { plan.old ≡ [] }
         ensures { IfOk result (PlansInstruction self.now plan.new (instruction self.now)) }
     {
-        s360_logic::plan_instruction(self.psw, &self.registers, &self.storage, plan)
+        match fetched {
+            Ok(fetched) => fetched.plan(plan),
+            Err(_) => s360_logic::plan_instruction(self.psw, &self.registers, &self.storage, plan),
+        }
     }
 
     /// Plans bytes from an address on.
@@ -221,5 +242,66 @@ impl Core {
         }
         cells.as_mut_slice().sort_unstable_by_key(|cell| cell.place);
         Ok(cells)
+    }
+
+    /// Exchanges the PSW with another.
+    fn exchange_psw(&mut self, psw: &mut Psw)
+        ensures core { self.new ≡ core_with_psw psw.old self.old }
+        ensures psw { psw.new ≡ self.old.psw }
+        ensures current { IsCurrentPsw psw.new }
+    {
+        // So it is a current PSW.
+        prove!(Psw::from_u64(self.psw.stored(0, InstructionLength::NotAvailable)) == self.psw);
+        mem::swap(&mut self.psw, psw);
+    }
+
+    /// Exchanges the word in a general register with another.
+    fn exchange_register(&mut self, register: RegisterNumber, word: &mut Word)
+        ensures core { self.new ≡ core_with_word register word.old self.old }
+        ensures word { word.new ≡ slice_index self.old.registers register }
+        ensures fits { word.new < 2 ^ 32 }
+    {
+        mem::swap(&mut self.registers[register.number() as usize], word);
+    }
+
+    /// Exchanges the bytes from an address on with a run.
+    fn exchange_run(&mut self, run: &mut ShortRun, address: u32)
+        requires some { 0 < length run.old }
+        requires can { AreCellsOf self.old (byte_cells address run.old) }
+        ensures core { self.new ≡ after_exchange self.old (byte_cells address run.old) }
+        ensures cells { byte_cells address run.new ≡ cells_after_exchange self.old (byte_cells address run.old) }
+        ensures count { length run.new ≡ length run.old }
+        ensures fit { AllFit (byte_cells address run.new) }
+    {
+        run.exchange(&mut self.storage, address);
+    }
+
+    /// Exchanges what stands at the places of the core with what an event alters of them.
+    pub(crate) fn exchange_altered(&mut self, altered: &mut Altered)
+        requires whole { IsWhole altered.old }
+        requires can { AreCellsOf self.old (cells_of altered.old) }
+        ensures core { self.new ≡ after_exchange self.old (cells_of altered.old) }
+        ensures cells { cells_of altered.new ≡ cells_after_exchange self.old (cells_of altered.old) }
+        ensures beside { change_of altered.new ≡ record (change_of altered.old) { cells = cells_of altered.new } }
+        ensures whole { IsWhole altered.new }
+        ensures fit { AllFit (cells_of altered.new) }
+    {
+        match altered {
+            Altered::Nothing => {}
+            Altered::Psw(psw) => self.exchange_psw(psw),
+            Altered::Register {
+                register,
+                word,
+                psw,
+            } => {
+                self.exchange_psw(psw);
+                self.exchange_register(*register, word);
+            }
+            Altered::Bytes { run, address, psw } => {
+                self.exchange_psw(psw);
+                self.exchange_run(run, *address);
+            }
+            Altered::Full(full) => self.exchange(full.cells.as_mut_slice()),
+        }
     }
 }

@@ -1,13 +1,18 @@
 //! One CPU event: an interruption, or one instruction with the interruption that it causes. Source:
 //! GA22-6821, "Interruptions", "Status Switching" and "System Structure", program execution.
-ghost use Rattle.std.specs.Prelude.{◌≡◌, [], IfOk};
-ghost use Rattle.s360_machine.specs.Cpu.{after_cpu, after_external, after_instruction};
+ghost use Rattle.std.specs.Prelude.{◌≡◌, [], IfOk, IfSome};
+ghost use Rattle.s360_logic.specs.Instruction.{PlansInstruction, instruction};
+ghost use Rattle.s360_machine.specs.Altered.{IsWhole, change_of};
+ghost use Rattle.s360_machine.specs.Cpu.{after_case, after_cpu, after_external, after_instruction};
 ghost use Rattle.s360_machine.specs.Cpu.{cpu_case, pending_of};
 ghost use Rattle.s360_machine.specs.Machine.{seen};
-ghost use Rattle.s360_machine.specs.Planned.{IsPlanOfMachine};
+ghost use Rattle.s360_machine.specs.Planned.{IsChangeTo, IsPlanOfMachine};
+ghost use Rattle.s360_machine.specs.declared.cpu.CpuCase.TheVariants.{Interrupted};
 
+use crate::changes::{Altered, Changes};
 use crate::machine::{Machine, PlannedEvent};
-use s360_fixed::Ended;
+use s360_fixed::{Ended, ProgramCode};
+use s360_logic::{Fetched, PlannedInstruction};
 use s360_psw::{Class, InstructionLength, Pending, next_interruption};
 use s360_store::Plan;
 use std::alloc::AllocError;
@@ -54,16 +59,35 @@ impl Machine {
         }
     }
 
-    /// Plans a CPU event.
-    pub(crate) fn plan_cpu(&self, plan: &mut Plan) -> Result<PlannedEvent, AllocError>
-        requires empty { plan.old ≡ [] }
-        ensures { IfOk result (λ planned. IsPlanOfMachine self.now.whole plan.new planned (after_cpu (seen self.now.whole))) }
+    /// What a CPU event alters.
+    pub(crate) fn changes_of_cpu(&self) -> Result<Changes, AllocError>
+        ensures { IfOk result (λ changes. IsChangeTo self.now.whole changes (after_cpu (seen self.now.whole))) }
     {
         match self.cpu_case() {
-            CpuCase::Interrupted(Class::External) => self.plan_external(plan),
-            CpuCase::Interrupted(Class::InputOutput) => self.plan_input_output(plan),
-            CpuCase::Executing => self.plan_instruction(plan),
-            CpuCase::Halted | CpuCase::Interrupted(_) | CpuCase::Waiting => {
+            CpuCase::Executing => self.changes_of_instruction(),
+            CpuCase::Interrupted(class) => self.changes_of_interruption(class),
+            CpuCase::Halted | CpuCase::Waiting => Ok(Changes::none()),
+        }
+    }
+
+    /// What an interruption alters.
+    fn changes_of_interruption(&self, class: Class) -> Result<Changes, AllocError>
+        ensures { IfOk result (λ changes. IsChangeTo self.now.whole changes (after_case (Interrupted class) (seen self.now.whole))) }
+    {
+        let mut plan = Plan::new(self.alloc);
+        let planned = self.plan_interruption(class, &mut plan)?;
+        self.changes_planned(&plan, planned)
+    }
+
+    /// Plans an interruption. No other class waits for its mask.
+    fn plan_interruption(&self, class: Class, plan: &mut Plan) -> Result<PlannedEvent, AllocError>
+        requires empty { plan.old ≡ [] }
+        ensures { IfOk result (λ planned. IsPlanOfMachine self.now.whole plan.new planned (after_case (Interrupted class) (seen self.now.whole))) }
+    {
+        match class {
+            Class::External => self.plan_external(plan),
+            Class::InputOutput => self.plan_input_output(plan),
+            Class::Supervisor | Class::Program | Class::MachineCheck => {
                 Ok(self.planned(self.control))
             }
         }
@@ -81,12 +105,43 @@ impl Machine {
         Ok(self.planned(self.control.without_external()))
     }
 
-    /// Plans an instruction, with the program or the supervisor call interruption that it causes.
-    fn plan_instruction(&self, plan: &mut Plan) -> Result<PlannedEvent, AllocError>
-        requires empty { plan.old ≡ [] }
+    /// What an instruction alters, with the program or the supervisor call interruption that it causes.
+    fn changes_of_instruction(&self) -> Result<Changes, AllocError>
+        ensures { IfOk result (λ changes. IsChangeTo self.now.whole changes (after_instruction (seen self.now.whole))) }
+    {
+        let fetched = self.core.fetch();
+        if let Some(altered) = self.altered_by(&fetched) {
+            return Ok(Changes { altered });
+        }
+        let mut plan = Plan::new(self.alloc);
+        let planned = self.core.plan_fetched(&fetched, &mut plan)?;
+        let planned = self.plan_ended(planned, &mut plan)?;
+        self.changes_planned(&plan, planned)
+    }
+
+    /// What an instruction alters, where it is completed with no interruption and its change has that within itself.
+    fn altered_by(&self, fetched: &Result<Fetched<'_>, ProgramCode>) -> Option<Altered>
+        requires fetched { IfOk fetched.now (λ f. f.view.core ≡ self.now.whole.core) }
+        ensures whole { IfSome result (λ x. IsWhole x) }
+        ensures change { IfSome result (λ x. IsChangeTo self.now.whole (change_of x) (after_instruction (seen self.now.whole))) }
+    {
+        let Ok(fetched) = fetched else {
+            return None;
+        };
+        let made = fetched.made()?;
+        self.core.altered_by(fetched.view(), &made)
+    }
+
+    /// Plans the end of an instruction that was planned, with the program or the supervisor call interruption that it
+    /// causes.
+    fn plan_ended(
+        &self,
+        planned: PlannedInstruction,
+        plan: &mut Plan,
+    ) -> Result<PlannedEvent, AllocError>
+        requires planned { PlansInstruction self.now.whole.core plan.old (instruction self.now.whole.core) planned }
         ensures { IfOk result (λ planned. IsPlanOfMachine self.now.whole plan.new planned (after_instruction (seen self.now.whole))) }
     {
-        let planned = self.core.plan_instruction(plan)?;
         let (class, code) = match planned.ended {
             Ended::Done => return Ok(self.planned(self.control)),
             Ended::Program(code) => (Class::Program, code.number()),

@@ -5,6 +5,7 @@
 //! Operations" and "System Control Panel".
 #![tactic(auto)]
 
+mod altering;
 mod changes;
 mod channel_event;
 mod control;
@@ -22,6 +23,7 @@ mod media;
 mod operator;
 mod refusal;
 mod run_state;
+mod short_run;
 mod timer;
 
 pub use changes::Changes;

@@ -1,29 +1,41 @@
 //! The machine: its state, and the events that change it.
-ghost use Rattle.std.specs.Prelude.{◌≡◌, [], slice_index, None, Err, OnOk, IfOk, IsOkUnless};
+ghost use Rattle.std.specs.Prelude.{◌≡◌, ◌≤◌, [], slice_index, None, Err, OnOk, IfOk, IfSome, IsOkUnless};
 ghost use Rattle.std.specs.Prelude.{MatchOption};
 ghost use Rattle.std.specs.Option.{option_copied, option_map};
 ghost use Rattle.std.specs.Bool.{MatchBool};
 ghost use Rattle.s360_model.specs.Storage.{is_storage_size};
 ghost use Rattle.s360_store.specs.declared.fault.StoreFault.TheVariants.{Size, Memory as no_memory};
-ghost use Rattle.s360_machine.specs.Machine.{Machine as Seen, new_machine, storage_size, seen};
+ghost use Rattle.s360_machine.specs.Machine.{Machine as SeenMachine, new_machine, room_for, storage_size, seen};
+ghost use Rattle.s360_store.specs.Cells.{AreCellsOf};
 ghost use Rattle.s360_machine.specs.Change.{CanSwap, after_swap, change_after_swap};
 ghost use Rattle.s360_machine.specs.Change.{HasRoom, NeedsNoRoom};
-ghost use Rattle.s360_machine.specs.Step.{after};
+ghost use Rattle.s360_machine.specs.Step.{after, after_patch};
 ghost use Rattle.s360_device.specs.DeviceChanges.{bare};
 ghost use Rattle.s360_tape.specs.WholeTape.{seen as seen_tape};
 ghost use Rattle.s360_machine.specs.Media.{tape_of};
 ghost use Rattle.s360_channel.specs.ConfiguredUnits.{attention_at, state_at, unit_at};
-ghost use Rattle.s360_machine.specs.Refusals.{refusal_of};
+ghost use Rattle.s360_machine.specs.Refusals.{refusal_of, refusal_of_key, refusal_of_patch};
+ghost use Rattle.s360_machine.specs.Altered.{IsWhole, cells_of, change_of};
+ghost use Rattle.s360_machine.specs.ChannelEvents.{after_channel_event};
+ghost use Rattle.s360_machine.specs.ControlCells.{control_after_exchange, control_cells_after_exchange};
+ghost use Rattle.s360_machine.specs.IoChanges.{CanSwapMedia, media_after_swap, media_change_after_swap};
+ghost use Rattle.s360_machine.specs.IoChanges.{media_needs, unit_of_change};
+ghost use Rattle.s360_machine.specs.Media.{media_of, room_of};
+ghost use Rattle.s360_machine.specs.Operator.{after_key};
+ghost use Rattle.s360_machine.specs.Timer.{after_tick};
+ghost use Rattle.s360_model.specs.Exchanges.{CanIfAny, after_if_any, back_if_any};
+ghost use Rattle.s360_channel.specs.UnitChanges.{unit_change_after_swap, units_after_swap};
 ghost use Rattle.s360_machine.specs.Planned.{IsChangeTo, IsPlanOfMachine, LeavesUnits, PlansIo};
 ghost use Rattle.s360_machine.specs.declared.refusal.Refusal.TheVariants.{Memory};
 
-use crate::changes::Changes;
+use crate::changes::{Altered, Changes};
 use crate::control::Control;
 use crate::core_state::Core;
-use crate::event::Event;
+use crate::event::{Event, Patch};
 use crate::external::ExternalConditions;
 use crate::io_change::{IoChange, exchange_io};
 use crate::media::{Devices, MediaChange};
+use crate::operator::Key;
 use crate::refusal::Refusal;
 use crate::run_state::RunState;
 use s360_channel::{ConfiguredUnit, UnitChange, UnitState, Units};
@@ -196,15 +208,21 @@ impl Machine {
         if let Some(refusal) = self.refusal(event) {
             return Err(refusal);
         }
-        let mut plan = Plan::new(self.alloc);
-        let planned = self.plan_event(event, &mut plan)?;
-        let cells = self.core.changes(self.alloc, &plan)?;
+        Ok(self.changes_of(event)?)
+    }
+
+    /// What was planned alters.
+    pub(crate) fn changes_planned(
+        &self,
+        plan: &Plan,
+        planned: PlannedEvent,
+    ) -> Result<Changes, AllocError>
+        requires cells { AreCellsOf self.now.whole.core plan.now }
+        ensures { IfOk result (λ changes. (n : SeenMachine) → IsPlanOfMachine self.now.whole plan.now planned n → IsChangeTo self.now.whole changes n) }
+    {
+        let cells = self.core.changes(self.alloc, plan)?;
         let control = self.control.changes_to(&planned.control);
-        Ok(Changes {
-            cells,
-            control,
-            io: planned.io,
-        })
+        Changes::of(self.alloc, cells, control, planned.io)
     }
 
     /// What an event makes that leaves the units alone.
@@ -228,23 +246,60 @@ impl Machine {
         Ok(planned)
     }
 
-    /// Plans what an event puts into the core, unless it is refused for its own sake
-    /// (refusals 2 to 5), and answers what it makes of the other parts.
-    fn plan_event(&self, event: &Event, plan: &mut Plan) -> Result<PlannedEvent, AllocError>
-        requires empty { plan.old ≡ [] }
+    /// What an event alters, unless it is refused for its own sake (refusals 2 to 5).
+    fn changes_of(&self, event: &Event) -> Result<Changes, AllocError>
         requires accepted { refusal_of (storage_size (seen self.now.whole)) event.now ≡ None }
-        ensures { IfOk result (λ planned. IsPlanOfMachine self.now.whole plan.new planned (after (seen self.now.whole) event.now)) }
+        ensures { IfOk result (λ changes. IsChangeTo self.now.whole changes (after (seen self.now.whole) event.now)) }
     {
         match event {
-            Event::Cpu => self.plan_cpu(plan),
-            Event::Channel(unit) => self.plan_channel(*unit, plan),
-            Event::Tick => self.plan_tick(plan),
-            Event::Key(key) => self.plan_key(key),
-            Event::Patch(patch) => {
-                self.plan_patch(patch, plan)?;
-                Ok(self.planned(self.control))
-            }
+            Event::Cpu => self.changes_of_cpu(),
+            Event::Channel(unit) => self.changes_of_channel(*unit),
+            Event::Tick => self.changes_of_tick(),
+            Event::Key(key) => self.changes_of_key(key),
+            Event::Patch(patch) => self.changes_of_patch(patch),
         }
+    }
+
+    /// What a channel event of a unit alters.
+    #[inline(never)]
+    fn changes_of_channel(&self, unit: Unit) -> Result<Changes, AllocError>
+        ensures { IfOk result (λ changes. IsChangeTo self.now.whole changes (after_channel_event unit (seen self.now.whole))) }
+    {
+        let mut plan = Plan::new(self.alloc);
+        let planned = self.plan_channel(unit, &mut plan)?;
+        self.changes_planned(&plan, planned)
+    }
+
+    /// What a tick alters.
+    #[inline(never)]
+    fn changes_of_tick(&self) -> Result<Changes, AllocError>
+        ensures { IfOk result (λ changes. IsChangeTo self.now.whole changes (after_tick (seen self.now.whole))) }
+    {
+        let mut plan = Plan::new(self.alloc);
+        let planned = self.plan_tick(&mut plan)?;
+        self.changes_planned(&plan, planned)
+    }
+
+    /// What a key alters that is not refused.
+    #[inline(never)]
+    fn changes_of_key(&self, key: &Key) -> Result<Changes, AllocError>
+        requires accepted { refusal_of_key key.now ≡ None }
+        ensures { IfOk result (λ changes. IsChangeTo self.now.whole changes (after_key (seen self.now.whole) key.now)) }
+    {
+        let plan = Plan::new(self.alloc);
+        let planned = self.plan_key(key)?;
+        self.changes_planned(&plan, planned)
+    }
+
+    /// What a patch alters that is not refused.
+    #[inline(never)]
+    fn changes_of_patch(&self, patch: &Patch) -> Result<Changes, AllocError>
+        requires accepted { refusal_of_patch (storage_size (seen self.now.whole)) patch.now ≡ None }
+        ensures { IfOk result (λ changes. IsChangeTo self.now.whole changes (after_patch (seen self.now.whole) patch.now)) }
+    {
+        let mut plan = Plan::new(self.alloc);
+        self.plan_patch(patch, &mut plan)?;
+        self.changes_planned(&plan, self.planned(self.control))
     }
 
     /// Makes room for a change, after which its exchange takes no memory. The whole is as before.
@@ -252,13 +307,10 @@ impl Machine {
         ensures whole { self.new.whole ≡ self.old.whole }
         ensures ok { OnOk result (HasRoom self.new.spare changes.now) }
     {
-        match &changes.io {
-            Some(io) => match &io.media {
-                Some(change) => self.devices.make_room(change),
-                None => Ok(()),
-            },
-            None => Ok(()),
-        }
+        let Some(change) = changes.media() else {
+            return Ok(());
+        };
+        self.devices.make_room(change)
     }
 
     /// Exchanges the values at the change's places with its own. It takes no memory, and done
@@ -270,12 +322,41 @@ impl Machine {
         ensures machine { self.new.whole ≡ after_swap self.old.whole changes.old }
         ensures changes { changes.new ≡ change_after_swap self.old.whole changes.old }
         ensures again { CanSwap self.new.whole changes.new }
-        ensures no_room { (n : Seen) → IsChangeTo self.old.whole changes.old n → NeedsNoRoom changes.new }
+        ensures no_room { (n : SeenMachine) → IsChangeTo self.old.whole changes.old n → NeedsNoRoom changes.new }
         ensures restores_machine { after_swap self.new.whole changes.new ≡ self.old.whole }
         ensures restores_changes { change_after_swap self.new.whole changes.new ≡ changes.old }
     {
-        self.core.exchange(changes.cells.as_mut_slice());
-        self.control.exchange(&mut changes.control);
-        exchange_io(&mut changes.io, &mut self.units, &mut self.devices);
+        self.core.exchange_altered(&mut changes.altered);
+        exchange_beside(
+            &mut changes.altered,
+            &mut self.control,
+            &mut self.units,
+            &mut self.devices,
+        );
+    }
+}
+
+/// Exchanges what stands beside the core with what an event alters of it, for which there is room.
+fn exchange_beside(
+    altered: &mut Altered,
+    control: &mut Control,
+    units: &mut Units,
+    devices: &mut Devices,
+)
+    requires can { CanIfAny CanSwapMedia (media_of devices.old) (change_of altered.old).media }
+    requires room { IfSome (change_of altered.old).media (λ x. media_needs x ≤ room_for (room_of devices.old) (unit_of_change x)) }
+    requires whole { IsWhole altered.old }
+    ensures control { control.new ≡ control_after_exchange control.old (change_of altered.old).control }
+    ensures units { units.new ≡ after_if_any units_after_swap units.old (change_of altered.old).units }
+    ensures media { media_of devices.new ≡ after_if_any media_after_swap (media_of devices.old) (change_of altered.old).media }
+    ensures cells { cells_of altered.new ≡ cells_of altered.old }
+    ensures control_cells { (change_of altered.new).control ≡ control_cells_after_exchange control.old (change_of altered.old).control }
+    ensures unit_change { (change_of altered.new).units ≡ back_if_any unit_change_after_swap units.old (change_of altered.old).units }
+    ensures media_change { (change_of altered.new).media ≡ back_if_any media_change_after_swap (media_of devices.old) (change_of altered.old).media }
+    ensures whole { IsWhole altered.new }
+{
+    if let Altered::Full(full) = altered {
+        control.exchange(&mut full.control);
+        exchange_io(&mut full.io, units, devices);
     }
 }

@@ -139,7 +139,7 @@ AllBefore-later : (cs : List Cell) (a n : ℕ) → AllBefore cs (Byte a) → All
 AllBefore-later [] a n h = tt
 AllBefore-later (c ∷ cs) a n h = (elim h.0 [ inl b ↦ inl b | inr b ↦ inr (b.0, omega (arith, b.1)) ], AllBefore-later cs a n h.1)
 
-length-byte_cells : (a : ℕ) (bs : List ℕ) → length (byte_cells a bs) ≡ length bs
+pub length-byte_cells : (a : ℕ) (bs : List ℕ) → length (byte_cells a bs) ≡ length bs
 length-byte_cells a [] = refl
 length-byte_cells a (b ∷ bs) = ap suc (length-byte_cells (a + 1) bs)
 

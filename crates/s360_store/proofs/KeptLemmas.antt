@@ -53,35 +53,40 @@ pub after_exchange-push : (m : Core) (cs : List Cell) (c : Cell) → after_excha
 after_exchange-push m [] c = refl
 after_exchange-push m (d ∷ cs) c = after_exchange-push (with_value m d.place d.value) cs c
 
+-- a cell more that alters nothing, and one that alters its place
+pub AreKept-same : (m : Core) (plan kept : List Cell) (c : Cell) → AreKept m plan kept → IsFresh c.place plan → value_at m c.place ≡ c.value → AreKept m (plan ++ c ∷ []) kept
+AreKept-same m plan kept c k fresh v =
+    let same : with_value (after_exchange m plan) c.place c.value ≡ after_exchange m plan
+    = sym (after_exchange-with_value m plan c.place c.value fresh)
+    ∙ ap (λ w. after_exchange (with_value m c.place w) plan) (sym v)
+    ∙ ap (λ n. after_exchange n plan) (with_value-same_value m c.place)
+    in record {
+      cells = k.cells;
+      makes = k.makes ∙ sym (after_exchange-push m plan c ∙ same);
+      among = λ p f. k.among p (IsFresh-front plan c p f);
+      alter = k.alter;
+    }
+
+pub AreKept-other : (m : Core) (plan kept : List Cell) (c : Cell) → AreKept m plan kept → IsCellOf m plan c → value_at m c.place ≢ c.value → AreKept m (plan ++ c ∷ []) (kept ++ c ∷ [])
+AreKept-other m plan kept c k at v = record {
+  cells = AreCellsOf-push m kept c k.cells at.inside at.fits (k.among c.place at.fresh);
+  makes = after_exchange-push m kept c ∙ ap (λ n. with_value n c.place c.value) k.makes ∙ sym (after_exchange-push m plan c);
+  among = λ p g. IsFresh-push kept c p (IsFresh-last plan c p g) (k.among p (IsFresh-front plan c p g));
+  alter = AllDiffer-push m kept c k.alter v;
+}
+
+plan-more : (plan : List Cell) (i : ℕ) (c : Cell) → c ≡ get_or plan i c → i < length plan → take (i + 1) plan ≡ take i plan ++ c ∷ []
+plan-more plan i c e l = take_more plan i c l ∙ ap (λ (x : Cell). take i plan ++ x ∷ []) (sym e)
+
 pub AreKept-skip : (m : Core) (plan kept : List Cell) (i : ℕ) (c : Cell) → c ≡ get_or plan i c → i < length plan → AreCellsOf m plan → AreKept m (take i plan) kept
     → value_at m c.place ≡ c.value → AreKept m (take (i + 1) plan) kept
 AreKept-skip m plan kept i c e l h k v =
-    let at : IsCellOf m (take i plan) c = IsCellOf-cell m plan i c e l h
-    in let more : take (i + 1) plan ≡ take i plan ++ c ∷ [] = take_more plan i c l ∙ ap (λ (x : Cell). take i plan ++ x ∷ []) (sym e)
-    in let same : with_value (after_exchange m (take i plan)) c.place c.value ≡ after_exchange m (take i plan)
-    = sym (after_exchange-with_value m (take i plan) c.place c.value at.fresh)
-    ∙ ap (λ w. after_exchange (with_value m c.place w) (take i plan)) (sym v)
-    ∙ ap (λ n. after_exchange n (take i plan)) (with_value-same_value m c.place)
-    in record {
-      cells = k.cells;
-      makes = rw more (k.makes ∙ sym (after_exchange-push m (take i plan) c ∙ same));
-      among = λ p f. k.among p (IsFresh-front (take i plan) c p (rw more at f));
-      alter = k.alter;
-    }
+    rw (plan-more plan i c e l) (AreKept-same m (take i plan) kept c k (IsCellOf-cell m plan i c e l h).fresh v)
 
 pub AreKept-push : (m : Core) (plan kept : List Cell) (i : ℕ) (c : Cell) → c ≡ get_or plan i c → i < length plan → AreCellsOf m plan → AreKept m (take i plan) kept
     → value_at m c.place ≢ c.value → AreKept m (take (i + 1) plan) (kept ++ c ∷ [])
 AreKept-push m plan kept i c e l h k v =
-    let at : IsCellOf m (take i plan) c = IsCellOf-cell m plan i c e l h
-    in let fresh : IsFresh c.place kept = k.among c.place at.fresh
-    in let more : take (i + 1) plan ≡ take i plan ++ c ∷ [] = take_more plan i c l ∙ ap (λ (x : Cell). take i plan ++ x ∷ []) (sym e)
-    in record {
-      cells = AreCellsOf-push m kept c k.cells at.inside at.fits fresh;
-      makes = rw more (after_exchange-push m kept c ∙ ap (λ n. with_value n c.place c.value) k.makes ∙ sym (after_exchange-push m (take i plan) c));
-      among = λ p g. let both : IsFresh p (take i plan ++ c ∷ []) = rw more at g
-          in IsFresh-push kept c p (IsFresh-last (take i plan) c p both) (k.among p (IsFresh-front (take i plan) c p both));
-      alter = AllDiffer-push m kept c k.alter v;
-    }
+    rw (plan-more plan i c e l) (AreKept-other m (take i plan) kept c k (IsCellOf-cell m plan i c e l h) v)
 
 -- the cell that a plan answers at an index
 pub cell-at : (cs : List Cell) (i : ℕ) (c : Cell) → slice_get cs i ≡ Some c → c ≡ get_or cs i c

@@ -11,3 +11,4 @@ pub mod KeptLemmas
 pub mod SortLemmas
 pub mod PutLemmas
 pub mod ByteCellLemmas
+pub mod RunLemmas

@@ -1,11 +1,11 @@
 //! Main storage: its bytes, with numbers high byte first, and the storage keys of its blocks.
 //! A contract sees the record of both. Source: GA22-6821, "System Structure".
-ghost use Rattle.std.specs.Prelude.{◌≡◌, ◌<◌, ◌≤◌, ◌+◌, length, slice_index, Err, IfOk, IsOkUnless};
+ghost use Rattle.std.specs.Prelude.{◌≡◌, ◌<◌, ◌≤◌, ◌+◌, ℕ, length, slice_index, Err, IfOk, IsOkUnless};
 ghost use Rattle.std.specs.Prelude.{◌/◌, ◌%◌, nat_eq};
 ghost use Rattle.std.specs.Bool.{MatchBool};
 ghost use Rattle.std.specs.List.{list_all, slice_range};
 ghost use Rattle.s360_model.specs.Storage.{is_storage_size, zero_storage, halfword_at, word_at};
-ghost use Rattle.s360_model.specs.Storage.{doubleword_at, block_size};
+ghost use Rattle.s360_model.specs.Storage.{doubleword_at, block_size, with_run};
 ghost use Rattle.s360_store.specs.Places.{IsStoragePlace, storage_value, with_storage_value, Fits};
 ghost use Rattle.s360_store.specs.Protection.{access, is_allowed};
 ghost use Rattle.s360_store.specs.declared.fault.StoreFault.TheVariants.{Size, Memory};
@@ -188,5 +188,18 @@ impl Storage {
             }
             _ => unreachable!(),
         }
+    }
+
+    /// Exchanges bytes with those from an address on. All others stay. Done again, it restores both.
+    pub fn swap_run(&mut self, at: u32, bytes: &mut [u8])
+        requires inside { at + length bytes.old ≤ length self.old.bytes }
+        ensures storage { self.new ≡ record self.old { bytes = with_run self.old.bytes at bytes.old } }
+        ensures bytes { bytes.new ≡ slice_range self.old.bytes at (at + length bytes.old) }
+        ensures restores_storage { with_run self.new.bytes at bytes.new ≡ self.old.bytes }
+        ensures restores_bytes { slice_range self.new.bytes at (at + length bytes.new) ≡ bytes.old }
+        ensures fit { (i : ℕ) → i < length bytes.new → slice_index bytes.new i < 256 }
+    {
+        let start = at as usize;
+        self.bytes[start..start + bytes.len()].swap_with_slice(bytes);
     }
 }

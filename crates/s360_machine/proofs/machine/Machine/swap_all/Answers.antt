@@ -1,51 +1,42 @@
-use Rattle.std.proofs.Common.{◌≡◌, drop, length, ap, ◌∙◌, refl, sym, subst}
-use Rattle.std.proofs.lemmas.List.{take_at}
+use Rattle.std.proofs.Common.{◌≡◌, ap, ◌∙◌, sym, subst}
+use Rattle.s360_store.specs.Cells.{AllFit}
+use Rattle.s360_machine.specs.Altered.{change_of}
 use Rattle.s360_machine.specs.Machine.{Whole, WithRoom}
 use Rattle.s360_machine.specs.Media.{media_of}
 use Rattle.s360_machine.specs.Change.{Change, CanSwap, NeedsNoRoom, after_swap, change_after_swap}
-use Rattle.s360_machine.specs.ControlCells.{control_cells}
-use Rattle.s360_machine.specs.IoChanges.{media_change_of, unit_change_of}
-use Rattle.s360_machine.proofs.SwapLemmas.{IsSwap, IsSwap-from}
+use Rattle.s360_machine.proofs.SwapLemmas.{IsSwap, IsSwap-from, cells-of-change, exchanged-change, exchanged-whole}
 use Rattle.s360_machine.proofs.machine.Machine.swap_all.Goals as goal
-use Rattle.s360_machine.proofs.machine.Machine.swap_all.Goals.{After-exchange_io}
+use Rattle.s360_machine.proofs.machine.Machine.swap_all.Goals.{After-exchange_beside}
 
-abbrev whole_before : After-exchange_io → Whole
+abbrev whole_before : After-exchange_beside → Whole
 whole_before c = record { core = c.self.inside.core; control = c.self.inside.control; units = c.self.inside.units; media = media_of c.self.inside.devices }
 
-abbrev whole_after : After-exchange_io → Whole
-whole_after c = record { core = c.exchange.new.self; control = c.exchange-2.new.self; units = c.exchange_io.new.units; media = media_of c.exchange_io.new.devices }
+abbrev whole_after : After-exchange_beside → Whole
+whole_after c = record { core = c.exchange_altered.new.self; control = c.exchange_beside.new.control; units = c.exchange_beside.new.units; media = media_of c.exchange_beside.new.devices }
 
-abbrev change_before : After-exchange_io → Change
-change_before c = record {
-  cells = c.changes.inside.cells.items;
-  control = control_cells c.changes.inside.control;
-  units = unit_change_of c.changes.inside.io;
-  media = media_change_of c.changes.inside.io;
-}
+abbrev change_before : After-exchange_beside → Change
+change_before c = change_of c.changes.inside.altered
 
-abbrev change_after : After-exchange_io → Change
-change_after c = record {
-  cells = c.exchange.new.cells;
-  control = control_cells c.exchange-2.new.change;
-  units = unit_change_of c.exchange_io.new.io;
-  media = media_change_of c.exchange_io.new.io;
-}
+abbrev change_after : After-exchange_beside → Change
+change_after c = change_of c.exchange_beside.new.altered
 
-change_is : (c : After-exchange_io) → change_after c ≡ change_after_swap (whole_before c) (change_before c)
+change_is : (c : After-exchange_beside) → change_after c ≡ change_after_swap (whole_before c) (change_before c)
 change_is c =
-    let cells = rw c.as_mut_slice.ensures.value at c.exchange.ensures.cells
-    in rw (cells, c.exchange-2.ensures.cells, c.exchange_io.ensures.unit_change, c.exchange_io.ensures.media_change) refl
+    exchanged-change (whole_before c) c.changes.inside.altered c.exchange_altered.new.altered c.exchange_beside.new.altered c.exchange_altered.ensures.beside
+    c.exchange_altered.ensures.cells c.exchange_beside.ensures.cells c.exchange_beside.ensures.control_cells c.exchange_beside.ensures.unit_change c.exchange_beside.ensures.media_change
 
-whole_is : (c : After-exchange_io) → whole_after c ≡ after_swap (whole_before c) (change_before c)
+whole_is : (c : After-exchange_beside) → whole_after c ≡ after_swap (whole_before c) (change_before c)
 whole_is c =
-    let core = rw c.as_mut_slice.ensures.value at c.exchange.ensures.core
-    in rw (core, c.exchange-2.ensures.control, c.exchange_io.ensures.units, c.exchange_io.ensures.media) refl
+    exchanged-whole (whole_before c) (whole_after c) c.changes.inside.altered c.exchange_altered.new.altered c.exchange_altered.ensures.beside
+    c.exchange_altered.ensures.core c.exchange_beside.ensures.control c.exchange_beside.ensures.units c.exchange_beside.ensures.media
 
-exchanged : (c : After-exchange_io) → IsSwap (whole_before c) (change_before c) (whole_after c) (change_after c)
+exchanged : (c : After-exchange_beside) → IsSwap (whole_before c) (change_before c) (whole_after c) (change_after c)
 exchanged c =
     let can : CanSwap (whole_before c) (change_before c)
     = subst (λ (y : Change). CanSwap (whole_before c) y) (sym c.changes.view_is) (subst (λ (n : WithRoom). CanSwap n.whole c.args.changes.now) (sym c.self.view_is) c.requires.can)
-    in IsSwap-from (whole_before c) (change_before c) (whole_after c) (change_after c) can (whole_is c) (change_is c) c.exchange.ensures.fit
+    in let fit : AllFit (change_after c).cells
+    = rw (cells-of-change c.exchange_beside.new.altered, c.exchange_beside.ensures.cells) c.exchange_altered.ensures.fit
+    in IsSwap-from (whole_before c) (change_before c) (whole_after c) (change_after c) can (whole_is c) (change_is c) fit
 
 pub returns-clause-machine : goal.returns-clause-machine
 returns-clause-machine c =
@@ -55,16 +46,12 @@ returns-clause-machine c =
 
 pub returns-clause-changes : goal.returns-clause-changes
 returns-clause-changes c =
-    let count : length c.exchange.new.cells ≡ length c.changes.inside.cells.items = cc
-    in rw (take_at c.exchange.new.cells (drop (length c.exchange.new.cells) c.changes.inside.cells.items) (length c.changes.inside.cells.items) count)
-    (change_is c
+    change_is c
     ∙ ap (λ (m : WithRoom). change_after_swap m.whole (change_before c)) c.self.view_is
-    ∙ ap (λ (y : Change). change_after_swap c.args.self.now.whole y) c.changes.view_is)
+    ∙ ap (λ (y : Change). change_after_swap c.args.self.now.whole y) c.changes.view_is
 
 pub returns-clause-again : goal.returns-clause-again
-returns-clause-again c =
-    let count : length c.exchange.new.cells ≡ length c.changes.inside.cells.items = cc
-    in rw (take_at c.exchange.new.cells (drop (length c.exchange.new.cells) c.changes.inside.cells.items) (length c.changes.inside.cells.items) count) (exchanged c).again
+returns-clause-again c = (exchanged c).again
 
 pub returns-clause-no_room : goal.returns-clause-no_room
 returns-clause-no_room c =
@@ -73,11 +60,7 @@ returns-clause-no_room c =
     in subst NeedsNoRoom (sym (change_is c)) back
 
 pub returns-clause-restores_machine : goal.returns-clause-restores_machine
-returns-clause-restores_machine c =
-    let count : length c.exchange.new.cells ≡ length c.changes.inside.cells.items = cc
-    in rw (take_at c.exchange.new.cells (drop (length c.exchange.new.cells) c.changes.inside.cells.items) (length c.changes.inside.cells.items) count) ((exchanged c).whole ∙ ap (λ (m : WithRoom). m.whole) c.self.view_is)
+returns-clause-restores_machine c = (exchanged c).whole ∙ ap (λ (m : WithRoom). m.whole) c.self.view_is
 
 pub returns-clause-restores_changes : goal.returns-clause-restores_changes
-returns-clause-restores_changes c =
-    let count : length c.exchange.new.cells ≡ length c.changes.inside.cells.items = cc
-    in rw (take_at c.exchange.new.cells (drop (length c.exchange.new.cells) c.changes.inside.cells.items) (length c.changes.inside.cells.items) count) ((exchanged c).change ∙ c.changes.view_is)
+returns-clause-restores_changes c = (exchanged c).change ∙ c.changes.view_is

@@ -1,0 +1,131 @@
+//! What an instruction makes of the core that it works on, as a value that takes no memory. Its
+//! plan is the puts of the value. Source: GA22-6821, "Fixed-Point Arithmetic", "Logical Operations"
+//! and "Branching".
+ghost use Rattle.std.specs.Prelude.{◌≡◌, ◌≤◌, ◌*◌, [], IfOk, length};
+ghost use Rattle.s360_model.specs.Core.{core_with_bytes};
+ghost use Rattle.s360_store.specs.Plans.{HasBytes};
+ghost use Rattle.s360_fixed.specs.Made.{IsWithin, outcome_of_made};
+ghost use Rattle.s360_fixed.specs.Plans.{PlansOutcome};
+ghost use Rattle.s360_fixed.specs.Storing.{completed, with_registers_loaded, with_registers_stored};
+
+use crate::effect::Effect;
+use crate::ended::Ended;
+use crate::program_code::ProgramCode;
+use crate::puts::{put_next_psw, put_registers, put_words};
+use crate::view::View;
+use arrayvec::ArrayVec;
+use s360_store::{GREATEST_SIZE, Plan};
+use s360_word::RegisterNumber;
+use std::alloc::AllocError;
+
+/// Registers from R1 on, 15 followed by 0, and the address of as many successive words.
+#[derive(Clone, Copy, Debug, PartialEq, Eq)]
+pub struct RegisterWords {
+    /// The first register.
+    pub r1: RegisterNumber,
+    /// The number of registers, 1 to 16.
+    pub count: u8,
+    /// The address of the first word.
+    pub address: u32,
+}
+
+/// What an instruction makes of the core that it works on.
+#[derive(Debug, Drop)]
+pub enum Made {
+    /// Nothing. A program interruption with this code follows.
+    Refused(ProgramCode),
+    /// What becomes of R1, of the register after it and of the condition code. The instruction at
+    /// an address comes next.
+    Effect {
+        r1: RegisterNumber,
+        effect: Effect,
+        next_address: u32,
+    },
+    /// Bytes from an address on, at most a doubleword.
+    Bytes {
+        address: u32,
+        bytes: ArrayVec<u8, 8>,
+    },
+    /// The registers at the words.
+    Stored(RegisterWords),
+    /// The words in the registers.
+    Loaded(RegisterWords),
+}
+
+/// Plans bytes from an address on, after which the next instruction comes.
+fn plan_bytes(view: &View, address: u32, bytes: &[u8], plan: &mut Plan) -> Result<Ended, AllocError>
+    requires inside { HasBytes address (length bytes.now) view.now.core }
+    requires few { length bytes.now ≤ 8 }
+    requires empty { plan.old ≡ [] }
+    ensures { IfOk result (PlansOutcome view.now.core plan.new (completed view.now (core_with_bytes address bytes.now view.now.core))) }
+{
+    // So no address of the run passes 32 bits.
+    prove!(view.storage().size() <= GREATEST_SIZE);
+    put_next_psw(view, plan)?;
+    plan.put_bytes(address, bytes)?;
+    Ok(Ended::Done)
+}
+
+/// Plans registers at successive words, after which the next instruction comes.
+fn plan_stored(view: &View, words: RegisterWords, plan: &mut Plan) -> Result<Ended, AllocError>
+    requires inside { HasBytes words.address (4 * words.count) view.now.core }
+    requires count { words.count ≤ 16 }
+    requires empty { plan.old ≡ [] }
+    ensures { IfOk result (PlansOutcome view.now.core plan.new (completed view.now (with_registers_stored view.now.core.registers words.r1 words.address words.count view.now.core))) }
+{
+    put_next_psw(view, plan)?;
+    put_words(view, words.r1, words.count, words.address, plan)?;
+    Ok(Ended::Done)
+}
+
+/// Plans successive words in registers, after which the next instruction comes.
+fn plan_loaded(view: &View, words: RegisterWords, plan: &mut Plan) -> Result<Ended, AllocError>
+    requires inside { HasBytes words.address (4 * words.count) view.now.core }
+    requires count { words.count ≤ 16 }
+    requires empty { plan.old ≡ [] }
+    ensures { IfOk result (PlansOutcome view.now.core plan.new (completed view.now (with_registers_loaded view.now.core.storage.bytes words.r1 words.address words.count view.now.core))) }
+{
+    // Looked at, since its clauses have that there are sixteen registers.
+    let _ = view.register(words.r1);
+    put_next_psw(view, plan)?;
+    put_registers(view, words.r1, words.count, words.address, plan)?;
+    Ok(Ended::Done)
+}
+
+impl Made {
+    ghost use Rattle.std.specs.Prelude.{◌≡◌, OnSome, ◌+◌, ◌<◌};
+    ghost use Rattle.s360_fixed.specs.Outcomes.{after_effect};
+
+    /// An effect, after which the next instruction comes.
+    pub(crate) fn effect(view: &View, r1: RegisterNumber, effect: Effect) -> Made
+        requires pair { OnSome effect.second (r1 + 1 < 16) }
+        ensures outcome { outcome_of_made view.now result ≡ after_effect view.now.core r1 effect view.now.next_address }
+        ensures within { IsWithin view.now.core result }
+    {
+        Made::Effect {
+            r1,
+            effect,
+            next_address: view.next_address(),
+        }
+    }
+
+    /// Plans it: how the instruction ends, and the values that it puts. Where memory is wanting, the
+    /// plan is to be dropped.
+    pub fn plan(&self, view: &View, plan: &mut Plan) -> Result<Ended, AllocError>
+        requires within { IsWithin view.now.core self.now }
+        requires empty { plan.old ≡ [] }
+        ensures { IfOk result (PlansOutcome view.now.core plan.new (outcome_of_made view.now self.now)) }
+    {
+        match self {
+            Made::Refused(code) => Ok(Ended::Program(*code)),
+            Made::Effect {
+                r1,
+                effect,
+                next_address,
+            } => effect.plan(view, *r1, *next_address, plan),
+            Made::Bytes { address, bytes } => plan_bytes(view, *address, bytes.as_slice(), plan),
+            Made::Stored(words) => plan_stored(view, *words, plan),
+            Made::Loaded(words) => plan_loaded(view, *words, plan),
+        }
+    }
+}

@@ -1,0 +1,12 @@
+use Rattle.s360_store.specs.declared.place.Place.TheVariants.{Psw}
+use Rattle.s360_store.proofs.ExchangeLemmas.{AreCellsOf-kept}
+use Rattle.s360_store.specs.PlanParts.{byte_cells}
+use Rattle.s360_machine.proofs.core_state.Core.exchange_altered.Goals as goal
+
+pub exchange_run-requires-clause-can : goal.exchange_run-requires-clause-can
+exchange_run-requires-clause-can c =
+    let can = rw c.in-Bytes.is at c.requires.can
+    in rw c.exchange_psw-in-Bytes.ensures.core (AreCellsOf-kept c.args.self.now (byte_cells c.in-Bytes.address c.in-Bytes.run') Psw c.in-Bytes.psw can.3)
+
+pub returns-in-Register-clause-fit : goal.returns-in-Register-clause-fit
+returns-in-Register-clause-fit c = (c.exchange_psw-in-Register.ensures.current, (c.exchange_register.ensures.fits, tt))

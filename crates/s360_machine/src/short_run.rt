@@ -1,0 +1,68 @@
+//! A run of few bytes, which takes no memory.
+ghost use Rattle.std.specs.Prelude.{◌≡◌, ◌<◌, ◌≤◌, ◌+◌, ◌++◌, [], ◌∷◌, length};
+ghost use Rattle.std.specs.List.{slice_range};
+ghost use Rattle.s360_model.specs.Storage.{with_run};
+ghost use Rattle.s360_store.specs.Cells.{AllFit};
+ghost use Rattle.s360_store.specs.PlanParts.{byte_cells};
+
+use s360_store::Storage;
+use std::marker::Model;
+
+/// At most so many bytes stand in a short run.
+pub(crate) const SHORT: usize = 8;
+
+/// At most eight bytes, which a contract sees as their list.
+#[derive(Debug, Drop)]
+pub(crate) struct ShortRun {
+    count: u8,
+    bytes: [u8; SHORT],
+}
+
+impl Model for ShortRun {
+    ghost use Rattle.std.specs.Prelude.{◌≡◌, ◌≤◌, ℕ, List, length, take};
+
+    ghost Value = { List ℕ };
+
+    ghost view = { λ r. take r.count r.bytes };
+
+    ghost invariant = { λ r. (r.count ≤ 8) × (length r.bytes ≡ 8) };
+}
+
+impl ShortRun {
+    /// No byte.
+    pub(crate) fn new() -> ShortRun
+        ensures { result ≡ [] }
+    {
+        ShortRun {
+            count: 0,
+            bytes: [0; SHORT],
+        }
+    }
+
+    /// The number of bytes.
+    pub(crate) fn len(&self) -> usize
+        ensures len { result ≡ length self.now }
+        ensures few { result ≤ 8 }
+    {
+        usize::from(self.count)
+    }
+
+    /// Adds a byte.
+    pub(crate) fn push(&mut self, byte: u8)
+        requires room { length self.old < 8 }
+        ensures { self.new ≡ self.old ++ byte ∷ [] }
+    {
+        self.bytes[usize::from(self.count)] = byte;
+        self.count += 1;
+    }
+
+    /// Exchanges the bytes with those of storage from an address on.
+    pub(crate) fn exchange(&mut self, storage: &mut Storage, at: u32)
+        requires inside { at + length self.old ≤ length storage.old.bytes }
+        ensures storage { storage.new ≡ record storage.old { bytes = with_run storage.old.bytes at self.old } }
+        ensures bytes { self.new ≡ slice_range storage.old.bytes at (at + length self.old) }
+        ensures fit { AllFit (byte_cells at self.new) }
+    {
+        storage.swap_run(at, &mut self.bytes[..usize::from(self.count)]);
+    }
+}
