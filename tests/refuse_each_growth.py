@@ -30,6 +30,8 @@ STRIDE = 101
 MOST_GROWTHS = {
     "s360_rows_tests plans::rising_puts": 60,
     "s360_rows_tests plans::rising_puts_but_for_the_last": 60,
+    "s360_rows_tests plans::falling_puts": 60,
+    "s360_rows_tests plans::mixed_puts": 60,
 }
 
 

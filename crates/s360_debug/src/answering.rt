@@ -15,15 +15,14 @@ ghost use Rattle.s360_debug.specs.Answers.{place_names, fault_text, changed_afte
 
 use crate::open_line::OpenLine;
 use crate::running::answer_run;
-use s360_journal::{Breaks, Report, Session};
+use s360_journal::{Breaks, Places, Report, Session};
 use s360_language::{Command, LineFault, push_event, push_place, refusal_text, text_of_shown};
 use s360_machine::{Event, Refusal};
-use s360_store::Place;
 use s360_text::Text;
 use std::alloc::{AllocError, Global};
 
 /// So many places of a report are named.
-const NAMED: usize = 8;
+const NAMED: u32 = 8;
 
 /// Carries a command out, and answers its text. After want of memory some first ones of the events stand
 /// that it would have run, and a command that offers none leaves all as it was.
@@ -79,32 +78,35 @@ fn report_text(alloc: Global, number: u32, report: &Report) -> Result<Text, Allo
     text.push_decimal(u64::from(number))?;
     match report {
         Report::Idle => text.push_text(" idle")?,
-        Report::Changed(places) => push_changed(&mut text, places.as_slice())?,
+        Report::Changed(places) => push_changed(&mut text, places)?,
     }
     text.push_text("\n")?;
     Ok(text)
 }
 
 /// Adds the number of places that were changed, and the names of the first of them.
-fn push_changed(text: &mut Text, places: &[Place]) -> Result<(), AllocError>
+fn push_changed(text: &mut Text, places: &Places) -> Result<(), AllocError>
     ensures { OnOk result (text.new ≡ changed_after text.old places.now) }
 {
     text.push_text(" changed ")?;
-    text.push_decimal(places.len() as u64)?;
-    push_places(text, &places[..places.len().min(NAMED)])?;
+    text.push_decimal(u64::from(places.len()))?;
+    push_places(text, places, places.len().min(NAMED))?;
     if places.len() > NAMED {
         text.push_text(" ..")?;
     }
     Ok(())
 }
 
-/// Adds the names of places, each after a blank.
-fn push_places(text: &mut Text, places: &[Place]) -> Result<(), AllocError>
-    ensures { OnOk result (text.new ≡ text.old ++ place_names places.now) }
+/// Adds the names of the first places, so many, each after a blank.
+fn push_places(text: &mut Text, places: &Places, count: u32) -> Result<(), AllocError>
+    ensures { OnOk result (text.new ≡ text.old ++ place_names (take count places.now)) }
 {
-    for place in places {
+    for i in 0..count {
+        let Some(place) = places.get(i) else {
+            return Ok(());
+        };
         text.push_text(" ")?;
-        push_place(text, *place)?;
+        push_place(text, place)?;
     }
     Ok(())
 }

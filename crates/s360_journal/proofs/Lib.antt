@@ -6,3 +6,4 @@ pub mod ForwardLemmas
 pub mod RunLemmas
 pub mod LawLemmas
 pub mod RunningLemmas
+pub mod SpanLemmas

@@ -1,77 +1,90 @@
 //! The places of a report.
 //!
-//! Up to eight stand within the value, so that the report of a plain instruction takes no memory.
-ghost use Rattle.std.specs.Prelude.{◌≡◌, IfOk};
+//! They stand as spans, so that a report of many bytes in one run is as short as that of one. A few
+//! spans stand within the value, so that the report of a plain instruction takes no memory.
+ghost use Rattle.std.specs.Prelude.{◌≡◌, ◌↔◌, [], length, slice_get, IfOk, IsTrue};
 ghost use Rattle.s360_machine.specs.Change.{places_of_change};
+ghost use Rattle.s360_journal.specs.Places.{AreSpans, places_of_spans};
 
-use arrayvec::ArrayVec;
-use s360_machine::Changes;
+use s360_machine::{Changes, Span};
 use s360_store::Place;
+use smallvec::SmallVec;
 use std::alloc::{AllocError, Global};
 use std::marker::Model;
 
-/// So many places stand within a report.
-const WITHIN: usize = 8;
-
-/// Where places stand.
-#[derive(Debug, Drop)]
-pub(crate) enum Items {
-    /// Within the value, which takes no memory.
-    Few(ArrayVec<Place, WITHIN>),
-    /// In a vector.
-    Many(Vec<Place>),
-}
+/// So many spans stand within a report.
+const WITHIN: usize = 4;
 
 /// Places in their order, each once, which a contract sees as a list.
 #[derive(Debug, Drop)]
 pub struct Places {
-    items: Items,
+    spans: SmallVec<Span, WITHIN>,
+    /// The number of places.
+    count: u32,
 }
 
 impl Model for Places {
     ghost use Rattle.std.specs.Prelude.{List};
     ghost use Rattle.s360_store.specs.declared.place.Place.{Place};
-    ghost use Rattle.s360_journal.specs.Places.{items_of};
+    ghost use Rattle.s360_journal.specs.Places.{ArePlaces, places_of_spans};
 
     ghost Value = { List Place };
 
-    ghost view = { λ p. items_of p.items };
+    ghost view = { λ p. places_of_spans p.spans.items };
+
+    ghost invariant = { λ p. ArePlaces p.spans.items p.count };
+}
+
+/// The place at `i` of spans, counted from 0, if there are so many.
+fn place_at(spans: &[Span], i: u32) -> Option<Place>
+    requires { AreSpans spans.now }
+    ensures { result ≡ slice_get (places_of_spans spans.now) i }
+{
+    let mut left = i;
+    for span in spans {
+        if left < span.len() {
+            return Some(span.place(left));
+        }
+        left -= span.len();
+    }
+    None
 }
 
 impl Places {
-    /// The places of a vector. It takes no memory.
-    pub fn new(items: Vec<Place>) -> Places
-        ensures { result ≡ items.items }
-    {
-        Places {
-            items: Items::Many(items),
-        }
-    }
-
-    /// The places of a change. Up to eight take no memory.
+    /// The places of a change.
     #[inline(always)]
     pub(crate) fn of_change(alloc: Global, changes: &Changes) -> Result<Places, AllocError>
         ensures { IfOk result (λ places. places ≡ places_of_change changes.now) }
     {
-        if changes.len() as usize > WITHIN {
-            return Ok(Places::new(changes.places(alloc)?));
+        let count = changes.len();
+        let mut spans = SmallVec::new(alloc);
+        let mut i = 0;
+        while i < count {
+            let span = changes.span_at(i);
+            spans.push(span)?;
+            i += span.len();
         }
-        let mut few = ArrayVec::new();
-        for i in 0..changes.len() {
-            few.push(changes.place(i));
-        }
-        Ok(Places {
-            items: Items::Few(few),
-        })
+        Ok(Places { spans, count })
     }
 
-    /// The places.
-    pub fn as_slice(&self) -> &[Place]
-        ensures { result.now ≡ self.now }
+    /// The number of places.
+    pub fn len(&self) -> u32
+        ensures { result ≡ length self.now }
     {
-        match &self.items {
-            Items::Few(few) => few.as_slice(),
-            Items::Many(many) => many.as_slice(),
-        }
+        self.count
+    }
+
+    /// Whether there is none.
+    pub fn is_empty(&self) -> bool
+        ensures { IsTrue result ↔ (self.now ≡ []) }
+    {
+        self.count == 0
+    }
+
+    /// The place at `i`, counted from 0, if there are so many.
+    pub fn get(&self, i: u32) -> Option<Place>
+        ensures { result ≡ slice_get self.now i }
+    {
+        place_at(&self.spans, i)
     }
 }

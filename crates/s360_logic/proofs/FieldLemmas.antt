@@ -1,6 +1,6 @@
 -- Storage while bytes of an operand are stored, and what is planned of it.
-use Rattle.std.proofs.Common.{◌≡◌, ◌<◌, ◌≤◌, ◌+◌, ◌-◌, ◌++◌, ℕ, suc, List, [], length, take, drop, set, arith, refl, None, ap, sym, slice_set, nat_eq, ◌∙◌, true, rules}
-use Rattle.std.proofs.lemmas.List.{places, same_lists, length-append, length-set, length-take-le, set-append_left, set-append_right}
+use Rattle.std.proofs.Common.{◌^◌, ◌≡◌, ◌≢◌, ◌⊎◌, inl, inr, get_or, ◌<◌, ◌≤◌, ◌+◌, ◌-◌, ◌++◌, ℕ, suc, List, [], length, take, drop, set, arith, refl, None, ap, sym, slice_set, nat_eq, ◌∙◌, true, rules}
+use Rattle.std.proofs.lemmas.List.{get_or-drop, get_or-set_other, get_or-take, places, same_lists, length-append, length-set, length-take-le, set-append_left, set-append_right}
 use Rattle.s360_model.specs.Storage.{Storage, with_run}
 use Rattle.s360_model.specs.Core.{Core, core_with_bytes}
 use Rattle.s360_store.specs.declared.place.Cell.{Cell}
@@ -12,8 +12,8 @@ use Rattle.s360_fixed.specs.Plans.{PlansOutcome}
 use Rattle.s360_fixed.specs.Settings.{ended_with}
 use Rattle.s360_fixed.specs.View.{View}
 use Rattle.s360_logic.specs.Bytes.{completed_with, byte_at, operand_bytes, with_byte}
-use Rattle.s360_logic.specs.Operands.{FirstOperand, first_operand, stored_in}
-use Rattle.s360_logic.specs.LeftToRight.{comparison_code, left_to_right}
+use Rattle.s360_logic.specs.Operands.{FirstOperand, IsApart, IsBeside, first_operand, stored_in}
+use Rattle.s360_logic.specs.LeftToRight.{comparison_code, function_address, left_to_right}
 
 nat_eq-same : (n : ℕ) → nat_eq n n ≡ true
 nat_eq-same n = search rules
@@ -73,3 +73,35 @@ PlansOutcome-stored v q r s o setting e sixteen same inside l u w =
       makes = rw same (w.makes v.core (psw v.core) here (first.makes v.core v.core sixteen (IsPlanOf-none v.core)));
       few = let x : length r ≤ 3 = first.few in let y : length s ≤ length r + length o.bytes = w.few in omega arith;
     }
+
+-- a byte of an operand of which nothing is stored
+pub operand_bytes-at : (s : Storage) (a n i : ℕ) → i < n → get_or (operand_bytes s a n) i 0 ≡ byte_at s (a + i)
+operand_bytes-at s a n i l =
+    let same : a + n - a ≡ n = omega arith
+    in rw same (get_or-take n (drop a s.bytes) i 0 l ∙ get_or-drop a s.bytes i 0)
+
+-- each other byte stays
+pub stored_in-other : (o : FirstOperand) (i b x : ℕ) → i < length o.bytes → o.address + length o.bytes ≤ length o.storage.bytes → x ≢ o.address + i
+    → byte_at (stored_in (record o { bytes = slice_set o.bytes i b })) x ≡ byte_at (stored_in o) x
+stored_in-other o i b x h l n = ap (λ (s : Storage). byte_at s x) (stored_in-set o i b h l) ∙ get_or-set_other (stored_in o).bytes (o.address + i) x b 0 n
+
+-- a byte apart is one that is stored later, or none of the operand's
+pub apart-at : (o : FirstOperand) (a i : ℕ) → i < length o.bytes → IsApart o a → (a + i < o.address) ⊎ (o.address + i ≤ a + i)
+apart-at o a i l (inl h) = inr (omega (arith, h))
+apart-at o a i l (inr h) = inl (omega (arith, h, l))
+
+-- bytes that come later than the one that is stored
+pub not-at : (a i x : ℕ) → (x < a) ⊎ (a + (i + 1) ≤ x) → x ≢ a + i
+not-at a i x (inl l) e = omega (arith, l, e)
+not-at a i x (inr l) e = omega (arith, l, e)
+
+pub still-later : (a i x : ℕ) → (x < a) ⊎ (a + (i + 1) ≤ x) → (x < a) ⊎ (a + i ≤ x)
+still-later a i x (inl l) = inl l
+still-later a i x (inr l) = inr (omega (arith, l))
+
+-- a byte of a table beside the operand
+pub beside-at : (o : FirstOperand) (table i v : ℕ) → i < length o.bytes → v < 256 → IsBeside o table 256 → (table + v < o.address) ⊎ (o.address + i ≤ table + v)
+beside-at o table i v l m h = elim h.1 [ inl a ↦ inl (omega (arith, a, m)) | inr a ↦ inr (omega (arith, a, l)) ]
+
+pub function_address-low : (table v : ℕ) → table + v < 2 ^ 24 → function_address table v ≡ table + v
+function_address-low table v l = omega (arith, l)

@@ -1,5 +1,5 @@
 -- The instruction that was fetched.
-use Rattle.std.proofs.Common.{◌≡◌, ◌∙◌, ℕ, Bool, true, false, refl, List, Option, Some, None, IfSome, ap, sym}
+use Rattle.std.proofs.Common.{◌≡◌, ◌∙◌, ℕ, Bool, true, false, refl, List, Option, Some, None, IfSome, ap, sym, is_some}
 use Rattle.std.specs.Option.{option_map}
 use Rattle.s360_model.specs.Core.{Core}
 use Rattle.s360_model.specs.Psw.{instruction_address_of}
@@ -80,3 +80,8 @@ pub if-made : (f : Fetched) (form : Form) (result : Option Made) → IsFetched f
     → IfSome result (λ m. (instruction f.view.core).outcome ≡ outcome_of_made f.view m)
 if-made f form None h e s r = tt
 if-made f form (Some m) h e s r = made-outcome f form (outcome_of_made f.view m) h e s r
+
+-- an option that is none
+pub none_of_is_some : {X : Type 0} (o : Option X) → is_some o ≡ false → o ≡ None
+none_of_is_some None e = refl
+none_of_is_some (Some x) e = absurd (cc)

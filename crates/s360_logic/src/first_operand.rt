@@ -1,8 +1,8 @@
 //! Storage as an instruction has it so far, which stores into its first operand alone.
-ghost use Rattle.std.specs.Prelude.{◌≡◌, ◌<◌, ◌≤◌, ◌+◌, [], IfOk, length, slice_set};
+ghost use Rattle.std.specs.Prelude.{◌≡◌, ◌<◌, ◌≤◌, ◌+◌, ◌^◌, [], IfOk, IfSome, OnSome, length, slice_set};
 ghost use Rattle.s360_fixed.specs.Plans.{PlansOutcome};
 ghost use Rattle.s360_logic.specs.Bytes.{byte_at, completed_with, operand_bytes};
-ghost use Rattle.s360_logic.specs.Operands.{first_operand, stored_in};
+ghost use Rattle.s360_logic.specs.Operands.{IsApart, IsBeside, first_operand, stored_in};
 
 use crate::field::Field;
 use arrayvec::ArrayVec;
@@ -88,6 +88,42 @@ impl<'a> FirstOperand<'a> {
             Some(i) if (i as usize) < self.bytes.len() => self.bytes[i as usize],
             _ => self.storage.byte(address),
         }
+    }
+
+    /// Its byte at `i`, counted from 0 at the left.
+    pub(crate) fn own_byte(&self, i: u32) -> u8
+        requires inside { i < length self.now.bytes }
+        ensures { result ≡ byte_at (stored_in self.now) (self.now.address + i) }
+    {
+        self.bytes[i as usize]
+    }
+
+    /// As many bytes of storage from an address on as the operand has, if an instruction that stores the operand's
+    /// from left to right fetches each of them before it stores it.
+    pub(crate) fn bytes_apart(&self, address: u32) -> Option<&'a [u8]>
+        requires inside { address + length self.now.bytes ≤ length self.now.storage.bytes }
+        ensures apart { OnSome result (IsApart self.now address) }
+        ensures bytes { IfSome result (λ other. other.now ≡ operand_bytes self.now.storage address (length self.now.bytes)) }
+    {
+        let count = self.len();
+        if address < self.address && self.address < address + count {
+            return None;
+        }
+        Some(self.storage.bytes(address, count))
+    }
+
+    /// So many bytes of storage from an address on, if they are inside and none is one of the operand's.
+    pub(crate) fn bytes_beside(&self, address: u32, count: u32) -> Option<&'a [u8]>
+        requires few { count ≤ 256 }
+        requires low { address < 2 ^ 24 }
+        ensures beside { OnSome result (IsBeside self.now address count) }
+        ensures bytes { IfSome result (λ other. other.now ≡ operand_bytes self.now.storage address count) }
+    {
+        let (end, past) = (self.address + self.len(), address + count);
+        if past > self.storage.size() || (address < end && self.address < past) {
+            return None;
+        }
+        Some(self.storage.bytes(address, count))
     }
 
     /// Stores the byte at `i`, counted from 0 at the left.

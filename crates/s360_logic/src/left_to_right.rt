@@ -11,7 +11,8 @@ ghost use Rattle.s360_logic.specs.LeftToRight.{translate_and_test_outcome};
 ghost use Rattle.s360_logic.specs.LeftToRight.{translated_byte, translates_outside};
 ghost use Rattle.s360_logic.specs.LeftToRight.{with_address, with_low_byte};
 ghost use Rattle.s360_logic.specs.declared.left_to_right.Found.{Found};
-ghost use Rattle.s360_logic.specs.Operands.{stored_in};
+ghost use Rattle.s360_logic.specs.Bytes.{operand_bytes};
+ghost use Rattle.s360_logic.specs.Operands.{IsApart, IsBeside, stored_in};
 ghost use Rattle.s360_fixed.specs.declared.program_code.ProgramCode.TheVariants.{Addressing};
 
 use crate::condition::plan_code;
@@ -23,8 +24,12 @@ use s360_store::{Access, Checked, GREATEST_SIZE, Plan, Storage};
 use s360_word::{Cc, RegisterNumber, Word, compare_logical};
 use std::alloc::AllocError;
 
-/// Makes each byte of the operand of itself and of the byte with its number from `second` on.
-fn combine(combination: ByteCombination, operand: &mut FirstOperand, second: u32)
+/// So many function bytes has a table.
+const FUNCTIONS: u32 = 256;
+
+/// Makes each byte of the operand of itself and of the byte with its number from `second` on, as the
+/// bytes before it left that.
+fn combine_in_turn(combination: ByteCombination, operand: &mut FirstOperand, second: u32)
     requires inside { second + length operand.old.bytes ≤ length operand.old.storage.bytes }
     ensures stored { stored_in operand.new ≡ combined combination operand.old.address second (length operand.old.bytes) (stored_in operand.old) }
     ensures storage { operand.new.storage ≡ operand.old.storage }
@@ -35,6 +40,45 @@ fn combine(combination: ByteCombination, operand: &mut FirstOperand, second: u32
         let byte = operand.byte(operand.address() + i);
         let result = combination.of(byte, operand.byte(second + i));
         operand.set(i, result);
+    }
+}
+
+/// Makes each byte of the operand of itself and of the one with its number of bytes that stand from
+/// `second` on, none of which is stored before it is fetched.
+fn combine_apart(
+    combination: ByteCombination,
+    operand: &mut FirstOperand,
+    second: u32,
+    other: &[u8],
+)
+    requires inside { second + length operand.old.bytes ≤ length operand.old.storage.bytes }
+    requires apart { IsApart operand.old second }
+    requires other { other.now ≡ operand_bytes operand.old.storage second (length operand.old.bytes) }
+    requires unaltered { stored_in operand.old ≡ operand.old.storage }
+    ensures stored { stored_in operand.new ≡ combined combination operand.old.address second (length operand.old.bytes) (stored_in operand.old) }
+    ensures storage { operand.new.storage ≡ operand.old.storage }
+    ensures address { operand.new.address ≡ operand.old.address }
+    ensures count { length operand.new.bytes ≡ length operand.old.bytes }
+{
+    for i in 0..operand.len() {
+        let result = combination.of(operand.own_byte(i), other[i as usize]);
+        operand.set(i, result);
+    }
+}
+
+/// Makes each byte of the operand, of which nothing is stored yet, of itself and of the byte with its number from
+/// `second` on.
+fn combine(combination: ByteCombination, operand: &mut FirstOperand, second: u32)
+    requires inside { second + length operand.old.bytes ≤ length operand.old.storage.bytes }
+    requires unaltered { stored_in operand.old ≡ operand.old.storage }
+    ensures stored { stored_in operand.new ≡ combined combination operand.old.address second (length operand.old.bytes) (stored_in operand.old) }
+    ensures storage { operand.new.storage ≡ operand.old.storage }
+    ensures address { operand.new.address ≡ operand.old.address }
+    ensures count { length operand.new.bytes ≡ length operand.old.bytes }
+{
+    match operand.bytes_apart(second) {
+        Some(other) => combine_apart(combination, operand, second, other),
+        None => combine_in_turn(combination, operand, second),
     }
 }
 
@@ -117,9 +161,26 @@ fn function_address(table: u32, argument: u8) -> u32
     (table + u32::from(argument)) % ADDRESSES
 }
 
-/// Makes each byte of the operand the byte of a table that it selects. `false` where one selects a
-/// byte outside storage; the operand is then to be dropped.
-fn translate(operand: &mut FirstOperand, size: u32, table: u32) -> bool
+/// Makes each byte of the operand the one that it selects of the 256 bytes of a table, which has none of the operand.
+fn translate_apart(operand: &mut FirstOperand, table: u32, functions: &[u8])
+    requires beside { IsBeside operand.old table 256 }
+    requires functions { functions.now ≡ operand_bytes operand.old.storage table 256 }
+    requires unaltered { stored_in operand.old ≡ operand.old.storage }
+    ensures inside { translates_outside table operand.old.address 0 (length operand.old.bytes) (stored_in operand.old) ≡ false }
+    ensures stored { stored_in operand.new ≡ left_to_right (translated_byte table operand.old.address) operand.old.address 0 (length operand.old.bytes) (stored_in operand.old) }
+    ensures storage { operand.new.storage ≡ operand.old.storage }
+    ensures address { operand.new.address ≡ operand.old.address }
+    ensures count { length operand.new.bytes ≡ length operand.old.bytes }
+{
+    for i in 0..operand.len() {
+        let function_byte = functions[usize::from(operand.own_byte(i))];
+        operand.set(i, function_byte);
+    }
+}
+
+/// Makes each byte of the operand the byte of a table that it selects, as the bytes before it left that. `false` where
+/// one selects a byte outside storage; the operand is then to be dropped.
+fn translate_in_turn(operand: &mut FirstOperand, size: u32, table: u32) -> bool
     requires size { size ≡ length operand.old.storage.bytes }
     requires table { table < 2 ^ 24 }
     ensures inside { result ≡ not (translates_outside table operand.old.address 0 (length operand.old.bytes) (stored_in operand.old)) }
@@ -137,6 +198,27 @@ fn translate(operand: &mut FirstOperand, size: u32, table: u32) -> bool
         operand.set(i, operand.byte(selected));
     }
     true
+}
+
+/// Makes each byte of the operand, of which nothing is stored yet, the byte of a table that it selects. `false` where
+/// one selects a byte outside storage; the operand is then to be dropped.
+fn translate(operand: &mut FirstOperand, size: u32, table: u32) -> bool
+    requires size { size ≡ length operand.old.storage.bytes }
+    requires table { table < 2 ^ 24 }
+    requires unaltered { stored_in operand.old ≡ operand.old.storage }
+    ensures inside { result ≡ not (translates_outside table operand.old.address 0 (length operand.old.bytes) (stored_in operand.old)) }
+    ensures stored { IsTrue result → stored_in operand.new ≡ left_to_right (translated_byte table operand.old.address) operand.old.address 0 (length operand.old.bytes) (stored_in operand.old) }
+    ensures storage { operand.new.storage ≡ operand.old.storage }
+    ensures address { operand.new.address ≡ operand.old.address }
+    ensures count { length operand.new.bytes ≡ length operand.old.bytes }
+{
+    match operand.bytes_beside(table, FUNCTIONS) {
+        Some(functions) => {
+            translate_apart(operand, table, functions);
+            true
+        }
+        None => translate_in_turn(operand, size, table),
+    }
 }
 
 /// Plans a translation. A function byte outside storage comes before a protected first operand.

@@ -1,24 +1,25 @@
 -- What an instruction alters that makes a value, compared with what stands there.
-use Rattle.std.proofs.Common.{◌≡◌, ◌≢◌, ◌<◌, ◌≤◌, ◌+◌, ◌-◌, ◌++◌, ◌⊎◌, ◌^◌, ℕ, zero, suc, List, [], ◌∷◌, Bool, true, false, refl, ap, sym, inl, inr, take, get_or, length, arith, add-zero, ◌∙◌, nat_eq, Option, Some, None, IfSome, nat_lt}
+use Rattle.std.proofs.Common.{◌≡◌, ◌≢◌, ◌<◌, ◌≤◌, ◌+◌, ◌-◌, ◌++◌, ◌^◌, ℕ, zero, suc, List, [], ◌∷◌, Bool, true, false, refl, ap, sym, inl, inr, take, drop, get_or, length, arith, add-zero, ◌∙◌, nat_eq, Option, Some, None, IfSome, nat_lt}
 use Rattle.std.specs.Prelude.{OnSome}
 use Rattle.std.specs.Bool.{beq}
 use Rattle.std.specs.List.{list_any, slice_get}
 use Rattle.std.proofs.Math.Dec.{leb}
 use Rattle.std.proofs.lemmas.Bool.{eq-eqb, leb-true, ltb-true, ltb-false}
-use Rattle.std.proofs.lemmas.Bool.Decides.{eqb_tells}
-use Rattle.std.proofs.lemmas.List.{set-get_or, length-append, length-take-le, take_all, take_more}
+use Rattle.std.proofs.lemmas.List.{drop_all, append-nil, set-get_or, length-set, length-append, length-take-le, take_all}
 use Rattle.s360_model.specs.Core.{Core, core_with_bytes, core_with_psw}
 use Rattle.s360_model.specs.Psw.{IsCurrentPsw}
 use Rattle.s360_store.specs.declared.place.Place.{Place}
-use Rattle.s360_store.specs.declared.place.Place.TheVariants.{Byte}
+use Rattle.s360_store.specs.declared.place.Place.TheVariants.{Byte, Register}
 use Rattle.s360_store.specs.declared.place.Cell.{Cell}
-use Rattle.s360_store.specs.Places.{Fits, same_place}
+use Rattle.s360_store.specs.Places.{same_place, with_value}
 use Rattle.s360_store.specs.Cells.{AllDiffer, AllFit, AreCellsOf, after_exchange, places_of_cells}
 use Rattle.s360_store.specs.Differences.{AreKept, IsCoreChangeTo}
 use Rattle.s360_store.specs.Order.{IsAscending}
-use Rattle.s360_store.specs.PlanParts.{byte_cells}
+use Rattle.s360_store.specs.Cells.{byte_cells}
 use Rattle.s360_store.specs.Plans.{HasBytes, IsPlanOf}
-use Rattle.s360_store.proofs.ByteCellLemmas.{IsAscending-bytes, byte_cells-more, byte_cells-parts}
+use Rattle.s360_store.specs.Items.{is_in_run}
+use Rattle.s360_store.proofs.ItemLemmas.{has-run, is_in_run-inside, is_in_run-outside, no-byte-in-run}
+use Rattle.s360_store.proofs.ByteCellLemmas.{IsAscending-bytes, byte_cells-more, byte_cells-parts, length-byte_cells}
 use Rattle.s360_store.proofs.DifferenceLemmas.{places_of_cells-differences}
 use Rattle.s360_store.proofs.KeptLemmas.{AreKept-other, AreKept-same, IsCellOf}
 use Rattle.s360_store.proofs.RunLemmas.{IsFresh-later, IsPlanOf-bytes}
@@ -31,7 +32,7 @@ use Rattle.s360_channel.proofs.UnitChangeLemmas.{units-stay}
 use Rattle.s360_machine.specs.declared.changes.Altered.{Altered}
 use Rattle.s360_machine.specs.declared.run_state.RunState.{RunState}
 use Rattle.s360_machine.specs.declared.run_state.RunState.TheVariants.{Operating, Stopped, Loading}
-use Rattle.s360_machine.specs.Altered.{cells_of, change_of, change_of_core, psw_cell, register_cell}
+use Rattle.s360_machine.specs.Altered.{BeginsWithPsw, cells_of, change_of_core, psw_cell, register_cell}
 use Rattle.s360_machine.specs.Cpu.{after_instruction}
 use Rattle.s360_machine.specs.Differences.{same_run_state}
 use Rattle.s360_machine.specs.Machine.{Control, Whole, seen}
@@ -127,29 +128,6 @@ alters-bytes m psw address new i first run all inside fits k =
     = IsPlanOf-bytes (core_with_psw psw m) address new fits inside
     in rw made.makes at (IsCoreChangeTo-ascending m (psw_cell psw ∷ byte_cells address new) _ (rw whole at k.kept) ascending)
 
--- a place among those of a run
-same_place-byte : (a : ℕ) (p : Place) → ((n : ℕ) → p ≡ Byte n → ⊥) → same_place (Byte a) p ≡ false
-same_place-byte a (Byte n) h = absurd (h n refl)
-same_place-byte a p h = refl
-
-pub other-in-run : (p : Place) (a : ℕ) (run : List ℕ) → ((n : ℕ) → p ≡ Byte n → ⊥) → list_any (λ q. same_place q p) (places_of_cells (byte_cells a run)) ≡ false
-other-in-run p a [] h = refl
-other-in-run p a (b ∷ run) h = rw (same_place-byte a p h) (other-in-run p (a + 1) run h)
-
-pub byte-in-run : (at a : ℕ) (run : List ℕ) → a ≤ at → at < a + length run → list_any (λ q. same_place q (Byte at)) (places_of_cells (byte_cells a run)) ≡ true
-byte-in-run at a [] l h = absurd (omega arith)
-byte-in-run at a (b ∷ run) l h = elim (eqb_tells a at) [
-  | inl e ↦ rw e.0 refl
-  | inr e ↦ rw e.0 (byte-in-run at (a + 1) run (let w : a ≢ at = e.1 in omega arith) (omega (arith, h)))
-]
-
-pub byte-outside-run : (at a : ℕ) (run : List ℕ) → (at < a) ⊎ (a + length run ≤ at) → list_any (λ q. same_place q (Byte at)) (places_of_cells (byte_cells a run)) ≡ false
-byte-outside-run at a [] h = refl
-byte-outside-run at a (b ∷ run) h = elim (eqb_tells a at) [
-  | inl e ↦ absurd (elim h [ inl l ↦ (let w : a ≡ at = e.1 in omega arith) | inr l ↦ (let w : a ≡ at = e.1 in omega arith) ])
-  | inr e ↦ rw e.0 (byte-outside-run at (a + 1) run (elim h [ inl l ↦ inl (omega arith) | inr l ↦ inr (omega (arith, l)) ]))
-]
-
 -- the place of a byte of a run
 pub place-in-run : (a i : ℕ) (run : List ℕ) → i < length run → slice_get (places_of_cells (byte_cells a run)) i ≡ Some (Byte (a + i))
 place-in-run a i [] l = absurd (omega arith)
@@ -166,36 +144,24 @@ no-place-in-run a (suc i) (b ∷ run) l = no-place-in-run (a + 1) i run (omega a
 -- the test that the code makes
 pub test-in-run : (at a : ℕ) (run : List ℕ) → a ≤ at → nat_lt (at - a) (length run) ≡ list_any (λ q. same_place q (Byte at)) (places_of_cells (byte_cells a run))
 test-in-run at a run l =
-    let by : (t : Bool) → nat_lt (at - a) (length run) ≡ t → t ≡ list_any (λ q. same_place q (Byte at)) (places_of_cells (byte_cells a run))
-    = λ t. elim t as (λ x. nat_lt (at - a) (length run) ≡ x → x ≡ list_any (λ q. same_place q (Byte at)) (places_of_cells (byte_cells a run))) [
-      | true ↦ λ h. sym (byte-in-run at a run l (let w : at - a < length run = ltb-true (at - a) (length run) h in omega arith))
-      | false ↦ λ h. sym (byte-outside-run at a run (inr (let w : length run ≤ at - a = ltb-false (at - a) (length run) h in omega arith)))
+    let by : (t : Bool) → nat_lt (at - a) (length run) ≡ t → t ≡ is_in_run a (length run) (Byte at)
+    = λ t. elim t as (λ x. nat_lt (at - a) (length run) ≡ x → x ≡ is_in_run a (length run) (Byte at)) [
+      | true ↦ λ h. sym (is_in_run-inside a (length run) at l (let w : at - a < length run = ltb-true (at - a) (length run) h in omega arith))
+      | false ↦ λ h. sym (is_in_run-outside a (length run) at (inr (let w : length run ≤ at - a = ltb-false (at - a) (length run) h in omega arith)))
     ]
-    in by (nat_lt (at - a) (length run)) refl
+    in by (nat_lt (at - a) (length run)) refl ∙ sym (has-run a (length run) (Byte at) run refl)
 
 pub test-below-run : (at a : ℕ) (run : List ℕ) → at < a → leb a at ≡ list_any (λ q. same_place q (Byte at)) (places_of_cells (byte_cells a run))
 test-below-run at a run l =
-    let by : (t : Bool) → leb a at ≡ t → t ≡ list_any (λ q. same_place q (Byte at)) (places_of_cells (byte_cells a run))
-    = λ t. elim t as (λ x. leb a at ≡ x → x ≡ list_any (λ q. same_place q (Byte at)) (places_of_cells (byte_cells a run))) [
+    let by : (t : Bool) → leb a at ≡ t → t ≡ is_in_run a (length run) (Byte at)
+    = λ t. elim t as (λ x. leb a at ≡ x → x ≡ is_in_run a (length run) (Byte at)) [
       | true ↦ λ h. absurd (let w : a ≤ at = leb-true a at h in omega arith)
-      | false ↦ λ h. sym (byte-outside-run at a run (inl l))
+      | false ↦ λ h. sym (is_in_run-outside a (length run) at (inl l))
     ]
-    in by (leb a at) refl
+    in by (leb a at) refl ∙ sym (has-run a (length run) (Byte at) run refl)
 
--- what is known of cells of bytes that can be exchanged
-pub run-inside : (m : Core) (a : ℕ) (run : List ℕ) → AreCellsOf m (byte_cells a run) → 0 < length run → HasBytes a (length run) m
-run-inside m a [] h s = absurd (omega arith)
-run-inside m a (b ∷ []) h s = let w : a < length m.storage.bytes = h.0 in omega arith
-run-inside m a (b ∷ (d ∷ run)) h s = let w : HasBytes (a + 1) (length (d ∷ run)) m = run-inside m (a + 1) (d ∷ run) h.3 (omega arith) in omega (arith, w)
-
-pub run-fits : (m : Core) (a : ℕ) (run : List ℕ) → AreCellsOf m (byte_cells a run) → (i : ℕ) → i < length run → get_or run i 0 < 256
-run-fits m a [] h i l = absurd (omega arith)
-run-fits m a (b ∷ run) h zero l = h.1
-run-fits m a (b ∷ run) h (suc i) l = run-fits m (a + 1) run h.3 i (omega arith)
-
-pub AllFit-run : (a : ℕ) (run : List ℕ) → ((i : ℕ) → i < length run → get_or run i 0 < 256) → AllFit (byte_cells a run)
-AllFit-run a [] h = tt
-AllFit-run a (b ∷ run) h = (h 0 (omega arith), AllFit-run (a + 1) run (λ i l. h (suc i) (omega arith)))
+pub other-in-run : (p : Place) (a : ℕ) (run : List ℕ) → ((n : ℕ) → p ≡ Byte n → ⊥) → list_any (λ q. same_place q p) (places_of_cells (byte_cells a run)) ≡ false
+other-in-run p a run h = has-run a (length run) p run refl ∙ no-byte-in-run a (length run) p h
 
 -- the control part as it is
 same_run_state-refl : (r : RunState) → same_run_state r r ≡ true
@@ -219,11 +185,11 @@ alters-none w = alters-core w [] w.core (changes-to w.core [] tt tt tt)
 
 -- an instruction that is completed
 pub alters-completed : (w : Whole) (o : Outcome) (result : Option Altered) → (instruction w.core).outcome ≡ o → IfSome result (λ x. IsCoreChangeTo w.core (cells_of x) o.core) → OnSome result (o.ended ≡ Done)
-    → IfSome result (λ x. change_of x ≡ change_of_core (cells_of x)) → IfSome result (λ x. IsChangeTo w (change_of x) (after_instruction (seen w)))
-alters-completed w o None e core done alone = tt
-alters-completed w o (Some x) e core done alone =
+    → IfSome result (λ x. IsChangeTo w (change_of_core (cells_of x)) (after_instruction (seen w)))
+alters-completed w o None e core done = tt
+alters-completed w o (Some x) e core done =
     let made : IsChangeTo w (change_of_core (cells_of x)) (record (seen w) { core = o.core }) = alters-core w (cells_of x) o.core core
-    in rw (alone, e, done) made
+    in rw (e, done) made
 
 -- what a comparison tells
 pub not-same : (a b : ℕ) → nat_eq a b ≡ false → b ≢ a
@@ -250,14 +216,23 @@ pub AllFit-from : (m : Core) (cs : List Cell) → AreCellsOf m cs → AllFit cs
 AllFit-from m [] h = tt
 AllFit-from m (c ∷ cs) h = (h.1, AllFit-from m cs h.3)
 
-pub fits-at : (cs : List Cell) (i : ℕ) (d : Cell) → i < length cs → AllFit cs → Fits (get_or cs i d).place (get_or cs i d).value
-fits-at [] i d l h = absurd (omega arith)
-fits-at (c ∷ cs) zero d l h = h.0
-fits-at (c ∷ cs) (suc i) d l h = fits-at cs i d (omega arith) h.1
+-- a PSW and the bytes that follow it
+pub psw-and-bytes : (psw a : ℕ) (bs : List ℕ) (cells : List Cell) → BeginsWithPsw psw cells → drop 1 cells ≡ byte_cells a bs ++ drop (1 + length (byte_cells a bs)) cells → length cells ≡ 1 + length bs
+    → psw_cell psw ∷ byte_cells a bs ≡ cells
+psw-and-bytes psw a bs [] first is count = absurd first
+psw-and-bytes psw a bs (c ∷ cells) first is count =
+    let none : drop (1 + length (byte_cells a bs)) (c ∷ cells) ≡ [] = drop_all (1 + length (byte_cells a bs)) (c ∷ cells) (omega (arith, count, length-byte_cells a bs))
+    in let rest : cells ≡ byte_cells a bs = is ∙ ap (λ (ds : List Cell). byte_cells a bs ++ ds) none ∙ append-nil (byte_cells a bs)
+    in rw (first, rest) refl
 
--- cells that are those of a run, and one more
-pub run-of-more : (cs : List Cell) (a i b : ℕ) (run : List ℕ) (d : Cell) → i < length cs → byte_cells a run ≡ take i cs → length run ≡ i → get_or cs i d ≡ record { place = Byte (a + i); value = b }
-    → byte_cells a (run ++ b ∷ []) ≡ take (i + 1) cs
-run-of-more cs a i b run d l cells count cell =
-    let last : byte_cells (a + length run) (b ∷ []) ≡ get_or cs i d ∷ [] = rw (count, cell) refl
-    in byte_cells-parts a run (b ∷ []) ∙ rw (cells, last) (sym (take_more cs i d l))
+-- an exchange keeps the number of registers
+registers-with : (m : Core) (p : Place) (v : ℕ) → length (with_value m p v).registers ≡ length m.registers
+registers-with m (Register n) v = length-set m.registers n v
+registers-with m p v = refl
+
+registers-kept : (m : Core) (cs : List Cell) → length (after_exchange m cs).registers ≡ length m.registers
+registers-kept m [] = refl
+registers-kept m (c ∷ cs) = registers-kept (with_value m c.place c.value) cs ∙ registers-with m c.place c.value
+
+pub registers-after : (m n : Core) (cs : List Cell) (count : ℕ) → n ≡ after_exchange m cs → length m.registers ≡ count → length n.registers ≡ count
+registers-after m n cs count e h = ap (λ (k : Core). length k.registers) e ∙ registers-kept m cs ∙ h

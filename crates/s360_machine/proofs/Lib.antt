@@ -8,3 +8,5 @@ pub mod CswLemmas
 pub mod InterruptionLemmas
 pub mod LoadingLemmas
 mod KnownEvents
+pub mod KeepLemmas
+pub mod SpanLemmas

@@ -17,7 +17,6 @@ use Rattle.s360_channel.specs.declared.unit_change.UnitChange.{UnitChange}
 use Rattle.s360_channel.specs.declared.unit_control.UnitControl.{UnitControl}
 use Rattle.s360_channel.specs.UnitChanges.{IsUnitsChangeTo}
 use Rattle.s360_channel.proofs.UnitChangeLemmas.{control-set}
-use Rattle.s360_machine.specs.IoChanges.{media_change_of}
 use Rattle.s360_machine.specs.Loading.{core_after_loading, after_load}
 use Rattle.s360_machine.specs.Machine.{Machine, Whole}
 use Rattle.s360_machine.specs.Planned.{IsPlanOfMachine, PlansIo}
@@ -57,12 +56,12 @@ IsPlanOf-loaded m p q r address psw h is w =
 pub loaded-plan : (w : Whole) (n : Machine) (u : ConfiguredUnit) (state : UnitState) (plan plan_after : List Cell) (planned done : PlannedEvent) (x : Option UnitChange)
     → HasEachUnit w.units → n.units ≡ altered w.units u state → IsPlanOfMachine w plan planned n
     → IsPlanOf w.core plan_after (core_after_loading (address_of_unit u) (after_exchange w.core plan))
-    → PlansIo done (record planned.control { run_state = Operating }) x (media_change_of planned.io)
+    → PlansIo done (record planned.control { run_state = Operating }) x planned.media
     → IsUnitsChangeTo w.units x (altered w.units u Idle)
     → IsPlanOfMachine w plan_after done (after_load u n)
 loaded-plan w n u state plan plan_after planned done x each is h core io units =
     let last : (after_load u n).units ≡ altered w.units u Idle = ap (λ (us : Units). altered us u Idle) is ∙ idle-at-last w.units u state each
-    in IsPlanOfMachine-from w (after_load u n) plan_after done x (media_change_of planned.io)
+    in IsPlanOfMachine-from w (after_load u n) plan_after done x planned.media
     (rw h.core.makes at core)
     (rw h.control at io)
     (rw last units)

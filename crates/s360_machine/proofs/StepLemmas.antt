@@ -1,7 +1,7 @@
 -- A channel event of a unit, and what was planned of the machine beside the core.
 use Rattle.std.proofs.Common.{◌≡◌, ℕ, Bool, true, false, List, [], refl, ap, subst, sym, arith, if◌then◌else◌}
 use Rattle.std.specs.Option.{option_map}
-use Rattle.std.specs.Prelude.{Option, Some, None, Result, Ok, Err, IfOk}
+use Rattle.std.specs.Prelude.{Option, Some, None}
 use Rattle.s360_model.specs.Core.{Core}
 use Rattle.s360_model.specs.Storage.{Storage}
 use Rattle.s360_device.specs.Commands.{command_of}
@@ -131,16 +131,15 @@ one-altered us u v x each h = one-altered-by us u v x (same_unit (control_of us 
 
 -- a channel event of a unit: what was planned of it makes the machine after what it executes, with the media that the
 -- changes make
-pub channel-event : {C E : Type 0} (k : WithRoom) (w : Whole) (spare : Spare) (unit : ConfiguredUnit) (plan : List Cell) (d : DeviceView) (Becomes : Ending → C → Type 0) (Stays : Ending → Type 0) (step : UnitStep C)
-    (ms : Option MediaChange) (result : Result PlannedEvent E)
+pub channel-event : {C : Type 0} (k : WithRoom) (w : Whole) (spare : Spare) (unit : ConfiguredUnit) (plan : List Cell) (d : DeviceView) (Becomes : Ending → C → Type 0) (Stays : Ending → Type 0) (step : UnitStep C)
+    (ms : Option MediaChange) (planned : PlannedEvent)
     → record { whole = w; spare = spare } ≡ k → HasEachUnit w.units
     → ExecutesProgram w.core.storage (control_of w.units unit) plan d Becomes Stays step
-    → IfOk result (λ planned. PlansIo planned k.whole.control (option_map (λ c. One unit c) step.control) ms)
+    → PlansIo planned k.whole.control (option_map (λ c. One unit c) step.control) ms
     → execution_with d w.core.storage (control_of w.units unit).state ≡ execution_at unit (seen w)
     → IsMediaChangeTo w.media ms (media_after unit (execution_at unit (seen w)).ending (seen_media w.media))
-    → IfOk result (λ planned. IsPlanOfMachine k.whole plan planned (after_channel unit (seen k.whole)))
-channel-event k w spare unit plan d Becomes Stays step ms (Err x) view each run io is media = tt
-channel-event k w spare unit plan d Becomes Stays step ms (Ok planned) view each run io is media =
+    → IsPlanOfMachine k.whole plan planned (after_channel unit (seen k.whole))
+channel-event k w spare unit plan d Becomes Stays step ms planned view each run io is media =
     let e : Execution = execution_with d w.core.storage (control_of w.units unit).state
     in let u : UnitControl = control_of w.units unit
     in let v : UnitControl = record u { state = e.state }

@@ -1,7 +1,7 @@
 -- An exchange of a change done twice restores the whole machine and the change.
-use Rattle.std.proofs.Common.{◌≡◌, ap, ◌∙◌, refl, sym, [], ◌∷◌}
+use Rattle.std.proofs.Common.{◌≡◌, ap, ◌∙◌, refl, [], ◌∷◌}
 use Rattle.std.specs.Prelude.{Option, Some, None}
-use Rattle.s360_model.specs.Exchanges.{after_if_any, back_if_any}
+use Rattle.s360_model.specs.Exchanges.{back_if_any}
 use Rattle.s360_model.specs.ExchangeLaws.{CanIfAny-again, after_if_any-twice, back_if_any-twice}
 use Rattle.s360_device.specs.DeviceLaws.{CanSwapDevice-again, device_after_swap-twice, device_change_after_swap-twice}
 use Rattle.s360_device.specs.MotionLaws.{motion_restores_both}
@@ -14,16 +14,12 @@ use Rattle.s360_print.specs.PrinterChanges.{printer_kind}
 use Rattle.s360_print.specs.PrinterLaws.{printer_change_restores_both}
 use Rattle.s360_tape.specs.TapeLaws.{tape_change_restores_both}
 use Rattle.s360_tape.specs.WholeTape.{tape_kind}
-use Rattle.s360_store.specs.Cells.{after_exchange, cells_after_exchange, AllFit}
+use Rattle.s360_store.specs.Cells.{cells_after_exchange, AllFit}
 use Rattle.s360_store.proofs.ExchangeLemmas.{after_exchange-twice, cells_after_exchange-twice, AreCellsOf-again, places_of_cells-cells_after_exchange}
 use Rattle.s360_channel.specs.UnitChanges.{CanSwapUnits, unit_change_after_swap, units_after_swap}
 use Rattle.s360_channel.proofs.UnitChangeLemmas.{CanSwapUnits-again, places_of_units-back, unit_change_after_swap-twice, units_after_swap-twice}
-use Rattle.s360_machine.specs.declared.changes.Altered.{Altered}
-use Rattle.s360_machine.specs.declared.changes.Altered.TheVariants.{Nothing, Psw, Register, Bytes, Full}
 use Rattle.s360_machine.specs.declared.media.MediaChange.{MediaChange}
 use Rattle.s360_machine.specs.declared.media.MediaChange.TheVariants.{Reader, Punch, Printer, Console, Tape0, Tape1}
-use Rattle.s360_machine.specs.Altered.{cells_of, change_of}
-use Rattle.s360_machine.specs.ControlCells.{control_after_exchange, control_cells_after_exchange}
 use Rattle.s360_machine.specs.IoChanges.{CanSwapMedia, media_after_swap, media_change_after_swap, media_place, places_of_media, unit_of_change}
 use Rattle.s360_machine.specs.Machine.{Whole, WholeMedia}
 use Rattle.s360_machine.specs.Change.{Change, CanSwap, after_swap, change_after_swap, places_of_change}
@@ -121,45 +117,17 @@ places_of_change-after_swap w x =
       places_of_media-back w.media x.media,
     ) refl
 
--- the cells of a change
-pub cells-of-change : (x : Altered) → (change_of x).cells ≡ cells_of x
-cells-of-change Nothing = refl
-cells-of-change (Psw psw) = refl
-cells-of-change (Register r word psw) = refl
-cells-of-change (Bytes run address psw) = refl
-cells-of-change (Full x) = refl
-
--- an exchange of what a change has, the core first and then what is beside it
-same-change : (x y : Change) → x.cells ≡ y.cells → x.control ≡ y.control → x.units ≡ y.units → x.media ≡ y.media → x ≡ y
+-- changes and wholes with the same parts
+pub same-change : (x y : Change) → x.cells ≡ y.cells → x.control ≡ y.control → x.units ≡ y.units → x.media ≡ y.media → x ≡ y
 same-change x y a b c d =
     ap (λ k. record x { cells = k }) a
     ∙ ap (λ k. record x { cells = y.cells; control = k }) b
     ∙ ap (λ k. record y { units = k; media = x.media }) c
     ∙ ap (λ k. record y { media = k }) d
 
-same-whole : (w v : Whole) → w.core ≡ v.core → w.control ≡ v.control → w.units ≡ v.units → w.media ≡ v.media → w ≡ v
+pub same-whole : (w v : Whole) → w.core ≡ v.core → w.control ≡ v.control → w.units ≡ v.units → w.media ≡ v.media → w ≡ v
 same-whole w v a b c d =
     ap (λ k. record w { core = k }) a
     ∙ ap (λ k. record w { core = v.core; control = k }) b
     ∙ ap (λ k. record v { units = k; media = w.media }) c
     ∙ ap (λ k. record v { media = k }) d
-
-pub exchanged-whole : (w v : Whole) (x y : Altered) → change_of y ≡ record (change_of x) { cells = cells_of y } → v.core ≡ after_exchange w.core (cells_of x)
-    → v.control ≡ control_after_exchange w.control (change_of y).control → v.units ≡ after_if_any units_after_swap w.units (change_of y).units
-    → v.media ≡ after_if_any media_after_swap w.media (change_of y).media → v ≡ after_swap w (change_of x)
-exchanged-whole w v x y beside core control units media =
-    same-whole v (after_swap w (change_of x))
-    (core ∙ ap (after_exchange w.core) (sym (cells-of-change x)))
-    (control ∙ ap (λ (k : Change). control_after_exchange w.control k.control) beside)
-    (units ∙ ap (λ (k : Change). after_if_any units_after_swap w.units k.units) beside)
-    (media ∙ ap (λ (k : Change). after_if_any media_after_swap w.media k.media) beside)
-
-pub exchanged-change : (w : Whole) (x y z : Altered) → change_of y ≡ record (change_of x) { cells = cells_of y } → cells_of y ≡ cells_after_exchange w.core (cells_of x) → cells_of z ≡ cells_of y
-    → (change_of z).control ≡ control_cells_after_exchange w.control (change_of y).control → (change_of z).units ≡ back_if_any unit_change_after_swap w.units (change_of y).units
-    → (change_of z).media ≡ back_if_any media_change_after_swap w.media (change_of y).media → change_of z ≡ change_after_swap w (change_of x)
-exchanged-change w x y z beside cells kept control units media =
-    same-change (change_of z) (change_after_swap w (change_of x))
-    (cells-of-change z ∙ kept ∙ cells ∙ ap (cells_after_exchange w.core) (sym (cells-of-change x)))
-    (control ∙ ap (λ (k : Change). control_cells_after_exchange w.control k.control) beside)
-    (units ∙ ap (λ (k : Change). back_if_any unit_change_after_swap w.units k.units) beside)
-    (media ∙ ap (λ (k : Change). back_if_any media_change_after_swap w.media k.media) beside)

@@ -1,6 +1,6 @@
 -- What an event alters of the devices: one of them, by an exchange with its change. The same exchange done again takes
 -- it back.
-use Rattle.std.specs.Prelude.{◌≡◌, ℕ, Option, Some, None, List, [], ◌∷◌, Box, box_value}
+use Rattle.std.specs.Prelude.{ℕ, Option, Some, None, List, [], ◌∷◌}
 use Rattle.s360_device.specs.DeviceChanges.{CanSwapDevice, device_after_swap, device_change_after_swap, device_needs}
 use Rattle.s360_device.specs.Punch.{punch_kind}
 use Rattle.s360_device.specs.ReaderChanges.{reader_kind}
@@ -11,9 +11,7 @@ use Rattle.s360_store.specs.declared.place.Place.{Place}
 use Rattle.s360_store.specs.declared.place.Place.TheVariants.{UnitMedia}
 use Rattle.s360_channel.specs.declared.configured_unit.ConfiguredUnit.{ConfiguredUnit}
 use Rattle.s360_channel.specs.declared.configured_unit.ConfiguredUnit.TheVariants.{Reader as reader_unit, Punch as punch_unit, Printer as printer_unit, Console as console_unit, Tape0 as tape0_unit, Tape1 as tape1_unit}
-use Rattle.s360_channel.specs.declared.unit_change.UnitChange.{UnitChange}
 use Rattle.s360_channel.specs.ConfiguredUnits.{address_of_unit}
-use Rattle.s360_machine.specs.declared.io_change.IoChange.{IoChange}
 use Rattle.s360_machine.specs.declared.media.MediaChange.{MediaChange}
 use Rattle.s360_machine.specs.declared.media.MediaChange.TheVariants.{Reader, Punch, Printer, Console, Tape0, Tape1}
 use Rattle.s360_machine.specs.Machine.{WholeMedia}
@@ -68,17 +66,3 @@ media_needs (Printer x) = device_needs printer_kind x
 media_needs (Console x) = device_needs console_kind x
 media_needs (Tape0 x) = device_needs tape_kind x
 media_needs (Tape1 x) = device_needs tape_kind x
-
--- what an event alters of the units and of the devices, if it alters any
-abbrev pub unit_change_of : {A : Type 0} → Option (Box IoChange A) → Option UnitChange
-unit_change_of None = None
-unit_change_of (Some x) = (box_value x).units
-
-abbrev pub media_change_of : {A : Type 0} → Option (Box IoChange A) → Option MediaChange
-media_change_of None = None
-media_change_of (Some x) = (box_value x).media
-
--- they are these
-pub record MakesIoChange {A : Type 0} (io : Option (Box IoChange A)) (units : Option UnitChange) (media : Option MediaChange) : Type 0 where
-  pub units_are : unit_change_of io ≡ units
-  pub media_are : media_change_of io ≡ media

@@ -12,7 +12,9 @@ pub mod Cpu
 pub mod Refusals
 pub mod Step
 pub mod IoChanges
+pub mod Beside
 pub mod Change
+pub mod Spans
 pub mod Altered
 pub mod Differences
 pub mod Planned

@@ -13,7 +13,7 @@ use Rattle.s360_machine.specs.Machine.{Machine, Media, Whole, WholeMedia, Contro
 use Rattle.s360_machine.specs.ControlCells.{HasEachControlOnce, control_after_exchange, places_of_control}
 use Rattle.s360_machine.specs.Change.{Change, CanSwap, NeedsNoRoom, after_swap, change_after_swap, places_of_change}
 use Rattle.s360_machine.specs.IoChanges.{CanSwapMedia, media_after_swap, media_change_after_swap}
-use Rattle.s360_machine.specs.IoChanges.{media_change_of, media_needs, places_of_media, unit_change_of}
+use Rattle.s360_machine.specs.IoChanges.{media_needs, places_of_media}
 
 -- the control cells make the second control part of the first, and have just the places at which
 -- the two differ
@@ -35,20 +35,20 @@ pub record IsMediaChangeTo (m : WholeMedia) (x : Option MediaChange) (n : Media)
 pub record IsPlanOfMachine (w : Whole) (plan : List Cell) (planned : PlannedEvent) (n : Machine) : Type 0 where
   pub core : IsPlanOf w.core plan n.core
   pub control : planned.control ≡ n.control
-  pub units : IsUnitsChangeTo w.units (unit_change_of planned.io) n.units
-  pub media : IsMediaChangeTo w.media (media_change_of planned.io) n.media
+  pub units : IsUnitsChangeTo w.units planned.units n.units
+  pub media : IsMediaChangeTo w.media planned.media n.media
 
 -- what was planned has this control part, and alters this of the units
 pub record PlansIo (planned : PlannedEvent) (c : Control) (us : Option UnitChange) (ms : Option MediaChange) : Type 0 where
   pub control : planned.control ≡ c
-  pub units : unit_change_of planned.io ≡ us
-  pub media : media_change_of planned.io ≡ ms
+  pub units : planned.units ≡ us
+  pub media : planned.media ≡ ms
 
 -- what was planned has this control part, and leaves the units and their devices alone
 pub record LeavesUnits (w : Whole) (c : Control) (planned : PlannedEvent) : Type 0 where
   pub control : planned.control ≡ c
-  pub units : IsUnitsChangeTo w.units (unit_change_of planned.io) w.units
-  pub media : IsMediaChangeTo w.media (media_change_of planned.io) (seen_media w.media)
+  pub units : IsUnitsChangeTo w.units planned.units w.units
+  pub media : IsMediaChangeTo w.media planned.media (seen_media w.media)
 
 -- the change makes a whole of which the machine is seen, lists the places at which the machines
 -- differ, and wants no room to be taken back

@@ -8,7 +8,7 @@ ghost use Rattle.s360_store.specs.Plans.{HasBytes};
 ghost use Rattle.s360_fixed.specs.declared.ended.Ended.TheVariants.{Done};
 ghost use Rattle.s360_fixed.specs.Made.{IsWithin, outcome_of_made};
 ghost use Rattle.s360_fixed.specs.Outcomes.{core_with_register};
-ghost use Rattle.s360_machine.specs.Altered.{IsWhole, cells_of, change_of, change_of_core};
+ghost use Rattle.s360_machine.specs.Altered.{IsWhole, cells_of};
 
 use crate::changes::Altered;
 use crate::core_state::Core;
@@ -29,7 +29,6 @@ impl Core {
     ) -> Option<Altered>
         ensures core { IfSome result (λ x. IsCoreChangeTo self.now (cells_of x) (core_with_register register word (core_with_psw psw self.now))) }
         ensures whole { IfSome result (λ x. IsWhole x) }
-        ensures alone { IfSome result (λ x. change_of x ≡ change_of_core (cells_of x)) }
     {
         // So it is a current PSW.
         prove!(Psw::from_u64(psw.stored(0, InstructionLength::NotAvailable)) == psw);
@@ -56,7 +55,6 @@ impl Core {
         requires few { length new.now ≤ 8 }
         ensures core { IfSome result (λ x. IsCoreChangeTo self.now (cells_of x) (core_with_bytes address new.now (core_with_psw psw self.now))) }
         ensures whole { IfSome result (λ x. IsWhole x) }
-        ensures alone { IfSome result (λ x. change_of x ≡ change_of_core (cells_of x)) }
     {
         // So no address of the run passes 32 bits.
         prove!(self.storage().size() <= GREATEST_SIZE);
@@ -96,7 +94,6 @@ impl Core {
         ensures core { IfSome result (λ x. IsCoreChangeTo self.now (cells_of x) (outcome_of_made view.now made.now).core) }
         ensures done { OnSome result ((outcome_of_made view.now made.now).ended ≡ Done) }
         ensures whole { IfSome result (λ x. IsWhole x) }
-        ensures alone { IfSome result (λ x. change_of x ≡ change_of_core (cells_of x)) }
     {
         match made {
             Made::Effect {

@@ -1,49 +1,30 @@
 //! What an event alters, ready to be exchanged with the machine.
-ghost use Rattle.std.specs.Prelude.{◌≡◌, ◌<◌, ◌≤◌, ◌+◌, ◌++◌, [], ◌∷◌, ◌^◌, length, map, Some, slice_get, IfOk, IfSome};
-ghost use Rattle.std.specs.Prelude.{if◌then◌else◌};
+ghost use Rattle.std.specs.Prelude.{◌≡◌, ◌<◌, ◌≤◌, ◌+◌, ◌^◌, ◌∷◌, [], length, slice_get, Some, IfOk, IfSome};
 ghost use Rattle.std.specs.List.{list_any};
 ghost use Rattle.std.specs.Option.{option_copied};
-ghost use Rattle.s360_store.specs.declared.place.Place.TheVariants.{Byte as PlaceByte};
-ghost use Rattle.s360_store.specs.Cells.{AllFit, places_of_cells};
-ghost use Rattle.s360_store.specs.PlanParts.{byte_cells};
+ghost use Rattle.s360_store.specs.Cells.{AllFit, byte_cells, places_of_cells};
 ghost use Rattle.s360_store.specs.Places.{Fits, same_place};
-ghost use Rattle.s360_channel.specs.UnitChanges.{state_place};
-ghost use Rattle.s360_machine.specs.Altered.{IsWhole, cells_of, change_of, change_of_core, change_of_full, psw_cell};
+ghost use Rattle.s360_machine.specs.Altered.{BeginsWithPsw, IsWhole, cells_of, change_of_core, psw_cell};
 ghost use Rattle.s360_machine.specs.Change.{places_beside_core, places_of_change};
 ghost use Rattle.s360_machine.specs.ControlCells.{control_cells};
-ghost use Rattle.s360_machine.specs.IoChanges.{media_change_of, unit_change_of};
+ghost use Rattle.s360_machine.specs.Spans.{IsSpan, IsSpanAt, IsSpanIfAny, places_of_span};
+ghost use Rattle.s360_store.specs.Items.{HasAddresses, cells_of_part};
 
+use crate::beside::{BESIDE, Beside};
 use crate::control_change::ControlChange;
-use crate::io_change::IoChange;
 use crate::media::MediaChange;
-use crate::short_run::{SHORT, ShortRun};
+use crate::short_run::ShortRun;
+use crate::span::Span;
 use arrayvec::ArrayVec;
-use s360_channel::ConfiguredUnit;
+use s360_channel::UnitChange;
 use s360_psw::Psw;
-use s360_store::{Cell, Place};
+use s360_store::{Cell, Cells, Part, Place};
 use s360_word::{RegisterNumber, Word};
-use smallvec::SmallVec;
 use std::alloc::{AllocError, Global};
 use std::marker::Model;
 
-/// So many cells of the core stand within a change, as many as most instructions alter.
-pub(crate) const WITHIN: usize = 2;
-
-/// So many places there are beside those of the core: two of the control part, those of six units, and one of a
-/// device.
-const BESIDE: usize = 9;
-
-/// What an event alters that does not stand within its change: the places of the core in their
-/// order, each with a value of it, those of the control part, and then those of the units.
-#[derive(Debug, Drop)]
-pub(crate) struct FullChange {
-    pub(crate) cells: SmallVec<Cell, WITHIN>,
-    pub(crate) control: ControlChange,
-    pub(crate) io: Option<Box<IoChange>>,
-}
-
-/// What an event alters. Most events alter the PSW and little beside it, which takes no memory. Each variant has its
-/// smallest fields first, so that none takes more than 24 bytes.
+/// What an event alters of the core. Most events alter the PSW and little beside it, which takes no memory. Each
+/// variant has its smallest fields first, so that none takes more than 24 bytes.
 #[derive(Debug, Drop)]
 pub(crate) enum Altered {
     /// Nothing.
@@ -63,7 +44,7 @@ pub(crate) enum Altered {
         psw: Psw,
     },
     /// Anything else.
-    Full(Box<FullChange>),
+    Cells(Box<Cells>),
 }
 
 /// The places that an event alters, in their order, each with the value that stands there while the
@@ -72,6 +53,7 @@ pub(crate) enum Altered {
 #[derive(Debug, Drop)]
 pub struct Changes {
     pub(crate) altered: Altered,
+    pub(crate) beside: Option<Box<Beside>>,
 }
 
 impl Model for Changes {
@@ -80,61 +62,9 @@ impl Model for Changes {
 
     ghost Value = { Change };
 
-    ghost view = { λ c. change_of c.altered };
+    ghost view = { λ c. change_of c.altered c.beside };
 
     ghost invariant = { λ c. IsWhole c.altered };
-}
-
-/// Adds a place where there is a change of it.
-fn push_if(places: &mut ArrayVec<Place, BESIDE>, altered: bool, place: Place)
-    requires room { length places.old.items < 9 }
-    ensures places { places.new.items ≡ places.old.items ++ (if altered then place ∷ [] else []) }
-    ensures few { length places.new.items ≤ length places.old.items + 1 }
-{
-    if altered {
-        places.push(place);
-    }
-}
-
-/// Adds the places of units on their channels.
-fn push_states(places: &mut ArrayVec<Place, BESIDE>, units: &[ConfiguredUnit])
-    requires room { length places.old.items + length units.now ≤ 9 }
-    ensures places { places.new.items ≡ places.old.items ++ map (λ u. state_place u) units.now }
-    ensures count { length places.new.items ≡ length places.old.items + length units.now }
-{
-    for unit in units {
-        places.push(Place::UnitState(unit.unit()));
-    }
-}
-
-impl FullChange {
-    /// The places beside those of the core, in their order.
-    fn beside_core(&self) -> ArrayVec<Place, BESIDE>
-        ensures { result.items ≡ places_beside_core (change_of_full self.now) }
-    {
-        let mut places = ArrayVec::new();
-        push_if(&mut places, self.control.has_run_state(), Place::Run);
-        push_if(&mut places, self.control.has_external(), Place::External);
-        let Some(io) = &self.io else {
-            return places;
-        };
-        if let Some(change) = &io.units {
-            push_states(&mut places, change.altered());
-        }
-        if let Some(change) = &io.media {
-            places.push(Place::UnitMedia(change.unit().unit()));
-        }
-        places
-    }
-
-    /// All the places, in their order.
-    fn places(&self, alloc: Global) -> Result<Vec<Place>, AllocError>
-        ensures { IfOk result (λ places. places.items ≡ places_of_change (change_of_full self.now)) }
-    {
-        let core = self.cells.iter().map(|cell| cell.place);
-        let beside = self.beside_core();
-        core.chain(beside.iter().copied()).collect(alloc)
-    }
 }
 
 /// Whether a place is one of a run from an address on.
@@ -147,79 +77,111 @@ fn is_in_run(address: u32, run: &ShortRun, place: Place) -> bool
     }
 }
 
-/// The place of the byte at `i` of a run from an address on, if there is one.
-fn place_in_run(address: u32, run: &ShortRun, i: usize) -> Option<Place>
+/// The span of the bytes of a run that begins with the one at `i`, if there is one.
+fn span_in_run(address: u32, run: &ShortRun, i: usize) -> Option<Span>
     requires inside { address + length run.now ≤ 2 ^ 32 }
-    ensures { result ≡ slice_get (places_of_cells (byte_cells address run.now)) i }
+    ensures { IsSpanIfAny (places_of_cells (byte_cells address run.now)) i result }
 {
     if i < run.len() {
-        Some(Place::Byte(address + i as u32))
+        Some(Span::Bytes {
+            address: address + i as u32,
+            count: (run.len() - i) as u32,
+        })
     } else {
         None
     }
 }
 
-/// The byte of a cell that is the one of storage at an address.
-fn byte_at(cell: &Cell, address: u32) -> Option<u8>
-    requires fits { Fits cell.now.place cell.now.value }
-    ensures { IfSome result (λ byte. cell.now ≡ record { place = PlaceByte address; value = byte }) }
+/// The span of a part of cells.
+fn span_of(part: Part<'_>) -> Span
+    requires some { 0 < length (cells_of_part part) }
+    requires few { length (cells_of_part part) ≤ 1000000 }
+    requires small { HasAddresses part }
+    ensures places { places_of_span result ≡ places_of_cells (cells_of_part part.entry) }
+    ensures whole { IsSpan result }
 {
-    match cell.place {
-        Place::Byte(at) if at == address => Some(cell.value as u8),
-        _ => None,
+    match part {
+        Part::Cell(cell) => Span::Place(cell.place),
+        Part::Bytes(address, bytes) => Span::Bytes {
+            address,
+            count: bytes.len() as u32,
+        },
     }
 }
 
-/// The bytes of cells that are those of a run from an address on.
-fn run_of(cells: &[Cell], address: u32) -> Option<ShortRun>
-    requires fit { AllFit cells.now }
-    requires few { length cells.now ≤ 8 }
-    ensures cells { IfSome result (λ run. byte_cells address run ≡ cells.now) }
-    ensures inside { IfSome result (λ run. address + length run ≤ 2 ^ 32) }
+/// The span of the places of cells that begins with the one at `i`, if there is one.
+fn span_of_cells(cells: &Cells, i: usize) -> Option<Span>
+    ensures { IsSpanIfAny (places_of_cells cells.now) i result }
 {
-    // So no address of the run passes 32 bits.
-    if address > u32::MAX - SHORT as u32 {
-        return None;
+    if i < cells.len() as usize {
+        Some(span_of(cells.part_at(i as u32)))
+    } else {
+        None
     }
-    let mut run = ShortRun::new();
-    for (i, cell) in cells.iter().enumerate() {
-        run.push(byte_at(cell, address + i as u32)?);
-    }
-    Some(run)
 }
 
 impl Altered {
-    /// Cells of the PSW and of few successive bytes, or none.
-    fn short(cells: &[Cell]) -> Option<Altered>
+    /// What these cells alter.
+    fn of(alloc: Global, cells: Cells) -> Result<Altered, AllocError>
+        requires fit { AllFit cells }
+        ensures cells { IfOk result (λ x. cells_of x ≡ cells) }
+        ensures whole { IfOk result (λ x. IsWhole x) }
+    {
+        match Altered::within(&cells) {
+            Some(altered) => Ok(altered),
+            None => Ok(Altered::Cells(Box::new(alloc, cells)?)),
+        }
+    }
+
+    /// What cells alter that are none, or the PSW and little beside it.
+    fn within(cells: &Cells) -> Option<Altered>
         requires fit { AllFit cells.now }
         ensures cells { IfSome result (λ x. cells_of x ≡ cells.now) }
-        ensures alone { IfSome result (λ x. change_of x ≡ change_of_core (cells_of x)) }
         ensures whole { IfSome result (λ x. IsWhole x) }
     {
-        let Some((first, rest)) = cells.split_first() else {
+        if cells.is_empty() {
             return Some(Altered::Nothing);
-        };
+        }
+        let first = cells.cell(0);
         match first.place {
-            Place::Psw => Altered::of_psw(Psw::from_u64(first.value), rest),
+            Place::Psw => Altered::after_psw(Psw::from_u64(first.value), cells),
             _ => None,
         }
     }
 
-    /// The PSW and cells of few successive bytes, or none.
-    fn of_psw(psw: Psw, rest: &[Cell]) -> Option<Altered>
-        requires fit { AllFit rest.now }
-        ensures cells { IfSome result (λ x. cells_of x ≡ psw_cell psw ∷ rest.now) }
-        ensures alone { IfSome result (λ x. change_of x ≡ change_of_core (cells_of x)) }
+    /// What cells alter that begin with a PSW, if little is beside it.
+    fn after_psw(psw: Psw, cells: &Cells) -> Option<Altered>
+        requires fit { AllFit cells.now }
+        requires first { BeginsWithPsw psw cells.now }
+        ensures cells { IfSome result (λ x. cells_of x ≡ cells.now) }
         ensures whole { IfSome result (λ x. IsWhole x) }
     {
-        let Some(next) = rest.first() else {
+        let count = cells.len() as usize;
+        if count == 1 {
             return Some(Altered::Psw(psw));
-        };
-        match next.place {
-            Place::Byte(address) if rest.len() <= SHORT => {
-                let run = run_of(rest, address)?;
+        }
+        match cells.part_at(1) {
+            Part::Cell(cell) if count == 2 => Altered::of_register(psw, cell),
+            Part::Bytes(address, bytes) if count == 1 + bytes.len() => {
+                let run = ShortRun::of(bytes)?;
                 Some(Altered::Bytes { run, address, psw })
             }
+            _ => None,
+        }
+    }
+
+    /// The PSW and the cell of a register, if it is one.
+    fn of_register(psw: Psw, cell: Cell) -> Option<Altered>
+        requires fits { Fits cell.place cell.value }
+        ensures cells { IfSome result (λ x. cells_of x ≡ psw_cell psw ∷ (cell ∷ [])) }
+        ensures whole { IfSome result (λ x. IsWhole x) }
+    {
+        match cell.place {
+            Place::Register(number) if number < 16 => Some(Altered::Register {
+                register: RegisterNumber::new(number),
+                word: cell.value as u32,
+                psw,
+            }),
             _ => None,
         }
     }
@@ -235,25 +197,25 @@ impl Altered {
             Altered::Psw(_) => 1,
             Altered::Register { .. } => 2,
             Altered::Bytes { run, .. } => 1 + run.len(),
-            Altered::Full(full) => full.cells.len(),
+            Altered::Cells(cells) => cells.len() as usize,
         }
     }
 
-    /// The place of the core at `i`, counted from 0, if there are so many.
-    fn place(&self, i: usize) -> Option<Place>
+    /// The span of the places of the core that begins with the one at `i`, if there are so many.
+    fn span_at(&self, i: usize) -> Option<Span>
         requires whole { IsWhole self.now }
-        ensures { result ≡ slice_get (places_of_cells (cells_of self.now)) i }
+        ensures { IsSpanIfAny (places_of_cells (cells_of self.now)) i result }
     {
         match self {
-            Altered::Full(full) => full.cells.get(i).map(|cell| cell.place),
+            Altered::Cells(cells) => span_of_cells(cells, i),
+            Altered::Bytes { run, address, .. } if i > 0 => span_in_run(*address, run, i - 1),
             Altered::Nothing => None,
-            _ if i == 0 => Some(Place::Psw),
+            _ if i == 0 => Some(Span::Place(Place::Psw)),
             Altered::Psw(_) => None,
             Altered::Register { register, .. } if i == 1 => {
-                Some(Place::Register(register.number()))
+                Some(Span::Place(Place::Register(register.number())))
             }
-            Altered::Register { .. } => None,
-            Altered::Bytes { run, address, .. } => place_in_run(*address, run, i - 1),
+            Altered::Register { .. } | Altered::Bytes { .. } => None,
         }
     }
 
@@ -270,30 +232,8 @@ impl Altered {
             Altered::Bytes { run, address, .. } => {
                 Place::Psw.is(place) || is_in_run(*address, run, place)
             }
-            Altered::Full(full) => full
-                .cells
-                .iter()
-                .map(|cell| cell.place)
-                .any(|other| other.is(place)),
+            Altered::Cells(cells) => cells.has(place),
         }
-    }
-
-    /// The places beside those of the core, in their order.
-    #[inline(always)]
-    fn beside_core(&self) -> ArrayVec<Place, BESIDE>
-        ensures { result.items ≡ places_beside_core (change_of self.now) }
-    {
-        match self {
-            Altered::Full(full) => full.beside_core(),
-            _ => ArrayVec::new(),
-        }
-    }
-
-    /// Whether a place beside those of the core is among them.
-    fn alters_beside_core(&self, place: Place) -> bool
-        ensures { result ≡ list_any (λ q. same_place q place) (places_beside_core (change_of self.now)) }
-    {
-        self.beside_core().iter().any(|other| other.is(place))
     }
 }
 
@@ -301,32 +241,27 @@ impl Changes {
     /// A change of these cells of the core and of these other parts.
     pub(crate) fn of(
         alloc: Global,
-        cells: SmallVec<Cell, WITHIN>,
+        cells: Cells,
         control: ControlChange,
-        io: Option<Box<IoChange>>,
+        units: Option<UnitChange>,
+        media: Option<MediaChange>,
     ) -> Result<Changes, AllocError>
-        requires fit { AllFit cells.items }
-        requires few { length cells.items ≤ 1000000 }
-        ensures { IfOk result (λ changes. changes ≡ record { cells = cells.items; control = control_cells control; units = unit_change_of io; media = media_change_of io }) }
+        requires fit { AllFit cells }
+        ensures { IfOk result (λ changes. changes ≡ record { cells = cells; control = control_cells control; units = units; media = media }) }
     {
-        if control == ControlChange::Neither && io.is_none() {
-            if let Some(altered) = Altered::short(cells.as_slice()) {
-                return Ok(Changes { altered });
-            }
-        }
-        let full = FullChange { cells, control, io };
-        let full = Box::new(alloc, full)?;
-        Ok(Changes {
-            altered: Altered::Full(full),
-        })
+        let altered = Altered::of(alloc, cells)?;
+        let beside = Beside::of(alloc, control, units, media)?;
+        Ok(Changes { altered, beside })
     }
 
-    /// A change of nothing.
-    pub(crate) fn none() -> Changes
-        ensures { result ≡ change_of_core [] }
+    /// A change of the core alone.
+    pub(crate) fn of_core(altered: Altered) -> Changes
+        requires whole { IsWhole altered }
+        ensures { result ≡ change_of_core (cells_of altered) }
     {
         Changes {
-            altered: Altered::Nothing,
+            altered,
+            beside: None,
         }
     }
 
@@ -334,49 +269,50 @@ impl Changes {
     pub(crate) fn media(&self) -> Option<&MediaChange>
         ensures { option_copied result ≡ self.now.media }
     {
-        match &self.altered {
-            Altered::Full(full) => full.io.as_ref()?.media.as_ref(),
-            _ => None,
+        self.beside.as_ref()?.media.as_ref()
+    }
+
+    /// The places beside those of the core, in their order.
+    #[inline(always)]
+    fn places_beside(&self) -> ArrayVec<Place, BESIDE>
+        ensures { result.items ≡ places_beside_core self.now }
+    {
+        match &self.beside {
+            Some(beside) => beside.places(),
+            None => ArrayVec::new(),
         }
+    }
+
+    /// Whether a place beside those of the core is among them.
+    fn alters_beside(&self, place: Place) -> bool
+        ensures { result ≡ list_any (λ q. same_place q place) (places_beside_core self.now) }
+    {
+        self.places_beside().iter().any(|other| other.is(place))
     }
 
     /// The number of places.
     pub fn len(&self) -> u32
         ensures { result ≡ length (places_of_change self.now) }
     {
-        self.altered.len() as u32 + self.altered.beside_core().len() as u32
+        self.altered.len() as u32 + self.places_beside().len() as u32
     }
 
-    /// The place at `i`, counted from 0.
-    pub fn place(&self, i: u32) -> Place
+    /// The span of the places that begins with the one at `i`, counted from 0.
+    pub fn span_at(&self, i: u32) -> Span
         requires { i < length (places_of_change self.now) }
-        ensures { slice_get (places_of_change self.now) i ≡ Some result }
+        ensures { IsSpanAt (places_of_change self.now) i result }
     {
         let i = i as usize;
-        match self.altered.place(i) {
-            Some(place) => place,
-            None => self.altered.beside_core()[i - self.altered.len()],
+        match self.altered.span_at(i) {
+            Some(span) => span,
+            None => Span::Place(self.places_beside()[i - self.altered.len()]),
         }
-    }
-
-    /// All the places, in their order.
-    pub fn places(&self, alloc: Global) -> Result<Vec<Place>, AllocError>
-        ensures { IfOk result (λ places. places.items ≡ places_of_change self.now) }
-    {
-        if let Altered::Full(full) = &self.altered {
-            return full.places(alloc);
-        }
-        let mut places = Vec::with_capacity(alloc, self.len() as usize)?;
-        for i in 0..self.len() {
-            places.push(self.place(i))?;
-        }
-        Ok(places)
     }
 
     /// Whether a place is among them.
     pub fn alters(&self, place: Place) -> bool
         ensures { result ≡ list_any (λ q. same_place q place) (places_of_change self.now) }
     {
-        self.altered.alters(place) || self.altered.alters_beside_core(place)
+        self.altered.alters(place) || self.alters_beside(place)
     }
 }

@@ -87,11 +87,14 @@ impl Machine {
         unit: ConfiguredUnit,
         control: Option<UnitControl>,
         media: Option<MediaChange>,
-    ) -> Result<PlannedEvent, AllocError>
-        ensures { IfOk result (λ planned. PlansIo planned self.now.whole.control (option_map (λ c. One unit c) control) media) }
+    ) -> PlannedEvent
+        ensures { PlansIo result self.now.whole.control (option_map (λ c. One unit c) control) media }
     {
-        let units = control.map(|control| UnitChange::One(unit, control));
-        self.planned_with(self.control, units, media)
+        PlannedEvent {
+            control: self.control,
+            units: control.map(|control| UnitChange::One(unit, control)),
+            media,
+        }
     }
 
     /// Plans what the channel makes of a unit.
@@ -108,27 +111,27 @@ impl Machine {
         match unit {
             ConfiguredUnit::Reader => {
                 let step = plan_step(self.alloc, storage, control, &self.devices.reader, plan)?;
-                self.planned_step(unit, step.control, step.change.map(MediaChange::Reader))
+                Ok(self.planned_step(unit, step.control, step.change.map(MediaChange::Reader)))
             }
             ConfiguredUnit::Punch => {
                 let step = plan_step(self.alloc, storage, control, &self.devices.punch, plan)?;
-                self.planned_step(unit, step.control, step.change.map(MediaChange::Punch))
+                Ok(self.planned_step(unit, step.control, step.change.map(MediaChange::Punch)))
             }
             ConfiguredUnit::Printer => {
                 let step = plan_step(self.alloc, storage, control, &self.devices.printer, plan)?;
-                self.planned_step(unit, step.control, step.change.map(MediaChange::Printer))
+                Ok(self.planned_step(unit, step.control, step.change.map(MediaChange::Printer)))
             }
             ConfiguredUnit::Console => {
                 let step = plan_step(self.alloc, storage, control, &self.devices.console, plan)?;
-                self.planned_step(unit, step.control, step.change.map(MediaChange::Console))
+                Ok(self.planned_step(unit, step.control, step.change.map(MediaChange::Console)))
             }
             ConfiguredUnit::Tape0 => {
                 let step = plan_step(self.alloc, storage, control, &self.devices.tape0, plan)?;
-                self.planned_step(unit, step.control, step.change.map(MediaChange::Tape0))
+                Ok(self.planned_step(unit, step.control, step.change.map(MediaChange::Tape0)))
             }
             ConfiguredUnit::Tape1 => {
                 let step = plan_step(self.alloc, storage, control, &self.devices.tape1, plan)?;
-                self.planned_step(unit, step.control, step.change.map(MediaChange::Tape1))
+                Ok(self.planned_step(unit, step.control, step.change.map(MediaChange::Tape1)))
             }
         }
     }

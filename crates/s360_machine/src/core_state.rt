@@ -1,30 +1,26 @@
 //! What an instruction works on: the current PSW, the general registers and main storage. Source:
 //! GA22-6821, "System Structure".
-ghost use Rattle.std.specs.Prelude.{◌≡◌, ◌≢◌, ◌<◌, ◌≤◌, ◌+◌, ◌^◌, [], length, slice_index, Err, IfOk, IsOkUnless, IsTrue, OnOk};
+ghost use Rattle.std.specs.Prelude.{◌≡◌, ◌≢◌, ◌<◌, ◌≤◌, ◌+◌, ◌^◌, [], length, slice_index, Err, IfOk, IsOkUnless, OnOk};
 ghost use Rattle.std.specs.Bool.{MatchBool};
 ghost use Rattle.s360_model.specs.Core.{zero_core, core_with_bytes, core_with_psw, core_with_word};
 ghost use Rattle.s360_model.specs.Psw.{IsCurrentPsw};
 ghost use Rattle.s360_model.specs.Storage.{is_storage_size};
-ghost use Rattle.s360_store.specs.Cells.{AreCellsOf, AllFit, places_of_cells};
-ghost use Rattle.s360_store.specs.Cells.{after_exchange, cells_after_exchange};
-ghost use Rattle.s360_store.specs.Places.{IsPlaceOf, Fits, value_at, with_value};
+ghost use Rattle.s360_store.specs.Cells.{AllFit, AreCellsOf, after_exchange, byte_cells, cells_after_exchange};
+ghost use Rattle.s360_store.specs.Items.{cells_of_part};
+ghost use Rattle.s360_store.specs.Places.{IsPlaceOf, value_at};
 ghost use Rattle.s360_store.specs.declared.fault.StoreFault.TheVariants.{Size, Memory};
-ghost use Rattle.s360_store.specs.Differences.{IsCoreChangeTo};
-ghost use Rattle.s360_store.specs.Order.{IsAscending};
-ghost use Rattle.s360_store.specs.PlanParts.{byte_cells};
-ghost use Rattle.s360_store.specs.Plans.{IsPlanOf};
+ghost use Rattle.s360_store.specs.Differences.{AreKept, IsCoreChangeTo, KeepsAltering};
+ghost use Rattle.s360_store.specs.Plans.{HasBytes, IsPlanOf};
 ghost use Rattle.s360_logic.specs.Instruction.{PlansInstruction, instruction};
-ghost use Rattle.s360_store.specs.Differences.{AreKept};
-ghost use Rattle.s360_machine.specs.Altered.{IsWhole, cells_of, change_of};
+ghost use Rattle.s360_machine.specs.Altered.{IsWhole, cells_of};
 
-use crate::changes::{Altered, WITHIN};
+use crate::changes::Altered;
 use crate::short_run::ShortRun;
 use s360_fixed::ProgramCode;
 use s360_logic::{Fetched, PlannedInstruction};
 use s360_psw::{InstructionLength, Psw};
-use s360_store::{Cell, GREATEST_SIZE, Place, Plan, Storage, StoreFault};
+use s360_store::{Cell, Cells, GREATEST_SIZE, Part, Place, Plan, Storage, StoreFault};
 use s360_word::{RegisterNumber, Word};
-use smallvec::SmallVec;
 use std::alloc::{AllocError, Global};
 use std::marker::Model;
 use std::mem;
@@ -46,18 +42,6 @@ impl Model for Core {
     ghost view = { λ c. record { psw = c.psw; registers = c.registers; storage = c.storage } };
 
     ghost invariant = { λ c. length c.registers ≡ 16 };
-}
-
-/// Whether the places of cells ascend.
-fn are_ascending(cells: &[Cell]) -> bool
-    ensures { IsTrue result → IsAscending (places_of_cells cells.now) }
-{
-    for i in 1..cells.len() {
-        if !cells[i - 1].place.cmp(&cells[i].place).is_lt() {
-            return false;
-        }
-    }
-    true
 }
 
 impl Core {
@@ -151,42 +135,6 @@ impl Core {
         }
     }
 
-    /// Exchanges what stands at the cell's place with its value.
-    fn swap(&mut self, cell: &mut Cell)
-        requires inside { IsPlaceOf self.old cell.old.place }
-        requires fits { Fits cell.old.place cell.old.value }
-        ensures core { self.new ≡ with_value self.old cell.old.place cell.old.value }
-        ensures cell { cell.new ≡ record { place = cell.old.place; value = value_at self.old cell.old.place } }
-        ensures fits { Fits cell.old.place cell.new.value }
-    {
-        match cell.place {
-            Place::Psw => {
-                let taken = self.psw.stored(0, InstructionLength::NotAvailable);
-                self.psw = Psw::from_u64(cell.value);
-                cell.value = taken;
-            }
-            Place::Register(register) => {
-                let taken = u64::from(self.registers[register as usize]);
-                self.registers[register as usize] = cell.value as u32;
-                cell.value = taken;
-            }
-            Place::Byte(_) | Place::Key(_) => self.storage.swap(cell),
-            _ => unreachable!(),
-        }
-    }
-
-    /// Exchanges what stands at the cells' places with their values, one after another.
-    pub(crate) fn exchange(&mut self, cells: &mut [Cell])
-        requires { AreCellsOf self.old cells.old }
-        ensures core { self.new ≡ after_exchange self.old cells.old }
-        ensures cells { cells.new ≡ cells_after_exchange self.old cells.old }
-        ensures fit { AllFit cells.new }
-    {
-        for cell in cells.iter_mut() {
-            self.swap(cell);
-        }
-    }
-
     /// Whether a cell alters its place.
     fn is_altered_by(&self, cell: Cell) -> bool
         requires { IsPlaceOf self.now cell.place }
@@ -195,53 +143,68 @@ impl Core {
         self.value(cell.place) != cell.value
     }
 
-    /// The number of cells of a plan that alter their places.
-    fn count_altering(&self, plan: &Plan) -> usize
-        requires { AreCellsOf self.now plan.now }
+    /// Adds those of bytes from an address on that alter storage, as runs.
+    fn keep_bytes(&self, address: u32, new: &[u8], kept: &mut Cells) -> Result<(), AllocError>
+        requires inside { HasBytes address (length new.now) self.now }
+        requires room { length kept.old + length new.now ≤ 1000000 }
+        ensures kept { OnOk result (KeepsAltering self.now (byte_cells address new.now) kept.old kept.new) }
+        ensures few { OnOk result (length kept.new ≤ length kept.old + length new.now) }
     {
-        let mut count = 0;
-        for i in 0..plan.len() {
-            let cell = plan.cell(i);
-            if self.is_altered_by(cell) {
-                count += 1;
+        // So no address of the run passes 32 bits.
+        prove!(self.storage.size() <= GREATEST_SIZE);
+        let stored = self.storage.bytes(address, new.len() as u32);
+        let mut start = 0;
+        for at in 0..new.len() {
+            if new[at] == stored[at] {
+                kept.push_bytes(address + start as u32, &new[start..at])?;
+                start = at + 1;
             }
         }
-        count
+        kept.push_bytes(address + start as u32, &new[start..])
     }
 
-    /// The cells of a plan that alter their places, in the order of the plan. It takes memory once.
-    fn altering(&self, alloc: Global, plan: &Plan) -> Result<SmallVec<Cell, WITHIN>, AllocError>
-        requires { AreCellsOf self.now plan.now }
-        ensures kept { IfOk result (λ cells. AreKept self.now plan.now cells.items) }
-        ensures few { IfOk result (λ cells. length cells.items ≤ 1000000) }
+    /// Adds the cells of a part of a plan that alter their places.
+    fn keep(&self, part: Part<'_>, kept: &mut Cells) -> Result<(), AllocError>
+        requires some { 0 < length (cells_of_part part) }
+        requires cells { AreCellsOf self.now (cells_of_part part) }
+        requires room { length kept.old + length (cells_of_part part) ≤ 1000000 }
+        ensures kept { OnOk result (KeepsAltering self.now (cells_of_part part.entry) kept.old kept.new) }
+        ensures few { OnOk result (length kept.new ≤ length kept.old + length (cells_of_part part.entry)) }
     {
-        let mut cells = SmallVec::with_capacity(alloc, self.count_altering(plan))?;
-        for i in 0..plan.len() {
-            let cell = plan.cell(i);
-            if self.is_altered_by(cell) {
-                cells.push(cell)?;
-            }
+        match part {
+            Part::Cell(cell) if self.is_altered_by(cell) => kept.push(cell),
+            Part::Cell(_) => Ok(()),
+            Part::Bytes(address, new) => self.keep_bytes(address, new, kept),
         }
-        Ok(cells)
+    }
+
+    /// The cells of a plan that alter their places, in the order of the plan.
+    fn altering(&self, alloc: Global, plan: &Plan) -> Result<Cells, AllocError>
+        requires { AreCellsOf self.now plan.now }
+        ensures { IfOk result (λ cells. AreKept self.now plan.now cells) }
+    {
+        let mut kept = Cells::new(alloc);
+        let mut i = 0;
+        while i < plan.len() {
+            let part = plan.part_at(i);
+            self.keep(part, &mut kept)?;
+            i += part.len() as u32;
+        }
+        Ok(kept)
     }
 
     /// The cells of a plan that alter their places, in the order of places.
-    pub(crate) fn changes(
-        &self,
-        alloc: Global,
-        plan: &Plan,
-    ) -> Result<SmallVec<Cell, WITHIN>, AllocError>
+    pub(crate) fn changes(&self, alloc: Global, plan: &Plan) -> Result<Cells, AllocError>
         requires { AreCellsOf self.now plan.now }
-        ensures change { IfOk result (λ cells. IsCoreChangeTo self.now cells.items (after_exchange self.now plan.now)) }
-        ensures few { IfOk result (λ cells. length cells.items ≤ 1000000) }
+        ensures { IfOk result (λ cells. IsCoreChangeTo self.now cells (after_exchange self.now plan.now)) }
     {
-        let mut cells = self.altering(alloc, plan)?;
+        let cells = self.altering(alloc, plan)?;
         // Most events put their places in order.
-        if are_ascending(cells.as_slice()) {
+        if cells.are_ascending() {
             return Ok(cells);
         }
-        cells.as_mut_slice().sort_unstable_by_key(|cell| cell.place);
-        Ok(cells)
+        let sorted = cells.sorted(alloc)?;
+        Ok(sorted)
     }
 
     /// Exchanges the PSW with another.
@@ -282,7 +245,6 @@ impl Core {
         requires can { AreCellsOf self.old (cells_of altered.old) }
         ensures core { self.new ≡ after_exchange self.old (cells_of altered.old) }
         ensures cells { cells_of altered.new ≡ cells_after_exchange self.old (cells_of altered.old) }
-        ensures beside { change_of altered.new ≡ record (change_of altered.old) { cells = cells_of altered.new } }
         ensures whole { IsWhole altered.new }
         ensures fit { AllFit (cells_of altered.new) }
     {
@@ -301,7 +263,9 @@ impl Core {
                 self.exchange_psw(psw);
                 self.exchange_run(run, *address);
             }
-            Altered::Full(full) => self.exchange(full.cells.as_mut_slice()),
+            Altered::Cells(cells) => {
+                cells.exchange(&mut self.psw, &mut self.registers, &mut self.storage)
+            }
         }
     }
 }

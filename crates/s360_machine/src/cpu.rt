@@ -2,7 +2,7 @@
 //! GA22-6821, "Interruptions", "Status Switching" and "System Structure", program execution.
 ghost use Rattle.std.specs.Prelude.{◌≡◌, [], IfOk, IfSome};
 ghost use Rattle.s360_logic.specs.Instruction.{PlansInstruction, instruction};
-ghost use Rattle.s360_machine.specs.Altered.{IsWhole, change_of};
+ghost use Rattle.s360_machine.specs.Altered.{IsWhole, cells_of, change_of_core};
 ghost use Rattle.s360_machine.specs.Cpu.{after_case, after_cpu, after_external, after_instruction};
 ghost use Rattle.s360_machine.specs.Cpu.{cpu_case, pending_of};
 ghost use Rattle.s360_machine.specs.Machine.{seen};
@@ -66,7 +66,7 @@ impl Machine {
         match self.cpu_case() {
             CpuCase::Executing => self.changes_of_instruction(),
             CpuCase::Interrupted(class) => self.changes_of_interruption(class),
-            CpuCase::Halted | CpuCase::Waiting => Ok(Changes::none()),
+            CpuCase::Halted | CpuCase::Waiting => Ok(Changes::of_core(Altered::Nothing)),
         }
     }
 
@@ -111,7 +111,7 @@ impl Machine {
     {
         let fetched = self.core.fetch();
         if let Some(altered) = self.altered_by(&fetched) {
-            return Ok(Changes { altered });
+            return Ok(Changes::of_core(altered));
         }
         let mut plan = Plan::new(self.alloc);
         let planned = self.core.plan_fetched(&fetched, &mut plan)?;
@@ -123,7 +123,7 @@ impl Machine {
     fn altered_by(&self, fetched: &Result<Fetched<'_>, ProgramCode>) -> Option<Altered>
         requires fetched { IfOk fetched.now (λ f. f.view.core ≡ self.now.whole.core) }
         ensures whole { IfSome result (λ x. IsWhole x) }
-        ensures change { IfSome result (λ x. IsChangeTo self.now.whole (change_of x) (after_instruction (seen self.now.whole))) }
+        ensures change { IfSome result (λ x. IsChangeTo self.now.whole (change_of_core (cells_of x)) (after_instruction (seen self.now.whole))) }
     {
         let Ok(fetched) = fetched else {
             return None;

@@ -92,9 +92,11 @@ impl Machine {
     {
         let done = self.io_result(operation, unit);
         self.core.plan_io(&done, next_address, plan)?;
-        let units = self.change_after_io(done.unit);
-        let planned = self.planned_with(self.control, units, None)?;
-        Ok(planned)
+        Ok(PlannedEvent {
+            control: self.control,
+            units: self.change_after_io(done.unit),
+            media: None,
+        })
     }
 
     /// Plans an input/output interruption: the condition of the lowest unit whose channel the PSW
@@ -128,8 +130,10 @@ impl Machine {
         let length = InstructionLength::NotAvailable;
         self.core
             .plan_interruption(Class::InputOutput, self.core.psw(), code, length, plan)?;
-        let units = self.units.change_of(unit, next);
-        let planned = self.planned_with(self.control, units, None)?;
-        Ok(planned)
+        Ok(PlannedEvent {
+            control: self.control,
+            units: self.units.change_of(unit, next),
+            media: None,
+        })
     }
 }

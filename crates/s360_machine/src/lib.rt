@@ -6,6 +6,7 @@
 #![tactic(auto)]
 
 mod altering;
+mod beside;
 mod changes;
 mod channel_event;
 mod control;
@@ -16,7 +17,6 @@ mod event;
 mod external;
 mod input_output;
 mod interruption;
-mod io_change;
 mod loading;
 mod machine;
 mod media;
@@ -24,6 +24,7 @@ mod operator;
 mod refusal;
 mod run_state;
 mod short_run;
+mod span;
 mod timer;
 
 pub use changes::Changes;
@@ -35,3 +36,4 @@ pub use refusal::Refusal;
 pub use run_state::RunState;
 pub use s360_channel::ConfiguredUnit;
 pub use s360_store::Bytes;
+pub use span::Span;

@@ -5,7 +5,6 @@ ghost use Rattle.s360_store.specs.Cells.{AreCellsOf, after_exchange};
 ghost use Rattle.s360_store.specs.Plans.{IsPlanOf};
 ghost use Rattle.s360_model.specs.Exchanges.{after_if_any};
 ghost use Rattle.s360_channel.specs.UnitChanges.{units_after_swap};
-ghost use Rattle.s360_machine.specs.IoChanges.{media_change_of, unit_change_of};
 ghost use Rattle.s360_machine.specs.Loading.{after_loading, core_after_loading, has_loaded};
 ghost use Rattle.s360_machine.specs.Machine.{Machine as Seen, seen};
 ghost use Rattle.s360_machine.specs.Planned.{IsPlanOfMachine};
@@ -14,7 +13,6 @@ ghost use Rattle.s360_channel.specs.declared.unit_state.UnitState.{UnitState as 
 
 use crate::core_state::Core;
 use crate::machine::{Machine, PlannedEvent};
-use crate::media::MediaChange;
 use crate::run_state::RunState;
 use s360_channel::{ConfiguredUnit, UnitControl, UnitState, Units, status_halfword};
 use s360_psw::Psw;
@@ -44,26 +42,16 @@ impl Core {
 impl PlannedEvent {
     /// What a channel then does for a unit.
     fn state_after<'a>(&'a self, units: &'a Units, unit: ConfiguredUnit) -> &'a UnitState
-        ensures { result.now ≡ (control_of (after_if_any units_after_swap units.now (unit_change_of self.now.io)) unit).state }
+        ensures { result.now ≡ (control_of (after_if_any units_after_swap units.now self.now.units) unit).state }
     {
-        match &self.io {
-            Some(io) => units.state_after(&io.units, unit),
-            None => &units.control(unit).state,
-        }
-    }
-
-    /// What becomes of its device.
-    fn into_media(self) -> Option<MediaChange>
-        ensures { result ≡ media_change_of self.io }
-    {
-        Box::into_inner(self.io?).media
+        units.state_after(&self.units, unit)
     }
 }
 
 impl Machine {
     /// Whether a channel event that was planned ends loading from a unit.
     fn has_loaded(&self, unit: ConfiguredUnit, planned: &PlannedEvent) -> bool
-        ensures { result ≡ has_loaded self.now.whole.control.run_state unit (control_of self.now.whole.units unit).state (control_of (after_if_any units_after_swap self.now.whole.units (unit_change_of planned.now.io)) unit).state }
+        ensures { result ≡ has_loaded self.now.whole.control.run_state unit (control_of self.now.whole.units unit).state (control_of (after_if_any units_after_swap self.now.whole.units planned.now.units) unit).state }
     {
         if self.control.run_state() != RunState::Loading(unit.unit()) {
             return false;
@@ -100,7 +88,10 @@ impl Machine {
         };
         let units = self.units.change_of(unit, idle);
         let control = planned.control.operating();
-        let done = self.planned_with(control, units, planned.into_media())?;
-        Ok(done)
+        Ok(PlannedEvent {
+            control,
+            units,
+            media: planned.media,
+        })
     }
 }

@@ -1,11 +1,11 @@
 //! The machine: its state, and the events that change it.
-ghost use Rattle.std.specs.Prelude.{◌≡◌, ◌≤◌, [], slice_index, None, Err, OnOk, IfOk, IfSome, IsOkUnless};
+ghost use Rattle.std.specs.Prelude.{◌≡◌, slice_index, None, Err, OnOk, IfOk, IsOkUnless};
 ghost use Rattle.std.specs.Prelude.{MatchOption};
 ghost use Rattle.std.specs.Option.{option_copied, option_map};
 ghost use Rattle.std.specs.Bool.{MatchBool};
 ghost use Rattle.s360_model.specs.Storage.{is_storage_size};
 ghost use Rattle.s360_store.specs.declared.fault.StoreFault.TheVariants.{Size, Memory as no_memory};
-ghost use Rattle.s360_machine.specs.Machine.{Machine as SeenMachine, new_machine, room_for, storage_size, seen};
+ghost use Rattle.s360_machine.specs.Machine.{Machine as SeenMachine, new_machine, storage_size, seen};
 ghost use Rattle.s360_store.specs.Cells.{AreCellsOf};
 ghost use Rattle.s360_machine.specs.Change.{CanSwap, after_swap, change_after_swap};
 ghost use Rattle.s360_machine.specs.Change.{HasRoom, NeedsNoRoom};
@@ -15,25 +15,18 @@ ghost use Rattle.s360_tape.specs.WholeTape.{seen as seen_tape};
 ghost use Rattle.s360_machine.specs.Media.{tape_of};
 ghost use Rattle.s360_channel.specs.ConfiguredUnits.{attention_at, state_at, unit_at};
 ghost use Rattle.s360_machine.specs.Refusals.{refusal_of, refusal_of_key, refusal_of_patch};
-ghost use Rattle.s360_machine.specs.Altered.{IsWhole, cells_of, change_of};
 ghost use Rattle.s360_machine.specs.ChannelEvents.{after_channel_event};
-ghost use Rattle.s360_machine.specs.ControlCells.{control_after_exchange, control_cells_after_exchange};
-ghost use Rattle.s360_machine.specs.IoChanges.{CanSwapMedia, media_after_swap, media_change_after_swap};
-ghost use Rattle.s360_machine.specs.IoChanges.{media_needs, unit_of_change};
-ghost use Rattle.s360_machine.specs.Media.{media_of, room_of};
 ghost use Rattle.s360_machine.specs.Operator.{after_key};
 ghost use Rattle.s360_machine.specs.Timer.{after_tick};
-ghost use Rattle.s360_model.specs.Exchanges.{CanIfAny, after_if_any, back_if_any};
-ghost use Rattle.s360_channel.specs.UnitChanges.{unit_change_after_swap, units_after_swap};
-ghost use Rattle.s360_machine.specs.Planned.{IsChangeTo, IsPlanOfMachine, LeavesUnits, PlansIo};
+ghost use Rattle.s360_machine.specs.Planned.{IsChangeTo, IsPlanOfMachine, LeavesUnits};
 ghost use Rattle.s360_machine.specs.declared.refusal.Refusal.TheVariants.{Memory};
 
-use crate::changes::{Altered, Changes};
+use crate::beside::exchange_beside;
+use crate::changes::Changes;
 use crate::control::Control;
 use crate::core_state::Core;
 use crate::event::{Event, Patch};
 use crate::external::ExternalConditions;
-use crate::io_change::{IoChange, exchange_io};
 use crate::media::{Devices, MediaChange};
 use crate::operator::Key;
 use crate::refusal::Refusal;
@@ -64,8 +57,10 @@ pub struct Machine {
 pub(crate) struct PlannedEvent {
     /// The control part after it.
     pub(crate) control: Control,
-    /// What it alters of the units and their devices.
-    pub(crate) io: Option<Box<IoChange>>,
+    /// What becomes of the units.
+    pub(crate) units: Option<UnitChange>,
+    /// What becomes of a device.
+    pub(crate) media: Option<MediaChange>,
 }
 
 impl Model for Machine {
@@ -222,28 +217,18 @@ impl Machine {
     {
         let cells = self.core.changes(self.alloc, plan)?;
         let control = self.control.changes_to(&planned.control);
-        Changes::of(self.alloc, cells, control, planned.io)
+        Changes::of(self.alloc, cells, control, planned.units, planned.media)
     }
 
     /// What an event makes that leaves the units alone.
     pub(crate) fn planned(&self, control: Control) -> PlannedEvent
         ensures { LeavesUnits self.now.whole control result }
     {
-        PlannedEvent { control, io: None }
-    }
-
-    /// What an event makes that alters this of the units and their devices.
-    pub(crate) fn planned_with(
-        &self,
-        control: Control,
-        units: Option<UnitChange>,
-        media: Option<MediaChange>,
-    ) -> Result<PlannedEvent, AllocError>
-        ensures { IfOk result (λ planned. PlansIo planned control units media) }
-    {
-        let io = IoChange::of(self.alloc, units, media)?;
-        let planned = PlannedEvent { control, io };
-        Ok(planned)
+        PlannedEvent {
+            control,
+            units: None,
+            media: None,
+        }
     }
 
     /// What an event alters, unless it is refused for its own sake (refusals 2 to 5).
@@ -328,35 +313,10 @@ impl Machine {
     {
         self.core.exchange_altered(&mut changes.altered);
         exchange_beside(
-            &mut changes.altered,
+            &mut changes.beside,
             &mut self.control,
             &mut self.units,
             &mut self.devices,
         );
-    }
-}
-
-/// Exchanges what stands beside the core with what an event alters of it, for which there is room.
-fn exchange_beside(
-    altered: &mut Altered,
-    control: &mut Control,
-    units: &mut Units,
-    devices: &mut Devices,
-)
-    requires can { CanIfAny CanSwapMedia (media_of devices.old) (change_of altered.old).media }
-    requires room { IfSome (change_of altered.old).media (λ x. media_needs x ≤ room_for (room_of devices.old) (unit_of_change x)) }
-    requires whole { IsWhole altered.old }
-    ensures control { control.new ≡ control_after_exchange control.old (change_of altered.old).control }
-    ensures units { units.new ≡ after_if_any units_after_swap units.old (change_of altered.old).units }
-    ensures media { media_of devices.new ≡ after_if_any media_after_swap (media_of devices.old) (change_of altered.old).media }
-    ensures cells { cells_of altered.new ≡ cells_of altered.old }
-    ensures control_cells { (change_of altered.new).control ≡ control_cells_after_exchange control.old (change_of altered.old).control }
-    ensures unit_change { (change_of altered.new).units ≡ back_if_any unit_change_after_swap units.old (change_of altered.old).units }
-    ensures media_change { (change_of altered.new).media ≡ back_if_any media_change_after_swap (media_of devices.old) (change_of altered.old).media }
-    ensures whole { IsWhole altered.new }
-{
-    if let Altered::Full(full) = altered {
-        control.exchange(&mut full.control);
-        exchange_io(&mut full.io, units, devices);
     }
 }

@@ -77,7 +77,10 @@ impl Machine {
         let control = self.control.after_key(key);
         let units = self.change_of_key(key)?;
         let media = self.devices.change_of_key(key)?;
-        let planned = self.planned_with(control, units, media)?;
-        Ok(planned)
+        Ok(PlannedEvent {
+            control,
+            units,
+            media,
+        })
     }
 }

@@ -1,9 +1,8 @@
 //! A run of few bytes, which takes no memory.
-ghost use Rattle.std.specs.Prelude.{◌≡◌, ◌<◌, ◌≤◌, ◌+◌, ◌++◌, [], ◌∷◌, length};
+ghost use Rattle.std.specs.Prelude.{◌≡◌, ◌<◌, ◌≤◌, ◌+◌, ◌++◌, [], ◌∷◌, length, IfSome};
 ghost use Rattle.std.specs.List.{slice_range};
 ghost use Rattle.s360_model.specs.Storage.{with_run};
-ghost use Rattle.s360_store.specs.Cells.{AllFit};
-ghost use Rattle.s360_store.specs.PlanParts.{byte_cells};
+ghost use Rattle.s360_store.specs.Cells.{AllFit, byte_cells};
 
 use s360_store::Storage;
 use std::marker::Model;
@@ -37,6 +36,20 @@ impl ShortRun {
             count: 0,
             bytes: [0; SHORT],
         }
+    }
+
+    /// These bytes, if they are few.
+    pub(crate) fn of(bytes: &[u8]) -> Option<ShortRun>
+        ensures { IfSome result (λ run. run ≡ bytes.now) }
+    {
+        if bytes.len() > SHORT {
+            return None;
+        }
+        let mut run = ShortRun::new();
+        for byte in bytes {
+            run.push(*byte);
+        }
+        Some(run)
     }
 
     /// The number of bytes.

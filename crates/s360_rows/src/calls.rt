@@ -2,7 +2,7 @@
 //! of them is there where a line is no command or memory is out.
 use crate::rows::Words;
 use s360_debug::read_command;
-use s360_journal::{Answer, Call, Report};
+use s360_journal::{Answer, Call, Places, Report};
 use s360_machine::{Bytes, Event, Patch, Refusal};
 use s360_store::Place;
 use std::alloc::Global;
@@ -54,11 +54,20 @@ pub(crate) fn long_patch(alloc: Global, words: &mut Words<'_>) -> Option<Event> 
     Some(Event::Patch(Patch::Bytes { at, bytes }))
 }
 
+/// The places of a report, as a list of them is shown.
+fn text_of_places(alloc: Global, places: &Places) -> Option<String> {
+    let mut list = Vec::new(alloc);
+    for i in 0..places.len() {
+        list.push(places.get(i)?).ok()?;
+    }
+    format!(in alloc; "{:?}", list.as_slice()).ok()
+}
+
 /// What an event was answered: the places that it altered, or why it is refused. None is where the
 /// reason is want of memory.
 pub(crate) fn text_of_report(alloc: Global, report: &Result<Report, Refusal>) -> Option<String> {
     match report {
-        Ok(Report::Changed(places)) => format!(in alloc; "{:?}", places.as_slice()).ok(),
+        Ok(Report::Changed(places)) => text_of_places(alloc, places),
         Ok(Report::Idle) => format!(in alloc; "idle").ok(),
         Err(Refusal::Memory) => None,
         Err(refusal) => format!(in alloc; "{refusal}").ok(),

@@ -3,7 +3,7 @@ use crate::calls::{call, calls, event, long_patch, text_of_answer, text_of_repor
 use crate::held::{Lent, lend_with_tape};
 use crate::rows::{Subject, Words, assert_no_fault, fault_of_rows};
 use s360_device::deck_from;
-use s360_journal::{Answer, Outcome, Places, Session, run_calls};
+use s360_journal::{Answer, Outcome, Session, run_calls};
 use s360_machine::{Machine, Refusal};
 use s360_psw::InstructionLength;
 use s360_store::Place;
@@ -288,9 +288,6 @@ journal full
 80000000
 ";
 
-/// Lists of places.
-const LISTS: [&[Place]; 3] = [&[], &[Place::Psw], &[Place::Register(1), Place::Byte(0)]];
-
 /// Writes the text of an answer on a line of its own.
 fn push_answer(alloc: Global, text: &mut String, answer: &Answer) -> Option<()> {
     let answer = text_of_answer(alloc, answer)?;
@@ -342,20 +339,10 @@ impl Lent for Calls {
     }
 }
 
-/// Whether the places of a change are the same as a list.
-fn are_listed(alloc: Global, list: &[Place]) -> Option<bool> {
-    let places = Places::new(Vec::from_slice(alloc, list).ok()?);
-    Some(places.as_slice() == list)
-}
-
 #[test]
 fn lists_of_calls(rt: HostRuntime) {
     let answers = run(rt.alloc()).expect(&rt, "out of memory");
     assert_eq!(rt; answers.as_str(), ANSWERS);
     let answers = lend(rt.alloc(), 6, &mut Calls).expect(&rt, "out of memory");
     assert_eq!(rt; answers.as_str(), ANSWERS);
-    for list in LISTS {
-        let are_listed = are_listed(rt.alloc(), list).expect(&rt, "out of memory");
-        assert!(rt; are_listed, "{list:?}");
-    }
 }

@@ -32,7 +32,7 @@ step";
 const STARTED: u32 = 5;
 
 /// The read alters each byte, the state of the unit and its media.
-const ALTERED: usize = LONGEST + 2;
+const ALTERED: u32 = LONGEST as u32 + 2;
 
 /// Places that the read alters, or that are altered before it or never.
 const PLACES: [Place; 5] = [
@@ -64,9 +64,9 @@ fn carry_out(alloc: Global, session: &mut Session, lines: &str) -> bool {
 }
 
 /// How many places the read alters, or why it is refused.
-fn read(session: &mut Session) -> Result<usize, Refusal> {
+fn read(session: &mut Session) -> Result<u32, Refusal> {
     match session.forward(Event::Channel(TAPE)) {
-        Ok(Report::Changed(places)) => Ok(places.as_slice().len()),
+        Ok(Report::Changed(places)) => Ok(places.len()),
         Ok(Report::Idle) => Ok(0),
         Err(refusal) => Err(refusal),
     }
@@ -83,7 +83,7 @@ fn stands_as(session: &Session, other: &Session) -> bool {
 }
 
 /// Reads, and again where memory was wanting: that has to leave all as it is before the read.
-fn read_over(session: &mut Session, before: &Session) -> Result<usize, Refusal> {
+fn read_over(session: &mut Session, before: &Session) -> Result<u32, Refusal> {
     match read(session) {
         Err(Refusal::Memory) if stands_as(session, before) => read(session),
         outcome => outcome,
@@ -122,7 +122,7 @@ impl Lent for Readers {
 }
 
 /// What is wrong with a read that came to this, where the last change of its last byte is known.
-fn fault_of_outcome(outcome: Result<usize, Refusal>, last: Option<u32>) -> &'static str {
+fn fault_of_outcome(outcome: Result<u32, Refusal>, last: Option<u32>) -> &'static str {
     match outcome {
         Ok(ALTERED) if last == Some(STARTED + 1) => "",
         Ok(_) => "it was another change",

@@ -20,7 +20,7 @@ IsFresh-last : (cs : List Cell) (c : Cell) (p : Place) → IsFresh p (cs ++ c �
 IsFresh-last [] c p h = h.0
 IsFresh-last (d ∷ cs) c p h = IsFresh-last cs c p h.1
 
-IsFresh-at : (cs : List Cell) (i : ℕ) (d : Cell) (p : Place) → i < length cs → IsFresh p cs → p ≢ (get_or cs i d).place
+pub IsFresh-at : (cs : List Cell) (i : ℕ) (d : Cell) (p : Place) → i < length cs → IsFresh p cs → p ≢ (get_or cs i d).place
 IsFresh-at [] i d p l h = absurd (omega arith)
 IsFresh-at (c ∷ cs) zero d p l h = h.0
 IsFresh-at (c ∷ cs) (suc i) d p l h = IsFresh-at cs i d p (omega arith) h.1

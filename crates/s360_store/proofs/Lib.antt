@@ -12,3 +12,5 @@ pub mod SortLemmas
 pub mod PutLemmas
 pub mod ByteCellLemmas
 pub mod RunLemmas
+pub mod ItemLemmas
+pub mod ItemExchangeLemmas

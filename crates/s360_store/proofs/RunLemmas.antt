@@ -1,13 +1,12 @@
 -- Runs of bytes as cells.
-use Rattle.std.proofs.Common.{◌≡◌, ◌<◌, ◌≤◌, ◌+◌, ◌++◌, ℕ, List, [], ◌∷◌, refl, ap, sym, ◌∙◌, take, drop, get_or, length, arith}
+use Rattle.std.proofs.Common.{◌≡◌, ◌<◌, ◌≤◌, ◌+◌, ◌++◌, ℕ, zero, suc, List, [], ◌∷◌, refl, ap, sym, ◌∙◌, take, drop, get_or, length, arith}
 use Rattle.std.proofs.lemmas.List.{append_assoc, drop-drop, drop_at, drop_more, length-append, length-drop, length-take-le, take-append-drop, take_at}
 use Rattle.s360_model.specs.Core.{Core, core_with_bytes}
 use Rattle.s360_model.specs.Storage.{with_run}
 use Rattle.s360_store.specs.declared.place.Place.TheVariants.{Psw, Byte}
-use Rattle.s360_store.specs.Cells.{cells_after_exchange, IsFresh}
-use Rattle.s360_store.specs.PlanParts.{byte_cells}
+use Rattle.s360_store.specs.Cells.{AllFit, AreCellsOf, IsFresh, byte_cells, cells_after_exchange}
 use Rattle.s360_store.specs.Plans.{IsPlanOf, AddsToPlan, HasBytes, after_put_bytes}
-use Rattle.s360_store.proofs.ByteCellLemmas.{AddsToPlan-bytes, after_put_bytes-before}
+use Rattle.s360_store.proofs.ByteCellLemmas.{AddsToPlan-bytes, after_put_bytes-new}
 use Rattle.s360_store.proofs.ExchangeLemmas.{cells_after_exchange-with_value}
 use Rattle.s360_store.proofs.PlannedLemmas.{IsPlanOf-none}
 
@@ -25,7 +24,7 @@ pub IsPlanOf-bytes : (m : Core) (a : ℕ) (bs : List ℕ) → ((i : ℕ) → i <
     → IsPlanOf m (byte_cells a bs) (core_with_bytes a bs m)
 IsPlanOf-bytes m a bs fits inside =
     let adds : AddsToPlan [] (after_put_bytes [] a bs) (length bs) (HasBytes a (length bs)) (core_with_bytes a bs) = AddsToPlan-bytes [] a bs fits
-    in let are : after_put_bytes [] a bs ≡ byte_cells a bs = after_put_bytes-before [] a bs tt
+    in let are : after_put_bytes [] a bs ≡ byte_cells a bs = after_put_bytes-new [] a bs (λ x l h. tt)
     in rw are at (adds.makes m m inside (IsPlanOf-none m))
 
 -- and get the bytes that stood there
@@ -60,3 +59,18 @@ with_run-back now bytes a bs ts l e t =
     ∙ ap (λ (r : List ℕ). take a bytes ++ (take (length bs) (drop a bytes) ++ r)) (sym (drop-drop (length bs) a bytes))
     ∙ ap (λ (r : List ℕ). take a bytes ++ r) (take-append-drop (length bs) (drop a bytes)) ∙ take-append-drop a bytes
     in rw e (rw (left, right, t) whole)
+
+-- what is known of cells of bytes that can be exchanged
+pub run-inside : (m : Core) (a : ℕ) (run : List ℕ) → AreCellsOf m (byte_cells a run) → 0 < length run → HasBytes a (length run) m
+run-inside m a [] h s = absurd (omega arith)
+run-inside m a (b ∷ []) h s = let w : a < length m.storage.bytes = h.0 in omega arith
+run-inside m a (b ∷ (d ∷ run)) h s = let w : HasBytes (a + 1) (length (d ∷ run)) m = run-inside m (a + 1) (d ∷ run) h.3 (omega arith) in omega (arith, w)
+
+pub run-fits : (m : Core) (a : ℕ) (run : List ℕ) → AreCellsOf m (byte_cells a run) → (i : ℕ) → i < length run → get_or run i 0 < 256
+run-fits m a [] h i l = absurd (omega arith)
+run-fits m a (b ∷ run) h zero l = h.1
+run-fits m a (b ∷ run) h (suc i) l = run-fits m (a + 1) run h.3 i (omega arith)
+
+pub AllFit-run : (a : ℕ) (run : List ℕ) → ((i : ℕ) → i < length run → get_or run i 0 < 256) → AllFit (byte_cells a run)
+AllFit-run a [] h = tt
+AllFit-run a (b ∷ run) h = (h 0 (omega arith), AllFit-run (a + 1) run (λ i l. h (suc i) (omega arith)))

@@ -196,7 +196,7 @@ IsBeforeAll-later : (p q : Place) (ps : List Place) → IsBefore p q → IsBefor
 IsBeforeAll-later p q [] b h = tt
 IsBeforeAll-later p q (r ∷ ps) b h = (IsBefore-trans p q r b h.0, IsBeforeAll-later p q ps b h.1)
 
-IsAscending-sorted : (cs : List Cell) → HasEachOnce cs → IsSortedByKey (λ (c : Cell). c.place) compare cs → IsAscending (places_of_cells cs)
+pub IsAscending-sorted : (cs : List Cell) → HasEachOnce cs → IsSortedByKey (λ (c : Cell). c.place) compare cs → IsAscending (places_of_cells cs)
 IsAscending-sorted [] o s = tt
 IsAscending-sorted (c ∷ []) o s = (tt, tt)
 IsAscending-sorted (c ∷ (d ∷ cs)) o s =
@@ -204,12 +204,16 @@ IsAscending-sorted (c ∷ (d ∷ cs)) o s =
     in let first : IsBefore c.place d.place = before_from c.place d.place (s 0 c (omega arith) (omega arith)) o.0.0
     in ((first, IsBeforeAll-later c.place d.place (places_of_cells cs) first rest.0), rest)
 
--- the cells kept of a plan, sorted by place, are what the plan alters
+-- a sort keeps each place to one cell
+pub HasEachOnce-permutation : (cs ds : List Cell) → IsPermutation cs ds → HasEachOnce cs → HasEachOnce ds
+HasEachOnce-permutation cs ds perm h = each_once ds (λ p. rw (sum_by-IsPermutation (mark once p) cs ds perm) (at_most_once p cs h))
+
+-- the cells kept of a plan, in the order of their places, are what the plan alters
 pub IsCoreChangeTo-sorted : (m : Core) (plan kept sorted : List Cell) → AreKept m plan kept → IsPermutation kept sorted
-    → IsSortedByKey (λ (c : Cell). c.place) compare sorted → IsCoreChangeTo m sorted (after_exchange m plan)
+    → (HasEachOnce kept → IsAscending (places_of_cells sorted)) → IsCoreChangeTo m sorted (after_exchange m plan)
 IsCoreChangeTo-sorted m plan kept sorted k perm s =
     let each : HasEachOnce sorted
-    = each_once sorted (λ p. rw (sum_by-IsPermutation (mark once p) kept sorted perm) (at_most_once p kept (HasEachOnce-of m kept k.cells)))
+    = HasEachOnce-permutation kept sorted perm (HasEachOnce-of m kept k.cells)
     in let cells : AreCellsOf m sorted
     = AreCellsOf-from m sorted (All-permutation (λ (c : Cell). IsPlaceOf m c.place × Fits c.place c.value) kept sorted perm (AreCellsOf-each m kept k.cells)) each
     in let alter : AllDiffer m sorted
@@ -218,7 +222,7 @@ IsCoreChangeTo-sorted m plan kept sorted k perm s =
     in record {
       cells = cells;
       makes = makes;
-      lists = places_of_cells-differences m sorted cells alter (IsAscending-sorted sorted each s) ∙ ap (λ n. core_differences m n) makes;
+      lists = places_of_cells-differences m sorted cells alter (s (HasEachOnce-of m kept k.cells)) ∙ ap (λ n. core_differences m n) makes;
     }
 
 -- and where they ascend as they are, they are already

@@ -1,14 +1,20 @@
 -- Cells, each a place with a value, exchanged with a core one after another: the core gets their values,
 -- and they get what stood at their places.
-use Rattle.std.specs.Prelude.{◌≢◌, List, [], ◌∷◌, map}
+use Rattle.std.specs.Prelude.{◌≢◌, ◌+◌, ℕ, List, [], ◌∷◌, map}
 use Rattle.s360_model.specs.Core.{Core}
 use Rattle.s360_store.specs.declared.place.Place.{Place}
+use Rattle.s360_store.specs.declared.place.Place.TheVariants.{Byte}
 use Rattle.s360_store.specs.declared.place.Cell.{Cell}
 use Rattle.s360_store.specs.Places.{IsPlaceOf, Fits, value_at, with_value}
 
 -- the places of cells
 abbrev pub places_of_cells : List Cell → List Place
 places_of_cells cs = map (λ (c : Cell). c.place) cs
+
+-- the cells of bytes from an address on
+abbrev pub byte_cells : ℕ → List ℕ → List Cell
+byte_cells address [] = []
+byte_cells address (b ∷ bs) = record { place = Byte address; value = b } ∷ byte_cells (address + 1) bs
 
 -- the core after the exchange
 abbrev pub after_exchange : Core → List Cell → Core

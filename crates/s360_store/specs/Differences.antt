@@ -26,6 +26,10 @@ pub record AreKept (m : Core) (plan kept : List Cell) : Type 0 where
   pub among : (p : Place) → IsFresh p plan → IsFresh p kept
   pub alter : AllDiffer m kept
 
+-- what is kept of a plan becomes what is kept of the plan with more cells
+abbrev pub KeepsAltering : Core → List Cell → List Cell → List Cell → Type 0
+KeepsAltering m more old new = (plan : List Cell) → AreCellsOf m (plan ++ more) → AreKept m plan old → AreKept m (plan ++ more) new
+
 -- the cells make the second core of the first, and have just the places at which the two differ
 pub record IsCoreChangeTo (m : Core) (cs : List Cell) (n : Core) : Type 0 where
   pub cells : AreCellsOf m cs

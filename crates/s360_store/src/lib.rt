@@ -5,6 +5,8 @@
 #![tactic(auto)]
 
 mod bytes;
+mod cells;
+mod exchange;
 mod fault;
 mod place;
 mod plan;
@@ -12,6 +14,7 @@ mod protection;
 mod storage;
 
 pub use bytes::Bytes;
+pub use cells::{Cells, Part};
 pub use fault::StoreFault;
 pub use place::{Cell, Place};
 pub use plan::Plan;

@@ -1,65 +1,56 @@
 //! The plan of an event: the values that it will put, each place at most once, in the order of
 //! their first puts. A contract sees the list of its cells.
 //!
-//! The first few places stand within the plan, where a look at each finds one, and take no memory.
-//! While each of the others comes after the one before, as the bytes of an operand do, they stand in
-//! a list. One that does not moves them into a map that keeps their order, so that a put takes
-//! constant time in any order.
+//! They stand as cells do, single ones and runs of bytes. If a byte of a run is put a second time, or
+//! there are many single cells and runs, all move into a map that keeps their order, so that puts in
+//! any order take constant time.
 //!
 //! The puts of a register, the PSW, bytes and a storage key say what a plan makes of any core that has the
 //! places, so that puts follow one another, whatever the plan has already.
-ghost use Rattle.std.specs.Prelude.{◌≡◌, ◌<◌, ◌≤◌, ◌+◌, ◌^◌, ◌++◌, ◌⊎◌, ◌↔◌, if◌then◌else◌, [], length, slice_get};
-ghost use Rattle.std.specs.Prelude.{IfOk, OnOk, OnErr, IsSome, Some, position, IsTrue};
+ghost use Rattle.std.specs.Prelude.{◌≡◌, ◌<◌, ◌≤◌, ◌+◌, ◌^◌, ◌⊎◌, ◌↔◌, [], length, slice_get};
+ghost use Rattle.std.specs.Prelude.{if◌then◌else◌, IfOk, OnOk, OnErr, IsSome, Some, IsTrue};
 ghost use Rattle.s360_model.specs.Core.{core_with_bytes, core_with_key, core_with_psw, core_with_word};
-ghost use Rattle.s360_store.specs.Places.{same_place};
-ghost use Rattle.s360_store.specs.Cells.{HasEachOnce, places_of_cells};
-ghost use Rattle.s360_store.specs.Order.{IsAscending};
-ghost use Rattle.s360_store.specs.PlanParts.{AllBefore, EndsBefore};
+ghost use Rattle.s360_store.specs.Cells.{HasEachOnce};
+ghost use Rattle.s360_store.specs.Items.{IsPartAt};
+ghost use Rattle.s360_store.specs.PlanParts.{cells_of_entries, cells_of_planned};
 ghost use Rattle.s360_store.specs.Plans.{after_put, after_put_bytes, planned_value};
 ghost use Rattle.s360_store.specs.Plans.{AddsToPlan, HasBlock, HasBytes, HasPsw, HasRegister};
-ghost use Rattle.s360_store.specs.PlanParts.{byte_cells, cells_of_entries, further, Rises};
-ghost use Rattle.s360_store.specs.declared.place.Place.TheVariants.{Byte, Key, Psw as psw_place, Register};
+ghost use Rattle.s360_store.specs.declared.place.Place.TheVariants.{Key, Psw as psw_place, Register};
 
+use crate::cells::{Cells, Part};
 use crate::place::{Cell, Place};
-use arrayvec::ArrayVec;
 use indexmap::IndexMap;
 use s360_psw::{InstructionLength, Psw};
 use s360_word::{ProtectionKey, RegisterNumber, Word};
 use std::alloc::{AllocError, Global};
 use std::marker::Model;
 
-/// So many places stand within a plan.
-const WITHIN: usize = 8;
+/// The cells of a plan.
+#[derive(Drop)]
+enum Planned {
+    /// Single cells and runs of bytes.
+    Cells(Cells),
+    /// The values of places.
+    Map(IndexMap<Place, u64>),
+}
 
 /// Values for places, each place at most once, in the order in which they were first put.
 #[derive(Drop)]
 pub struct Plan {
-    /// The cells of the places that were put first.
-    few: ArrayVec<Cell, WITHIN>,
-    /// The cells of the places after those, while they ascend.
-    rising: Vec<Cell>,
-    /// Their values, once they do not.
-    many: Option<IndexMap<Place, u64>>,
+    planned: Planned,
     alloc: Global,
 }
 
 impl Model for Plan {
     ghost use Rattle.std.specs.Prelude.{List};
     ghost use Rattle.s360_store.specs.declared.place.Cell.{Cell};
-    ghost use Rattle.s360_store.specs.PlanParts.{further, plan_of_parts, ArePartsOfPlan, Rises};
+    ghost use Rattle.s360_store.specs.PlanParts.{IsPlan, cells_of_planned};
 
     ghost Value = { List Cell };
 
-    ghost view = { λ p. plan_of_parts p.few.items (further p.rising.items p.many) };
+    ghost view = { λ p. cells_of_planned p.planned };
 
-    ghost invariant = { λ p. ArePartsOfPlan p.few.items (further p.rising.items p.many) × Rises p.rising.items p.many };
-}
-
-/// Where the cell of a place stands, found by a look at each.
-fn scan(cells: &[Cell], place: Place) -> Option<usize>
-    ensures { result ≡ position (λ (c : Cell). same_place c.place place) cells.now }
-{
-    cells.iter().position(|cell| cell.place.is(place))
+    ghost invariant = { λ p. IsPlan (cells_of_planned p.planned) };
 }
 
 /// Puts a value at a place of a map. Want of memory leaves its entries as they were.
@@ -71,110 +62,65 @@ fn insert(map: &mut IndexMap<Place, u64>, place: Place, value: u64) -> Result<()
     Ok(())
 }
 
-/// Whether a place comes after the last of cells.
-fn comes_last(cells: &[Cell], place: Place) -> bool
-    ensures { IsTrue result → EndsBefore cells.now place }
-{
-    let count = cells.len();
-    count == 0 || cells[count - 1].place.cmp(&place).is_lt()
-}
-
-/// The cell of a byte of storage.
-fn byte_cell(address: u32, byte: u8) -> Cell
-    ensures { result ≡ record { place = Byte address; value = byte } }
-{
-    Cell {
-        place: Place::Byte(address),
-        value: u64::from(byte),
-    }
-}
-
-/// Whether the places of cells all come before a place.
-fn all_before(cells: &[Cell], place: Place) -> bool
-    ensures { IsTrue result → AllBefore cells.now place }
-{
-    for cell in cells {
-        if !cell.place.cmp(&place).is_lt() {
-            return false;
-        }
-    }
-    true
-}
-
-/// A map of the values of ascending cells, in their order, with room for one more.
-fn map_of(alloc: Global, cells: &[Cell]) -> Result<IndexMap<Place, u64>, AllocError>
-    requires ascending { IsAscending (places_of_cells cells.now) }
+/// A map of the values of cells, in their order, with room for one more.
+fn map_of(alloc: Global, cells: &Cells) -> Result<IndexMap<Place, u64>, AllocError>
+    requires once { HasEachOnce cells.now }
     ensures { IfOk result (λ map. cells_of_entries map.entries ≡ cells.now) }
 {
-    let mut map = IndexMap::with_capacity(alloc, cells.len() + 1)?;
-    for cell in cells {
+    let mut map = IndexMap::with_capacity(alloc, cells.len() as usize + 1)?;
+    for i in 0..cells.len() {
+        let cell = cells.cell(i);
         insert(&mut map, cell.place, cell.value)?;
     }
     Ok(map)
 }
 
-/// Puts a value at a place that is not one of the first few. Want of memory leaves the cells as they
-/// were.
-#[inline(never)]
-fn put_past_few(
-    alloc: Global,
-    rising: &mut Vec<Cell>,
-    many: &mut Option<IndexMap<Place, u64>>,
-    place: Place,
-    value: u64,
-) -> Result<(), AllocError>
-    requires rises { Rises rising.old.items many.old }
-    ensures rises { Rises rising.new.items many.new }
-    ensures ok { OnOk result (further rising.new.items many.new ≡ after_put (further rising.old.items many.old) place value) }
-    ensures err { OnErr result (further rising.new.items many.new ≡ further rising.old.items many.old) }
+/// The cell of a map's entry at `i`, counted from 0.
+fn entry(map: &IndexMap<Place, u64>, i: u32) -> Cell
+    requires { i < length (cells_of_entries map.now.entries) }
+    ensures { slice_get (cells_of_entries map.now.entries) i ≡ Some result }
 {
-    match many {
-        Some(map) => insert(map, place, value)?,
-        None if comes_last(rising.as_slice(), place) => rising.push(Cell { place, value })?,
-        None => {
-            let mut map = map_of(alloc, rising.as_slice())?;
-            insert(&mut map, place, value)?;
-            *many = Some(map);
-            *rising = Vec::new(alloc);
+    let (place, value) = map.get_index(i as usize).unwrap();
+    Cell {
+        place: *place,
+        value: *value,
+    }
+}
+
+impl Planned {
+    /// Puts a value at a place. Want of memory leaves the cells as they were.
+    fn put(&mut self, alloc: Global, place: Place, value: u64) -> Result<(), AllocError>
+        requires once { HasEachOnce (cells_of_planned self.old) }
+        requires room { IsSome (planned_value (cells_of_planned self.old) place) ⊎ (length (cells_of_planned self.old) < 1000000) }
+        ensures ok { OnOk result (cells_of_planned self.new ≡ after_put (cells_of_planned self.old) place value) }
+        ensures err { OnErr result (cells_of_planned self.new ≡ cells_of_planned self.old) }
+    {
+        match self {
+            Planned::Map(map) => insert(map, place, value),
+            Planned::Cells(cells) => {
+                if cells.put(place, value)? {
+                    return Ok(());
+                }
+                let mut map = map_of(alloc, cells)?;
+                insert(&mut map, place, value)?;
+                *self = Planned::Map(map);
+                Ok(())
+            }
         }
     }
-    Ok(())
-}
 
-/// Adds cells of bytes from an address on. Want of memory leaves the cells as they were.
-fn extend(cells: &mut Vec<Cell>, address: u32, bytes: &[u8]) -> Result<(), AllocError>
-    requires inside { address + length bytes.now ≤ 2 ^ 32 }
-    ensures ok { OnOk result (cells.new.items ≡ cells.old.items ++ byte_cells address bytes.now) }
-    ensures err { OnErr result (cells.new.items ≡ cells.old.items) }
-{
-    cells.reserve(bytes.len())?;
-    for (i, byte) in bytes.iter().enumerate() {
-        cells.push_reserved(byte_cell(address + i as u32, *byte));
-    }
-    Ok(())
-}
-
-/// Adds cells of bytes from an address on, for which there is room.
-fn fill(cells: &mut ArrayVec<Cell, WITHIN>, address: u32, bytes: &[u8])
-    requires inside { address + length bytes.now ≤ 2 ^ 32 }
-    requires room { length cells.old.items + length bytes.now ≤ 8 }
-    ensures { cells.new.items ≡ cells.old.items ++ byte_cells address bytes.now }
-{
-    for (i, byte) in bytes.iter().enumerate() {
-        cells.push(byte_cell(address + i as u32, *byte));
-    }
-}
-
-/// The value that there is for a place that is not one of the first few, if there is one.
-fn look_up(rising: &[Cell], many: &Option<IndexMap<Place, u64>>, place: Place) -> Option<u64>
-    ensures { result ≡ planned_value (further rising.now many.now) place }
-{
-    match many {
-        Some(map) => map.get(&place).copied(),
-        None => match scan(rising, place) {
-            Some(at) => Some(rising[at].value),
-            None => None,
-        },
+    /// Puts bytes from an address on as a run, if they can stand as one, and says whether it did. Want of memory
+    /// leaves the cells as they were.
+    fn put_run(&mut self, address: u32, bytes: &[u8]) -> Result<bool, AllocError>
+        requires room { length (cells_of_planned self.old) + length bytes.now ≤ 1000000 }
+        requires inside { address + length bytes.now ≤ 2 ^ 32 }
+        ensures ok { IfOk result (λ done. cells_of_planned self.new ≡ (if done then after_put_bytes (cells_of_planned self.old) address bytes.now else cells_of_planned self.old)) }
+        ensures err { OnErr result (cells_of_planned self.new ≡ cells_of_planned self.old) }
+    {
+        match self {
+            Planned::Cells(cells) => cells.put_bytes(address, bytes),
+            Planned::Map(_) => Ok(false),
+        }
     }
 }
 
@@ -184,9 +130,7 @@ impl Plan {
         ensures { result ≡ [] }
     {
         Plan {
-            few: ArrayVec::new(),
-            rising: Vec::new(alloc),
-            many: None,
+            planned: Planned::Cells(Cells::new(alloc)),
             alloc,
         }
     }
@@ -197,18 +141,17 @@ impl Plan {
         ensures few { result ≤ 1000000 }
         ensures once { HasEachOnce self.now }
     {
-        let further = match &self.many {
-            Some(map) => map.len(),
-            None => self.rising.len(),
-        };
-        (self.few.len() + further) as u32
+        match &self.planned {
+            Planned::Cells(cells) => cells.len(),
+            Planned::Map(map) => map.len() as u32,
+        }
     }
 
     /// Whether nothing was put.
     pub fn is_empty(&self) -> bool
         ensures { IsTrue result ↔ (self.now ≡ []) }
     {
-        self.few.is_empty()
+        self.len() == 0
     }
 
     /// The cell at `i`, counted from 0 in the order of the first puts.
@@ -216,19 +159,20 @@ impl Plan {
         requires { i < length self.now }
         ensures { slice_get self.now i ≡ Some result }
     {
-        let i = i as usize;
-        if i < self.few.len() {
-            return self.few[i];
+        match &self.planned {
+            Planned::Cells(cells) => cells.cell(i),
+            Planned::Map(map) => entry(map, i),
         }
-        match &self.many {
-            Some(map) => {
-                let (place, value) = map.get_index(i - self.few.len()).unwrap();
-                Cell {
-                    place: *place,
-                    value: *value,
-                }
-            }
-            None => self.rising[i - self.few.len()],
+    }
+
+    /// The part that begins with the cell at `i`, counted from 0 in the order of the first puts.
+    pub fn part_at(&self, i: u32) -> Part<'_>
+        requires { i < length self.now }
+        ensures { IsPartAt self.now i result }
+    {
+        match &self.planned {
+            Planned::Cells(cells) => cells.part_at(i),
+            Planned::Map(map) => Part::Cell(entry(map, i)),
         }
     }
 
@@ -240,36 +184,20 @@ impl Plan {
         ensures ok { OnOk result (self.new ≡ after_put self.old place value) }
         ensures err { OnErr result (self.new ≡ self.old) }
     {
-        if let Some(at) = scan(&self.few, place) {
-            self.few[at] = Cell { place, value };
-        } else if self.few.len() < WITHIN {
-            self.few.push(Cell { place, value });
-        } else {
-            put_past_few(self.alloc, &mut self.rising, &mut self.many, place, value)?;
-        }
+        self.planned.put(self.alloc, place, value)?;
         Ok(())
     }
 
-    /// Puts bytes from an address on where all places come before them, without a look at each, and
-    /// says whether it did. Want of memory leaves the plan as it was.
-    pub(crate) fn append_bytes(&mut self, address: u32, bytes: &[u8]) -> Result<bool, AllocError>
+    /// Puts bytes from an address on as a run, if they can stand as one, and says whether it did. Want of memory
+    /// leaves the plan as it was.
+    fn put_run(&mut self, address: u32, bytes: &[u8]) -> Result<bool, AllocError>
         requires few { length self.old + length bytes.now ≤ 1000000 }
         requires inside { address + length bytes.now ≤ 2 ^ 32 }
-        ensures appended { IfOk result (λ appended. self.new ≡ (if appended then after_put_bytes self.old address bytes.now else self.old)) }
+        ensures ok { IfOk result (λ done. self.new ≡ (if done then after_put_bytes self.old address bytes.now else self.old)) }
         ensures err { OnErr result (self.new ≡ self.old) }
     {
-        let place = Place::Byte(address);
-        let rising = self.rising.as_slice();
-        if self.many.is_some() || !all_before(&self.few, place) || !comes_last(rising, place) {
-            return Ok(false);
-        }
-        let within = bytes.len().min(WITHIN - self.few.len());
-        let (first, rest) = bytes.split_at(within);
-        // It wraps only where no byte is left.
-        let after = address.wrapping_add(within as u32);
-        extend(&mut self.rising, after, rest)?;
-        fill(&mut self.few, address, first);
-        Ok(true)
+        let done = self.planned.put_run(address, bytes)?;
+        Ok(done)
     }
 
     /// Puts a PSW. Want of memory leaves the plan as it was.
@@ -313,7 +241,7 @@ impl Plan {
         ensures ok { OnOk result (AddsToPlan self.old self.new (length bytes.now) (HasBytes address (length bytes.now)) (core_with_bytes address bytes.now)) }
         ensures cells { OnOk result (self.new ≡ after_put_bytes self.old address bytes.now) }
     {
-        if self.append_bytes(address, bytes)? {
+        if self.put_run(address, bytes)? {
             return Ok(());
         }
         for (i, byte) in bytes.iter().enumerate() {
@@ -326,9 +254,9 @@ impl Plan {
     pub fn value(&self, place: Place) -> Option<u64>
         ensures { result ≡ planned_value self.now place }
     {
-        match scan(&self.few, place) {
-            Some(at) => Some(self.few[at].value),
-            None => look_up(self.rising.as_slice(), &self.many, place),
+        match &self.planned {
+            Planned::Cells(cells) => cells.value(place),
+            Planned::Map(map) => map.get(&place).copied(),
         }
     }
 }

@@ -1,8 +1,7 @@
 use Rattle.std.proofs.Common.{◌≡◌, sym, ◌∙◌, IfSome, None, subst}
-use Rattle.s360_store.proofs.ByteCellLemmas.{none_of_is_some}
 use Rattle.s360_fixed.specs.Made.{outcome_of_made}
 use Rattle.s360_logic.specs.Instruction.{Fetched, instruction}
-use Rattle.s360_logic.proofs.InstructionLemmas.{if-made}
+use Rattle.s360_logic.proofs.InstructionLemmas.{if-made, none_of_is_some}
 use Rattle.s360_logic.proofs.cpu.Fetched.made.Goals as goal
 
 pub returns-clause-outcome : goal.returns-clause-outcome

@@ -1,28 +1,26 @@
-use Rattle.std.proofs.Common.{◌≡◌, ◌≢◌, ◌<◌, length, length-append, get_or, arith, ◌∷◌, []}
-use Rattle.s360_store.specs.Places.{value_at}
-use Rattle.s360_store.proofs.KeptLemmas.{AreKept-skip, AreKept-push, IsCellOf-cell, cell-at}
+use Rattle.std.proofs.Common.{◌≡◌, ◌<◌, ◌≤◌, ◌+◌, take, length, arith}
+use Rattle.std.proofs.lemmas.List.{take_all}
+use Rattle.s360_store.specs.Items.{cells_of_part}
+use Rattle.s360_machine.proofs.KeepLemmas.{AreCellsOf-part, AreCellsOf-through, part-few, take-part}
 use Rattle.s360_machine.proofs.core_state.Core.altering.Goals as goal
-use Rattle.s360_machine.proofs.core_state.Core.altering.Goals.{then-is_altered_by+in_ok-push, else-is_altered_by}
 
-pub is_altered_by-requires : goal.is_altered_by-requires
-is_altered_by-requires c =
-    (IsCellOf-cell c.args.self.now c.args.plan.now c.loop-i.i c.cell-cell.result (cell-at c.args.plan.now c.loop-i.i c.cell-cell.result c.cell-cell.ensures) (omega arith) c.requires).inside
+pub keep-requires-clause-cells : goal.keep-requires-clause-cells
+keep-requires-clause-cells c = AreCellsOf-part c.args.self.now c.args.plan.now (cells_of_part c.part_at-part.result) c.loop-i.i c.requires c.part_at-part.ensures.is
 
 pub loop-i-preserved : goal.loop-i-preserved
 loop-i-preserved c =
-    let here : c.cell-cell.result ≡ get_or c.args.plan.now c.loop-i.i c.cell-cell.result = cell-at c.args.plan.now c.loop-i.i c.cell-cell.result c.cell-cell.ensures
-    in let inside : c.loop-i.i < length c.args.plan.now = omega arith
-    in elim c.if-is_altered_by.branch [
-      | then-is_altered_by+in_ok-push w ↦
-          let differs : value_at c.args.self.now c.cell-cell.result.place ≢ c.cell-cell.result.value = rw w.if-is_altered_by.true at c.is_altered_by.ensures
-          in rw (w.cells-is, w.in_ok-push.ensures.ok) (record {
-            kept = AreKept-push c.args.self.now c.args.plan.now c.loop-i.cells.items c.loop-i.i c.cell-cell.result here inside c.requires c.loop-i.invariant.kept differs;
-            few = omega (arith, length-append c.loop-i.cells.items (c.cell-cell.result ∷ []));
-          })
-      | else-is_altered_by w ↦
-          let same : value_at c.args.self.now c.cell-cell.result.place ≡ c.cell-cell.result.value = rw w.if-is_altered_by.false at c.is_altered_by.ensures
-          in rw w.cells-is (record {
-            kept = AreKept-skip c.args.self.now c.args.plan.now c.loop-i.cells.items c.loop-i.i c.cell-cell.result here inside c.requires c.loop-i.invariant.kept same;
-            few = omega arith;
-          })
-    ]
+    let plan = c.args.plan.now
+    in let part = cells_of_part c.part_at-part.result
+    in let i = c.loop-i.i
+    in let within : i < length plan = omega (arith, c.loop-i-test.true, c.len.ensures.len)
+    in let few : i + length part ≤ length plan = part-few plan part i within c.part_at-part.ensures.is
+    in rw (c.len-in-loop-i.ensures) (record {
+      kept = rw (take-part plan part i within c.part_at-part.ensures.is) (c.in_ok-keep.ensures.kept (take i plan) (AreCellsOf-through c.args.self.now plan part i within c.requires c.part_at-part.ensures.is) c.loop-i.invariant.kept);
+      few = omega (arith, c.loop-i.invariant.few, c.in_ok-keep.ensures.few);
+      within = few;
+    })
+
+pub returns : goal.returns
+returns c =
+    let all : take c.loop-i.i c.args.plan.now ≡ c.args.plan.now = take_all c.loop-i.i c.args.plan.now (omega (arith, c.loop-i-test.false, c.len.ensures.len))
+    in rw all at c.loop-i.invariant.kept

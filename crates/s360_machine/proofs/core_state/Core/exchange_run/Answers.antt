@@ -2,10 +2,9 @@ use Rattle.std.proofs.Common.{◌≡◌, ◌+◌, ◌-◌, ◌∙◌, sym, ap, l
 use Rattle.std.proofs.lemmas.List.{length-drop, length-take-le}
 use Rattle.s360_model.specs.Core.{Core, core_with_bytes}
 use Rattle.s360_store.specs.Cells.{after_exchange}
-use Rattle.s360_store.specs.PlanParts.{byte_cells}
+use Rattle.s360_store.specs.Cells.{byte_cells}
 use Rattle.s360_store.specs.Plans.{HasBytes}
-use Rattle.s360_store.proofs.RunLemmas.{IsPlanOf-bytes, cells_after_exchange-bytes}
-use Rattle.s360_machine.proofs.AlteredLemmas.{run-fits, run-inside}
+use Rattle.s360_store.proofs.RunLemmas.{IsPlanOf-bytes, cells_after_exchange-bytes, run-fits, run-inside}
 use Rattle.s360_machine.proofs.core_state.Core.exchange_run.Goals as goal
 use Rattle.s360_machine.proofs.core_state.Core.exchange_run.Goals.{After-exchange}
 

@@ -11,4 +11,4 @@ returns-clause-change c =
     let core_is : c.self.inside.core ≡ c.args.self.now.whole.core = ap (λ (m : WithRoom). m.whole.core) c.self.view_is
     in let made : (instruction c.args.self.now.whole.core).outcome ≡ outcome_of_made c.view.result.now c.in_ok-made.made
     = ap (λ (m : Core). (instruction m).outcome) (sym (rw c.in-Ok.is at c.requires.fetched)) ∙ c.in_ok-made.ensures.outcome ∙ ap (λ v. outcome_of_made v c.in_ok-made.made) (sym c.view.ensures)
-    in alters-completed c.args.self.now.whole _ c.altered_by.result made (rw core_is at c.altered_by.ensures.core) c.altered_by.ensures.done c.altered_by.ensures.alone
+    in alters-completed c.args.self.now.whole _ c.altered_by.result made (rw core_is at c.altered_by.ensures.core) c.altered_by.ensures.done

@@ -1,4 +1,4 @@
-use Rattle.std.proofs.Common.{◌≡◌, subst, sym}
+use Rattle.std.proofs.Common.{None, refl, ◌≡◌, subst, sym}
 use Rattle.s360_channel.specs.IoInstructions.{units_after_io}
 use Rattle.s360_channel.specs.UnitChanges.{IsUnitsChangeTo}
 use Rattle.s360_machine.specs.InputOutput.{after_io, io_result}
@@ -14,8 +14,8 @@ returns c =
     let w : Whole = whole_with c.self.inside.core c.self.inside.control c.self.inside.units (media_of c.self.inside.devices)
     in let done : c.io_result-done.result ≡ io_result c.args.operation c.args.unit (seen w)
     = subst (λ (k : WithRoom). c.io_result-done.result ≡ io_result c.args.operation c.args.unit (seen k.whole)) (sym c.self.view_is) c.io_result-done.ensures
-    in let units : IsUnitsChangeTo w.units c.change_after_io-units.result (units_after_io w.units (io_result c.args.operation c.args.unit (seen w)).unit)
-    = subst (λ (k : WithRoom). IsUnitsChangeTo k.whole.units c.change_after_io-units.result (units_after_io k.whole.units (io_result c.args.operation c.args.unit (seen w)).unit)) (sym c.self.view_is)
-    (rw done at c.change_after_io-units.ensures)
-    in subst (λ (k : WithRoom). IsPlanOfMachine k.whole c.plan_io.new.plan c.in_ok-planned.planned (after_io c.args.operation c.args.unit c.args.next_address (seen k.whole))) c.self.view_is
-    (IsPlanOfMachine-from w (after_io c.args.operation c.args.unit c.args.next_address (seen w)) _ _ _ _ (rw done at c.in_ok-plan_io.ensures) c.in_ok-planned.ensures units (media-stay w.media))
+    in let units : IsUnitsChangeTo w.units c.change_after_io.result (units_after_io w.units (io_result c.args.operation c.args.unit (seen w)).unit)
+    = subst (λ (k : WithRoom). IsUnitsChangeTo k.whole.units c.change_after_io.result (units_after_io k.whole.units (io_result c.args.operation c.args.unit (seen w)).unit)) (sym c.self.view_is)
+    (rw done at c.change_after_io.ensures)
+    in subst (λ (k : WithRoom). IsPlanOfMachine k.whole c.plan_io.new.plan (record { control = c.self.inside.control; units = c.change_after_io.result; media = None }) (after_io c.args.operation c.args.unit c.args.next_address (seen k.whole))) c.self.view_is
+    (IsPlanOfMachine-from w (after_io c.args.operation c.args.unit c.args.next_address (seen w)) _ _ _ _ (rw done at c.in_ok-plan_io.ensures) (record { control = refl; units = refl; media = refl }) units (media-stay w.media))

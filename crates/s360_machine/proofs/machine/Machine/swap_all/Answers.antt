@@ -1,10 +1,9 @@
 use Rattle.std.proofs.Common.{◌≡◌, ap, ◌∙◌, sym, subst}
-use Rattle.s360_store.specs.Cells.{AllFit}
 use Rattle.s360_machine.specs.Altered.{change_of}
 use Rattle.s360_machine.specs.Machine.{Whole, WithRoom}
 use Rattle.s360_machine.specs.Media.{media_of}
 use Rattle.s360_machine.specs.Change.{Change, CanSwap, NeedsNoRoom, after_swap, change_after_swap}
-use Rattle.s360_machine.proofs.SwapLemmas.{IsSwap, IsSwap-from, cells-of-change, exchanged-change, exchanged-whole}
+use Rattle.s360_machine.proofs.SwapLemmas.{IsSwap, IsSwap-from, same-change, same-whole}
 use Rattle.s360_machine.proofs.machine.Machine.swap_all.Goals as goal
 use Rattle.s360_machine.proofs.machine.Machine.swap_all.Goals.{After-exchange_beside}
 
@@ -15,28 +14,24 @@ abbrev whole_after : After-exchange_beside → Whole
 whole_after c = record { core = c.exchange_altered.new.self; control = c.exchange_beside.new.control; units = c.exchange_beside.new.units; media = media_of c.exchange_beside.new.devices }
 
 abbrev change_before : After-exchange_beside → Change
-change_before c = change_of c.changes.inside.altered
+change_before c = change_of c.changes.inside.altered c.changes.inside.beside
 
 abbrev change_after : After-exchange_beside → Change
-change_after c = change_of c.exchange_beside.new.altered
+change_after c = change_of c.exchange_altered.new.altered c.exchange_beside.new.beside
 
 change_is : (c : After-exchange_beside) → change_after c ≡ change_after_swap (whole_before c) (change_before c)
 change_is c =
-    exchanged-change (whole_before c) c.changes.inside.altered c.exchange_altered.new.altered c.exchange_beside.new.altered c.exchange_altered.ensures.beside
-    c.exchange_altered.ensures.cells c.exchange_beside.ensures.cells c.exchange_beside.ensures.control_cells c.exchange_beside.ensures.unit_change c.exchange_beside.ensures.media_change
+    same-change (change_after c) (change_after_swap (whole_before c) (change_before c)) c.exchange_altered.ensures.cells c.exchange_beside.ensures.control_cells c.exchange_beside.ensures.unit_change c.exchange_beside.ensures.media_change
 
 whole_is : (c : After-exchange_beside) → whole_after c ≡ after_swap (whole_before c) (change_before c)
 whole_is c =
-    exchanged-whole (whole_before c) (whole_after c) c.changes.inside.altered c.exchange_altered.new.altered c.exchange_altered.ensures.beside
-    c.exchange_altered.ensures.core c.exchange_beside.ensures.control c.exchange_beside.ensures.units c.exchange_beside.ensures.media
+    same-whole (whole_after c) (after_swap (whole_before c) (change_before c)) c.exchange_altered.ensures.core c.exchange_beside.ensures.control c.exchange_beside.ensures.units c.exchange_beside.ensures.media
 
 exchanged : (c : After-exchange_beside) → IsSwap (whole_before c) (change_before c) (whole_after c) (change_after c)
 exchanged c =
     let can : CanSwap (whole_before c) (change_before c)
     = subst (λ (y : Change). CanSwap (whole_before c) y) (sym c.changes.view_is) (subst (λ (n : WithRoom). CanSwap n.whole c.args.changes.now) (sym c.self.view_is) c.requires.can)
-    in let fit : AllFit (change_after c).cells
-    = rw (cells-of-change c.exchange_beside.new.altered, c.exchange_beside.ensures.cells) c.exchange_altered.ensures.fit
-    in IsSwap-from (whole_before c) (change_before c) (whole_after c) (change_after c) can (whole_is c) (change_is c) fit
+    in IsSwap-from (whole_before c) (change_before c) (whole_after c) (change_after c) can (whole_is c) (change_is c) c.exchange_altered.ensures.fit
 
 pub returns-clause-machine : goal.returns-clause-machine
 returns-clause-machine c =

@@ -1,6 +1,6 @@
 use Rattle.std.proofs.Common.{◌≡◌, length}
 use Rattle.std.proofs.lemmas.List.{take_at}
-use Rattle.s360_machine.proofs.AlteredLemmas.{AllFit-run}
+use Rattle.s360_store.proofs.RunLemmas.{AllFit-run}
 use Rattle.s360_machine.proofs.short_run.ShortRun.exchange.Goals as goal
 
 pub returns-clause-fit : goal.returns-clause-fit

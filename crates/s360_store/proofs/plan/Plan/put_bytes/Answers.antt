@@ -6,16 +6,16 @@ use Rattle.s360_store.proofs.ByteCellLemmas.{AddsToPlan-bytes}
 use Rattle.s360_store.proofs.PutLemmas.{length-after_put}
 use Rattle.s360_store.proofs.plan.Plan.put_bytes.Goals as goal
 
--- the plan as it was, where nothing was appended
-kept : (c : goal.After-loop-i) → c.append_bytes.new.self ≡ c.args.self.now
-kept c = rw c.if-branch.false at c.in_ok-append_bytes.ensures.appended
+-- the plan as it was, where nothing was done
+kept : (c : goal.After-loop-i) → c.put_run.new.self ≡ c.args.self.now
+kept c = rw c.if-branch.false at c.in_ok-put_run.ensures.ok
 
-kept_within : (c : goal.After-from) → c.append_bytes.new.self ≡ c.args.self.now
-kept_within c = rw c.if-branch.false at c.in_ok-append_bytes.ensures.appended
+kept_within : (c : goal.After-from) → c.put_run.new.self ≡ c.args.self.now
+kept_within c = rw c.if-branch.false at c.in_ok-put_run.ensures.ok
 
 pub put-requires : goal.put-requires
 put-requires c =
-    let same : length c.append_bytes.new.self ≡ length c.args.self.now = rw (kept_within c) refl
+    let same : length c.put_run.new.self ≡ length c.args.self.now = rw (kept_within c) refl
     in inr (omega (arith, c.loop-i.invariant.few, c.requires.few, same))
 
 pub loop-i-init : goal.loop-i-init
@@ -44,9 +44,9 @@ returns-clause-ok c = rw (all_put c) (AddsToPlan-bytes c.args.self.now c.args.ad
 pub returns-clause-cells : goal.returns-clause-cells
 returns-clause-cells c = all_put c
 
--- the plan with all bytes appended
-appended : (c : goal.Then-branch) → c.append_bytes.new.self ≡ after_put_bytes c.args.self.now c.args.address c.args.bytes.now
-appended c = rw c.if-branch.true at c.in_ok-append_bytes.ensures.appended
+-- the plan with all bytes done
+done : (c : goal.Then-branch) → c.put_run.new.self ≡ after_put_bytes c.args.self.now c.args.address c.args.bytes.now
+done c = rw c.if-branch.true at c.in_ok-put_run.ensures.ok
 
 pub returns-then-branch-clause-ok : goal.returns-then-branch-clause-ok
-returns-then-branch-clause-ok c = rw (appended c) (AddsToPlan-bytes c.args.self.now c.args.address c.args.bytes.now (λ i l. omega (arith, c.type_inv.bytes i)))
+returns-then-branch-clause-ok c = rw (done c) (AddsToPlan-bytes c.args.self.now c.args.address c.args.bytes.now (λ i l. omega (arith, c.type_inv.bytes i)))

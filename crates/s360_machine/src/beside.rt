@@ -1,0 +1,136 @@
+//! What an event alters beside the core: of the control part, of the units and of their devices.
+ghost use Rattle.std.specs.Prelude.{◌≡◌, ◌≤◌, ◌<◌, ◌+◌, ◌++◌, ◌∷◌, [], if◌then◌else◌, length, map, IfOk, IfSome};
+ghost use Rattle.s360_model.specs.Exchanges.{CanIfAny, after_if_any, back_if_any};
+ghost use Rattle.s360_channel.specs.UnitChanges.{state_place, unit_change_after_swap, units_after_swap};
+ghost use Rattle.s360_machine.specs.Beside.{MakesBeside, control_change_of, media_change_of, places_of_beside};
+ghost use Rattle.s360_machine.specs.Beside.{unit_change_of};
+ghost use Rattle.s360_machine.specs.ControlCells.{control_after_exchange, control_cells_after_exchange};
+ghost use Rattle.s360_machine.specs.IoChanges.{CanSwapMedia, media_after_swap};
+ghost use Rattle.s360_machine.specs.IoChanges.{media_change_after_swap, media_needs, unit_of_change};
+ghost use Rattle.s360_machine.specs.Machine.{room_for};
+ghost use Rattle.s360_machine.specs.Media.{media_of, room_of};
+
+use crate::control::Control;
+use crate::control_change::ControlChange;
+use crate::media::{Devices, MediaChange};
+use arrayvec::ArrayVec;
+use s360_channel::{ConfiguredUnit, UnitChange, Units};
+use s360_store::Place;
+use std::alloc::{AllocError, Global};
+
+/// So many places there are beside those of the core: two of the control part, those of six units, and one of a
+/// device.
+pub(crate) const BESIDE: usize = 9;
+
+/// What an event alters beside the core. It stands apart from the change that has it, since few events alter any.
+#[derive(Debug, Drop)]
+pub(crate) struct Beside {
+    pub(crate) control: ControlChange,
+    pub(crate) units: Option<UnitChange>,
+    pub(crate) media: Option<MediaChange>,
+}
+
+/// Adds a place where there is a change of it.
+fn push_if(places: &mut ArrayVec<Place, BESIDE>, altered: bool, place: Place)
+    requires room { length places.old.items < 9 }
+    ensures places { places.new.items ≡ places.old.items ++ (if altered then place ∷ [] else []) }
+    ensures few { length places.new.items ≤ length places.old.items + 1 }
+{
+    if altered {
+        places.push(place);
+    }
+}
+
+/// Adds the places of units on their channels.
+fn push_states(places: &mut ArrayVec<Place, BESIDE>, units: &[ConfiguredUnit])
+    requires room { length places.old.items + length units.now ≤ 9 }
+    ensures places { places.new.items ≡ places.old.items ++ map (λ u. state_place u) units.now }
+    ensures count { length places.new.items ≡ length places.old.items + length units.now }
+{
+    for unit in units {
+        places.push(Place::UnitState(unit.unit()));
+    }
+}
+
+impl Beside {
+    /// These changes, if there are any.
+    pub(crate) fn of(
+        alloc: Global,
+        control: ControlChange,
+        units: Option<UnitChange>,
+        media: Option<MediaChange>,
+    ) -> Result<Option<Box<Beside>>, AllocError>
+        ensures { IfOk result (λ beside. MakesBeside beside control units media) }
+    {
+        if control == ControlChange::Neither && units.is_none() && media.is_none() {
+            return Ok(None);
+        }
+        let beside = Beside {
+            control,
+            units,
+            media,
+        };
+        Ok(Some(Box::new(alloc, beside)?))
+    }
+
+    /// The places, in their order.
+    pub(crate) fn places(&self) -> ArrayVec<Place, BESIDE>
+        ensures { result.items ≡ places_of_beside self.now }
+    {
+        let mut places = ArrayVec::new();
+        push_if(&mut places, self.control.has_run_state(), Place::Run);
+        push_if(&mut places, self.control.has_external(), Place::External);
+        if let Some(change) = &self.units {
+            push_states(&mut places, change.altered());
+        }
+        if let Some(change) = &self.media {
+            places.push(Place::UnitMedia(change.unit().unit()));
+        }
+        places
+    }
+}
+
+/// Exchanges the units with what becomes of them, if they do not all stay as they are.
+fn exchange_units(change: &mut Option<UnitChange>, units: &mut Units)
+    ensures units { units.new ≡ after_if_any units_after_swap units.old change.old }
+    ensures change { change.new ≡ back_if_any unit_change_after_swap units.old change.old }
+{
+    if let Some(change) = change {
+        units.exchange(change);
+    }
+}
+
+/// Exchanges a device with its change, if there is one, for which there is room.
+fn exchange_media(change: &mut Option<MediaChange>, devices: &mut Devices)
+    requires can { CanIfAny CanSwapMedia (media_of devices.old) change.old }
+    requires room { IfSome change.old (λ x. media_needs x ≤ room_for (room_of devices.old) (unit_of_change x)) }
+    ensures media { media_of devices.new ≡ after_if_any media_after_swap (media_of devices.old) change.old }
+    ensures change { change.new ≡ back_if_any media_change_after_swap (media_of devices.old) change.old }
+{
+    if let Some(change) = change {
+        devices.exchange(change);
+    }
+}
+
+/// Exchanges what stands beside the core with what an event alters of it, for which there is room.
+pub(crate) fn exchange_beside(
+    beside: &mut Option<Box<Beside>>,
+    control: &mut Control,
+    units: &mut Units,
+    devices: &mut Devices,
+)
+    requires can { CanIfAny CanSwapMedia (media_of devices.old) (media_change_of beside.old) }
+    requires room { IfSome (media_change_of beside.old) (λ x. media_needs x ≤ room_for (room_of devices.old) (unit_of_change x)) }
+    ensures control { control.new ≡ control_after_exchange control.old (control_change_of beside.old) }
+    ensures control_cells { control_change_of beside.new ≡ control_cells_after_exchange control.old (control_change_of beside.old) }
+    ensures units { units.new ≡ after_if_any units_after_swap units.old (unit_change_of beside.old) }
+    ensures unit_change { unit_change_of beside.new ≡ back_if_any unit_change_after_swap units.old (unit_change_of beside.old) }
+    ensures media { media_of devices.new ≡ after_if_any media_after_swap (media_of devices.old) (media_change_of beside.old) }
+    ensures media_change { media_change_of beside.new ≡ back_if_any media_change_after_swap (media_of devices.old) (media_change_of beside.old) }
+{
+    if let Some(beside) = beside {
+        control.exchange(&mut beside.control);
+        exchange_units(&mut beside.units, units);
+        exchange_media(&mut beside.media, devices);
+    }
+}

@@ -1,0 +1,23 @@
+use Rattle.std.proofs.Common.{◌≡◌, ◌∷◌, [], ◌++◌, ap, length, arith}
+use Rattle.std.proofs.lemmas.List.{length-append}
+use Rattle.s360_store.specs.declared.cells.Item.TheVariants.{Single}
+use Rattle.s360_store.specs.Items.{cells_of_items}
+use Rattle.s360_store.proofs.ItemLemmas.{AreItems-append, bytes_of_items-append, cells_of_items-single}
+use Rattle.s360_store.proofs.cells.Cells.push.Goals as goal
+
+pub invariant_of-self-in_default : goal.invariant_of-self-in_default
+invariant_of-self-in_default c =
+    let is = c.self.inside.items.items
+    in let bs = c.self.inside.bytes.items
+    in let more : cells_of_items (is ++ Single c.args.cell ∷ []) bs ≡ cells_of_items is bs ++ c.args.cell ∷ [] = cells_of_items-single is bs c.args.cell
+    in let room = rw (← c.self.view_is) at c.requires.room
+    in rw c.in_ok-push-in_default.ensures.ok (record {
+      whole = AreItems-append is (Single c.args.cell ∷ []) c.self.invariant.whole (tt, tt);
+      all = omega (arith, bytes_of_items-append is (Single c.args.cell ∷ []), c.self.invariant.all);
+      counted = omega (arith, c.self.invariant.counted, ap length more, length-append (cells_of_items is bs) (c.args.cell ∷ []));
+      few = omega (arith, room, c.self.invariant.counted);
+    })
+
+pub returns-in_ok-push-in_default-clause-ok : goal.returns-in_ok-push-in_default-clause-ok
+returns-in_ok-push-in_default-clause-ok c =
+    rw (← c.self.view_is, c.in_ok-push-in_default.ensures.ok) (cells_of_items-single c.self.inside.items.items c.self.inside.bytes.items c.args.cell)
