@@ -1,9 +1,11 @@
 //! What is measured of a channel: the time in which one channel command word moves a block from a
 //! tape to storage, and in which that is taken back. Addresses are in hexadecimal.
+ghost use Rattle.std.specs.Prelude.{◌≤◌, ◌+◌, length, IsTrue};
+
 use crate::bench_fault::BenchFault;
 use crate::measured::{Measured, Moved, a_second};
 use s360_channel::{Program, Progress, channel_plan};
-use s360_store::{Cell, Place, Plan, Storage};
+use s360_store::{Part, Plan, Storage};
 use s360_tape::{Tape, tape_from};
 use s360_word::ProtectionKey;
 use std::alloc::{AllocError, Global};
@@ -24,6 +26,13 @@ const HEADER: [u8; 6] = [0xFF, 0xFF, 0x00, 0x00, 0xA0, 0x00];
 /// Each byte of the block, which alters a byte of zero.
 const FILLING: u8 = 0xC1;
 
+/// Bytes that alter storage, each of them, and where they stand.
+#[derive(Drop)]
+struct Run {
+    address: u32,
+    bytes: Vec<u8>,
+}
+
 /// Moves the block so many times, and takes it back each time. The tape stays where it is: its motion
 /// takes the same time whatever the block has.
 pub(crate) fn measure_block<R: Clock>(
@@ -33,22 +42,20 @@ pub(crate) fn measure_block<R: Clock>(
     size: u32,
 ) -> Result<Measured, BenchFault> {
     let mut storage = Storage::new(alloc, size)?;
-    exchange(&mut storage, &mut command_word());
+    let mut word = READ;
+    exchange(&mut storage, WORD_AT, &mut word);
     let tape = tape_of_a_block(alloc)?;
     let (mut forward_time, mut back_time) = (Duration::ZERO, Duration::ZERO);
     let mut bytes: u64 = 0;
     for _ in 0..events {
         let begun = Instant::now(rt)?;
-        let mut cells = altering_cells(alloc, &storage, &tape)?;
-        exchange(&mut storage, &mut cells);
+        let mut run = altering_run(alloc, &storage, &tape)?;
+        exchange(&mut storage, run.address, &mut run.bytes);
         forward_time = forward_time.saturating_add(begun.elapsed(rt)?);
         let begun = Instant::now(rt)?;
-        exchange(&mut storage, &mut cells);
+        exchange(&mut storage, run.address, &mut run.bytes);
         back_time = back_time.saturating_add(begun.elapsed(rt)?);
-        if cells.len() < BLOCK {
-            return Err(BenchFault::Size);
-        }
-        bytes = bytes.saturating_add(cells.len() as u64);
+        bytes = bytes.saturating_add(run.bytes.len() as u64);
     }
     Ok(Measured {
         forward: a_second(u64::from(events), forward_time),
@@ -59,22 +66,6 @@ pub(crate) fn measure_block<R: Clock>(
             back: a_second(bytes, back_time),
         }),
     })
-}
-
-/// The bytes of the command word, at their places.
-fn command_word() -> [Cell; 8] {
-    let mut cells = [byte_cell(WORD_AT, 0); 8];
-    for (i, byte) in READ.iter().enumerate() {
-        cells[i] = byte_cell(WORD_AT + i as u32, *byte);
-    }
-    cells
-}
-
-fn byte_cell(address: u32, byte: u8) -> Cell {
-    Cell {
-        place: Place::Byte(address),
-        value: u64::from(byte),
-    }
 }
 
 /// A tape with the block, at its load point.
@@ -96,38 +87,44 @@ fn planned(alloc: Global, storage: &Storage, tape: &Tape) -> Result<Plan, AllocE
     Ok(plan)
 }
 
-/// The bytes of storage that the command word alters.
-fn altering_cells(alloc: Global, storage: &Storage, tape: &Tape) -> Result<Vec<Cell>, AllocError> {
+/// What the command word alters of storage: the whole block.
+fn altering_run(alloc: Global, storage: &Storage, tape: &Tape) -> Result<Run, BenchFault> {
     let plan = planned(alloc, storage, tape)?;
-    let mut cells = Vec::with_capacity(alloc, plan.len() as usize)?;
-    for i in 0..plan.len() {
-        let cell = plan.cell(i);
-        if alters(storage, cell) {
-            cells.push(cell)?;
-        }
+    if plan.is_empty() {
+        return Err(BenchFault::Size);
     }
-    Ok(cells)
-}
-
-/// Whether a cell is of a byte of storage, and alters it.
-fn alters(storage: &Storage, cell: Cell) -> bool {
-    match cell.place {
-        Place::Byte(address) if address < storage.size() => {
-            u64::from(storage.byte(address)) != cell.value
+    match plan.part_at(0) {
+        Part::Bytes(address, bytes)
+            if bytes.len() == BLOCK && alters_each_byte(storage, address, bytes) => {
+            let bytes = Vec::from_slice(alloc, bytes)?;
+            Ok(Run { address, bytes })
         }
-        _ => false,
+        _ => Err(BenchFault::Size),
     }
 }
 
-/// Exchanges bytes of storage with the values of cells, one after another. Done again, it restores
-/// both.
-fn exchange(storage: &mut Storage, cells: &mut [Cell]) {
-    for cell in cells {
-        match cell.place {
-            Place::Byte(address) if address < storage.size() && cell.value < 256 => {
-                storage.swap(cell);
-            }
-            _ => {}
-        }
+/// Whether storage has so many bytes from an address on.
+fn has(storage: &Storage, address: u32, count: usize) -> bool
+    ensures { IsTrue result → address + count ≤ length storage.now.bytes }
+{
+    address <= storage.size() && count <= (storage.size() - address) as usize
+}
+
+/// Whether storage has so many bytes from an address on, each of which differs from the one that is to stand there.
+fn alters_each_byte(storage: &Storage, address: u32, bytes: &[u8]) -> bool {
+    if !has(storage, address, bytes.len()) {
+        return false;
+    }
+    let Ok(count) = u32::try_from(bytes.len()) else {
+        return false;
+    };
+    let stored = storage.bytes(address, count);
+    stored.iter().zip(bytes).all(|(old, new)| old != new)
+}
+
+/// Exchanges bytes with those of storage from an address on, if it has so many. Done again, it restores both.
+fn exchange(storage: &mut Storage, address: u32, bytes: &mut [u8]) {
+    if has(storage, address, bytes.len()) {
+        storage.swap_run(address, bytes);
     }
 }

@@ -4,12 +4,13 @@ use Rattle.std.specs.Prelude.{◌≡◌, ℕ, ◌+◌, if◌then◌else◌, nat_
 use Rattle.s360_model.specs.Text.{decimal}
 use Rattle.s360_store.specs.declared.place.Place.{Place}
 use Rattle.s360_machine.specs.declared.event.Event.{Event}
+use Rattle.s360_machine.specs.declared.event_kind.EventKind.{EventKind}
 use Rattle.s360_machine.specs.declared.refusal.Refusal.{Refusal}
 use Rattle.s360_machine.specs.Machine.{seen}
 use Rattle.s360_journal.specs.declared.report.Report.{Report}
 use Rattle.s360_journal.specs.declared.report.Report.TheVariants.{Changed, Idle}
 use Rattle.s360_journal.specs.Rerun.{last_change_of}
-use Rattle.s360_journal.specs.Standing.{Standing, machine_of, refusal_in, alteration, last_of}
+use Rattle.s360_journal.specs.Standing.{Standing, machine_of, refusal_in, alteration, last_kind_of}
 use Rattle.s360_journal.specs.Breakpoints.{has_room_for, with_address, without_address}
 use Rattle.s360_journal.specs.Stops.{stop_of}
 use Rattle.s360_journal.specs.Offers.{unless_refused, with_events}
@@ -52,9 +53,9 @@ text_of_outcome None s e = report_text (length s.events + 1) (alteration s e)
 abbrev pub text_of_event : Standing → Event → List ℕ
 text_of_event s e = text_of_outcome (refusal_in s e) s e
 
-abbrev pub back_text : ℕ → Option Event → List ℕ
+abbrev pub back_text : ℕ → Option EventKind → List ℕ
 back_text number None = codes "nothing stands" ++ codes "\n"
-back_text number (Some e) = codes "back " ++ decimal number ++ codes " " ++ event_name e ++ codes "\n"
+back_text number (Some kind) = codes "back " ++ decimal number ++ codes " " ++ event_name kind ++ codes "\n"
 
 abbrev pub text_of_offer : Standing → Option Event → List ℕ
 text_of_offer s (Some e) = text_of_event s e
@@ -79,7 +80,7 @@ stop_in d = stop_of (seen d.session.start) d.session.events d.breaks
 
 -- a command's answer; each that has no row of its own offers an event
 unfoldable pub answer_to : Debugger → Command → List ℕ
-answer_to d Back = back_text (length d.session.events) (last_of d.session.events)
+answer_to d Back = back_text (length d.session.events) (last_kind_of d.session.events)
 answer_to d standing = codes "standing " ++ decimal (length d.session.events) ++ codes "\n"
 answer_to d (Last place) = last_text (last_change_of (seen d.session.start) d.session.events place)
 answer_to d (Show shown) = shown_text (machine_of d.session) shown

@@ -1,9 +1,8 @@
 //! What a command answers. Each command has its row in `answer`; those that offer an event share one.
 ghost use Rattle.std.specs.Prelude.{◌≡◌, ◌≢◌, ◌⊎◌, ◌++◌, length, take, ◌-◌, IfOk, OnErr, OnOk, Some, codes};
-ghost use Rattle.std.specs.Option.{option_copied};
 ghost use Rattle.s360_model.specs.Text.{decimal};
 ghost use Rattle.s360_journal.specs.Breakpoints.{with_address, without_address};
-ghost use Rattle.s360_journal.specs.Standing.{last_of};
+ghost use Rattle.s360_journal.specs.Standing.{last_kind_of};
 ghost use Rattle.s360_language.specs.declared.command.LineFault.TheVariants.{Memory};
 ghost use Rattle.s360_debug.specs.Answers.{answer_to, state_after, StandsPartly};
 ghost use Rattle.s360_debug.specs.Answers.{text_of_event, accepted_of_offer};
@@ -17,7 +16,7 @@ use crate::open_line::OpenLine;
 use crate::running::answer_run;
 use s360_journal::{Breaks, Places, Report, Session};
 use s360_language::{Command, LineFault, push_event, push_place, refusal_text, text_of_shown};
-use s360_machine::{Event, Refusal};
+use s360_machine::{Event, EventKind, Refusal};
 use s360_text::Text;
 use std::alloc::{AllocError, Global};
 
@@ -113,7 +112,7 @@ fn push_places(text: &mut Text, places: &Places, count: u32) -> Result<(), Alloc
 
 /// Takes the last change back. Its text is made first, so that want of memory leaves it standing.
 fn answer_back(alloc: Global, session: &mut Session) -> Result<Text, AllocError>
-    ensures text { IfOk result (λ text. text ≡ back_text (length session.old.events) (last_of session.old.events)) }
+    ensures text { IfOk result (λ text. text ≡ back_text (length session.old.events) (last_kind_of session.old.events)) }
     ensures state { OnOk result (session.new ≡ record session.old { events = take (length session.old.events - 1) session.old.events }) }
     ensures memory { OnErr result (session.new ≡ session.old) }
 {
@@ -122,18 +121,18 @@ fn answer_back(alloc: Global, session: &mut Session) -> Result<Text, AllocError>
     Ok(text)
 }
 
-/// The answer to `back` where so many changes stand, of which this is the last.
-fn text_of_back(alloc: Global, number: u32, event: Option<&Event>) -> Result<Text, AllocError>
-    ensures { IfOk result (λ text. text ≡ back_text number (option_copied event.entry)) }
+/// The answer to `back` where so many changes stand, the last of which is of this kind.
+fn text_of_back(alloc: Global, number: u32, kind: Option<EventKind>) -> Result<Text, AllocError>
+    ensures { IfOk result (λ text. text ≡ back_text number kind) }
 {
     let mut text = Text::new(alloc);
-    match event {
+    match kind {
         None => text.push_text("nothing stands")?,
-        Some(event) => {
+        Some(kind) => {
             text.push_text("back ")?;
             text.push_decimal(u64::from(number))?;
             text.push_text(" ")?;
-            push_event(&mut text, event)?;
+            push_event(&mut text, kind)?;
         }
     }
     text.push_text("\n")?;

@@ -1,6 +1,7 @@
 -- A session's machine is its start with the standing events run again.
-use Rattle.std.proofs.Common.{◌≡◌, ◌-◌, ◌++◌, ℕ, zero, suc, length, List, [], ◌∷◌, refl, ap, sym, ◌∙◌, map, reverse, subst, Option, Some, None, Ok}
-use Rattle.std.proofs.lemmas.List.{reverse-append, reverse-reverse, map_push, length-map}
+use Rattle.std.proofs.Common.{arith, ◌+◌, ◌≡◌, ◌-◌, ◌++◌, ℕ, zero, suc, length, List, [], ◌∷◌, refl, ap, sym, ◌∙◌, map, reverse, subst, Option, Some, None, Ok}
+use Rattle.std.proofs.lemmas.List.{reverse-append, reverse-reverse, map_push, length-map, length-append}
+use Rattle.std.proofs.lemmas.Option.{slice_get-get_or}
 use Rattle.std.specs.Option.{option_map}
 use Rattle.std.specs.List.{slice_get}
 use Rattle.s360_machine.specs.declared.event.Event.{Event}
@@ -13,7 +14,7 @@ use Rattle.s360_machine.proofs.SwapLemmas.{places_of_change-after_swap}
 use Rattle.s360_machine.specs.Differences.{differences}
 use Rattle.s360_journal.specs.declared.entry.Entry.{Entry}
 use Rattle.s360_journal.specs.Rerun.{rerun, AreAccepted}
-use Rattle.s360_journal.specs.Standing.{Standing, machine_of, last_of}
+use Rattle.s360_journal.specs.Standing.{Standing, IsAfter, machine_of, alteration, last_of}
 use Rattle.s360_journal.specs.History.{unwound, IsHistory}
 
 -- what an event that steps says
@@ -102,6 +103,66 @@ slice_get-events (x ∷ xs) (suc i) = slice_get-events xs i
 pub last_of-events : (xs : List Entry) → last_of (map (λ (x : Entry). x.event) xs) ≡ option_map (λ (x : Entry). x.event) (slice_get xs (length xs - 1))
 last_of-events xs =
     ap (λ n. slice_get (map (λ (x : Entry). x.event) xs) (n - 1)) (length-map xs (λ (x : Entry). x.event)) ∙ slice_get-events xs (length xs - 1)
+
+-- the last of a list that is not empty
+last-at : {X : Type 0} (xs : List X) (n : ℕ) (x : X) → n + 1 ≡ length xs → slice_get xs n ≡ Some x → (ys : List X) × (xs ≡ ys ++ x ∷ [])
+last-at [] n x l h = absurd (omega (arith, l))
+last-at (y ∷ []) zero x l h = let same : y ≡ x = cc in ([], ap (λ z. z ∷ []) same)
+last-at (y ∷ []) (suc n) x l h = absurd (omega (arith, l))
+last-at (y ∷ z ∷ zs) zero x l h = absurd (omega (arith, l))
+last-at (y ∷ z ∷ zs) (suc n) x l h =
+    let more : (ys : List _) × (z ∷ zs ≡ ys ++ x ∷ []) = last-at (z ∷ zs) n x (omega (arith, l)) h
+    in (y ∷ more.0, ap (λ l. y ∷ l) more.1)
+
+last-split : {X : Type 0} (xs : List X) (x : X) → slice_get xs (length xs - 1) ≡ Some x → (ys : List X) × (xs ≡ ys ++ x ∷ [])
+last-split [] x h = absurd (cc)
+last-split (y ∷ ys) x h = last-at (y ∷ ys) (length (y ∷ ys) - 1) x (omega arith) h
+
+-- lists with one more at their ends
+push-same : (es fs : List Event) (e f : Event) → es ++ e ∷ [] ≡ fs ++ f ∷ [] → (es ≡ fs) × (e ≡ f)
+push-same [] [] e f h = (refl, cc)
+push-same [] (g ∷ gs) e f h = absurd (omega (arith, ap (λ (l : List Event). length l) h, length-append gs (f ∷ [])))
+push-same (g ∷ gs) [] e f h = absurd (omega (arith, ap (λ (l : List Event). length l) h, length-append gs (e ∷ [])))
+push-same (g ∷ gs) (k ∷ ks) e f h =
+    let rest : (gs ≡ ks) × (e ≡ f) = push-same gs ks e f (cc)
+    in let first : g ≡ k = cc
+    in (ap (λ l. g ∷ l) rest.0 ∙ ap (λ x. x ∷ ks) first, rest.1)
+
+-- what the newest entry alters
+alteration-newest : (w : Whole) (xs : List Entry) (x : Entry) (s : Standing) (e : Event) → IsHistory w (x ∷ reverse xs)
+    → unwound w (x ∷ reverse xs) ≡ s.start → map (λ (y : Entry). y.event) (xs ++ x ∷ []) ≡ s.events ++ e ∷ []
+    → places_of_change x.changes ≡ alteration s e
+alteration-newest w xs x s e h start events =
+    let before : Whole = after_swap w x.changes
+    in let one : IsStep (seen before) x.event (seen w) = IsStep-from (seen before) x.event (seen w) h.2
+    in let same : (map (λ (y : Entry). y.event) xs ≡ s.events) × (x.event ≡ e)
+    = push-same (map (λ (y : Entry). y.event) xs) s.events x.event e (sym (map_push (λ (y : Entry). y.event) xs x) ∙ events)
+    in let here : seen before ≡ machine_of s
+    = sym (rerun-unwound before xs h.4) ∙ ap (λ es. rerun (seen (unwound before (reverse xs))) es) same.0 ∙ ap (λ (k : Whole). rerun (seen k) s.events) start
+    in h.3 ∙ ap (λ n. differences (seen before) n) (sym one.leads) ∙ ap (λ (m : Machine). differences m (after m x.event)) here
+    ∙ ap (λ f. differences (machine_of s) (after (machine_of s) f)) same.1
+
+-- what the last entry of a session alters, where it stands after another
+pub alteration-last : (w : Whole) (xs : List Entry) (x : Entry) (limit : ℕ) (t s : Standing) (e : Event) → IsHistory w (reverse xs)
+    → record { start = unwound w (reverse xs); events = map (λ (y : Entry). y.event) xs; limit = limit } ≡ t
+    → Some x ≡ slice_get xs (length xs - 1) → IsAfter t s e → places_of_change x.changes ≡ alteration s e
+alteration-last w xs x limit t s e h view last is =
+    let split : (ys : List Entry) × (xs ≡ ys ++ x ∷ []) = last-split xs x (sym last)
+    in let newest : reverse xs ≡ x ∷ reverse split.0 = ap (λ (zs : List Entry). reverse zs) split.1 ∙ reverse-append split.0 (x ∷ [])
+    in let start : unwound w (reverse xs) ≡ s.start = ap (λ (k : Standing). k.start) (view ∙ is)
+    in let events : map (λ (y : Entry). y.event) xs ≡ s.events ++ e ∷ [] = ap (λ (k : Standing). k.events) (view ∙ is)
+    in alteration-newest w split.0 x s e (subst (λ (zs : List Entry). IsHistory w zs) newest h) (rw newest at start) (rw split.1 at events)
+
+-- no entry is the last where none stands
+pub none-last : (w : Whole) (xs : List Entry) (limit : ℕ) (t s : Standing) (e : Event)
+    → record { start = unwound w (reverse xs); events = map (λ (y : Entry). y.event) xs; limit = limit } ≡ t
+    → None ≡ slice_get xs (length xs - 1) → IsAfter t s e → ⊥
+none-last w [] limit t s e view none is =
+    omega (arith, ap (λ (k : Standing). length k.events) (view ∙ is), length-append s.events (e ∷ []))
+none-last w (x ∷ xs) limit t s e view none is =
+    let one : slice_get (x ∷ xs) (length (x ∷ xs) - 1) ≡ Some _ = slice_get-get_or (x ∷ xs) (length (x ∷ xs) - 1) x (omega arith)
+    in let both : None ≡ Some _ = none ∙ one
+    in cc
 
 -- the last entry's change needs no room to be taken back
 pub NeedsNoRoom-last : (w : Whole) (xs ys : List Entry) (x : Entry) → IsHistory w (reverse xs) → xs ≡ ys ++ x ∷ [] → NeedsNoRoom x.changes

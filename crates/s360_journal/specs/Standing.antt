@@ -1,7 +1,10 @@
 -- What a session is seen as, and what may answer an event in it.
-use Rattle.std.specs.Prelude.{ℕ, ◌-◌, List, length, slice_get, nat_lt, if◌then◌else◌, Option, Some, None}
+use Rattle.std.specs.Option.{option_map}
+use Rattle.std.specs.Prelude.{ℕ, ◌-◌, ◌≡◌, List, [], ◌∷◌, ◌++◌, length, slice_get, nat_lt, if◌then◌else◌, Option, Some, None}
 use Rattle.s360_store.specs.declared.place.Place.{Place}
 use Rattle.s360_machine.specs.declared.event.Event.{Event}
+use Rattle.s360_machine.specs.declared.event_kind.EventKind.{EventKind}
+use Rattle.s360_machine.specs.EventKinds.{kind_of_event}
 use Rattle.s360_machine.specs.declared.refusal.Refusal.{Refusal}
 use Rattle.s360_machine.specs.declared.refusal.Refusal.TheVariants.{JournalFull}
 use Rattle.s360_machine.specs.Machine.{Machine, Whole, storage_size, seen}
@@ -29,6 +32,10 @@ or_full None count limit = if nat_lt count limit then None else Some JournalFull
 abbrev pub refusal_in : Standing → Event → Option Refusal
 refusal_in s e = or_full (refusal_of (storage_size (machine_of s)) e) (length s.events) s.limit
 
+-- the session in which an event more stands than in another
+abbrev pub IsAfter : Standing → Standing → Event → Type 0
+IsAfter t s e = t ≡ record s { events = s.events ++ e ∷ [] }
+
 -- the places that an event alters
 abbrev pub alteration : Standing → Event → List Place
 alteration s e = differences (machine_of s) (after (machine_of s) e)
@@ -36,3 +43,7 @@ alteration s e = differences (machine_of s) (after (machine_of s) e)
 -- the last of the events, if there is one
 abbrev pub last_of : List Event → Option Event
 last_of es = slice_get es (length es - 1)
+
+-- what it is
+abbrev pub last_kind_of : List Event → Option EventKind
+last_kind_of es = option_map kind_of_event (last_of es)

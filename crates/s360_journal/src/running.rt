@@ -3,15 +3,12 @@ ghost use Rattle.std.specs.Prelude.{◌≡◌, ℕ, IfOk, OnOk, OnErr, None, Lis
 ghost use Rattle.s360_channel.specs.Units.{is_active};
 ghost use Rattle.s360_machine.specs.Machine.{seen};
 ghost use Rattle.s360_channel.specs.ConfiguredUnits.{control_of};
-ghost use Rattle.s360_store.specs.declared.place.Place.{Place};
 ghost use Rattle.s360_journal.specs.Breakpoints.{is_at_breakpoint};
 ghost use Rattle.s360_journal.specs.Offers.{unless_refused, with_events};
-ghost use Rattle.s360_journal.specs.Reports.{IsReport};
 ghost use Rattle.s360_journal.specs.Running.{active_unit, end_of_turn, end_with, next_event, run_of};
-ghost use Rattle.s360_journal.specs.Standing.{machine_of, refusal_in};
+ghost use Rattle.s360_journal.specs.Standing.{IsAfter, Standing, alteration, machine_of, refusal_in};
 
 use crate::breaks::Breaks;
-use crate::report::Report;
 use crate::session::Session;
 use s360_channel::UnitState;
 use s360_machine::{ConfiguredUnit, Event, Machine, Refusal};
@@ -53,22 +50,24 @@ impl Session {
         ensures memory { OnErr result (self.new ≡ self.old) }
     {
         let event = next_event(self.machine());
-        match self.forward(event) {
-            Ok(report) => Ok(end_after(&report, breaks, self.machine())),
+        match self.advance(event) {
+            Ok(()) => Ok(self.end_after(breaks)),
             Err(Refusal::Memory) => Err(AllocError),
             Err(refusal) => Ok(Some(RunEnd::Refused(refusal))),
         }
     }
-}
 
-/// Why a run ends after an accepted event with this report, if it does.
-fn end_after(report: &Report, breaks: &Breaks, machine: &Machine) -> Option<RunEnd>
-    ensures { (ps : List Place) → IsReport report.now ps → result ≡ end_with None ps (is_at_breakpoint (seen machine.now.whole) breaks.now) }
-{
-    match report {
-        Report::Idle => Some(RunEnd::Idle),
-        Report::Changed(_) if breaks.stops(machine) => Some(RunEnd::Break),
-        Report::Changed(_) => None,
+    /// Why a run ends after the last change that stands, if it does.
+    fn end_after(&self, breaks: &Breaks) -> Option<RunEnd>
+        ensures { (s : Standing) (e : Event) → IsAfter self.now s e → result ≡ end_with None (alteration s e) (is_at_breakpoint (machine_of self.now) breaks.now) }
+    {
+        if self.is_idle() {
+            return Some(RunEnd::Idle);
+        }
+        if breaks.stops(self.machine()) {
+            return Some(RunEnd::Break);
+        }
+        None
     }
 }
 

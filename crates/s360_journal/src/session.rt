@@ -1,20 +1,19 @@
 //! The session: the machine, and the journal of the changes that stand.
-ghost use Rattle.std.specs.Prelude.{◌≡◌, ◌++◌, ◌∷◌, ◌≤◌, [], length, take, OnOk, OnErr, IfOk, Err};
+ghost use Rattle.std.specs.Prelude.{◌≡◌, ◌↔◌, ◌++◌, ◌∷◌, ◌≤◌, [], length, take, OnOk, OnErr, IfOk, IsTrue, Err};
 ghost use Rattle.std.specs.Prelude.{IsOkUnless, MatchOption};
 ghost use Rattle.s360_machine.specs.Machine.{seen};
 ghost use Rattle.s360_machine.specs.declared.refusal.Refusal.TheVariants.{Memory};
 ghost use Rattle.s360_journal.specs.Reports.{IsReport};
 ghost use Rattle.s360_journal.specs.Rerun.{rerun, AreAccepted, last_change_of};
 ghost use Rattle.s360_journal.specs.Stops.{stop_of};
-ghost use Rattle.std.specs.Option.{option_copied};
-ghost use Rattle.s360_journal.specs.Standing.{refusal_in, alteration, last_of};
+ghost use Rattle.s360_journal.specs.Standing.{IsAfter, Standing, refusal_in, alteration, last_kind_of};
 
 use crate::breaks::Breaks;
 use crate::entry::Entry;
 use crate::report::Report;
-use s360_machine::{Event, Machine, Refusal};
+use s360_machine::{Event, EventKind, Machine, Refusal};
 use s360_store::Place;
-use std::alloc::Global;
+use std::alloc::{AllocError, Global};
 use std::marker::Model;
 use thiserror::Error;
 
@@ -95,12 +94,32 @@ impl Session {
         self.entries.len() as u32
     }
 
-    /// The last event that stands, if one does: the one that `back` would answer.
-    pub fn last_event(&self) -> Option<&Event>
-        ensures { option_copied result ≡ last_of self.now.events }
+    /// What the last event is that stands, if one does: the one that `back` would answer.
+    pub fn last_event(&self) -> Option<EventKind>
+        ensures { result ≡ last_kind_of self.now.events }
     {
         let entry = self.entries.last()?;
-        Some(&entry.event)
+        Some(entry.event.kind())
+    }
+
+    /// What the last change that stands altered.
+    fn last_report(&self) -> Result<Report, AllocError>
+        ensures { IfOk result (λ r. (s : Standing) (e : Event) → IsAfter self.now s e → IsReport r (alteration s e)) }
+    {
+        match self.entries.last() {
+            Some(entry) => Report::of(self.alloc, &entry.changes),
+            None => Ok(Report::Idle),
+        }
+    }
+
+    /// Whether the last change that stands altered nothing.
+    pub(crate) fn is_idle(&self) -> bool
+        ensures { (s : Standing) (e : Event) → IsAfter self.now s e → (IsTrue result ↔ (alteration s e ≡ [])) }
+    {
+        match self.entries.last() {
+            Some(entry) => entry.changes.len() == 0,
+            None => true,
+        }
     }
 
     /// The number of the last change that altered a place, counted from 1. It takes no memory.
@@ -131,10 +150,10 @@ impl Session {
         }
     }
 
-    /// Runs an event, which then stands, also where it alters nothing. A refused one changes nothing.
-    pub fn forward(&mut self, event: Event) -> Result<Report, Refusal>
-        ensures ok { OnOk result (self.new ≡ record self.old { events = self.old.events ++ event ∷ [] }) }
-        ensures report { IfOk result (λ r. IsReport r (alteration self.old event)) }
+    /// Runs an event, which then stands, also where it alters nothing, and reports nothing of it. A refused one changes
+    /// nothing.
+    pub(crate) fn advance(&mut self, event: Event) -> Result<(), Refusal>
+        ensures ok { OnOk result (IsAfter self.new self.old event) }
         ensures err { OnErr result (self.new ≡ self.old) }
         ensures refused { MatchOption (refusal_in self.old event) (IsOkUnless result Memory) (λ r. result ≡ Err r) }
     {
@@ -147,11 +166,26 @@ impl Session {
         };
         self.machine.room(&changes)?;
         self.entries.reserve(1)?;
-        let report = Report::of(self.alloc, &changes)?;
         // Nothing can fail from here on.
         self.machine.swap_all(&mut changes);
         self.entries.push_reserved(Entry { event, changes });
-        Ok(report)
+        Ok(())
+    }
+
+    /// Runs an event, which then stands, also where it alters nothing. A refused one changes nothing.
+    pub fn forward(&mut self, event: Event) -> Result<Report, Refusal>
+        ensures ok { OnOk result (self.new ≡ record self.old { events = self.old.events ++ event ∷ [] }) }
+        ensures report { IfOk result (λ r. IsReport r (alteration self.old event)) }
+        ensures err { OnErr result (self.new ≡ self.old) }
+        ensures refused { MatchOption (refusal_in self.old event) (IsOkUnless result Memory) (λ r. result ≡ Err r) }
+    {
+        self.advance(event)?;
+        let report = self.last_report();
+        if report.is_err() {
+            // The event is taken back, for which no memory is wanted.
+            let _taken = self.back();
+        }
+        Ok(report?)
     }
 
     /// Takes back the last change that stands. It takes no memory.

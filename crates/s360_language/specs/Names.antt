@@ -4,13 +4,13 @@ use Rattle.s360_model.specs.Text.{decimal, hex_text}
 use Rattle.s360_model.specs.Storage.{block_size}
 use Rattle.s360_store.specs.declared.place.Place.{Place}
 use Rattle.s360_store.specs.declared.place.Place.TheVariants.{Psw, Register, Byte, Key, Run, External, UnitState, UnitMedia}
-use Rattle.s360_machine.specs.declared.event.Event.{Event}
-use Rattle.s360_machine.specs.declared.event.Event.TheVariants.{Cpu, Channel, Tick, Key as key_event, Patch as patch}
-use Rattle.s360_machine.specs.declared.event.Patch.{Patch}
-use Rattle.s360_machine.specs.declared.event.Patch.TheVariants.{Bytes, Register as register, StorageKey, Psw as psw}
+use Rattle.s360_machine.specs.declared.event_kind.EventKind.{EventKind}
+use Rattle.s360_machine.specs.declared.event_kind.EventKind.TheVariants.{Cpu, Channel, Tick, Key as key_event, Patch as patch}
+use Rattle.s360_machine.specs.declared.event_kind.KeyKind.{KeyKind}
+use Rattle.s360_machine.specs.declared.event_kind.KeyKind.TheVariants.{Start, Stop, Reset, Interrupt, EndOfFile, Request, Enter, Load}
+use Rattle.s360_machine.specs.declared.event_kind.PatchKind.{PatchKind}
+use Rattle.s360_machine.specs.declared.event_kind.PatchKind.TheVariants.{Bytes, Register as register, StorageKey, Psw as psw}
 use Rattle.s360_machine.specs.declared.external.ExternalConditions.{ExternalConditions}
-use Rattle.s360_machine.specs.declared.operator.Key.{Key as OperatorKey}
-use Rattle.s360_machine.specs.declared.operator.Key.TheVariants.{Start, Stop, Reset, Interrupt, EndOfFile, Request, Enter, Load}
 use Rattle.s360_machine.specs.declared.refusal.Refusal.{Refusal}
 use Rattle.s360_machine.specs.declared.refusal.Refusal.TheVariants.{Memory, OutsideStorage, NoSuchUnit, LineTooLong, PatchTooLong, JournalFull}
 use Rattle.s360_machine.specs.declared.run_state.RunState.{RunState}
@@ -28,23 +28,23 @@ place_name External = codes "ext"
 place_name (UnitState u) = codes "u" ++ hex_text 3 u.0
 place_name (UnitMedia u) = codes "d" ++ hex_text 3 u.0
 
-abbrev pub key_name : OperatorKey → List ℕ
+abbrev pub key_name : KeyKind → List ℕ
 key_name Start = codes "key start"
 key_name Stop = codes "key stop"
 key_name Reset = codes "key reset"
 key_name Interrupt = codes "key interrupt"
 key_name EndOfFile = codes "key eof"
 key_name Request = codes "key request"
-key_name (Enter line) = codes "enter"
+key_name Enter = codes "enter"
 key_name (Load unit) = codes "load " ++ hex_text 3 unit.0
 
-abbrev pub patch_name : Patch → List ℕ
-patch_name (Bytes at bytes) = codes "patch s"
-patch_name (register n word) = codes "patch r"
-patch_name (StorageKey at storage_key) = codes "patch k"
-patch_name (psw doubleword) = codes "patch p"
+abbrev pub patch_name : PatchKind → List ℕ
+patch_name Bytes = codes "patch s"
+patch_name register = codes "patch r"
+patch_name StorageKey = codes "patch k"
+patch_name psw = codes "patch p"
 
-abbrev pub event_name : Event → List ℕ
+abbrev pub event_name : EventKind → List ℕ
 event_name Cpu = codes "cpu"
 event_name (Channel unit) = codes "channel " ++ hex_text 3 unit.0
 event_name Tick = codes "tick"

@@ -1,11 +1,11 @@
 //! The printed names of places, events, refusals, run states and external conditions.
 ghost use Rattle.std.specs.Prelude.{◌≡◌, ◌++◌, IfOk, OnOk};
 ghost use Rattle.s360_model.specs.Text.{hex_text};
-ghost use Rattle.s360_language.specs.Names.{place_name, event_name, refusal_name};
-ghost use Rattle.s360_language.specs.Names.{external_name, key_name, patch_name, refused_text};
+ghost use Rattle.s360_language.specs.Names.{event_name, external_name, key_name, patch_name};
+ghost use Rattle.s360_language.specs.Names.{place_name, refusal_name, refused_text};
 ghost use Rattle.s360_language.specs.Names.{run_state_name};
 
-use s360_machine::{Event, ExternalConditions, Key, Patch, Refusal, RunState};
+use s360_machine::{EventKind, ExternalConditions, KeyKind, PatchKind, Refusal, RunState};
 use s360_store::{BLOCK_SIZE, Place};
 use s360_text::Text;
 use std::alloc::{AllocError, Global};
@@ -40,43 +40,43 @@ pub(crate) fn push_numbered(
 }
 
 /// Adds the name of a key.
-fn push_key(text: &mut Text, key: &Key) -> Result<(), AllocError>
-    ensures { OnOk result (text.new ≡ text.old ++ key_name key.now) }
+fn push_key(text: &mut Text, key: KeyKind) -> Result<(), AllocError>
+    ensures { OnOk result (text.new ≡ text.old ++ key_name key) }
 {
     match key {
-        Key::Start => text.push_text("key start"),
-        Key::Stop => text.push_text("key stop"),
-        Key::Reset => text.push_text("key reset"),
-        Key::Interrupt => text.push_text("key interrupt"),
-        Key::EndOfFile => text.push_text("key eof"),
-        Key::Request => text.push_text("key request"),
-        Key::Enter(_) => text.push_text("enter"),
-        Key::Load(unit) => push_numbered(text, "load ", u64::from(unit.0), 3),
+        KeyKind::Start => text.push_text("key start"),
+        KeyKind::Stop => text.push_text("key stop"),
+        KeyKind::Reset => text.push_text("key reset"),
+        KeyKind::Interrupt => text.push_text("key interrupt"),
+        KeyKind::EndOfFile => text.push_text("key eof"),
+        KeyKind::Request => text.push_text("key request"),
+        KeyKind::Enter => text.push_text("enter"),
+        KeyKind::Load(unit) => push_numbered(text, "load ", u64::from(unit.0), 3),
     }
 }
 
 /// The name of a patch.
-fn name_of_patch(patch: &Patch) -> &'static str
-    ensures { result.now ≡ patch_name patch.now }
+fn name_of_patch(patch: PatchKind) -> &'static str
+    ensures { result.now ≡ patch_name patch }
 {
     match patch {
-        Patch::Bytes { .. } => "patch s",
-        Patch::Register(..) => "patch r",
-        Patch::StorageKey { .. } => "patch k",
-        Patch::Psw(_) => "patch p",
+        PatchKind::Bytes => "patch s",
+        PatchKind::Register => "patch r",
+        PatchKind::StorageKey => "patch k",
+        PatchKind::Psw => "patch p",
     }
 }
 
-/// Adds the name of an event.
-pub fn push_event(text: &mut Text, event: &Event) -> Result<(), AllocError>
-    ensures { OnOk result (text.new ≡ text.old ++ event_name event.now) }
+/// Adds the name of an event of this kind.
+pub fn push_event(text: &mut Text, kind: EventKind) -> Result<(), AllocError>
+    ensures { OnOk result (text.new ≡ text.old ++ event_name kind) }
 {
-    match event {
-        Event::Cpu => text.push_text("cpu"),
-        Event::Channel(unit) => push_numbered(text, "channel ", u64::from(unit.0), 3),
-        Event::Tick => text.push_text("tick"),
-        Event::Key(key) => push_key(text, key),
-        Event::Patch(patch) => text.push_text(name_of_patch(patch)),
+    match kind {
+        EventKind::Cpu => text.push_text("cpu"),
+        EventKind::Channel(unit) => push_numbered(text, "channel ", u64::from(unit.0), 3),
+        EventKind::Tick => text.push_text("tick"),
+        EventKind::Key(key) => push_key(text, key),
+        EventKind::Patch(patch) => text.push_text(name_of_patch(patch)),
     }
 }
 

@@ -11,6 +11,7 @@ pub mod ChannelEvents
 pub mod Cpu
 pub mod Refusals
 pub mod Step
+pub mod EventKinds
 pub mod IoChanges
 pub mod Beside
 pub mod Change

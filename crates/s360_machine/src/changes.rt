@@ -294,7 +294,11 @@ impl Changes {
     pub fn len(&self) -> u32
         ensures { result ≡ length (places_of_change self.now) }
     {
-        self.altered.len() as u32 + self.places_beside().len() as u32
+        let core = self.altered.len() as u32;
+        match &self.beside {
+            Some(beside) => core + beside.places().len() as u32,
+            None => core,
+        }
     }
 
     /// The span of the places that begins with the one at `i`, counted from 0.

@@ -2,6 +2,7 @@
 //! GA22-6821, "Interruptions", "Status Switching" and "System Structure", program execution.
 ghost use Rattle.std.specs.Prelude.{◌≡◌, [], IfOk, IfSome};
 ghost use Rattle.s360_logic.specs.Instruction.{PlansInstruction, instruction};
+ghost use Rattle.s360_psw.specs.Pending.{next_interruption_of};
 ghost use Rattle.s360_machine.specs.Altered.{IsWhole, cells_of, change_of_core};
 ghost use Rattle.s360_machine.specs.Cpu.{after_case, after_cpu, after_external, after_instruction};
 ghost use Rattle.s360_machine.specs.Cpu.{cpu_case, pending_of};
@@ -44,6 +45,18 @@ impl Machine {
         }
     }
 
+    /// The class of the interruption that happens before the next instruction, if one does. No unit is asked for a
+    /// condition that the PSW does not let interrupt.
+    fn interruption(&self) -> Option<Class>
+        ensures { result ≡ next_interruption_of self.now.whole.core.psw (pending_of self.now.whole.control self.now.whole.units) }
+    {
+        let psw = self.core.psw();
+        if !psw.lets_interrupt() {
+            return None;
+        }
+        next_interruption(&psw, &self.pending())
+    }
+
     /// What a CPU event is.
     fn cpu_case(&self) -> CpuCase
         ensures { result ≡ cpu_case (seen self.now.whole) }
@@ -51,10 +64,9 @@ impl Machine {
         if !self.control.run_state().is_operating() {
             return CpuCase::Halted;
         }
-        let psw = self.core.psw();
-        match next_interruption(&psw, &self.pending()) {
+        match self.interruption() {
             Some(class) => CpuCase::Interrupted(class),
-            None if psw.wait() => CpuCase::Waiting,
+            None if self.core.psw().wait() => CpuCase::Waiting,
             None => CpuCase::Executing,
         }
     }

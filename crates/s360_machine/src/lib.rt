@@ -14,6 +14,7 @@ mod control_change;
 mod core_state;
 mod cpu;
 mod event;
+mod event_kind;
 mod external;
 mod input_output;
 mod interruption;
@@ -29,6 +30,7 @@ mod timer;
 
 pub use changes::Changes;
 pub use event::{Event, Patch};
+pub use event_kind::{EventKind, KeyKind, PatchKind};
 pub use external::ExternalConditions;
 pub use machine::Machine;
 pub use operator::Key;

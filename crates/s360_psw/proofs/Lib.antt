@@ -1,2 +1,3 @@
 pub mod PswLemmas
+pub mod PendingLemmas
 mod KnownInterruptions

@@ -6,6 +6,10 @@ use Rattle.s360_psw.specs.declared.class.Class.{Class}
 use Rattle.s360_psw.specs.declared.class.Class.TheVariants.{External, InputOutput}
 use Rattle.s360_psw.specs.declared.pending.Pending.{Pending}
 
+-- the mask of the external conditions, of channel 0 or of channel 1 is one
+abbrev pub lets_interrupt : ℕ → Bool
+lets_interrupt psw = (external_mask_of psw || channel_mask_of psw 0) || channel_mask_of psw 1
+
 -- an external condition is pending and its mask is one
 abbrev pub takes_external : ℕ → Pending → Bool
 takes_external psw p = external_mask_of psw && (p.timer || p.key)

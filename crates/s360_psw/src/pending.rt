@@ -1,6 +1,6 @@
 //! Interruptions that wait until the PSW lets them happen. Source: GA22-6821, "Interruptions".
 ghost use Rattle.std.specs.Prelude.{◌≡◌};
-ghost use Rattle.s360_psw.specs.Pending.{next_interruption_of, takes_external, takes_input_output};
+ghost use Rattle.s360_psw.specs.Pending.{lets_interrupt, next_interruption_of, takes_external, takes_input_output};
 
 use crate::class::Class;
 use crate::psw::Psw;
@@ -17,6 +17,16 @@ pub struct Pending {
     pub channel0: Option<Unit>,
     /// The lowest unit of channel 1 that has a condition.
     pub channel1: Option<Unit>,
+}
+
+impl Psw {
+    /// Whether the mask of the external conditions, of channel 0 or of channel 1 is one. Where none is, nothing that
+    /// waits can interrupt, and nobody has to ask what does.
+    pub fn lets_interrupt(self) -> bool
+        ensures { result ≡ lets_interrupt self }
+    {
+        self.external_mask() || self.channel_mask(0) || self.channel_mask(1)
+    }
 }
 
 /// Whether an external interruption happens.

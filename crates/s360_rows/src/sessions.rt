@@ -207,7 +207,7 @@ preview_long 300 101 -> patch too long
 picture -> 0 7FFFFFFF 7 4
 do last r 3 -> Some(4)
 do last p -> None
-event -> Some(Patch(Register(RegisterNumber(3), 7)))
+event -> Some(Patch(Register))
 * refused events leave it too
 do step -> [Psw, Register(1)]
 picture -> 30000002 80000000 7 5

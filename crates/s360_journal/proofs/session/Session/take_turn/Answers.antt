@@ -1,5 +1,4 @@
 use Rattle.std.proofs.Common.{◌≡◌, ◌≢◌, ◌∙◌, rules, ap, None, Some}
-use Rattle.s360_machine.specs.Machine.{Machine}
 use Rattle.s360_machine.specs.declared.event.Event.{Event}
 use Rattle.s360_machine.specs.declared.refusal.Refusal.TheVariants.{Memory}
 use Rattle.s360_journal.specs.Breakpoints.{is_at_breakpoint}
@@ -15,7 +14,7 @@ returns-in-Err c =
     in let e : Event = c.next_event-event.result
     in let is : e ≡ next_event (machine_of s) = c.next_event-event.ensures ∙ ap next_event c.machine.ensures.rerun
     in let other : c.in-Err.refusal ≢ Memory = λ same. search rules
-    in let refused : refusal_in s e ≡ Some c.in-Err.refusal = refused-Some (refusal_in s e) c.forward.result c.in-Err.refusal c.in-Err.is other c.forward.ensures.refused
+    in let refused : refusal_in s e ≡ Some c.in-Err.refusal = refused-Some (refusal_in s e) c.advance.result c.in-Err.refusal c.in-Err.is other c.advance.ensures.refused
     in record {
       end = turn-refused c.args.breaks.now s e c.in-Err.refusal refused ∙ ap (λ (x : Event). end_of_turn c.args.breaks.now s x) is;
       state = c.in-Err.ensures.err ∙ refused-stands s e c.in-Err.refusal refused ∙ ap (λ (x : Event). with_events s (unless_refused (refusal_in s x) x)) is;
@@ -27,8 +26,7 @@ returns-in-Ok-clause-end c =
     let s = c.args.self.now
     in let e : Event = c.next_event-event.result
     in let is : e ≡ next_event (machine_of s) = c.next_event-event.ensures ∙ ap next_event c.machine.ensures.rerun
-    in let none : refusal_in s e ≡ None = accepted-None (refusal_in s e) c.in-Ok.report c.forward.result c.in-Ok.is c.forward.ensures.refused
-    in let end : c.end_after.result ≡ end_with None (alteration s e) (is_at_breakpoint (machine_of c.forward.new.self) c.args.breaks.now)
-    = c.end_after.ensures (alteration s e) c.in-Ok.ensures.report
-    ∙ ap (λ (m : Machine). end_with None (alteration s e) (is_at_breakpoint m c.args.breaks.now)) c.machine-in-Ok.ensures.rerun
-    in turn-accepted c.args.breaks.now s c.forward.new.self e c.end_after.result none c.in-Ok.ensures.ok end ∙ ap (λ (x : Event). end_of_turn c.args.breaks.now s x) is
+    in let none : refusal_in s e ≡ None = accepted-None (refusal_in s e) tt c.advance.result c.in-Ok.is c.advance.ensures.refused
+    in let end : c.end_after.result ≡ end_with None (alteration s e) (is_at_breakpoint (machine_of c.advance.new.self) c.args.breaks.now)
+    = c.end_after.ensures s e c.in-Ok.ensures.ok
+    in turn-accepted c.args.breaks.now s c.advance.new.self e c.end_after.result none c.in-Ok.ensures.ok end ∙ ap (λ (x : Event). end_of_turn c.args.breaks.now s x) is

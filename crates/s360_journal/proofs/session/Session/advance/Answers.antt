@@ -1,19 +1,16 @@
-use Rattle.std.proofs.Common.{◌≡◌, ◌<◌, ◌++◌, ◌∷◌, [], sym, ◌∙◌, ap, subst, List, None, length, length-append, arith}
+use Rattle.std.proofs.Common.{◌≡◌, ◌<◌, ◌++◌, ◌∷◌, [], sym, ◌∙◌, ap, subst, None, length, length-append, arith}
 use Rattle.std.proofs.lemmas.List.{length-map}
-use Rattle.s360_store.specs.declared.place.Place.{Place}
 use Rattle.s360_machine.specs.Machine.{Machine, Whole, storage_size, seen}
 use Rattle.s360_machine.specs.Refusals.{refusal_of}
 use Rattle.s360_machine.specs.declared.refusal.Refusal.TheVariants.{Memory}
 use Rattle.s360_machine.specs.Step.{after}
-use Rattle.s360_machine.specs.Change.{NeedsNoRoom, after_swap, change_after_swap, places_of_change}
-use Rattle.s360_machine.specs.Differences.{differences}
+use Rattle.s360_machine.specs.Change.{NeedsNoRoom, after_swap, change_after_swap}
 use Rattle.s360_machine.specs.Planned.{IsChangeTo}
 use Rattle.s360_journal.specs.declared.entry.Entry.{Entry}
-use Rattle.s360_journal.specs.Reports.{IsReport}
-use Rattle.s360_journal.specs.Standing.{Standing, machine_of, refusal_in, alteration}
+use Rattle.s360_journal.specs.Standing.{Standing, machine_of, refusal_in}
 use Rattle.s360_journal.proofs.HistoryLemmas.{machine_of-view}
 use Rattle.s360_journal.proofs.ForwardLemmas.{or_full-None, or_full-room, IsHistory-forward}
-use Rattle.s360_journal.proofs.session.Session.forward.Goals as goal
+use Rattle.s360_journal.proofs.session.Session.advance.Goals as goal
 
 pub returns-in-Err-clause-refused : goal.returns-in-Err-clause-refused
 returns-in-Err-clause-refused c =
@@ -25,15 +22,6 @@ returns-in-Err-clause-refused c =
     = subst (λ (k : Machine). refusal_of (storage_size k) e ≡ None) (sym same) (or_full-None _ (length s.events) s.limit none)
     in let answer : c.in-Err.refusal ≡ Memory = rw accepted at c.in-Err.ensures.refused
     in rw none answer
-
-pub returns-clause-report : goal.returns-clause-report
-returns-clause-report c =
-    let s = c.args.self.now
-    in let e = c.args.event
-    in let same : seen c.self.inside.machine.whole ≡ machine_of s = machine_of-view c.self.inside.machine.whole c.self.inside.entries.items _ s c.self.invariant.0 c.self.view_is
-    in let lists : places_of_change c.in-Ok.changes ≡ alteration s e
-    = c.in-Ok.ensures.ok.lists ∙ ap (λ (m : Machine). differences m (after m e)) same
-    in subst (λ (ps : List Place). IsReport c.in_ok-report.report ps) lists c.in_ok-report.ensures
 
 pub invariant_of-self-2 : goal.invariant_of-self-2
 invariant_of-self-2 c =
