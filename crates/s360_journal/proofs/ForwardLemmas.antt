@@ -11,9 +11,8 @@ use Rattle.s360_machine.specs.Step.{step, after}
 use Rattle.s360_machine.specs.Change.{Change, CanSwap, NeedsNoRoom, after_swap, change_after_swap, places_of_change}
 use Rattle.s360_machine.specs.Differences.{differences}
 use Rattle.s360_machine.specs.Planned.{IsChangeTo}
-use Rattle.s360_journal.specs.declared.entry.Entry.{Entry}
 use Rattle.s360_journal.specs.Standing.{or_full}
-use Rattle.s360_journal.specs.History.{IsHistory}
+use Rattle.s360_journal.specs.History.{Entry, IsHistory}
 use Rattle.s360_journal.proofs.HistoryLemmas.{step-Ok, IsHistory-push, places_of_change-after}
 
 -- where nothing refuses, the event does not, and the journal has room

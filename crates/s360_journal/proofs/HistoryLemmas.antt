@@ -12,10 +12,9 @@ use Rattle.s360_machine.specs.Step.{step_to, step, after}
 use Rattle.s360_machine.specs.Change.{Change, CanSwap, NeedsNoRoom, after_swap, change_after_swap, places_of_change}
 use Rattle.s360_machine.proofs.SwapLemmas.{places_of_change-after_swap}
 use Rattle.s360_machine.specs.Differences.{differences}
-use Rattle.s360_journal.specs.declared.entry.Entry.{Entry}
 use Rattle.s360_journal.specs.Rerun.{rerun, AreAccepted}
 use Rattle.s360_journal.specs.Standing.{Standing, IsAfter, machine_of, alteration, last_of}
-use Rattle.s360_journal.specs.History.{unwound, IsHistory}
+use Rattle.s360_journal.specs.History.{Entry, unwound, IsHistory}
 
 -- what an event that steps says
 pub record IsStep (m : Machine) (e : Event) (n : Machine) : Type 0 where
@@ -114,7 +113,7 @@ last-at (y ∷ z ∷ zs) (suc n) x l h =
     let more : (ys : List _) × (z ∷ zs ≡ ys ++ x ∷ []) = last-at (z ∷ zs) n x (omega (arith, l)) h
     in (y ∷ more.0, ap (λ l. y ∷ l) more.1)
 
-last-split : {X : Type 0} (xs : List X) (x : X) → slice_get xs (length xs - 1) ≡ Some x → (ys : List X) × (xs ≡ ys ++ x ∷ [])
+pub last-split : {X : Type 0} (xs : List X) (x : X) → slice_get xs (length xs - 1) ≡ Some x → (ys : List X) × (xs ≡ ys ++ x ∷ [])
 last-split [] x h = absurd (cc)
 last-split (y ∷ ys) x h = last-at (y ∷ ys) (length (y ∷ ys) - 1) x (omega arith) h
 

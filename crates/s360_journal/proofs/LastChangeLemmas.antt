@@ -9,9 +9,8 @@ use Rattle.s360_machine.specs.Machine.{Machine, Whole, seen}
 use Rattle.s360_machine.specs.Step.{after}
 use Rattle.s360_machine.specs.Change.{after_swap, places_of_change}
 use Rattle.s360_machine.specs.Differences.{differences}
-use Rattle.s360_journal.specs.declared.entry.Entry.{Entry}
 use Rattle.s360_journal.specs.Rerun.{rerun, alters, or_else, last_numbered_from, last_change_of}
-use Rattle.s360_journal.specs.History.{unwound, IsHistory}
+use Rattle.s360_journal.specs.History.{Entry, unwound, IsHistory}
 use Rattle.s360_journal.proofs.HistoryLemmas.{IsStep, IsStep-from, rerun-newest, events-newest}
 
 -- one event more: it decides where it alters the place

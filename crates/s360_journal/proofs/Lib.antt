@@ -1,4 +1,6 @@
 pub mod HistoryLemmas
+pub mod SessionLemmas
+mod EventLemmas
 pub mod LastChangeLemmas
 pub mod BreakpointLemmas
 pub mod StopLemmas

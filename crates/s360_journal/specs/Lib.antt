@@ -7,5 +7,6 @@ pub mod Laws
 pub mod Standing
 pub mod Offers
 pub mod Running
+pub mod Events
 pub mod History
 pub mod Calls

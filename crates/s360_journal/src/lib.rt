@@ -8,7 +8,7 @@
 
 mod breaks;
 mod calls;
-mod entry;
+mod events;
 mod laws;
 mod places;
 mod report;

@@ -2,23 +2,20 @@
 //!
 //! They stand as spans, so that a report of many bytes in one run is as short as that of one. A few
 //! spans stand within the value, so that the report of a plain instruction takes no memory.
-ghost use Rattle.std.specs.Prelude.{◌≡◌, ◌↔◌, [], length, slice_get, IfOk, IsTrue};
+ghost use Rattle.std.specs.Prelude.{◌≡◌, ◌↔◌, [], ◌-◌, length, slice_get, IfOk, IfSome, IsTrue};
 ghost use Rattle.s360_machine.specs.Change.{places_of_change};
-ghost use Rattle.s360_journal.specs.Places.{AreSpans, places_of_spans};
+ghost use Rattle.s360_machine.specs.Spans.{AreSpans, places_of_spans};
 
-use s360_machine::{Changes, Span};
+use s360_machine::{Packed, Span, Spans};
 use s360_store::Place;
 use smallvec::SmallVec;
 use std::alloc::{AllocError, Global};
 use std::marker::Model;
 
-/// So many spans stand within a report.
-const WITHIN: usize = 4;
-
 /// Places in their order, each once, which a contract sees as a list.
 #[derive(Debug, Drop)]
 pub struct Places {
-    spans: SmallVec<Span, WITHIN>,
+    spans: Spans,
     /// The number of places.
     count: u32,
 }
@@ -26,7 +23,8 @@ pub struct Places {
 impl Model for Places {
     ghost use Rattle.std.specs.Prelude.{List};
     ghost use Rattle.s360_store.specs.declared.place.Place.{Place};
-    ghost use Rattle.s360_journal.specs.Places.{ArePlaces, places_of_spans};
+    ghost use Rattle.s360_journal.specs.Places.{ArePlaces};
+    ghost use Rattle.s360_machine.specs.Spans.{places_of_spans};
 
     ghost Value = { List Place };
 
@@ -51,19 +49,18 @@ fn place_at(spans: &[Span], i: u32) -> Option<Place>
 }
 
 impl Places {
-    /// The places of a change.
+    /// The places of the last of the changes, if there is one.
     #[inline(always)]
-    pub(crate) fn of_change(alloc: Global, changes: &Changes) -> Result<Places, AllocError>
-        ensures { IfOk result (λ places. places ≡ places_of_change changes.now) }
+    pub(crate) fn of_last(alloc: Global, changes: &Packed) -> Result<Places, AllocError>
+        ensures { IfOk result (λ places. IfSome (slice_get changes.now (length changes.now - 1)) (λ x. places ≡ places_of_change x)) }
     {
-        let count = changes.len();
         let mut spans = SmallVec::new(alloc);
-        let mut i = 0;
-        while i < count {
-            let span = changes.span_at(i);
-            spans.push(span)?;
-            i += span.len();
+        let number = changes.len();
+        if number == 0 {
+            return Ok(Places { spans, count: 0 });
         }
+        changes.push_spans(number, &mut spans)?;
+        let count = changes.count(number);
         Ok(Places { spans, count })
     }
 

@@ -1,10 +1,10 @@
 //! What an accepted event altered.
-ghost use Rattle.std.specs.Prelude.{IfOk};
+ghost use Rattle.std.specs.Prelude.{◌≡◌, ◌↔◌, ◌-◌, List, [], length, slice_get, IfOk, IfSome, IsTrue};
 ghost use Rattle.s360_machine.specs.Change.{places_of_change};
 ghost use Rattle.s360_journal.specs.Reports.{IsReport};
 
 use crate::places::Places;
-use s360_machine::Changes;
+use s360_machine::Packed;
 use std::alloc::{AllocError, Global};
 
 /// What an accepted event altered.
@@ -16,15 +16,22 @@ pub enum Report {
     Idle,
 }
 
+/// Whether the last of the changes, if there is one, has no place.
+pub(crate) fn is_idle(changes: &Packed) -> bool
+    ensures { IfSome (slice_get changes.now (length changes.now - 1)) (λ x. IsTrue result ↔ (places_of_change x ≡ [])) }
+{
+    let number = changes.len();
+    number == 0 || changes.count(number) == 0
+}
+
 impl Report {
-    /// The report of an event that made a change.
-    #[inline(always)]
-    pub(crate) fn of(alloc: Global, changes: &Changes) -> Result<Report, AllocError>
-        ensures { IfOk result (λ report. IsReport report (places_of_change changes.now)) }
+    /// The report of the event that made the last of the changes, if there is one.
+    pub(crate) fn of_last(alloc: Global, changes: &Packed) -> Result<Report, AllocError>
+        ensures { IfOk result (λ report. IfSome (slice_get changes.now (length changes.now - 1)) (λ x. IsReport report (places_of_change x))) }
     {
-        if changes.len() == 0 {
+        if is_idle(changes) {
             return Ok(Report::Idle);
         }
-        Ok(Report::Changed(Places::of_change(alloc, changes)?))
+        Ok(Report::Changed(Places::of_last(alloc, changes)?))
     }
 }

@@ -9,9 +9,9 @@ ghost use Rattle.s360_journal.specs.Stops.{stop_of};
 ghost use Rattle.s360_journal.specs.Standing.{IsAfter, Standing, refusal_in, alteration, last_kind_of};
 
 use crate::breaks::Breaks;
-use crate::entry::Entry;
-use crate::report::Report;
-use s360_machine::{Event, EventKind, Machine, Refusal};
+use crate::events::Events;
+use crate::report::{Report, is_idle};
+use s360_machine::{Event, EventKind, Machine, Packed, Refusal};
 use s360_store::Place;
 use std::alloc::{AllocError, Global};
 use std::marker::Model;
@@ -28,22 +28,24 @@ pub struct NothingStands;
 #[derive(Drop)]
 pub struct Session {
     machine: Machine,
-    entries: Vec<Entry>,
+    /// The events that stand.
+    events: Events,
+    /// What each of them altered.
+    changes: Packed,
     limit: u32,
     alloc: Global,
 }
 
 impl Model for Session {
-    ghost use Rattle.std.specs.Prelude.{◌≤◌, length, reverse, map};
+    ghost use Rattle.std.specs.Prelude.{◌≤◌, length, reverse};
     ghost use Rattle.s360_journal.specs.Standing.{Standing};
-    ghost use Rattle.s360_journal.specs.History.{unwound, IsHistory};
-    ghost use Rattle.s360_journal.specs.declared.entry.Entry.{Entry};
+    ghost use Rattle.s360_journal.specs.History.{AreHistory, entries_of, unwound};
 
     ghost Value = { Standing };
 
-    ghost view = { λ s. record { start = unwound s.machine.whole (reverse s.entries.items); events = map (λ (x : Entry). x.event) s.entries.items; limit = s.limit } };
+    ghost view = { λ s. record { start = unwound s.machine.whole (reverse (entries_of s.events s.changes)); events = s.events; limit = s.limit } };
 
-    ghost invariant = { λ s. IsHistory s.machine.whole (reverse s.entries.items) × (length s.entries.items ≤ s.limit) × (s.limit ≤ 10000000) };
+    ghost invariant = { λ s. AreHistory s.machine.whole s.events s.changes × (length s.events ≤ s.limit) × (s.limit ≤ 10000000) };
 }
 
 impl Session {
@@ -55,7 +57,8 @@ impl Session {
     {
         Session {
             machine,
-            entries: Vec::new(alloc),
+            events: Events::new(alloc),
+            changes: Packed::new(alloc),
             limit,
             alloc,
         }
@@ -91,49 +94,35 @@ impl Session {
     pub fn standing(&self) -> u32
         ensures { result ≡ length self.now.events }
     {
-        self.entries.len() as u32
+        self.changes.len()
     }
 
     /// What the last event is that stands, if one does: the one that `back` would answer.
     pub fn last_event(&self) -> Option<EventKind>
         ensures { result ≡ last_kind_of self.now.events }
     {
-        let entry = self.entries.last()?;
-        Some(entry.event.kind())
+        self.events.last_kind()
     }
 
     /// What the last change that stands altered.
     fn last_report(&self) -> Result<Report, AllocError>
         ensures { IfOk result (λ r. (s : Standing) (e : Event) → IsAfter self.now s e → IsReport r (alteration s e)) }
     {
-        match self.entries.last() {
-            Some(entry) => Report::of(self.alloc, &entry.changes),
-            None => Ok(Report::Idle),
-        }
+        Report::of_last(self.alloc, &self.changes)
     }
 
     /// Whether the last change that stands altered nothing.
     pub(crate) fn is_idle(&self) -> bool
         ensures { (s : Standing) (e : Event) → IsAfter self.now s e → (IsTrue result ↔ (alteration s e ≡ [])) }
     {
-        match self.entries.last() {
-            Some(entry) => entry.changes.len() == 0,
-            None => true,
-        }
+        is_idle(&self.changes)
     }
 
     /// The number of the last change that altered a place, counted from 1. It takes no memory.
     pub fn last_change(&self, place: Place) -> Option<u32>
         ensures { result ≡ last_change_of (seen self.now.start) self.now.events place }
     {
-        let mut number = self.entries.len();
-        while number > 0 {
-            if self.entries[number - 1].alters(place) {
-                return Some(number as u32);
-            }
-            number -= 1;
-        }
-        None
+        self.changes.last_altering(place)
     }
 
     /// Why an event is refused, but for want of memory. It takes no memory.
@@ -160,16 +149,24 @@ impl Session {
         if let Some(refusal) = self.refusal(&event) {
             return Err(refusal);
         }
-        let mut changes = match self.machine.plan(&event) {
+        let changes = match self.machine.plan(&event) {
             Ok(changes) => changes,
             Err(refusal) => return Err(refusal),
         };
         self.machine.room(&changes)?;
-        self.entries.reserve(1)?;
-        // Nothing can fail from here on.
-        self.machine.swap_all(&mut changes);
-        self.entries.push_reserved(Entry { event, changes });
-        Ok(())
+        self.changes.append(changes)?;
+        let count = self.changes.len();
+        match self.events.push(event) {
+            Err(AllocError) => {
+                self.changes.keep(count - 1);
+                Err(Refusal::Memory)
+            }
+            Ok(()) => {
+                // Nothing can fail from here on.
+                self.changes.swap(count, &mut self.machine);
+                Ok(())
+            }
+        }
     }
 
     /// Runs an event, which then stands, also where it alters nothing. A refused one changes nothing.
@@ -194,11 +191,12 @@ impl Session {
         ensures err { OnErr result (self.new ≡ self.old) }
         ensures nothing { OnErr result (self.old.events ≡ []) }
     {
-        let Some(entry) = self.entries.pop() else {
+        let Some(event) = self.events.pop() else {
             return Err(NothingStands);
         };
-        let Entry { event, mut changes } = entry;
-        self.machine.swap_all(&mut changes);
+        let count = self.changes.len();
+        self.changes.swap(count, &mut self.machine);
+        self.changes.keep(count - 1);
         Ok(event)
     }
 

@@ -29,10 +29,10 @@ use Rattle.s360_fixed.specs.Outcomes.{core_with_register, with_register}
 use Rattle.s360_fixed.specs.View.{Outcome}
 use Rattle.s360_logic.specs.Instruction.{instruction}
 use Rattle.s360_channel.proofs.UnitChangeLemmas.{units-stay}
-use Rattle.s360_machine.specs.declared.changes.Altered.{Altered}
 use Rattle.s360_machine.specs.declared.run_state.RunState.{RunState}
 use Rattle.s360_machine.specs.declared.run_state.RunState.TheVariants.{Operating, Stopped, Loading}
-use Rattle.s360_machine.specs.Altered.{BeginsWithPsw, cells_of, change_of_core, psw_cell, register_cell}
+use Rattle.s360_machine.specs.Changes.{BeginsWithPsw, change_of_core}
+use Rattle.s360_machine.specs.Rows.{psw_cell, register_cell}
 use Rattle.s360_machine.specs.Cpu.{after_instruction}
 use Rattle.s360_machine.specs.Differences.{same_run_state}
 use Rattle.s360_machine.specs.Machine.{Control, Whole, seen}
@@ -184,11 +184,11 @@ pub alters-none : (w : Whole) → IsChangeTo w (change_of_core []) (seen w)
 alters-none w = alters-core w [] w.core (changes-to w.core [] tt tt tt)
 
 -- an instruction that is completed
-pub alters-completed : (w : Whole) (o : Outcome) (result : Option Altered) → (instruction w.core).outcome ≡ o → IfSome result (λ x. IsCoreChangeTo w.core (cells_of x) o.core) → OnSome result (o.ended ≡ Done)
-    → IfSome result (λ x. IsChangeTo w (change_of_core (cells_of x)) (after_instruction (seen w)))
+pub alters-completed : (w : Whole) (o : Outcome) (result : Option (List Cell)) → (instruction w.core).outcome ≡ o → IfSome result (λ x. IsCoreChangeTo w.core x o.core) → OnSome result (o.ended ≡ Done)
+    → IfSome result (λ x. IsChangeTo w (change_of_core x) (after_instruction (seen w)))
 alters-completed w o None e core done = tt
 alters-completed w o (Some x) e core done =
-    let made : IsChangeTo w (change_of_core (cells_of x)) (record (seen w) { core = o.core }) = alters-core w (cells_of x) o.core core
+    let made : IsChangeTo w (change_of_core x) (record (seen w) { core = o.core }) = alters-core w x o.core core
     in rw (e, done) made
 
 -- what a comparison tells

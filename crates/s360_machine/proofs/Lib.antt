@@ -10,3 +10,5 @@ pub mod LoadingLemmas
 mod KnownEvents
 pub mod KeepLemmas
 pub mod SpanLemmas
+pub mod PackedLemmas
+pub mod StretchLemmas

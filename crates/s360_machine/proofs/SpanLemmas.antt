@@ -1,16 +1,16 @@
 -- Spans of places.
-use Rattle.std.proofs.Common.{◌≡◌, ◌<◌, ◌≤◌, ◌+◌, ◌-◌, ◌++◌, ◌∙◌, ◌^◌, ℕ, zero, suc, Option, Some, None, List, [], ◌∷◌, refl, ap, sym, drop, length, append-nil, arith, add-zero}
+use Rattle.std.proofs.Common.{◌≡◌, ◌<◌, ◌≤◌, ◌+◌, ◌++◌, ◌∙◌, ◌^◌, ℕ, zero, suc, Some, List, [], ◌∷◌, refl, ap, sym, take, drop, get_or, length, append-nil, arith, add-zero}
 use Rattle.std.specs.List.{slice_get}
-use Rattle.std.proofs.lemmas.List.{append_assoc, drop-append-le, drop_all, drop_more, length-append, length-drop, map-append, drop-map, length-map}
-use Rattle.std.proofs.lemmas.Option.{get_or_from_slice_get, slice_get_within}
+use Rattle.std.proofs.lemmas.List.{append_assoc, drop-drop, drop-map, length-drop, length-take-le, map-append, take_more}
 use Rattle.s360_store.specs.declared.place.Place.{Place}
 use Rattle.s360_store.specs.declared.place.Place.TheVariants.{Byte}
 use Rattle.s360_store.specs.declared.place.Cell.{Cell}
+use Rattle.s360_store.specs.declared.cells.Item.{Item}
 use Rattle.s360_store.specs.Cells.{byte_cells, places_of_cells}
-use Rattle.s360_store.proofs.ItemLemmas.{byte_cells-drop}
+use Rattle.s360_store.specs.Items.{bytes_of_item, bytes_of_items, cells_of_item, cells_of_items}
 use Rattle.s360_machine.specs.declared.span.Span.{Span}
 use Rattle.s360_machine.specs.declared.span.Span.TheVariants.{Place as OnePlace, Bytes}
-use Rattle.s360_machine.specs.Spans.{IsSpan, IsSpanAt, IsSpanIfAny, byte_places, places_of_span}
+use Rattle.s360_machine.specs.Spans.{AddsPlaces, AreSpans, IsSpan, byte_places, places_of_span, places_of_spans}
 
 pub length-byte_places : (a n : ℕ) → length (byte_places a n) ≡ n
 length-byte_places a zero = refl
@@ -26,84 +26,76 @@ pub places-of-bytes : (a : ℕ) (bs : List ℕ) → places_of_cells (byte_cells 
 places-of-bytes a [] = refl
 places-of-bytes a (b ∷ bs) = ap (λ (ps : List Place). Byte a ∷ ps) (places-of-bytes (a + 1) bs)
 
-pub span-some : (span : Span) → IsSpan span → 0 < length (places_of_span span)
-span-some (OnePlace p) w = omega arith
-span-some (Bytes a n) w = omega (arith, w.0, length-byte_places a n)
+pub places-of-run : (a n : ℕ) (bs : List ℕ) → n ≤ length bs → byte_places a n ≡ places_of_cells (byte_cells a (take n bs))
+places-of-run a n bs l = sym (places-of-bytes a (take n bs) ∙ ap (byte_places a) (length-take-le n bs l))
 
--- a span that ends a list
-pub IsSpanAt-last : (ps : List Place) (i : ℕ) (span : Span) → IsSpan span → drop i ps ≡ places_of_span span → i + length (places_of_span span) ≡ length ps → IsSpanAt ps i span
-IsSpanAt-last ps i span w e l =
-    let none : drop (i + length (places_of_span span)) ps ≡ [] = drop_all (i + length (places_of_span span)) ps (omega (arith, l))
-    in record { whole = w; is = e ∙ sym (ap (λ (qs : List Place). places_of_span span ++ qs) none ∙ append-nil (places_of_span span)) }
+-- a span more
+pub places_of_spans-push : (ss : List Span) (s : Span) → places_of_spans (ss ++ s ∷ []) ≡ places_of_spans ss ++ places_of_span s
+places_of_spans-push [] s = append-nil (places_of_span s)
+places_of_spans-push (r ∷ ss) s =
+    ap (λ (ps : List Place). places_of_span r ++ ps) (places_of_spans-push ss s) ∙ sym (append_assoc (places_of_span r) (places_of_spans ss) (places_of_span s))
 
--- more places behind
-pub IsSpanAt-front : (ps qs : List Place) (i : ℕ) (span : Span) → i ≤ length ps → i + length (places_of_span span) ≤ length ps → IsSpanAt ps i span → IsSpanAt (ps ++ qs) i span
-IsSpanAt-front ps qs i span l m h =
-    let n : ℕ = i + length (places_of_span span)
-    in record {
-      whole = h.whole;
-      is = drop-append-le i ps qs l ∙ ap (λ (rs : List Place). rs ++ qs) h.is ∙ append_assoc (places_of_span span) (drop n ps) qs
-          ∙ ap (λ (rs : List Place). places_of_span span ++ rs) (sym (drop-append-le n ps qs m));
-    }
+AreSpans-push : (ss : List Span) (s : Span) → IsSpan s → AreSpans ss → AreSpans (ss ++ s ∷ [])
+AreSpans-push [] s w h = (w, tt)
+AreSpans-push (r ∷ ss) s w h = (h.0, AreSpans-push ss s w h.1)
 
--- a span stands within its list
-pub span-within : (ps : List Place) (i : ℕ) (span : Span) → IsSpanAt ps i span → i + length (places_of_span span) ≤ length ps
-span-within ps i span h =
-    let some : 0 < length (places_of_span span) = span-some span h.whole
-    in let n : ℕ = i + length (places_of_span span)
-    in let sum : length ps - i ≡ length (places_of_span span) + (length ps - n) = sym (length-drop i ps) ∙ ap length h.is ∙ length-append (places_of_span span) (drop n ps) ∙ ap (λ k. length (places_of_span span) + k) (length-drop n ps)
-    in omega (arith, sum, some)
+pub adds-one : (old new : List Span) (s : Span) → IsSpan s → new ≡ old ++ s ∷ [] → AddsPlaces old new (places_of_span s)
+adds-one old new s w e = rw e (record { listed = places_of_spans-push old s; whole = AreSpans-push old s w })
 
--- one place as a span
-pub IsSpanAt-one : (ps : List Place) (i : ℕ) (p : Place) → slice_get ps i ≡ Some p → IsSpanAt ps i (OnePlace p)
-IsSpanAt-one ps i p h = record {
-  whole = tt;
-  is = drop_more ps i p (slice_get_within ps i p h) ∙ ap (λ (q : Place). q ∷ drop (i + 1) ps) (get_or_from_slice_get ps i p p h);
+-- no place more, and some after others
+pub adds-none : (ss : List Span) → AddsPlaces ss ss []
+adds-none ss = record { listed = sym (append-nil (places_of_spans ss)); whole = λ h. h }
+
+pub adds-then : (old middle new : List Span) (ps qs : List Place) → AddsPlaces old middle ps → AddsPlaces middle new qs → AddsPlaces old new (ps ++ qs)
+adds-then old middle new ps qs h k = record {
+  listed = k.listed ∙ ap (λ (rs : List Place). rs ++ qs) h.listed ∙ append_assoc (places_of_spans old) ps qs;
+  whole = λ w. k.whole (h.whole w);
 }
 
--- the bytes of a run from one of them on
-pub IsSpanAt-run : (a i : ℕ) (bs : List ℕ) → i < length bs → a + length bs ≤ 2 ^ 32 → IsSpanAt (places_of_cells (byte_cells a bs)) i (Bytes (a + i) (length bs - i))
-IsSpanAt-run a i bs l small =
-    let count : length (drop i bs) ≡ length bs - i = length-drop i bs
-    in let rest : drop i (places_of_cells (byte_cells a bs)) ≡ byte_places (a + i) (length bs - i)
-    = drop-map (λ (c : Cell). c.place) i (byte_cells a bs) ∙ ap places_of_cells (byte_cells-drop a i bs) ∙ places-of-bytes (a + i) (drop i bs) ∙ ap (byte_places (a + i)) count
-    in let all : length (places_of_cells (byte_cells a bs)) ≡ length bs = ap length (places-of-bytes a bs) ∙ length-byte_places a (length bs)
-    in IsSpanAt-last _ i (Bytes (a + i) (length bs - i)) (omega (arith, l), omega (arith, l, small)) rest (omega (arith, l, all, length-byte_places (a + i) (length bs - i)))
+-- items, of which so many are added
+pub record AddsItems (old new : List Span) (is : List Item) (k : ℕ) : Type 0 where
+  pub adds : (bs : List ℕ) → bytes_of_items is ≤ length bs → AddsPlaces old new (places_of_cells (cells_of_items (take k is) bs))
 
-pub no-span-in-run : (a i : ℕ) (bs : List ℕ) → length bs ≤ i → length (places_of_cells (byte_cells a bs)) ≤ i
-no-span-in-run a i bs l = omega (arith, l, ap length (places-of-bytes a bs), length-byte_places a (length bs))
+pub items-none : (ss : List Span) (is : List Item) → AddsItems ss ss is 0
+items-none ss is = record { adds = λ bs l. adds-none ss }
 
--- the places of a part of cells
-pub IsSpanAt-part : (cs part : List Cell) (i : ℕ) (span : Span) → drop i cs ≡ part ++ drop (i + length part) cs → places_of_span span ≡ places_of_cells part → IsSpan span → IsSpanAt (places_of_cells cs) i span
-IsSpanAt-part cs part i span e s w =
-    let count : length (places_of_span span) ≡ length part = ap length s ∙ length-map part (λ (c : Cell). c.place)
-    in let rest : drop i (places_of_cells cs) ≡ places_of_cells part ++ drop (i + length part) (places_of_cells cs)
-    = drop-map (λ (c : Cell). c.place) i cs ∙ ap places_of_cells e ∙ map-append (λ (c : Cell). c.place) part (drop (i + length part) cs)
-    ∙ ap (λ (qs : List Place). places_of_cells part ++ qs) (sym (drop-map (λ (c : Cell). c.place) (i + length part) cs))
-    in record { whole = w; is = rw (count, s) rest }
+cells_of_items-more : (is : List Item) (i : Item) (bs : List ℕ) → cells_of_items (is ++ i ∷ []) bs ≡ cells_of_items is bs ++ cells_of_item i (drop (bytes_of_items is) bs)
+cells_of_items-more [] i bs = append-nil (cells_of_item i bs)
+cells_of_items-more (j ∷ is) i bs =
+    ap (λ (cs : List Cell). cells_of_item j bs ++ cs) (cells_of_items-more is i (drop (bytes_of_item j) bs) ∙ ap (λ (ds : List ℕ). cells_of_items is (drop (bytes_of_item j) bs) ++ cells_of_item i ds) (drop-drop (bytes_of_items is) (bytes_of_item j) bs))
+    ∙ sym (append_assoc (cells_of_item j bs) (cells_of_items is (drop (bytes_of_item j) bs)) (cells_of_item i (drop (bytes_of_items (j ∷ is)) bs)))
 
--- a place more before the span
-pub IsSpanIfAny-behind : (p : Place) (ps : List Place) (i : ℕ) (span : Option Span) → 0 < i → IsSpanIfAny ps (i - 1) span → IsSpanIfAny (p ∷ ps) i span
-IsSpanIfAny-behind p ps zero span l h = absurd (omega (arith, l))
-IsSpanIfAny-behind p ps (suc i) None l h = (let same : suc i - 1 ≡ i = omega arith in let past : length ps ≤ suc i - 1 = h in omega (arith, past, same))
-IsSpanIfAny-behind p ps (suc i) (Some span) l h =
-    let same : suc i - 1 ≡ i = omega arith
-    in let at : IsSpanAt ps i span = rw same at h
-    in let next : suc (i + length (places_of_span span)) ≡ suc i + length (places_of_span span) = omega arith
-    in record { whole = at.whole; is = at.is ∙ ap (λ k. places_of_span span ++ drop k (p ∷ ps)) next }
+bytes-through : (is : List Item) (k : ℕ) (d : Item) → k < length is → bytes_of_items (take k is) + bytes_of_item (get_or is k d) ≤ bytes_of_items is
+bytes-through [] k d l = absurd (omega (arith, l))
+bytes-through (i ∷ is) zero d l = omega arith
+bytes-through (i ∷ is) (suc k) d l = omega (arith, bytes-through is k d (omega (arith, l)))
 
--- the places of the core, and those beside it
-pub IsSpanAt-core : (ps qs : List Place) (i : ℕ) (span : Span) → i < length (ps ++ qs) → IsSpanAt ps i span → IsSpanAt (ps ++ qs) i span
-IsSpanAt-core ps qs i span l h = let within : i + length (places_of_span span) ≤ length ps = span-within ps i span h in IsSpanAt-front ps qs i span (omega (arith, within)) within h
+pub items-more : (old middle new : List Span) (is : List Item) (k : ℕ) (d : Item) (s : Span) → k < length is
+    → ((bs : List ℕ) → bytes_of_item (get_or is k d) ≤ length bs → places_of_span s ≡ places_of_cells (cells_of_item (get_or is k d) bs))
+    → AddsItems old middle is k → AddsPlaces middle new (places_of_span s) → AddsItems old new is (k + 1)
+items-more old middle new is k d s l same h one = record {
+  adds = λ bs m.
+      let rest : List ℕ = drop (bytes_of_items (take k is)) bs
+      in let few : bytes_of_item (get_or is k d) ≤ length rest = omega (arith, m, bytes-through is k d l, length-drop (bytes_of_items (take k is)) bs)
+      in let more : places_of_cells (cells_of_items (take (k + 1) is) bs) ≡ places_of_cells (cells_of_items (take k is) bs) ++ places_of_span s
+      = ap (λ js. places_of_cells (cells_of_items js bs)) (take_more is k d l) ∙ ap places_of_cells (cells_of_items-more (take k is) (get_or is k d) bs)
+      ∙ map-append (λ (c : Cell). c.place) (cells_of_items (take k is) bs) (cells_of_item (get_or is k d) rest)
+      ∙ ap (λ (ps : List Place). places_of_cells (cells_of_items (take k is) bs) ++ ps) (sym (same rest few))
+      in rw more (adds-then old middle new (places_of_cells (cells_of_items (take k is) bs)) (places_of_span s) (h.adds bs m) one);
+}
 
-pub slice_get-behind : (ps qs : List Place) (i : ℕ) → length ps ≤ i → slice_get (ps ++ qs) i ≡ slice_get qs (i - length ps)
-slice_get-behind [] qs i l = let same : i ≡ i - 0 = omega arith in ap (slice_get qs) same
-slice_get-behind (p ∷ ps) qs zero l = absurd (omega (arith, l))
-slice_get-behind (p ∷ ps) qs (suc i) l = slice_get-behind ps qs i (omega (arith, l)) ∙ ap (slice_get qs) (let same : i - length ps ≡ suc i - suc (length ps) = omega arith in same)
+-- the place of a part's first cell
+first-place : (cs ds : List Cell) (p : Place) → 0 < length cs → slice_get (places_of_cells cs) 0 ≡ Some p → slice_get (places_of_cells (cs ++ ds)) 0 ≡ Some p
+first-place [] ds p l h = absurd (omega (arith, l))
+first-place (c ∷ cs) ds p l h = h
 
-pub IsSpanAt-beside : (ps qs : List Place) (i : ℕ) (p : Place) → length ps ≤ i → slice_get qs (i - length ps) ≡ Some p → IsSpanAt (ps ++ qs) i (OnePlace p)
-IsSpanAt-beside ps qs i p l h = IsSpanAt-one (ps ++ qs) i p (slice_get-behind ps qs i l ∙ h)
+first-there : (ps : List Place) (i : ℕ) → slice_get ps i ≡ slice_get (drop i ps) 0
+first-there [] zero = refl
+first-there [] (suc i) = refl
+first-there (p ∷ ps) zero = refl
+first-there (p ∷ ps) (suc i) = first-there ps i
 
-pub positive : (i : ℕ) → (i ≡ 0 → ⊥) → 0 < i
-positive zero h = absurd (h refl)
-positive (suc i) h = omega arith
+pub place-of-part : (cs part : List Cell) (i : ℕ) (p : Place) → drop i cs ≡ part ++ drop (i + length part) cs → 0 < length part → slice_get (places_of_cells part) 0 ≡ Some p
+    → slice_get (places_of_cells cs) i ≡ Some p
+place-of-part cs part i p is some first =
+    first-there (places_of_cells cs) i ∙ ap (λ (ps : List Place). slice_get ps 0) (drop-map (λ (c : Cell). c.place) i cs ∙ ap places_of_cells is) ∙ first-place part (drop (i + length part) cs) p some first

@@ -16,6 +16,9 @@ pub mod IoChanges
 pub mod Beside
 pub mod Change
 pub mod Spans
-pub mod Altered
+pub mod Rows
+pub mod Stretches
+pub mod Changes
 pub mod Differences
 pub mod Planned
+pub mod Packed

@@ -8,9 +8,8 @@ ghost use Rattle.s360_store.specs.Plans.{HasBytes};
 ghost use Rattle.s360_fixed.specs.declared.ended.Ended.TheVariants.{Done};
 ghost use Rattle.s360_fixed.specs.Made.{IsWithin, outcome_of_made};
 ghost use Rattle.s360_fixed.specs.Outcomes.{core_with_register};
-ghost use Rattle.s360_machine.specs.Altered.{IsWhole, cells_of};
 
-use crate::changes::Altered;
+use crate::changes::Plain;
 use crate::core_state::Core;
 use crate::short_run::ShortRun;
 use s360_fixed::{Ended, Made, View};
@@ -26,9 +25,8 @@ impl Core {
         psw: Psw,
         register: RegisterNumber,
         word: Option<Word>,
-    ) -> Option<Altered>
-        ensures core { IfSome result (λ x. IsCoreChangeTo self.now (cells_of x) (core_with_register register word (core_with_psw psw self.now))) }
-        ensures whole { IfSome result (λ x. IsWhole x) }
+    ) -> Option<Plain>
+        ensures { IfSome result (λ x. IsCoreChangeTo self.now x (core_with_register register word (core_with_psw psw self.now))) }
     {
         // So it is a current PSW.
         prove!(Psw::from_u64(psw.stored(0, InstructionLength::NotAvailable)) == psw);
@@ -37,24 +35,19 @@ impl Core {
                 if psw == self.psw() {
                     return None;
                 }
-                Some(Altered::Register {
-                    register,
-                    word,
-                    psw,
-                })
+                Some(Plain::of_register(psw, register, word))
             }
-            _ if psw == self.psw() => Some(Altered::Nothing),
-            _ => Some(Altered::Psw(psw)),
+            _ if psw == self.psw() => Some(Plain::nothing()),
+            _ => Some(Plain::of_psw(psw)),
         }
     }
 
     /// What becomes of the PSW and of the bytes from an address on. None is where a change does not have it within
     /// itself.
-    fn altered_bytes(&self, psw: Psw, address: u32, new: &[u8]) -> Option<Altered>
+    fn altered_bytes(&self, psw: Psw, address: u32, new: &[u8]) -> Option<Plain>
         requires inside { HasBytes address (length new.now) self.now }
         requires few { length new.now ≤ 8 }
-        ensures core { IfSome result (λ x. IsCoreChangeTo self.now (cells_of x) (core_with_bytes address new.now (core_with_psw psw self.now))) }
-        ensures whole { IfSome result (λ x. IsWhole x) }
+        ensures { IfSome result (λ x. IsCoreChangeTo self.now x (core_with_bytes address new.now (core_with_psw psw self.now))) }
     {
         // So no address of the run passes 32 bits.
         prove!(self.storage().size() <= GREATEST_SIZE);
@@ -77,23 +70,18 @@ impl Core {
             run.push(*byte);
         }
         if run.len() == 0 {
-            return Some(Altered::Psw(psw));
+            return Some(Plain::of_psw(psw));
         }
-        Some(Altered::Bytes {
-            run,
-            address: first,
-            psw,
-        })
+        Some(Plain::of_bytes(psw, first, &run))
     }
 
     /// What an instruction alters that makes this and is completed with no interruption. None is where a change does
     /// not have it within itself.
-    pub(crate) fn altered_by(&self, view: &View, made: &Made) -> Option<Altered>
+    pub(crate) fn altered_by(&self, view: &View, made: &Made) -> Option<Plain>
         requires view { view.now.core ≡ self.now }
         requires within { IsWithin self.now made.now }
-        ensures core { IfSome result (λ x. IsCoreChangeTo self.now (cells_of x) (outcome_of_made view.now made.now).core) }
+        ensures core { IfSome result (λ x. IsCoreChangeTo self.now x (outcome_of_made view.now made.now).core) }
         ensures done { OnSome result ((outcome_of_made view.now made.now).ended ≡ Done) }
-        ensures whole { IfSome result (λ x. IsWhole x) }
     {
         match made {
             Made::Effect {

@@ -1,22 +1,25 @@
 //! What an event alters beside the core: of the control part, of the units and of their devices.
-ghost use Rattle.std.specs.Prelude.{◌≡◌, ◌≤◌, ◌<◌, ◌+◌, ◌++◌, ◌∷◌, [], if◌then◌else◌, length, map, IfOk, IfSome};
+ghost use Rattle.std.specs.Prelude.{◌≡◌, ◌≤◌, ◌<◌, ◌+◌, ◌++◌, ◌∷◌, [], if◌then◌else◌, length, map, IfSome, IsTrue, OnOk};
+ghost use Rattle.std.specs.List.{list_any};
+ghost use Rattle.s360_store.specs.Places.{same_place};
 ghost use Rattle.s360_model.specs.Exchanges.{CanIfAny, after_if_any, back_if_any};
 ghost use Rattle.s360_channel.specs.UnitChanges.{state_place, unit_change_after_swap, units_after_swap};
-ghost use Rattle.s360_machine.specs.Beside.{MakesBeside, control_change_of, media_change_of, places_of_beside};
-ghost use Rattle.s360_machine.specs.Beside.{unit_change_of};
-ghost use Rattle.s360_machine.specs.ControlCells.{control_after_exchange, control_cells_after_exchange};
+ghost use Rattle.s360_machine.specs.Beside.{IsNothing, places_of_beside};
+ghost use Rattle.s360_machine.specs.ControlCells.{control_after_exchange, control_cells, control_cells_after_exchange};
 ghost use Rattle.s360_machine.specs.IoChanges.{CanSwapMedia, media_after_swap};
 ghost use Rattle.s360_machine.specs.IoChanges.{media_change_after_swap, media_needs, unit_of_change};
 ghost use Rattle.s360_machine.specs.Machine.{room_for};
 ghost use Rattle.s360_machine.specs.Media.{media_of, room_of};
+ghost use Rattle.s360_machine.specs.Spans.{AddsPlaces};
 
 use crate::control::Control;
 use crate::control_change::ControlChange;
 use crate::media::{Devices, MediaChange};
+use crate::span::{Spans, push_place};
 use arrayvec::ArrayVec;
 use s360_channel::{ConfiguredUnit, UnitChange, Units};
 use s360_store::Place;
-use std::alloc::{AllocError, Global};
+use std::alloc::AllocError;
 
 /// So many places there are beside those of the core: two of the control part, those of six units, and one of a
 /// device.
@@ -53,24 +56,11 @@ fn push_states(places: &mut ArrayVec<Place, BESIDE>, units: &[ConfiguredUnit])
 }
 
 impl Beside {
-    /// These changes, if there are any.
-    pub(crate) fn of(
-        alloc: Global,
-        control: ControlChange,
-        units: Option<UnitChange>,
-        media: Option<MediaChange>,
-    ) -> Result<Option<Box<Beside>>, AllocError>
-        ensures { IfOk result (λ beside. MakesBeside beside control units media) }
+    /// Whether nothing is altered.
+    pub(crate) fn is_empty(&self) -> bool
+        ensures { IsTrue result → IsNothing self.now }
     {
-        if control == ControlChange::Neither && units.is_none() && media.is_none() {
-            return Ok(None);
-        }
-        let beside = Beside {
-            control,
-            units,
-            media,
-        };
-        Ok(Some(Box::new(alloc, beside)?))
+        self.control == ControlChange::Neither && self.units.is_none() && self.media.is_none()
     }
 
     /// The places, in their order.
@@ -87,6 +77,23 @@ impl Beside {
             places.push(Place::UnitMedia(change.unit().unit()));
         }
         places
+    }
+
+    /// Whether a place is among them.
+    pub(crate) fn alters(&self, place: Place) -> bool
+        ensures { result ≡ list_any (λ q. same_place q place) (places_of_beside self.now) }
+    {
+        self.places().iter().any(|other| other.is(place))
+    }
+
+    /// Adds the places to spans.
+    pub(crate) fn push_spans(&self, spans: &mut Spans) -> Result<(), AllocError>
+        ensures { OnOk result (AddsPlaces spans.old.items spans.new.items (places_of_beside self.now)) }
+    {
+        for place in self.places().iter() {
+            push_place(spans, *place)?;
+        }
+        Ok(())
     }
 }
 
@@ -114,23 +121,21 @@ fn exchange_media(change: &mut Option<MediaChange>, devices: &mut Devices)
 
 /// Exchanges what stands beside the core with what an event alters of it, for which there is room.
 pub(crate) fn exchange_beside(
-    beside: &mut Option<Box<Beside>>,
+    beside: &mut Beside,
     control: &mut Control,
     units: &mut Units,
     devices: &mut Devices,
 )
-    requires can { CanIfAny CanSwapMedia (media_of devices.old) (media_change_of beside.old) }
-    requires room { IfSome (media_change_of beside.old) (λ x. media_needs x ≤ room_for (room_of devices.old) (unit_of_change x)) }
-    ensures control { control.new ≡ control_after_exchange control.old (control_change_of beside.old) }
-    ensures control_cells { control_change_of beside.new ≡ control_cells_after_exchange control.old (control_change_of beside.old) }
-    ensures units { units.new ≡ after_if_any units_after_swap units.old (unit_change_of beside.old) }
-    ensures unit_change { unit_change_of beside.new ≡ back_if_any unit_change_after_swap units.old (unit_change_of beside.old) }
-    ensures media { media_of devices.new ≡ after_if_any media_after_swap (media_of devices.old) (media_change_of beside.old) }
-    ensures media_change { media_change_of beside.new ≡ back_if_any media_change_after_swap (media_of devices.old) (media_change_of beside.old) }
+    requires can { CanIfAny CanSwapMedia (media_of devices.old) beside.old.media }
+    requires room { IfSome beside.old.media (λ x. media_needs x ≤ room_for (room_of devices.old) (unit_of_change x)) }
+    ensures control { control.new ≡ control_after_exchange control.old (control_cells beside.old.control) }
+    ensures control_cells { control_cells beside.new.control ≡ control_cells_after_exchange control.old (control_cells beside.old.control) }
+    ensures units { units.new ≡ after_if_any units_after_swap units.old beside.old.units }
+    ensures unit_change { beside.new.units ≡ back_if_any unit_change_after_swap units.old beside.old.units }
+    ensures media { media_of devices.new ≡ after_if_any media_after_swap (media_of devices.old) beside.old.media }
+    ensures media_change { beside.new.media ≡ back_if_any media_change_after_swap (media_of devices.old) beside.old.media }
 {
-    if let Some(beside) = beside {
-        control.exchange(&mut beside.control);
-        exchange_units(&mut beside.units, units);
-        exchange_media(&mut beside.media, devices);
-    }
+    control.exchange(&mut beside.control);
+    exchange_units(&mut beside.units, units);
+    exchange_media(&mut beside.media, devices);
 }

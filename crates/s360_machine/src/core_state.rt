@@ -12,14 +12,16 @@ ghost use Rattle.s360_store.specs.declared.fault.StoreFault.TheVariants.{Size, M
 ghost use Rattle.s360_store.specs.Differences.{AreKept, IsCoreChangeTo, KeepsAltering};
 ghost use Rattle.s360_store.specs.Plans.{HasBytes, IsPlanOf};
 ghost use Rattle.s360_logic.specs.Instruction.{PlansInstruction, instruction};
-ghost use Rattle.s360_machine.specs.Altered.{IsWhole, cells_of};
+ghost use Rattle.s360_machine.specs.Rows.{HasSameCounts, IsOver, cells_of_row};
 
-use crate::changes::Altered;
-use crate::short_run::ShortRun;
+use crate::changes::Plain;
+use crate::row::Row;
 use s360_fixed::ProgramCode;
 use s360_logic::{Fetched, PlannedInstruction};
 use s360_psw::{InstructionLength, Psw};
-use s360_store::{Cell, Cells, GREATEST_SIZE, Part, Place, Plan, Storage, StoreFault};
+use s360_store::{
+    Cell, Cells, GREATEST_SIZE, Item, Part, Place, Plan, Storage, StoreFault, exchange_items,
+};
 use s360_word::{RegisterNumber, Word};
 use std::alloc::{AllocError, Global};
 use std::marker::Model;
@@ -227,31 +229,56 @@ impl Core {
         mem::swap(&mut self.registers[register.number() as usize], word);
     }
 
-    /// Exchanges the bytes from an address on with a run.
-    fn exchange_run(&mut self, run: &mut ShortRun, address: u32)
-        requires some { 0 < length run.old }
-        requires can { AreCellsOf self.old (byte_cells address run.old) }
-        ensures core { self.new ≡ after_exchange self.old (byte_cells address run.old) }
-        ensures cells { byte_cells address run.new ≡ cells_after_exchange self.old (byte_cells address run.old) }
-        ensures count { length run.new ≡ length run.old }
-        ensures fit { AllFit (byte_cells address run.new) }
+    /// Exchanges the bytes from an address on with others.
+    fn exchange_run(&mut self, bytes: &mut [u8], address: u32)
+        requires some { 0 < length bytes.old }
+        requires can { AreCellsOf self.old (byte_cells address bytes.old) }
+        ensures core { self.new ≡ after_exchange self.old (byte_cells address bytes.old) }
+        ensures cells { byte_cells address bytes.new ≡ cells_after_exchange self.old (byte_cells address bytes.old) }
+        ensures count { length bytes.new ≡ length bytes.old }
+        ensures fit { AllFit (byte_cells address bytes.new) }
     {
-        run.exchange(&mut self.storage, address);
+        self.storage.swap_run(address, bytes);
     }
 
-    /// Exchanges what stands at the places of the core with what an event alters of them.
-    pub(crate) fn exchange_altered(&mut self, altered: &mut Altered)
-        requires whole { IsWhole altered.old }
-        requires can { AreCellsOf self.old (cells_of altered.old) }
-        ensures core { self.new ≡ after_exchange self.old (cells_of altered.old) }
-        ensures cells { cells_of altered.new ≡ cells_after_exchange self.old (cells_of altered.old) }
-        ensures whole { IsWhole altered.new }
-        ensures fit { AllFit (cells_of altered.new) }
+    /// Exchanges what stands at the places of cells with their values.
+    pub(crate) fn exchange_cells(&mut self, cells: &mut Cells)
+        requires can { AreCellsOf self.old cells.old }
+        ensures core { self.new ≡ after_exchange self.old cells.old }
+        ensures cells { cells.new ≡ cells_after_exchange self.old cells.old }
+        ensures fit { AllFit cells.new }
     {
-        match altered {
-            Altered::Nothing => {}
-            Altered::Psw(psw) => self.exchange_psw(psw),
-            Altered::Register {
+        cells.exchange(&mut self.psw, &mut self.registers, &mut self.storage);
+    }
+
+    /// Exchanges what stands at the places of a change with its values.
+    pub(crate) fn exchange_plain(&mut self, plain: &mut Plain)
+        requires can { AreCellsOf self.old plain.old }
+        ensures core { self.new ≡ after_exchange self.old plain.old }
+        ensures cells { plain.new ≡ cells_after_exchange self.old plain.old }
+        ensures fit { AllFit plain.new }
+    {
+        let count = plain.row.bytes();
+        let mut bytes = plain.bytes;
+        self.exchange_row(&mut plain.row, &mut [], &mut bytes[..count]);
+        plain.bytes = bytes;
+    }
+
+    /// Exchanges what stands at the places of a row with its values. The single cells and the runs are its own, and the
+    /// bytes.
+    pub(crate) fn exchange_row(&mut self, row: &mut Row, items: &mut [Item], bytes: &mut [u8])
+        requires over { IsOver row.old items.old bytes.old }
+        requires can { AreCellsOf self.old (cells_of_row row.old items.old bytes.old) }
+        ensures core { self.new ≡ after_exchange self.old (cells_of_row row.old items.old bytes.old) }
+        ensures cells { cells_of_row row.new items.new bytes.new ≡ cells_after_exchange self.old (cells_of_row row.old items.old bytes.old) }
+        ensures over { IsOver row.new items.new bytes.new }
+        ensures same { HasSameCounts row.old row.new }
+        ensures fit { AllFit (cells_of_row row.new items.new bytes.new) }
+    {
+        match row {
+            Row::Nothing => {}
+            Row::Psw(psw) => self.exchange_psw(psw),
+            Row::Register {
                 register,
                 word,
                 psw,
@@ -259,13 +286,17 @@ impl Core {
                 self.exchange_psw(psw);
                 self.exchange_register(*register, word);
             }
-            Altered::Bytes { run, address, psw } => {
+            Row::Bytes { address, psw, .. } => {
                 self.exchange_psw(psw);
-                self.exchange_run(run, *address);
+                self.exchange_run(bytes, *address);
             }
-            Altered::Cells(cells) => {
-                cells.exchange(&mut self.psw, &mut self.registers, &mut self.storage)
-            }
+            Row::More { .. } => exchange_items(
+                &mut self.psw,
+                &mut self.registers,
+                &mut self.storage,
+                items,
+                bytes,
+            ),
         }
     }
 }

@@ -3,14 +3,14 @@
 ghost use Rattle.std.specs.Prelude.{◌≡◌, [], IfOk, IfSome};
 ghost use Rattle.s360_logic.specs.Instruction.{PlansInstruction, instruction};
 ghost use Rattle.s360_psw.specs.Pending.{next_interruption_of};
-ghost use Rattle.s360_machine.specs.Altered.{IsWhole, cells_of, change_of_core};
+ghost use Rattle.s360_machine.specs.Changes.{change_of_core};
 ghost use Rattle.s360_machine.specs.Cpu.{after_case, after_cpu, after_external, after_instruction};
 ghost use Rattle.s360_machine.specs.Cpu.{cpu_case, pending_of};
 ghost use Rattle.s360_machine.specs.Machine.{seen};
 ghost use Rattle.s360_machine.specs.Planned.{IsChangeTo, IsPlanOfMachine};
 ghost use Rattle.s360_machine.specs.declared.cpu.CpuCase.TheVariants.{Interrupted};
 
-use crate::changes::{Altered, Changes};
+use crate::changes::{Changes, Plain};
 use crate::machine::{Machine, PlannedEvent};
 use s360_fixed::{Ended, ProgramCode};
 use s360_logic::{Fetched, PlannedInstruction};
@@ -78,7 +78,7 @@ impl Machine {
         match self.cpu_case() {
             CpuCase::Executing => self.changes_of_instruction(),
             CpuCase::Interrupted(class) => self.changes_of_interruption(class),
-            CpuCase::Halted | CpuCase::Waiting => Ok(Changes::of_core(Altered::Nothing)),
+            CpuCase::Halted | CpuCase::Waiting => Ok(Changes::of_core(Plain::nothing())),
         }
     }
 
@@ -122,20 +122,31 @@ impl Machine {
         ensures { IfOk result (λ changes. IsChangeTo self.now.whole changes (after_instruction (seen self.now.whole))) }
     {
         let fetched = self.core.fetch();
-        if let Some(altered) = self.altered_by(&fetched) {
-            return Ok(Changes::of_core(altered));
+        match self.altered_by(&fetched) {
+            Some(plain) => Ok(Changes::of_core(plain)),
+            None => self.changes_of_plan(&fetched),
         }
+    }
+
+    /// What an instruction alters that is planned. It stands apart, since few instructions are.
+    #[inline(never)]
+    fn changes_of_plan(
+        &self,
+        fetched: &Result<Fetched<'_>, ProgramCode>,
+    ) -> Result<Changes, AllocError>
+        requires fetched { IfOk fetched.now (λ f. f.view.core ≡ self.now.whole.core) }
+        ensures { IfOk result (λ changes. IsChangeTo self.now.whole changes (after_instruction (seen self.now.whole))) }
+    {
         let mut plan = Plan::new(self.alloc);
-        let planned = self.core.plan_fetched(&fetched, &mut plan)?;
+        let planned = self.core.plan_fetched(fetched, &mut plan)?;
         let planned = self.plan_ended(planned, &mut plan)?;
         self.changes_planned(&plan, planned)
     }
 
     /// What an instruction alters, where it is completed with no interruption and its change has that within itself.
-    fn altered_by(&self, fetched: &Result<Fetched<'_>, ProgramCode>) -> Option<Altered>
+    fn altered_by(&self, fetched: &Result<Fetched<'_>, ProgramCode>) -> Option<Plain>
         requires fetched { IfOk fetched.now (λ f. f.view.core ≡ self.now.whole.core) }
-        ensures whole { IfSome result (λ x. IsWhole x) }
-        ensures change { IfSome result (λ x. IsChangeTo self.now.whole (change_of_core (cells_of x)) (after_instruction (seen self.now.whole))) }
+        ensures { IfSome result (λ x. IsChangeTo self.now.whole (change_of_core x) (after_instruction (seen self.now.whole))) }
     {
         let Ok(fetched) = fetched else {
             return None;

@@ -1,14 +1,19 @@
 //! The machine: its state, and the events that change it.
-ghost use Rattle.std.specs.Prelude.{◌≡◌, slice_index, None, Err, OnOk, IfOk, IsOkUnless};
+ghost use Rattle.std.specs.Prelude.{◌≡◌, ◌≤◌, [], length, slice_index, None, Err, OnOk, IfOk, IfSome, IsOkUnless};
 ghost use Rattle.std.specs.Prelude.{MatchOption};
 ghost use Rattle.std.specs.Option.{option_copied, option_map};
 ghost use Rattle.std.specs.Bool.{MatchBool};
 ghost use Rattle.s360_model.specs.Storage.{is_storage_size};
 ghost use Rattle.s360_store.specs.declared.fault.StoreFault.TheVariants.{Size, Memory as no_memory};
-ghost use Rattle.s360_machine.specs.Machine.{Machine as SeenMachine, new_machine, storage_size, seen};
-ghost use Rattle.s360_store.specs.Cells.{AreCellsOf};
+ghost use Rattle.s360_machine.specs.Machine.{Machine as SeenMachine, new_machine, room_for, storage_size, seen};
+ghost use Rattle.s360_store.specs.Cells.{AllFit, AreCellsOf};
 ghost use Rattle.s360_machine.specs.Change.{CanSwap, after_swap, change_after_swap};
 ghost use Rattle.s360_machine.specs.Change.{HasRoom, NeedsNoRoom};
+ghost use Rattle.s360_machine.specs.Changes.{AreFit, change_of, change_of_parts};
+ghost use Rattle.s360_machine.specs.IoChanges.{CanSwapMedia, media_needs, unit_of_change};
+ghost use Rattle.s360_machine.specs.Packed.{change_of_row, lists};
+ghost use Rattle.s360_machine.specs.Rows.{HasSameCounts, IsOver};
+ghost use Rattle.s360_model.specs.Exchanges.{CanIfAny};
 ghost use Rattle.s360_machine.specs.Step.{after, after_patch};
 ghost use Rattle.s360_device.specs.DeviceChanges.{bare};
 ghost use Rattle.s360_tape.specs.WholeTape.{seen as seen_tape};
@@ -21,8 +26,8 @@ ghost use Rattle.s360_machine.specs.Timer.{after_tick};
 ghost use Rattle.s360_machine.specs.Planned.{IsChangeTo, IsPlanOfMachine, LeavesUnits};
 ghost use Rattle.s360_machine.specs.declared.refusal.Refusal.TheVariants.{Memory};
 
-use crate::beside::exchange_beside;
-use crate::changes::Changes;
+use crate::beside::{Beside, exchange_beside};
+use crate::changes::{Changes, Parts};
 use crate::control::Control;
 use crate::core_state::Core;
 use crate::event::{Event, Patch};
@@ -30,12 +35,13 @@ use crate::external::ExternalConditions;
 use crate::media::{Devices, MediaChange};
 use crate::operator::Key;
 use crate::refusal::Refusal;
+use crate::row::Row;
 use crate::run_state::RunState;
 use s360_channel::{ConfiguredUnit, UnitChange, UnitState, Units};
 use s360_device::{Deck, Punch, Reader};
 use s360_print::{Console, ConsoleMedia, Printer, PrinterMedia};
 use s360_psw::Psw;
-use s360_store::{Plan, Storage, StoreFault};
+use s360_store::{Item, Plan, Storage, StoreFault};
 use s360_tape::Tape;
 use s360_word::{RegisterNumber, Unit, Word};
 use std::alloc::{AllocError, Global};
@@ -311,12 +317,64 @@ impl Machine {
         ensures restores_machine { after_swap self.new.whole changes.new ≡ self.old.whole }
         ensures restores_changes { change_after_swap self.new.whole changes.new ≡ changes.old }
     {
-        self.core.exchange_altered(&mut changes.altered);
+        self.exchange_parts(&mut changes.parts);
+    }
+
+    /// Exchanges the values at the places of a change with its own.
+    fn exchange_parts(&mut self, parts: &mut Parts)
+        requires can { CanSwap self.old.whole (change_of_parts parts.old) }
+        requires room { HasRoom self.old.spare (change_of_parts parts.old) }
+        ensures machine { self.new.whole ≡ after_swap self.old.whole (change_of_parts parts.old) }
+        ensures change { change_of_parts parts.new ≡ change_after_swap self.old.whole (change_of_parts parts.old) }
+        ensures fit { AllFit (change_of_parts parts.new).cells }
+        ensures parts { AreFit parts.new }
+    {
+        match parts {
+            Parts::Plain(plain) => self.core.exchange_plain(plain),
+            Parts::Full(full) => {
+                self.core.exchange_cells(&mut full.cells);
+                self.exchange_beside(&mut full.beside);
+            }
+        }
+    }
+
+    /// Exchanges what stands beside the core with what an event alters of it, for which there is room.
+    fn exchange_beside(&mut self, beside: &mut Beside)
+        requires can { CanIfAny CanSwapMedia self.old.whole.media beside.old.media }
+        requires room { IfSome beside.old.media (λ x. media_needs x ≤ room_for self.old.spare (unit_of_change x)) }
+        ensures machine { self.new.whole ≡ after_swap self.old.whole (change_of [] beside.old) }
+        ensures beside { change_of [] beside.new ≡ change_after_swap self.old.whole (change_of [] beside.old) }
+    {
         exchange_beside(
-            &mut changes.beside,
+            beside,
             &mut self.control,
             &mut self.units,
             &mut self.devices,
         );
+    }
+
+    /// Exchanges the values at the places of a row with its own. The single cells and the runs are its own, and the bytes,
+    /// and what is beside the core, if anything is.
+    pub(crate) fn exchange_row(
+        &mut self,
+        row: &mut Row,
+        items: &mut [Item],
+        bytes: &mut [u8],
+        beside: &mut [Beside],
+    )
+        requires over { IsOver row.old items.old bytes.old }
+        requires can { CanSwap self.old.whole (change_of_row row.old (lists items.old bytes.old beside.old)) }
+        requires room { HasRoom self.old.spare (change_of_row row.old (lists items.old bytes.old beside.old)) }
+        ensures machine { self.new.whole ≡ after_swap self.old.whole (change_of_row row.old (lists items.old bytes.old beside.old)) }
+        ensures change { change_of_row row.new (lists items.new bytes.new beside.new) ≡ change_after_swap self.old.whole (change_of_row row.old (lists items.old bytes.old beside.old)) }
+        ensures over { IsOver row.new items.new bytes.new }
+        ensures same { HasSameCounts row.old row.new }
+        ensures as_many { length beside.new ≡ length beside.old }
+        ensures fit { AllFit (change_of_row row.new (lists items.new bytes.new beside.new)).cells }
+    {
+        self.core.exchange_row(row, items, bytes);
+        if !beside.is_empty() {
+            self.exchange_beside(&mut beside[0]);
+        }
     }
 }

@@ -1,10 +1,6 @@
 //! A run of few bytes, which takes no memory.
-ghost use Rattle.std.specs.Prelude.{◌≡◌, ◌<◌, ◌≤◌, ◌+◌, ◌++◌, [], ◌∷◌, length, IfSome};
-ghost use Rattle.std.specs.List.{slice_range};
-ghost use Rattle.s360_model.specs.Storage.{with_run};
-ghost use Rattle.s360_store.specs.Cells.{AllFit, byte_cells};
+ghost use Rattle.std.specs.Prelude.{◌≡◌, ◌<◌, ◌≤◌, ◌++◌, [], ◌∷◌, length, take, IfSome};
 
-use s360_store::Storage;
 use std::marker::Model;
 
 /// At most so many bytes stand in a short run.
@@ -69,13 +65,11 @@ impl ShortRun {
         self.count += 1;
     }
 
-    /// Exchanges the bytes with those of storage from an address on.
-    pub(crate) fn exchange(&mut self, storage: &mut Storage, at: u32)
-        requires inside { at + length self.old ≤ length storage.old.bytes }
-        ensures storage { storage.new ≡ record storage.old { bytes = with_run storage.old.bytes at self.old } }
-        ensures bytes { self.new ≡ slice_range storage.old.bytes at (at + length self.old) }
-        ensures fit { AllFit (byte_cells at self.new) }
+    /// The bytes, and then what they leave of eight.
+    pub(crate) fn bytes(&self) -> [u8; SHORT]
+        ensures bytes { take (length self.now) result ≡ self.now }
+        ensures eight { length result ≡ 8 }
     {
-        storage.swap_run(at, &mut self.bytes[..usize::from(self.count)]);
+        self.bytes
     }
 }

@@ -15,6 +15,8 @@ mod instructions;
 #[cfg(test)]
 mod machine;
 #[cfg(test)]
+mod packed;
+#[cfg(test)]
 mod plans;
 #[cfg(test)]
 mod rows;

@@ -10,7 +10,7 @@ use Rattle.s360_store.specs.declared.cells.Item.TheVariants.{Single, Run}
 use Rattle.s360_store.specs.declared.place.Place.{Place}
 use Rattle.s360_store.specs.declared.place.Cell.{Cell}
 use Rattle.s360_store.specs.Cells.{AllFit, AreCellsOf, IsFresh, after_exchange, byte_cells, cells_after_exchange}
-use Rattle.s360_store.specs.Items.{AreItems, IsItem, bytes_of_items, cells_of_items, core_of}
+use Rattle.s360_store.specs.Items.{IsNoByte, AreItems, IsItem, bytes_of_items, cells_of_items, core_of}
 use Rattle.s360_store.specs.Places.{Fits, value_at, with_value}
 use Rattle.s360_store.specs.Plans.{HasBytes}
 use Rattle.s360_store.proofs.ExchangeLemmas.{AreCellsOf-kept}
@@ -91,7 +91,10 @@ exchanging-single m n is₀ is bs₀ bs k from d c l g fits x =
       cells = rw (later, before, cells_of_items-single (take k is) (take from bs) new) (cells ∙ sym (append_assoc (cells_of_items (take k is) (take from bs)) (new ∷ []) (cells_after_exchange (with_value n c.place c.value) rest)));
       fit = rw (before, cells_of_items-single (take k is) (take from bs) new) (AllFit-append (cells_of_items (take k is) (take from bs)) (new ∷ []) x.fit (fits, tt));
       can = rw later (AreCellsOf-kept n rest c.place c.value can.3);
-      items = AreItems-set is k (Single new) x.items tt;
+      items = AreItems-set is k (Single new) x.items (λ a e.
+          let held : IsNoByte c = rw g at (AreItems-at is k d l x.items)
+          in let small : c.value < 256 = rw e at can.1
+          in absurd (omega (arith, held a e, small)));
       done = rw before (omega (arith, bytes_of_items-append (take k is) (Single new ∷ []), x.done));
       left = rw later (omega (arith, bytes));
     }

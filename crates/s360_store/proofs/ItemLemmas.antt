@@ -520,7 +520,7 @@ Replaced-done is new bs at p v e w r =
     in let single : (d : Item) → IsSingle (get_or is at d) = r.single refl
     in rw r.is (record {
       long = length-set is at (Single x);
-      whole = AreItems-set is at (Single x) w tt;
+      whole = AreItems-set is at (Single x) w (r.apart refl);
       all = bytes_of_items-single is at x found.0 single;
       count = length-single is at x bs found.0 single;
       cells = after_put-single is at p v bs found.0 (λ k d l. (position-Some (λ i. has_place i p) is at d e).2 k l) (λ d. (position-Some (λ i. has_place i p) is at d e).1) single;

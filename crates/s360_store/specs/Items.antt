@@ -36,9 +36,13 @@ abbrev pub cells_of_items : List Item → List ℕ → List Cell
 cells_of_items [] bytes = []
 cells_of_items (i ∷ is) bytes = cells_of_item i bytes ++ cells_of_items is (drop (bytes_of_item i) bytes)
 
+-- a byte of storage stands in a run: a single cell is no byte that a byte of storage can have
+abbrev pub IsNoByte : Cell → Type 0
+IsNoByte c = (a : ℕ) → c.place ≡ Byte a → 256 ≤ c.value
+
 -- a run has bytes, with addresses of 32 bits
 abbrev pub IsItem : Item → Type 0
-IsItem (Single c) = Unit {0}
+IsItem (Single c) = IsNoByte c
 IsItem (Run address count) = (0 < count) × (address + count ≤ 2 ^ 32)
 
 abbrev pub AreItems : List Item → Type 0
@@ -94,6 +98,7 @@ IsSingle (Single c) = Unit {0}
 IsSingle (Run address count) = ⊥
 
 pub record IsReplaced (old new : List Item) (at : ℕ) (c : Cell) (done : Bool) : Type 0 where
+  pub apart : IsTrue done → IsNoByte c
   pub is : new ≡ (if done then slice_set old at (Single c) else old)
   pub single : IsTrue done → (d : Item) → IsSingle (slice_index_or old at d)
 
@@ -119,6 +124,17 @@ pub record IsPartAt (cs : List Cell) (i : ℕ) (part : Part) : Type 0 where
   pub some : 0 < length (cells_of_part part)
   pub is : drop i cs ≡ cells_of_part part ++ drop (i + length (cells_of_part part)) cs
   pub small : HasAddresses part
+
+-- lists of items and of bytes have more at their ends: those of cells
+pub record Appended (old_items new_items : List Item) (old_bytes new_bytes : List ℕ) (cells : List Cell) : Type 0 where
+  pub items : List Item
+  pub bytes : List ℕ
+  pub items_are : new_items ≡ old_items ++ items
+  pub bytes_are : new_bytes ≡ old_bytes ++ bytes
+  pub whole : AreItems items
+  pub all : bytes_of_items items ≡ length bytes
+  pub cells_are : cells_of_items items bytes ≡ cells
+  pub few : length cells ≤ 1000000
 
 -- a core of its parts
 abbrev pub core_of : ℕ → List ℕ → Storage → Core

@@ -7,7 +7,7 @@ ghost use Rattle.std.specs.List.{list_any};
 ghost use Rattle.std.specs.List.Sorted.{IsPermutation};
 ghost use Rattle.s360_store.specs.Cells.{AllFit, AreCellsOf, HasEachOnce, after_exchange, byte_cells};
 ghost use Rattle.s360_store.specs.Cells.{cells_after_exchange, places_of_cells};
-ghost use Rattle.s360_store.specs.Items.{AddsRun, AllMiss, AreItems, HasAddresses, IsItem, IsJoined, IsPartAt, IsReplaced, MissesBytes};
+ghost use Rattle.s360_store.specs.Items.{AddsRun, AllMiss, Appended, AreItems, HasAddresses, IsItem, IsJoined, IsPartAt, IsReplaced, MissesBytes};
 ghost use Rattle.s360_store.specs.Items.{bytes_of_item, bytes_of_items, cells_of_item, cells_of_items};
 ghost use Rattle.s360_store.specs.Items.{cells_of_part, core_of, count_of_item, first_place, has_place, is_in_run, last_place};
 ghost use Rattle.s360_store.specs.Order.{IsAscending};
@@ -34,7 +34,7 @@ const MOST: usize = 16;
 
 /// A single cell, or a run of successive bytes of storage.
 #[derive(Clone, Copy, Debug)]
-pub(crate) enum Item {
+pub enum Item {
     /// A cell.
     Single(Cell),
     /// So many bytes from an address on, at least one.
@@ -66,6 +66,17 @@ impl Part<'_> {
             Part::Bytes(_, bytes) => bytes.len(),
         }
     }
+
+    /// The place of its first cell.
+    pub fn first(self) -> Place
+        requires { 0 < length (cells_of_part self) }
+        ensures { slice_get (places_of_cells (cells_of_part self.entry)) 0 ≡ Some result }
+    {
+        match self {
+            Part::Cell(cell) => cell.place,
+            Part::Bytes(address, _) => Place::Byte(address),
+        }
+    }
 }
 
 /// Cells, in their order.
@@ -91,7 +102,7 @@ impl Model for Cells {
 }
 
 /// Whether a place is a byte of a run.
-fn is_in_run(address: u32, count: u32, place: Place) -> bool
+pub fn is_in_run(address: u32, count: u32, place: Place) -> bool
     ensures { result ≡ is_in_run address count place }
 {
     match place {
@@ -195,7 +206,7 @@ fn part_of(item: Item, within: u32, bytes: &[u8]) -> Part<'_>
 }
 
 /// The part that begins with the cell at `i` of items, counted from 0.
-fn part_at<'a>(items: &[Item], bytes: &'a [u8], i: u32) -> Part<'a>
+pub fn part_at<'a>(items: &[Item], bytes: &'a [u8], i: u32) -> Part<'a>
     requires items { AreItems items.now }
     requires all { bytes_of_items items.now ≤ length bytes.now }
     requires inside { i < length (cells_of_items items.now bytes.now) }
@@ -263,7 +274,7 @@ fn find(items: &[Item], place: Place) -> Option<usize>
 }
 
 /// Whether an item has a place.
-fn one_has(items: &[Item], place: Place) -> bool
+pub fn one_has(items: &[Item], place: Place) -> bool
     ensures { result ≡ list_any (λ i. has_place i place) items.now }
 {
     items.iter().any(|item| item.has(place))
@@ -286,12 +297,12 @@ fn replace(items: &mut [Item], at: usize, cell: Cell) -> bool
     requires { at < length items.old }
     ensures { IsReplaced items.old items.new at cell result }
 {
-    match items[at] {
-        Item::Single(_) => {
+    match (items[at], cell.place) {
+        (Item::Run { .. }, _) | (_, Place::Byte(_)) => false,
+        (Item::Single(_), _) => {
             items[at] = Item::Single(cell);
             true
         }
-        Item::Run { .. } => false,
     }
 }
 
@@ -311,6 +322,37 @@ fn joined(items: &[Item], address: u32, count: u32) -> Option<Item>
         }),
         _ => None,
     }
+}
+
+/// Adds the cells of an item to a list. The bytes are those from its own on.
+fn list_item(cells: &mut Vec<Cell>, item: Item, bytes: &[u8]) -> Result<(), AllocError>
+    requires item { IsItem item }
+    requires all { bytes_of_item item ≤ length bytes.now }
+    ensures { OnOk result (cells.new.items ≡ cells.old.items ++ cells_of_item item bytes.now) }
+{
+    match item {
+        Item::Single(cell) => cells.push(cell)?,
+        Item::Run { address, count } => {
+            for i in 0..count {
+                cells.push(byte_cell(address + i, bytes[i as usize]))?;
+            }
+        }
+    }
+    Ok(())
+}
+
+/// Adds the cells of items to a list.
+fn list_cells(cells: &mut Vec<Cell>, items: &[Item], bytes: &[u8]) -> Result<(), AllocError>
+    requires items { AreItems items.now }
+    requires all { bytes_of_items items.now ≤ length bytes.now }
+    ensures { OnOk result (cells.new.items ≡ cells.old.items ++ cells_of_items items.now bytes.now) }
+{
+    let mut rest = bytes;
+    for item in items {
+        list_item(cells, *item, rest)?;
+        rest = rest.split_at(item.bytes() as usize).1;
+    }
+    Ok(())
 }
 
 /// These cells.
@@ -453,9 +495,7 @@ impl Cells {
         ensures ascending { IfOk result (λ cells. HasEachOnce self.now → IsAscending (places_of_cells cells)) }
     {
         let mut cells = Vec::with_capacity(alloc, self.len() as usize)?;
-        for i in 0..self.len() {
-            cells.push(self.cell(i))?;
-        }
+        list_cells(&mut cells, &self.items, &self.bytes)?;
         cells.sort_unstable_by_key(|cell| cell.place);
         let sorted = of_cells(alloc, cells.as_slice())?;
         Ok(sorted)
@@ -493,6 +533,18 @@ impl Cells {
         }
         self.push_bytes(address, bytes)?;
         Ok(true)
+    }
+
+    /// Adds the single cells and the runs to a list, and the bytes of the runs to another. Want of memory leaves both as
+    /// they were.
+    pub fn append_to(&self, items: &mut Vec<Item>, bytes: &mut Vec<u8>) -> Result<(), AllocError>
+        ensures ok { OnOk result (Appended items.old.items items.new.items bytes.old.items bytes.new.items self.now) }
+        ensures err_items { OnErr result (items.new.items ≡ items.old.items) }
+        ensures err_bytes { OnErr result (bytes.new.items ≡ bytes.old.items) }
+    {
+        items.reserve(self.items.len())?;
+        bytes.extend_from_slice(&self.bytes)?;
+        items.extend_from_slice(&self.items)
     }
 
     /// Exchanges what stands at the places of the cells in a PSW, registers and storage with their values. Done again,

@@ -14,7 +14,8 @@ mod protection;
 mod storage;
 
 pub use bytes::Bytes;
-pub use cells::{Cells, Part};
+pub use cells::{Cells, Item, Part, is_in_run, one_has, part_at};
+pub use exchange::exchange_items;
 pub use fault::StoreFault;
 pub use place::{Cell, Place};
 pub use plan::Plan;

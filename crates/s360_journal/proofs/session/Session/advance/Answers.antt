@@ -1,54 +1,70 @@
-use Rattle.std.proofs.Common.{◌≡◌, ◌<◌, ◌++◌, ◌∷◌, [], sym, ◌∙◌, ap, subst, None, length, length-append, arith}
-use Rattle.std.proofs.lemmas.List.{length-map}
-use Rattle.s360_machine.specs.Machine.{Machine, Whole, storage_size, seen}
+use Rattle.std.proofs.Common.{◌≡◌, ◌<◌, ◌++◌, ◌∷◌, ◌∙◌, [], List, None, sym, ap, subst, length, length-append, reverse, arith}
+use Rattle.s360_machine.specs.Machine.{Machine, Whole, seen, storage_size}
 use Rattle.s360_machine.specs.Refusals.{refusal_of}
+use Rattle.s360_machine.specs.declared.event.Event.{Event}
 use Rattle.s360_machine.specs.declared.refusal.Refusal.TheVariants.{Memory}
-use Rattle.s360_machine.specs.Step.{after}
-use Rattle.s360_machine.specs.Change.{NeedsNoRoom, after_swap, change_after_swap}
-use Rattle.s360_machine.specs.Planned.{IsChangeTo}
-use Rattle.s360_journal.specs.declared.entry.Entry.{Entry}
+use Rattle.s360_machine.specs.Change.{CanSwap}
+use Rattle.s360_journal.specs.History.{AreHistory, entries_of, unwound}
 use Rattle.s360_journal.specs.Standing.{Standing, machine_of, refusal_in}
-use Rattle.s360_journal.proofs.HistoryLemmas.{machine_of-view}
-use Rattle.s360_journal.proofs.ForwardLemmas.{or_full-None, or_full-room, IsHistory-forward}
+use Rattle.s360_journal.proofs.ForwardLemmas.{or_full-None, or_full-room}
+use Rattle.s360_journal.proofs.SessionLemmas.{advanced, found-last, machine_of-session}
 use Rattle.s360_journal.proofs.session.Session.advance.Goals as goal
+use Rattle.s360_journal.proofs.session.Session.advance.Goals.{After-swap}
 
 pub returns-in-Err-clause-refused : goal.returns-in-Err-clause-refused
 returns-in-Err-clause-refused c =
     let s = c.args.self.now
     in let e = c.args.event
-    in let same : seen c.self.inside.machine.whole ≡ machine_of s = machine_of-view c.self.inside.machine.whole c.self.inside.entries.items _ s c.self.invariant.0 c.self.view_is
+    in let same : seen c.self.inside.machine.whole ≡ machine_of s = machine_of-session c.self.inside.machine.whole c.self.inside.events c.self.inside.changes c.self.inside.limit s c.self.invariant.0 c.self.view_is
     in let none : refusal_in s e ≡ None = sym c.in_default.ensures
     in let accepted : refusal_of (storage_size (seen c.self.inside.machine.whole)) e ≡ None
     = subst (λ (k : Machine). refusal_of (storage_size k) e ≡ None) (sym same) (or_full-None _ (length s.events) s.limit none)
     in let answer : c.in-Err.refusal ≡ Memory = rw accepted at c.in-Err.ensures.refused
     in rw none answer
 
-pub invariant_of-self-2 : goal.invariant_of-self-2
-invariant_of-self-2 c =
+pub append-requires : goal.append-requires
+append-requires c =
+    let s = c.args.self.now
+    in let none : refusal_in s c.args.event ≡ None = sym c.in_default.ensures
+    in let few : length s.events < s.limit = or_full-room _ (length s.events) s.limit none
+    in omega (arith, few, ap (λ (t : Standing). length t.events) c.self.view_is, ap (λ (t : Standing). t.limit) c.self.view_is, c.self.invariant.0.1, c.self.invariant.2)
+
+pub swap-requires-clause-can : goal.swap-requires-clause-can
+swap-requires-clause-can c =
+    let can : CanSwap c.room.new.self.whole c.in-Ok.changes = subst (λ (k : Whole). CanSwap k c.in-Ok.changes) (sym c.room.ensures.whole) c.in-Ok.ensures.ok.can
+    in rw (found-last c.self.inside.changes c.append.new.self c.in-Ok.changes c.len-count.result c.in_ok-append.ensures.ok c.len-count.ensures.len) can
+
+pub swap-requires-clause-room : goal.swap-requires-clause-room
+swap-requires-clause-room c =
+    rw (found-last c.self.inside.changes c.append.new.self c.in-Ok.changes c.len-count.result c.in_ok-append.ensures.ok c.len-count.ensures.len) c.in_ok-room.ensures.ok
+
+-- the journal afterwards
+journal : (c : After-swap) → AreHistory c.swap.new.machine.whole (c.self.inside.events ++ c.args.event ∷ []) c.swap.new.self
+    × (unwound c.swap.new.machine.whole (reverse (entries_of (c.self.inside.events ++ c.args.event ∷ []) c.swap.new.self)) ≡ unwound c.self.inside.machine.whole (reverse (entries_of c.self.inside.events c.self.inside.changes)))
+journal c =
     let s = c.args.self.now
     in let e = c.args.event
-    in let w : Whole = c.self.inside.machine.whole
-    in let m : Machine = seen w
-    in let x = c.in-Ok.changes
-    in let xs = c.self.inside.entries.items
-    in let entry : Entry = record { event = e; changes = c.swap_all.new.changes }
-    in let same : m ≡ machine_of s = machine_of-view w xs _ s c.self.invariant.0 c.self.view_is
+    in let same : seen c.self.inside.machine.whole ≡ machine_of s = machine_of-session c.self.inside.machine.whole c.self.inside.events c.self.inside.changes c.self.inside.limit s c.self.invariant.0 c.self.view_is
     in let none : refusal_in s e ≡ None = sym c.in_default.ensures
-    in let accepted : refusal_of (storage_size m) e ≡ None
+    in let accepted : refusal_of (storage_size (seen c.self.inside.machine.whole)) e ≡ None
     = subst (λ (k : Machine). refusal_of (storage_size k) e ≡ None) (sym same) (or_full-None _ (length s.events) s.limit none)
-    in let room : c.room.new.self.whole ≡ w = c.room.ensures.whole
-    in let now : c.swap_all.new.self.whole ≡ after_swap w x = c.swap_all.ensures.machine ∙ ap (λ (k : Whole). after_swap k x) room
-    in let held : c.swap_all.new.changes ≡ change_after_swap w x = c.swap_all.ensures.changes ∙ ap (λ (k : Whole). change_after_swap k x) room
-    in let no_room : NeedsNoRoom c.swap_all.new.changes
-    = c.swap_all.ensures.no_room (after m e) (subst (λ (k : Whole). IsChangeTo k x (after m e)) (sym room) c.in-Ok.ensures.ok)
-    in let items : c.push_reserved.new.self.items ≡ xs ++ entry ∷ []
-    = c.push_reserved.ensures.items ∙ ap (λ l. l ++ entry ∷ []) c.in_ok-reserve.ensures.items
-    in let events : length s.events ≡ length xs = ap (λ (t : Standing). length t.events) (sym c.self.view_is) ∙ length-map xs (λ (y : Entry). y.event)
-    in let limit : s.limit ≡ c.self.inside.limit = ap (λ (t : Standing). t.limit) (sym c.self.view_is)
+    in advanced c.self.inside.machine.whole c.room.new.self.whole c.swap.new.machine.whole c.self.inside.events c.self.inside.changes c.append.new.self c.swap.new.self e c.in-Ok.changes c.len-count.result
+    c.self.invariant.0 accepted c.in-Ok.ensures.ok c.room.ensures.whole c.in_ok-append.ensures.ok c.len-count.ensures.len c.swap.ensures.machine c.swap.ensures.changes
+
+pub invariant_of-self-in-Ok-push : goal.invariant_of-self-in-Ok-push
+invariant_of-self-in-Ok-push c =
+    let s = c.args.self.now
+    in let none : refusal_in s c.args.event ≡ None = sym c.in_default.ensures
     in let few : length s.events < s.limit = or_full-room _ (length s.events) s.limit none
-    in rw items (
-      IsHistory-forward w c.swap_all.new.self.whole xs e x c.swap_all.new.changes c.self.invariant.0 accepted c.in-Ok.ensures.ok now held
-          c.swap_all.ensures.again no_room (c.swap_all.ensures.restores_machine ∙ room),
-      omega (arith, length-append xs (entry ∷ [])),
+    in let stands : c.push.new.self ≡ c.self.inside.events ++ c.args.event ∷ [] = c.in-Ok-push.ensures.ok
+    in rw stands (
+      (journal (goal.at.invariant_of-self-in-Ok-push c).After-swap).0,
+      omega (arith, few, ap (λ (t : Standing). length t.events) c.self.view_is, ap (λ (t : Standing). t.limit) c.self.view_is, length-append c.self.inside.events (c.args.event ∷ [])),
       c.self.invariant.2,
     )
+
+pub returns-in-Ok-push-clause-ok : goal.returns-in-Ok-push-clause-ok
+returns-in-Ok-push-clause-ok c =
+    let stands : c.push.new.self ≡ c.self.inside.events ++ c.args.event ∷ [] = c.in-Ok-push.ensures.ok
+    in rw stands (ap (λ (k : Whole). record { start = k; events = c.self.inside.events ++ c.args.event ∷ []; limit = c.self.inside.limit }) (journal (goal.at.returns-in-Ok-push-clause-ok c).After-swap).1
+    ∙ ap (λ (t : Standing). record t { events = t.events ++ c.args.event ∷ [] }) c.self.view_is)

@@ -30,11 +30,11 @@ loop-i-preserved c =
           rw w.first-is (compared-other c.args.self.now c.args.psw c.args.address c.args.new.now c.loop-i.i _ c.loop-i.run c.loop-i-test.true inside fits c.loop-i.invariant other (omega (arith, w.if-first-len.false)))
     ])
 
-pub returns-then-len-eq0-2-clause-core : goal.returns-then-len-eq0-2-clause-core
-returns-then-len-eq0-2-clause-core c =
+pub returns-then-len-eq0-2 : goal.returns-then-len-eq0-2
+returns-then-len-eq0-2 c =
     let none : c.loop-i.run ≡ [] = no-item c.loop-i.run (sym c.len-2.ensures.len ∙ c.if-len-eq0-2.true)
-    in rw none at (alters-bytes c.args.self.now c.args.psw c.args.address c.args.new.now c.loop-i.i c.loop-i.first c.loop-i.run c.loop-i-test.false c.requires.inside (λ j l. omega (arith, c.type_inv.new j)) c.loop-i.invariant)
+    in rw c.of_psw.ensures (rw none at (alters-bytes c.args.self.now c.args.psw c.args.address c.args.new.now c.loop-i.i c.loop-i.first c.loop-i.run c.loop-i-test.false c.requires.inside (λ j l. omega (arith, c.type_inv.new j)) c.loop-i.invariant))
 
-pub returns-clause-core : goal.returns-clause-core
-returns-clause-core c =
-    alters-bytes c.args.self.now c.args.psw c.args.address c.args.new.now c.loop-i.i c.loop-i.first c.loop-i.run c.loop-i-test.false c.requires.inside (λ j l. omega (arith, c.type_inv.new j)) c.loop-i.invariant
+pub returns : goal.returns
+returns c =
+    rw c.of_bytes.ensures (alters-bytes c.args.self.now c.args.psw c.args.address c.args.new.now c.loop-i.i c.loop-i.first c.loop-i.run c.loop-i-test.false c.requires.inside (λ j l. omega (arith, c.type_inv.new j)) c.loop-i.invariant)

@@ -5,10 +5,10 @@ use Rattle.s360_machine.proofs.AlteredLemmas.{alters-nothing, alters-psw, alters
 use Rattle.s360_machine.proofs.core_state.Core.altered_register.Goals as goal
 use Rattle.s360_machine.proofs.core_state.Core.altered_register.Goals.{After-eq-2, in_default-via-in-Some+else-word-register, in_default-via-in_default}
 
-pub returns-else-eq-clause-core : goal.returns-else-eq-clause-core
-returns-else-eq-clause-core c =
+pub returns-else-eq : goal.returns-else-eq
+returns-else-eq c =
     let differs = rw c.psw.ensures at (not-same c.args.psw c.psw.result (sym c.eq-in-Some.ensures ∙ c.if-eq.false))
-    in rw c.in-Some.is
+    in rw (c.in-Some.is, c.of_register.ensures)
     (alters-register c.args.self.now c.args.psw c.args.register c.in-Some.word differs c.stored.ensures.current (omega (arith, c.register.ensures.sixteen)) (omega arith)
     (λ e. c.if-word-register.true (sym e ∙ sym c.register.ensures.word)))
 
@@ -19,12 +19,12 @@ kept c = elim c.in_default.branch [
   | in_default-via-in_default w ↦ keeps-without-word c.args.self.now.registers c.args.register c.args.word w.in_default.not-Some
 ]
 
-pub returns-in_default-clause-core : goal.returns-in_default-clause-core
-returns-in_default-clause-core c =
+pub returns-in_default : goal.returns-in_default
+returns-in_default c =
     let same : c.args.psw ≡ c.args.self.now.psw = eqb-true c.args.psw c.psw-2.result (sym c.eq-2.ensures ∙ c.if-eq-2.true) ∙ c.psw-2.ensures
-    in alters-nothing c.args.self.now c.args.psw c.args.register c.args.word same (kept (goal.at.returns-in_default-clause-core c).After-eq-2)
+    in rw c.nothing.ensures (alters-nothing c.args.self.now c.args.psw c.args.register c.args.word same (kept (goal.at.returns-in_default c).After-eq-2))
 
-pub returns-in_default-2-clause-core : goal.returns-in_default-2-clause-core
-returns-in_default-2-clause-core c =
+pub returns-in_default-2 : goal.returns-in_default-2
+returns-in_default-2 c =
     let differs = rw c.psw-2.ensures at (not-same c.args.psw c.psw-2.result (sym c.eq-2.ensures ∙ c.if-eq-2.false))
-    in alters-psw c.args.self.now c.args.psw c.args.register c.args.word differs c.stored.ensures.current (kept (goal.at.returns-in_default-2-clause-core c).After-eq-2)
+    in rw c.of_psw.ensures (alters-psw c.args.self.now c.args.psw c.args.register c.args.word differs c.stored.ensures.current (kept (goal.at.returns-in_default-2 c).After-eq-2))

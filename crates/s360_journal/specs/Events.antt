@@ -1,0 +1,27 @@
+-- Events in a byte each, with what some of them carry in lists apart. In all three lists the newest comes first.
+use Rattle.std.specs.Prelude.{◌≡◌, List, [], ◌∷◌}
+use Rattle.s360_word.specs.declared.unit.Unit.{Unit as UnitAddress}
+use Rattle.s360_machine.specs.declared.event.Event.{Event}
+use Rattle.s360_machine.specs.declared.event.Event.TheVariants.{Cpu, Channel, Tick, Key}
+use Rattle.s360_machine.specs.declared.operator.Key.TheVariants.{Load}
+use Rattle.s360_journal.specs.declared.events.Tag.{Tag}
+use Rattle.s360_journal.specs.declared.events.Tag.TheVariants.{Cpu as cpu, Channel as channel, Tick as tick, Load as load, Other as other}
+
+-- the events, of which channel events and loads have their units apart, and others stand apart whole
+abbrev pub events_of : List Tag → List UnitAddress → List Event → List Event
+events_of (cpu ∷ ts) us es = Cpu ∷ events_of ts us es
+events_of (tick ∷ ts) us es = Tick ∷ events_of ts us es
+events_of (channel ∷ ts) (u ∷ us) es = Channel u ∷ events_of ts us es
+events_of (load ∷ ts) (u ∷ us) es = Key (Load u) ∷ events_of ts us es
+events_of (other ∷ ts) us (e ∷ es) = e ∷ events_of ts us es
+events_of ts us es = []
+
+-- the lists have just what the events carry
+abbrev pub AreEvents : List Tag → List UnitAddress → List Event → Type 0
+AreEvents [] us es = (us ≡ []) × (es ≡ [])
+AreEvents (cpu ∷ ts) us es = AreEvents ts us es
+AreEvents (tick ∷ ts) us es = AreEvents ts us es
+AreEvents (channel ∷ ts) (u ∷ us) es = AreEvents ts us es
+AreEvents (load ∷ ts) (u ∷ us) es = AreEvents ts us es
+AreEvents (other ∷ ts) us (e ∷ es) = AreEvents ts us es
+AreEvents ts us es = ⊥

@@ -1,0 +1,9 @@
+use Rattle.s360_model.specs.Core.{Core}
+use Rattle.s360_store.specs.Items.{core_of}
+use Rattle.s360_machine.proofs.AlteredLemmas.{registers-after}
+use Rattle.s360_machine.proofs.core_state.Core.exchange_cells.Goals as goal
+
+pub invariant_of-self : goal.invariant_of-self
+invariant_of-self c =
+    let before : Core = core_of c.self.inside.psw c.self.inside.registers c.self.inside.storage
+    in registers-after before (core_of c.exchange.new.psw c.exchange.new.registers c.exchange.new.storage) c.args.cells.now 16 c.exchange.ensures.core c.self.told

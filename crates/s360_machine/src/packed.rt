@@ -1,0 +1,405 @@
+//! The changes of the journal, in little memory: a row of 16 bytes for each, all bytes of storage that they alter in one
+//! buffer, and what is rarer in lists apart.
+ghost use Rattle.std.specs.Prelude.{◌≡◌, ◌<◌, ◌≤◌, ◌-◌, ◌++◌, ◌∷◌, [], false, length, reverse, slice_get, slice_set, take, vec_capacity, vec_len, IfOk, IfSome, IsTrue, OnErr, OnOk};
+ghost use Rattle.std.specs.List.{list_any};
+ghost use Rattle.s360_store.specs.Cells.{AllFit};
+ghost use Rattle.s360_store.specs.Places.{same_place};
+ghost use Rattle.s360_machine.specs.Beside.{IsNothing};
+ghost use Rattle.s360_machine.specs.Change.{CanSwap, Change, HasRoom, change_after_swap, places_of_change};
+ghost use Rattle.s360_machine.specs.Changes.{AreFit, change_of, change_of_parts};
+ghost use Rattle.s360_machine.specs.Packed.{ArePacked, HasBefore, IsAppended, IsEnd, IsOwnOf, IsSwapOf, bytes_of_changes, end_before, last_altering, last_stretches, lists};
+ghost use Rattle.s360_machine.specs.Packed.{newest_altering, unpacked};
+ghost use Rattle.s360_machine.specs.Rows.{IsOver};
+ghost use Rattle.s360_machine.specs.Spans.{AddsPlaces};
+
+use crate::beside::Beside;
+use crate::changes::{Changes, Full, Parts};
+use crate::machine::Machine;
+use crate::row::Row;
+use crate::span::Spans;
+use s360_store::{Item, Place};
+use std::alloc::{AllocError, Global};
+use std::marker::Model;
+
+/// A list of changes, the newest at its end.
+#[derive(Debug, Drop)]
+pub struct Packed {
+    rows: Vec<Row>,
+    /// Single cells and runs, of the rows that have them apart.
+    items: Vec<Item>,
+    /// All bytes of storage that the changes alter, and nothing else.
+    bytes: Vec<u8>,
+    /// What is beside the core, of the rows that have it.
+    beside: Vec<Beside>,
+}
+
+impl Model for Packed {
+    ghost use Rattle.std.specs.Prelude.{◌≤◌, List, length, reverse};
+    ghost use Rattle.s360_machine.specs.Change.{Change};
+    ghost use Rattle.s360_machine.specs.Packed.{ArePacked, changes_of_rows, lists};
+
+    ghost Value = { List Change };
+
+    ghost view = { λ p. changes_of_rows p.rows.items (lists p.items.items p.bytes.items p.beside.items) };
+
+    ghost invariant = { λ p. ArePacked (reverse p.rows.items) (lists p.items.items p.bytes.items p.beside.items) × (length p.rows.items ≤ 10000000) };
+}
+
+/// Where the lists end of the first changes, so many.
+#[derive(Clone, Copy, Debug)]
+struct End {
+    rows: usize,
+    items: usize,
+    bytes: usize,
+    beside: usize,
+}
+
+/// A change as it stands in the lists.
+#[derive(Clone, Copy, Debug)]
+struct Own<'a> {
+    row: Row,
+    items: &'a [Item],
+    bytes: &'a [u8],
+    beside: &'a [Beside],
+}
+
+impl Own<'_> {
+    /// The number of its places.
+    fn len(&self) -> u32
+        requires { IsOver self.now.row self.now.items.now self.now.bytes.now }
+        ensures { (x : Change) → IsOwnOf self.now x → result ≡ length (places_of_change x) }
+    {
+        match self.beside.first() {
+            Some(beside) => self.row.len() + beside.places().len() as u32,
+            None => self.row.len(),
+        }
+    }
+
+    /// The place at `i`, counted from 0, if there are so many.
+    fn place(&self, i: u32) -> Option<Place>
+        requires { IsOver self.now.row self.now.items.now self.now.bytes.now }
+        ensures { (x : Change) → IsOwnOf self.now x → result ≡ slice_get (places_of_change x) i }
+    {
+        if i < self.row.len() {
+            return Some(self.row.place(self.items, self.bytes, i));
+        }
+        let beside = self.beside.first()?;
+        let places = beside.places();
+        places.get((i - self.row.len()) as usize).copied()
+    }
+
+    /// Whether a place is among its own.
+    fn alters(&self, place: Place) -> bool
+        ensures { (x : Change) → IsOwnOf self.now x → result ≡ list_any (λ q. same_place q place) (places_of_change x) }
+    {
+        if self.row.alters(self.items, place) {
+            return true;
+        }
+        match self.beside.first() {
+            Some(beside) => beside.alters(place),
+            None => false,
+        }
+    }
+
+    /// Adds its places to spans.
+    fn push_spans(&self, spans: &mut Spans) -> Result<(), AllocError>
+        requires { IsOver self.now.row self.now.items.now self.now.bytes.now }
+        ensures { OnOk result ((x : Change) → IsOwnOf self.now x → AddsPlaces spans.old.items spans.new.items (places_of_change x)) }
+    {
+        self.row.push_spans(self.items, spans)?;
+        match self.beside.first() {
+            Some(beside) => beside.push_spans(spans),
+            None => Ok(()),
+        }
+    }
+}
+
+impl End {
+    /// Where the lists end before the last of these changes, whose row is given.
+    fn before(&self, row: &Row) -> End
+        requires { HasBefore self.now row.now }
+        ensures { result ≡ end_before self.now row.now }
+    {
+        End {
+            rows: self.rows - 1,
+            items: self.items - row.items(),
+            bytes: self.bytes - row.bytes(),
+            beside: self.beside - row.beside(),
+        }
+    }
+}
+
+/// Where the lists end of the first changes, so many.
+fn end_of(rows: &[Row], items: &[Item], bytes: &[u8], beside: &[Beside], count: usize) -> End
+    requires packed { ArePacked (reverse rows.now) (lists items.now bytes.now beside.now) }
+    requires inside { count ≤ length rows.now }
+    ensures end { IsEnd rows.now (lists items.now bytes.now beside.now) result }
+    ensures rows { result.rows ≡ count }
+{
+    let mut end = End {
+        rows: rows.len(),
+        items: items.len(),
+        bytes: bytes.len(),
+        beside: beside.len(),
+    };
+    while end.rows > count {
+        end = end.before(&rows[end.rows - 1]);
+    }
+    end
+}
+
+/// The number of the last change that alters a place, counted from 1, if one does.
+fn last_of(
+    rows: &[Row],
+    items: &[Item],
+    bytes: &[u8],
+    beside: &[Beside],
+    place: Place,
+) -> Option<u32>
+    requires packed { ArePacked (reverse rows.now) (lists items.now bytes.now beside.now) }
+    requires few { length rows.now ≤ 10000000 }
+    ensures { result ≡ newest_altering (unpacked (reverse rows.now) (lists items.now bytes.now beside.now)) place }
+{
+    let mut end = end_of(rows, items, bytes, beside, rows.len());
+    while end.rows > 0 {
+        let row = rows[end.rows - 1];
+        let start = end.before(&row);
+        let own = Own {
+            row,
+            items: &items[start.items..end.items],
+            bytes: &bytes[start.bytes..end.bytes],
+            beside: &beside[start.beside..end.beside],
+        };
+        if own.alters(place) {
+            return Some(end.rows as u32);
+        }
+        end = start;
+    }
+    None
+}
+
+/// Adds what is beside the core to a list that has room for it, if there is anything, and says whether there is.
+fn push_if_any(list: &mut Vec<Beside>, beside: Beside) -> bool
+    requires { vec_len list.old < vec_capacity list.old }
+    ensures some { IsTrue result → list.new.items ≡ list.old.items ++ beside ∷ [] }
+    ensures none { result ≡ false → (list.new.items ≡ list.old.items) × IsNothing beside }
+{
+    if beside.is_empty() {
+        return false;
+    }
+    list.push_reserved(beside);
+    true
+}
+
+/// Adds what a change has of the core and beside it to the lists, and answers its row. Want of memory leaves the lists as
+/// they were.
+fn append_full(
+    full: Full,
+    items: &mut Vec<Item>,
+    bytes: &mut Vec<u8>,
+    list: &mut Vec<Beside>,
+) -> Result<Row, AllocError>
+    requires { AllFit full.cells }
+    ensures ok { IfOk result (λ row. IsAppended (lists items.old.items bytes.old.items list.old.items) (lists items.new.items bytes.new.items list.new.items) row (change_of full.cells full.beside)) }
+    ensures err_items { OnErr result (items.new.items ≡ items.old.items) }
+    ensures err_bytes { OnErr result (bytes.new.items ≡ bytes.old.items) }
+    ensures err_list { OnErr result (list.new.items ≡ list.old.items) }
+{
+    let Full { cells, beside } = full;
+    let (items_before, bytes_before) = (items.as_slice().len(), bytes.as_slice().len());
+    list.reserve(1)?;
+    cells.append_to(items, bytes)?;
+    let beside = push_if_any(list, beside);
+    Ok(Row::More {
+        beside,
+        items: (items.as_slice().len() - items_before) as u32,
+        bytes: (bytes.as_slice().len() - bytes_before) as u32,
+        count: cells.len(),
+    })
+}
+
+/// Adds what a change has beside its row to the lists, and answers its row. Want of memory leaves the lists as they were.
+fn append_parts(
+    parts: Parts,
+    items: &mut Vec<Item>,
+    bytes: &mut Vec<u8>,
+    list: &mut Vec<Beside>,
+) -> Result<Row, AllocError>
+    requires { AreFit parts }
+    ensures ok { IfOk result (λ row. IsAppended (lists items.old.items bytes.old.items list.old.items) (lists items.new.items bytes.new.items list.new.items) row (change_of_parts parts)) }
+    ensures err_items { OnErr result (items.new.items ≡ items.old.items) }
+    ensures err_bytes { OnErr result (bytes.new.items ≡ bytes.old.items) }
+    ensures err_list { OnErr result (list.new.items ≡ list.old.items) }
+{
+    match parts {
+        Parts::Plain(plain) => {
+            bytes.extend_from_slice(&plain.bytes[..plain.row.bytes()])?;
+            Ok(plain.row)
+        }
+        Parts::Full(full) => append_full(Box::into_inner(full), items, bytes, list),
+    }
+}
+
+impl Packed {
+    /// No change. It takes no memory.
+    pub fn new(alloc: Global) -> Packed
+        ensures { result ≡ [] }
+    {
+        Packed {
+            rows: Vec::new(alloc),
+            items: Vec::new(alloc),
+            bytes: Vec::new(alloc),
+            beside: Vec::new(alloc),
+        }
+    }
+
+    /// The number of changes.
+    pub fn len(&self) -> u32
+        ensures len { result ≡ length self.now }
+        ensures few { result ≤ 10000000 }
+    {
+        self.rows.as_slice().len() as u32
+    }
+
+    /// Adds a change at the end. Want of memory leaves the list as it was, and the change is dropped.
+    pub fn append(&mut self, changes: Changes) -> Result<(), AllocError>
+        requires { length self.old < 10000000 }
+        ensures ok { OnOk result (self.new ≡ self.old ++ changes ∷ []) }
+        ensures err { OnErr result (self.new ≡ self.old) }
+    {
+        self.rows.reserve(1)?;
+        let row = append_parts(
+            changes.parts,
+            &mut self.items,
+            &mut self.bytes,
+            &mut self.beside,
+        )?;
+        self.rows.push_reserved(row);
+        Ok(())
+    }
+
+    /// Keeps the first changes, so many, and drops all others. It takes no memory.
+    pub fn keep(&mut self, count: u32)
+        requires { count ≤ length self.old }
+        ensures { self.new ≡ take count self.old }
+    {
+        let end = end_of(
+            &self.rows,
+            &self.items,
+            &self.bytes,
+            &self.beside,
+            count as usize,
+        );
+        self.rows.truncate(end.rows);
+        self.items.truncate(end.items);
+        self.bytes.truncate(end.bytes);
+        self.beside.truncate(end.beside);
+    }
+
+    /// Exchanges the values of a change, counted from 1, with those at its places, for which the machine has room: what
+    /// `Machine::swap_all` does with it. It takes no memory.
+    pub fn swap(&mut self, number: u32, machine: &mut Machine)
+        requires some { 0 < number }
+        requires inside { number ≤ length self.old }
+        requires can { IfSome (slice_get self.old (number - 1)) (λ x. CanSwap machine.old.whole x) }
+        requires room { IfSome (slice_get self.old (number - 1)) (λ x. HasRoom machine.old.spare x) }
+        ensures machine { IfSome (slice_get self.old (number - 1)) (λ x. IsSwapOf machine.old.whole x machine.new.whole) }
+        ensures changes { IfSome (slice_get self.old (number - 1)) (λ x. self.new ≡ slice_set self.old (number - 1) (change_after_swap machine.old.whole x)) }
+    {
+        let end = end_of(
+            &self.rows,
+            &self.items,
+            &self.bytes,
+            &self.beside,
+            number as usize,
+        );
+        let mut row = self.rows[end.rows - 1];
+        let start = end.before(&row);
+        machine.exchange_row(
+            &mut row,
+            &mut self.items[start.items..end.items],
+            &mut self.bytes[start.bytes..end.bytes],
+            &mut self.beside[start.beside..end.beside],
+        );
+        self.rows[end.rows - 1] = row;
+    }
+
+    /// A change, counted from 1, as it stands in the lists.
+    fn own(&self, number: u32) -> Own<'_>
+        requires some { 0 < number }
+        requires inside { number ≤ length self.now }
+        ensures own { IfSome (slice_get self.now (number - 1)) (λ x. IsOwnOf result x) }
+        ensures over { IsOver result.row result.items.now result.bytes.now }
+    {
+        let end = end_of(
+            &self.rows,
+            &self.items,
+            &self.bytes,
+            &self.beside,
+            number as usize,
+        );
+        let row = self.rows[end.rows - 1];
+        let start = end.before(&row);
+        Own {
+            row,
+            items: &self.items[start.items..end.items],
+            bytes: &self.bytes[start.bytes..end.bytes],
+            beside: &self.beside[start.beside..end.beside],
+        }
+    }
+
+    /// The number of places of a change, counted from 1. It takes no memory.
+    pub fn count(&self, number: u32) -> u32
+        requires some { 0 < number }
+        requires inside { number ≤ length self.now }
+        ensures { IfSome (slice_get self.now (number - 1)) (λ x. result ≡ length (places_of_change x)) }
+    {
+        self.own(number).len()
+    }
+
+    /// The place at `i`, counted from 0, of a change, counted from 1, if it has so many. It takes no memory.
+    pub fn place(&self, number: u32, i: u32) -> Option<Place>
+        requires some { 0 < number }
+        requires inside { number ≤ length self.now }
+        ensures { IfSome (slice_get self.now (number - 1)) (λ x. result ≡ slice_get (places_of_change x) i) }
+    {
+        self.own(number).place(i)
+    }
+
+    /// Adds the places of a change, counted from 1, to spans.
+    pub fn push_spans(&self, number: u32, spans: &mut Spans) -> Result<(), AllocError>
+        requires some { 0 < number }
+        requires inside { number ≤ length self.now }
+        ensures { OnOk result (IfSome (slice_get self.now (number - 1)) (λ x. AddsPlaces spans.old.items spans.new.items (places_of_change x))) }
+    {
+        self.own(number).push_spans(spans)
+    }
+
+    /// The number of the last change that alters a place, counted from 1, if one does. It takes no memory.
+    pub fn last_altering(&self, place: Place) -> Option<u32>
+        ensures { result ≡ last_altering self.now place }
+    {
+        last_of(&self.rows, &self.items, &self.bytes, &self.beside, place)
+    }
+
+    /// The values that the changes keep for bytes of storage, joined in the order of the changes and, within each, of
+    /// places. It takes no memory.
+    pub fn bytes(&self) -> &[u8]
+        ensures { result.now ≡ bytes_of_changes self.now }
+    {
+        self.bytes.as_slice()
+    }
+
+    /// The number of maximal stretches of successive bytes of storage that the last change alters; none where there is no
+    /// change. It takes no memory.
+    pub fn last_runs(&self) -> u32
+        ensures { result ≡ last_stretches self.now }
+    {
+        let number = self.len();
+        if number == 0 {
+            return 0;
+        }
+        let own = self.own(number);
+        own.row.stretches(own.items, own.bytes)
+    }
+}

@@ -1,0 +1,199 @@
+//! Rows of 16 bytes: what an event alters of the core where that is the PSW and little beside it, and
+//! else how much of it stands in lists apart.
+ghost use Rattle.std.specs.Prelude.{None, ◌≡◌, ◌<◌, ◌≤◌, ℕ, List, length, slice_get, OnOk, Some};
+ghost use Rattle.std.specs.List.{list_any};
+ghost use Rattle.s360_store.specs.Cells.{places_of_cells};
+ghost use Rattle.s360_store.specs.Places.{same_place};
+ghost use Rattle.s360_store.specs.declared.cells.Item.{Item as AnItem};
+ghost use Rattle.s360_machine.specs.Rows.{ArePartsOf, HasPlaces, IsOver, beside_of_row, bytes_of_row, cells_of_row, items_of_row};
+ghost use Rattle.s360_store.specs.Items.{cells_of_items};
+ghost use Rattle.s360_machine.specs.Stretches.{begun_by, next_after, stretches};
+ghost use Rattle.s360_machine.specs.Spans.{AddsPlaces};
+
+use crate::span::{Span, Spans, push_items, push_place, push_span};
+use s360_psw::Psw;
+use s360_store::{Item, Place, is_in_run, one_has, part_at};
+use s360_word::{RegisterNumber, Word};
+use std::alloc::AllocError;
+
+/// What an event alters. Each variant has its smallest fields first, so that none takes more than 16 bytes.
+#[derive(Clone, Copy, Debug)]
+pub(crate) enum Row {
+    /// Nothing.
+    Nothing,
+    /// The PSW.
+    Psw(Psw),
+    /// The PSW and a general register.
+    Register {
+        register: RegisterNumber,
+        word: Word,
+        psw: Psw,
+    },
+    /// The PSW and so many bytes from an address on, at least one, which stand apart.
+    Bytes {
+        count: u16,
+        address: u32,
+        psw: Psw,
+    },
+    /// Anything else: so many single cells and runs, with so many bytes, and perhaps something beside the core. They
+    /// have so many cells.
+    More {
+        beside: bool,
+        items: u32,
+        bytes: u32,
+        count: u32,
+    },
+}
+
+impl Row {
+    /// The number of single cells and runs that stand apart.
+    pub(crate) fn items(&self) -> usize
+        ensures { result ≡ items_of_row self.now }
+    {
+        match self {
+            Row::More { items, .. } => *items as usize,
+            Row::Nothing | Row::Psw(_) | Row::Register { .. } | Row::Bytes { .. } => 0,
+        }
+    }
+
+    /// The number of bytes that stand apart.
+    pub(crate) fn bytes(&self) -> usize
+        ensures { result ≡ bytes_of_row self.now }
+    {
+        match self {
+            Row::Bytes { count, .. } => usize::from(*count),
+            Row::More { bytes, .. } => *bytes as usize,
+            Row::Nothing | Row::Psw(_) | Row::Register { .. } => 0,
+        }
+    }
+
+    /// The number of changes beside the core that stand apart: one or none.
+    pub(crate) fn beside(&self) -> usize
+        ensures { result ≡ beside_of_row self.now }
+    {
+        match self {
+            Row::More { beside, .. } => usize::from(*beside),
+            Row::Nothing | Row::Psw(_) | Row::Register { .. } | Row::Bytes { .. } => 0,
+        }
+    }
+
+    /// The number of its places.
+    pub(crate) fn len(&self) -> u32
+        ensures few { (is : List AnItem) (bs : List ℕ) → IsOver self.now is bs → result ≤ 1000001 }
+        ensures len { (is : List AnItem) (bs : List ℕ) → IsOver self.now is bs → result ≡ length (cells_of_row self.now is bs) }
+    {
+        match self {
+            Row::Nothing => 0,
+            Row::Psw(_) => 1,
+            Row::Register { .. } => 2,
+            Row::Bytes { count, .. } => 1 + u32::from(*count),
+            Row::More { count, .. } => *count,
+        }
+    }
+
+    /// The place at `i`, counted from 0. The single cells and the runs are its own, and the bytes.
+    pub(crate) fn place(&self, items: &[Item], bytes: &[u8], i: u32) -> Place
+        requires over { IsOver self.now items.now bytes.now }
+        requires inside { i < length (cells_of_row self.now items.now bytes.now) }
+        ensures { slice_get (places_of_cells (cells_of_row self.now items.now bytes.now)) i ≡ Some result }
+    {
+        match self {
+            Row::More { .. } => part_at(items, bytes, i).first(),
+            Row::Register { register, .. } if i == 1 => Place::Register(register.number()),
+            Row::Bytes { address, .. } if i > 0 => Place::Byte(*address + (i - 1)),
+            Row::Nothing | Row::Psw(_) | Row::Register { .. } | Row::Bytes { .. } => Place::Psw,
+        }
+    }
+
+    /// Whether a place is among its own.
+    pub(crate) fn alters(&self, items: &[Item], place: Place) -> bool
+        ensures { (bs : List ℕ) → IsOver self.now items.now bs → result ≡ list_any (λ q. same_place q place) (places_of_cells (cells_of_row self.now items.now bs)) }
+    {
+        match self {
+            Row::Nothing => false,
+            Row::Psw(_) => Place::Psw.is(place),
+            Row::Register { register, .. } => {
+                Place::Psw.is(place) || Place::Register(register.number()).is(place)
+            }
+            Row::Bytes { count, address, .. } => {
+                Place::Psw.is(place) || is_in_run(*address, u32::from(*count), place)
+            }
+            Row::More { .. } => one_has(items, place),
+        }
+    }
+
+    /// Adds its places to spans. The single cells and the runs are its own.
+    pub(crate) fn push_spans(&self, items: &[Item], spans: &mut Spans) -> Result<(), AllocError>
+        requires over { HasPlaces self.now items.now }
+        ensures { OnOk result ((bs : List ℕ) → IsOver self.now items.now bs → AddsPlaces spans.old.items spans.new.items (places_of_cells (cells_of_row self.now items.now bs))) }
+    {
+        match self {
+            Row::Nothing => Ok(()),
+            Row::Psw(_) => push_place(spans, Place::Psw),
+            Row::Register { register, .. } => {
+                push_place(spans, Place::Psw)?;
+                push_place(spans, Place::Register(register.number()))
+            }
+            Row::Bytes { count, address, .. } => {
+                push_place(spans, Place::Psw)?;
+                let count = u32::from(*count);
+                push_span(
+                    spans,
+                    Span::Bytes {
+                        address: *address,
+                        count,
+                    },
+                )
+            }
+            Row::More { .. } => push_items(spans, items),
+        }
+    }
+
+    /// The number of maximal stretches of successive bytes among its places.
+    pub(crate) fn stretches(&self, items: &[Item], bytes: &[u8]) -> u32
+        requires { IsOver self.now items.now bytes.now }
+        ensures { result ≡ stretches None (places_of_cells (cells_of_row self.now items.now bytes.now)) }
+    {
+        match self {
+            Row::Nothing | Row::Psw(_) | Row::Register { .. } => 0,
+            Row::Bytes { .. } => 1,
+            Row::More { .. } => stretches_of(items, bytes),
+        }
+    }
+}
+
+/// How many stretches a single cell or a run begins, where the last one would go on at an address.
+fn begun_by(next: Option<u64>, item: Item) -> u32
+    ensures begun { result ≡ begun_by next item }
+    ensures few { result ≤ 1 }
+{
+    match (item, next) {
+        (Item::Single(_), _) => 0,
+        (Item::Run { address, .. }, Some(at)) if at == u64::from(address) => 0,
+        (Item::Run { .. }, _) => 1,
+    }
+}
+
+/// Where a stretch would go on behind a single cell or a run.
+fn next_after(item: Item) -> Option<u64>
+    ensures { result ≡ next_after item }
+{
+    match item {
+        Item::Single(_) => None,
+        Item::Run { address, count } => Some(u64::from(address) + u64::from(count)),
+    }
+}
+
+/// The number of maximal stretches of successive bytes among the places of single cells and runs.
+fn stretches_of(items: &[Item], bytes: &[u8]) -> u32
+    requires { ArePartsOf items.now bytes.now }
+    ensures { result ≡ stretches None (places_of_cells (cells_of_items items.now bytes.now)) }
+{
+    let mut next = None;
+    let mut count = 0;
+    for item in items {
+        count += begun_by(next, *item);
+        next = next_after(*item);
+    }
+    count
+}
