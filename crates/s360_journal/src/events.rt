@@ -56,6 +56,7 @@ impl Events {
     }
 
     /// Adds an event at the end. Want of memory leaves the events as they were.
+    #[inline(always)]
     pub(crate) fn push(&mut self, event: Event) -> Result<(), AllocError>
         ensures ok { OnOk result (self.new ≡ self.old ++ event ∷ []) }
         ensures err { OnErr result (self.new ≡ self.old) }

@@ -103,11 +103,11 @@ impl<'a> Fetched<'a> {
         ensures outcome { IfSome result (λ m. (instruction self.now.view.core).outcome ≡ outcome_of_made self.now.view m) }
         ensures within { IfSome result (λ m. IsWithin self.now.view.core m) }
     {
-        let form = self.form?;
-        if subject_of(&form, &self.view).is_some() {
+        let form = self.form.as_ref()?;
+        if subject_of(form, &self.view).is_some() {
             return None;
         }
-        made(&form, &self.view)
+        made(form, &self.view)
     }
 
     /// Plans what it does by its form, if it has one.

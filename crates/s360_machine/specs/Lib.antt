@@ -17,6 +17,7 @@ pub mod Beside
 pub mod Change
 pub mod Spans
 pub mod Rows
+pub mod PlainRows
 pub mod Stretches
 pub mod Changes
 pub mod Differences

@@ -11,6 +11,7 @@ ghost use Rattle.s360_machine.specs.Rows.{HasNoneApart, cells_of_row, psw_cell, 
 use crate::beside::Beside;
 use crate::control_change::ControlChange;
 use crate::media::MediaChange;
+use crate::plain_row::PlainRow;
 use crate::row::Row;
 use crate::short_run::{SHORT, ShortRun};
 use s360_channel::UnitChange;
@@ -24,7 +25,7 @@ use std::marker::Model;
 /// the list of its cells.
 #[derive(Debug, Drop)]
 pub(crate) struct Plain {
-    pub(crate) row: Row,
+    pub(crate) parts: PlainRow,
     /// The bytes of storage, where the row has any: the first ones.
     pub(crate) bytes: [u8; SHORT],
 }
@@ -32,13 +33,14 @@ pub(crate) struct Plain {
 impl Model for Plain {
     ghost use Rattle.std.specs.Prelude.{◌≡◌, [], List, length, take};
     ghost use Rattle.s360_store.specs.declared.place.Cell.{Cell};
+    ghost use Rattle.s360_machine.specs.PlainRows.{row_of};
     ghost use Rattle.s360_machine.specs.Rows.{IsPlain, bytes_of_row, cells_of_row};
 
     ghost Value = { List Cell };
 
-    ghost view = { λ p. cells_of_row p.row [] (take (bytes_of_row p.row) p.bytes) };
+    ghost view = { λ p. cells_of_row (row_of p.parts) [] (take (bytes_of_row (row_of p.parts)) p.bytes) };
 
-    ghost invariant = { λ p. IsPlain p.row × (length p.bytes ≡ 8) };
+    ghost invariant = { λ p. IsPlain (row_of p.parts) × (length p.bytes ≡ 8) };
 }
 
 /// What an event alters of the core and beside it.
@@ -83,7 +85,7 @@ impl Plain {
         ensures { result ≡ cells_of_row row [] [] }
     {
         Plain {
-            row,
+            parts: PlainRow::of(row),
             bytes: [0; SHORT],
         }
     }
@@ -125,7 +127,7 @@ impl Plain {
             psw,
         };
         Plain {
-            row,
+            parts: PlainRow::of(row),
             bytes: run.bytes(),
         }
     }
@@ -232,7 +234,7 @@ impl Changes {
         ensures { result ≡ length (places_of_change self.now) }
     {
         match &self.parts {
-            Parts::Plain(plain) => plain.row.len(),
+            Parts::Plain(plain) => plain.parts.row().len(),
             Parts::Full(full) => full.cells.len() + full.beside.places().len() as u32,
         }
     }
@@ -242,9 +244,10 @@ impl Changes {
         ensures { result ≡ slice_get (places_of_change self.now) i }
     {
         match &self.parts {
-            Parts::Plain(plain) if i < plain.row.len() => {
-                let bytes = &plain.bytes[..plain.row.bytes()];
-                Some(plain.row.place(&[], bytes, i))
+            Parts::Plain(plain) if i < plain.parts.row().len() => {
+                let row = plain.parts.row();
+                let bytes = &plain.bytes[..row.bytes()];
+                Some(row.place(&[], bytes, i))
             }
             Parts::Plain(_) => None,
             Parts::Full(full) if i < full.cells.len() => Some(full.cells.cell(i).place),

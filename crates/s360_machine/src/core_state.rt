@@ -15,6 +15,7 @@ ghost use Rattle.s360_logic.specs.Instruction.{PlansInstruction, instruction};
 ghost use Rattle.s360_machine.specs.Rows.{HasSameCounts, IsOver, cells_of_row};
 
 use crate::changes::Plain;
+use crate::plain_row::PlainRow;
 use crate::row::Row;
 use s360_fixed::ProgramCode;
 use s360_logic::{Fetched, PlannedInstruction};
@@ -258,9 +259,11 @@ impl Core {
         ensures cells { plain.new ≡ cells_after_exchange self.old plain.old }
         ensures fit { AllFit plain.new }
     {
-        let count = plain.row.bytes();
+        let mut row = plain.parts.row();
+        let count = row.bytes();
         let mut bytes = plain.bytes;
-        self.exchange_row(&mut plain.row, &mut [], &mut bytes[..count]);
+        self.exchange_row(&mut row, &mut [], &mut bytes[..count]);
+        plain.parts = PlainRow::of(row);
         plain.bytes = bytes;
     }
 

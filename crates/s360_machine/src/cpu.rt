@@ -72,17 +72,20 @@ impl Machine {
     }
 
     /// What a CPU event alters.
+    #[inline(always)]
     pub(crate) fn changes_of_cpu(&self) -> Result<Changes, AllocError>
         ensures { IfOk result (λ changes. IsChangeTo self.now.whole changes (after_cpu (seen self.now.whole))) }
     {
         match self.cpu_case() {
             CpuCase::Executing => self.changes_of_instruction(),
-            CpuCase::Interrupted(class) => self.changes_of_interruption(class),
+            // Put together anew, as below.
+            CpuCase::Interrupted(class) => Ok(self.changes_of_interruption(class)?),
             CpuCase::Halted | CpuCase::Waiting => Ok(Changes::of_core(Plain::nothing())),
         }
     }
 
     /// What an interruption alters.
+    #[inline(never)]
     fn changes_of_interruption(&self, class: Class) -> Result<Changes, AllocError>
         ensures { IfOk result (λ changes. IsChangeTo self.now.whole changes (after_case (Interrupted class) (seen self.now.whole))) }
     {
@@ -118,13 +121,15 @@ impl Machine {
     }
 
     /// What an instruction alters, with the program or the supervisor call interruption that it causes.
+    #[inline(always)]
     fn changes_of_instruction(&self) -> Result<Changes, AllocError>
         ensures { IfOk result (λ changes. IsChangeTo self.now.whole changes (after_instruction (seen self.now.whole))) }
     {
         let fetched = self.core.fetch();
         match self.altered_by(&fetched) {
             Some(plain) => Ok(Changes::of_core(plain)),
-            None => self.changes_of_plan(&fetched),
+            // Put together anew, so that what a call stores to is not where a plain change is: that stays in registers.
+            None => Ok(self.changes_of_plan(&fetched)?),
         }
     }
 
@@ -151,8 +156,9 @@ impl Machine {
         let Ok(fetched) = fetched else {
             return None;
         };
-        let made = fetched.made()?;
-        self.core.altered_by(fetched.view(), &made)
+        // Lent and not moved, which costs less.
+        let made = fetched.made();
+        self.core.altered_by(fetched.view(), made.as_ref()?)
     }
 
     /// Plans the end of an instruction that was planned, with the program or the supervisor call interruption that it

@@ -23,6 +23,7 @@ mod machine;
 mod media;
 mod operator;
 mod packed;
+mod plain_row;
 mod refusal;
 mod row;
 mod run_state;

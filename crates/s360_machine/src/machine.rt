@@ -202,6 +202,7 @@ impl Machine {
     }
 
     /// What an event alters, or why it is refused.
+    #[inline(always)]
     pub fn plan(&self, event: &Event) -> Result<Changes, Refusal>
         ensures ok { IfOk result (λ changes. IsChangeTo self.now.whole changes (after (seen self.now.whole) event.now)) }
         ensures refused { MatchOption (refusal_of (storage_size (seen self.now.whole)) event.now) (IsOkUnless result Memory) (λ r. result ≡ Err r) }
@@ -238,16 +239,17 @@ impl Machine {
     }
 
     /// What an event alters, unless it is refused for its own sake (refusals 2 to 5).
+    #[inline(always)]
     fn changes_of(&self, event: &Event) -> Result<Changes, AllocError>
         requires accepted { refusal_of (storage_size (seen self.now.whole)) event.now ≡ None }
         ensures { IfOk result (λ changes. IsChangeTo self.now.whole changes (after (seen self.now.whole) event.now)) }
     {
         match event {
             Event::Cpu => self.changes_of_cpu(),
-            Event::Channel(unit) => self.changes_of_channel(*unit),
-            Event::Tick => self.changes_of_tick(),
-            Event::Key(key) => self.changes_of_key(key),
-            Event::Patch(patch) => self.changes_of_patch(patch),
+            Event::Channel(unit) => Ok(self.changes_of_channel(*unit)?),
+            Event::Tick => Ok(self.changes_of_tick()?),
+            Event::Key(key) => Ok(self.changes_of_key(key)?),
+            Event::Patch(patch) => Ok(self.changes_of_patch(patch)?),
         }
     }
 
@@ -294,6 +296,7 @@ impl Machine {
     }
 
     /// Makes room for a change, after which its exchange takes no memory. The whole is as before.
+    #[inline(always)]
     pub fn room(&mut self, changes: &Changes) -> Result<(), AllocError>
         ensures whole { self.new.whole ≡ self.old.whole }
         ensures ok { OnOk result (HasRoom self.new.spare changes.now) }
@@ -339,6 +342,7 @@ impl Machine {
     }
 
     /// Exchanges what stands beside the core with what an event alters of it, for which there is room.
+    #[inline(never)]
     fn exchange_beside(&mut self, beside: &mut Beside)
         requires can { CanIfAny CanSwapMedia self.old.whole.media beside.old.media }
         requires room { IfSome beside.old.media (λ x. media_needs x ≤ room_for self.old.spare (unit_of_change x)) }

@@ -1,6 +1,6 @@
 //! The changes of the journal, in little memory: a row of 16 bytes for each, all bytes of storage that they alter in one
 //! buffer, and what is rarer in lists apart.
-ghost use Rattle.std.specs.Prelude.{◌≡◌, ◌<◌, ◌≤◌, ◌-◌, ◌++◌, ◌∷◌, [], false, length, reverse, slice_get, slice_set, take, vec_capacity, vec_len, IfOk, IfSome, IsTrue, OnErr, OnOk};
+ghost use Rattle.std.specs.Prelude.{◌≡◌, ◌<◌, ◌≤◌, ◌-◌, ◌++◌, ◌∷◌, [], false, length, reverse, slice_get, slice_set, take, vec_capacity, vec_len, IfOk, IfSome, IsTrue, OnErr, OnOk, box_value};
 ghost use Rattle.std.specs.List.{list_any};
 ghost use Rattle.s360_store.specs.Cells.{AllFit};
 ghost use Rattle.s360_store.specs.Places.{same_place};
@@ -192,20 +192,21 @@ fn push_if_any(list: &mut Vec<Beside>, beside: Beside) -> bool
 }
 
 /// Adds what a change has of the core and beside it to the lists, and answers its row. Want of memory leaves the lists as
-/// they were.
+/// they were. It stands apart, since few changes are such.
+#[inline(never)]
 fn append_full(
-    full: Full,
+    full: Box<Full>,
     items: &mut Vec<Item>,
     bytes: &mut Vec<u8>,
     list: &mut Vec<Beside>,
 ) -> Result<Row, AllocError>
-    requires { AllFit full.cells }
-    ensures ok { IfOk result (λ row. IsAppended (lists items.old.items bytes.old.items list.old.items) (lists items.new.items bytes.new.items list.new.items) row (change_of full.cells full.beside)) }
+    requires { AllFit (box_value full).cells }
+    ensures ok { IfOk result (λ row. IsAppended (lists items.old.items bytes.old.items list.old.items) (lists items.new.items bytes.new.items list.new.items) row (change_of (box_value full).cells (box_value full).beside)) }
     ensures err_items { OnErr result (items.new.items ≡ items.old.items) }
     ensures err_bytes { OnErr result (bytes.new.items ≡ bytes.old.items) }
     ensures err_list { OnErr result (list.new.items ≡ list.old.items) }
 {
-    let Full { cells, beside } = full;
+    let Full { cells, beside } = Box::into_inner(full);
     let (items_before, bytes_before) = (items.as_slice().len(), bytes.as_slice().len());
     list.reserve(1)?;
     cells.append_to(items, bytes)?;
@@ -219,6 +220,7 @@ fn append_full(
 }
 
 /// Adds what a change has beside its row to the lists, and answers its row. Want of memory leaves the lists as they were.
+#[inline(always)]
 fn append_parts(
     parts: Parts,
     items: &mut Vec<Item>,
@@ -233,10 +235,15 @@ fn append_parts(
 {
     match parts {
         Parts::Plain(plain) => {
-            bytes.extend_from_slice(&plain.bytes[..plain.row.bytes()])?;
-            Ok(plain.row)
+            let row = plain.parts.row();
+            if row.bytes() == 0 {
+                // Most have none, and a copy of none is a call.
+                return Ok(row);
+            }
+            bytes.extend_from_slice(&plain.bytes[..row.bytes()])?;
+            Ok(row)
         }
-        Parts::Full(full) => append_full(Box::into_inner(full), items, bytes, list),
+        Parts::Full(full) => append_full(full, items, bytes, list),
     }
 }
 
@@ -262,6 +269,7 @@ impl Packed {
     }
 
     /// Adds a change at the end. Want of memory leaves the list as it was, and the change is dropped.
+    #[inline(always)]
     pub fn append(&mut self, changes: Changes) -> Result<(), AllocError>
         requires { length self.old < 10000000 }
         ensures ok { OnOk result (self.new ≡ self.old ++ changes ∷ []) }
@@ -313,15 +321,14 @@ impl Packed {
             &self.beside,
             number as usize,
         );
-        let mut row = self.rows[end.rows - 1];
-        let start = end.before(&row);
+        let row = &mut self.rows[end.rows - 1];
+        let start = end.before(row);
         machine.exchange_row(
-            &mut row,
+            row,
             &mut self.items[start.items..end.items],
             &mut self.bytes[start.bytes..end.bytes],
             &mut self.beside[start.beside..end.beside],
         );
-        self.rows[end.rows - 1] = row;
     }
 
     /// A change, counted from 1, as it stands in the lists.

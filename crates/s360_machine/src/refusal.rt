@@ -65,6 +65,7 @@ impl From<AllocError> for Refusal {
 impl Machine {
     /// Why an event is refused whatever the machine's state, by the event and the storage size
     /// alone.
+    #[inline(always)]
     pub fn refusal(&self, event: &Event) -> Option<Refusal>
         ensures { result ≡ refusal_of (storage_size (seen self.now.whole)) event.now }
     {

@@ -1,5 +1,6 @@
 use Rattle.std.proofs.Common.{◌≡◌, ◌≤◌, ◌-◌, ◌++◌, ◌∷◌, ◌∙◌, [], List, ap, sym, length, arith}
 use Rattle.std.proofs.lemmas.List.{length-append}
+use Rattle.s360_store.specs.Cells.{AllFit}
 use Rattle.s360_store.specs.Items.{Appended}
 use Rattle.s360_machine.specs.declared.beside.Beside.{Beside}
 use Rattle.s360_machine.proofs.PackedLemmas.{appended-full, bytes-few, items-few}
@@ -17,9 +18,11 @@ overflow_cast-result-2 c =
 
 pub returns-clause-ok : goal.returns-clause-ok
 returns-clause-ok c =
-    appended-full c.args.items.now.items c.append_to.new.items.items c.args.bytes.now.items c.append_to.new.bytes.items c.args.list.now.items c.push_if_any-beside.new.list.items c.args.full.cells c.args.full.beside
-    c.push_if_any-beside.result _ _ c.len.result c.in_ok-append_to.ensures.ok c.requires
-    (λ e. c.push_if_any-beside.ensures.some e ∙ ap (λ (l : List Beside). l ++ c.args.full.beside ∷ []) c.in_ok-reserve.ensures.items)
+    let x = c.into_inner-cells.result
+    in let fit : AllFit x.cells = rw c.into_inner-cells.ensures c.requires
+    in rw (← c.into_inner-cells.ensures) (appended-full c.args.items.now.items c.append_to.new.items.items c.args.bytes.now.items c.append_to.new.bytes.items c.args.list.now.items c.push_if_any-beside.new.list.items x.cells x.beside
+    c.push_if_any-beside.result _ _ c.len.result c.in_ok-append_to.ensures.ok fit
+    (λ e. c.push_if_any-beside.ensures.some e ∙ ap (λ (l : List Beside). l ++ x.beside ∷ []) c.in_ok-reserve.ensures.items)
     (λ e. ((c.push_if_any-beside.ensures.none e).0 ∙ c.in_ok-reserve.ensures.items, (c.push_if_any-beside.ensures.none e).1))
     (omega (arith, ap length c.as_slice-3.ensures.value, ap length c.as_slice.ensures.value))
-    (omega (arith, ap length c.as_slice-4.ensures.value, ap length c.as_slice-2.ensures.value)) c.len.ensures.len
+    (omega (arith, ap length c.as_slice-4.ensures.value, ap length c.as_slice-2.ensures.value)) c.len.ensures.len)

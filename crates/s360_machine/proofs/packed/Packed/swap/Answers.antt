@@ -17,11 +17,11 @@ before c = lists c.self.inside.items.items c.self.inside.bytes.items c.self.insi
 ended : (c : After-exchange_row-arg-4-1) → IsEnd c.self.inside.rows.items (before c) c.end_of-end.result
 ended c = rw (c.deref.ensures.value, c.deref-2.ensures.value, c.deref-3.ensures.value, c.deref-4.ensures.value) at c.end_of-end.ensures.end
 
-there : (c : After-exchange_row-arg-4-1) → There c.self.inside.rows.items (before c) c.index.result.now
+there : (c : After-exchange_row-arg-4-1) → There c.self.inside.rows.items (before c) c.index_mut-row.result.now
     (slices (lists c.deref_mut.result.now c.deref_mut-2.result.now c.deref_mut-3.result.now) c.before-start.result c.end_of-end.result) c.args.number
 there c =
     own-there c.self.inside.rows.items (before c) (lists c.deref_mut.result.now c.deref_mut-2.result.now c.deref_mut-3.result.now)
-    c.end_of-end.result c.before-start.result c.index.result.now c.args.number (ended c) c.end_of-end.ensures.rows c.requires.some c.index.ensures c.before-start.ensures
+    c.end_of-end.result c.before-start.result c.index_mut-row.result.now c.args.number (ended c) c.end_of-end.ensures.rows c.requires.some c.index_mut-row.ensures.value c.before-start.ensures
     (same-lists _ _ c.deref_mut.ensures.value c.deref_mut-2.ensures.value c.deref_mut-3.ensures.value)
 
 pub exchange_row-requires-clause-over : goal.exchange_row-requires-clause-over
@@ -52,8 +52,8 @@ swapped c =
     let end : IsEnd c.self.inside.rows.items (first c) c.end_of-end.result
     = rw (c.deref.ensures.value, c.deref-2.ensures.value, c.deref-3.ensures.value, c.deref-4.ensures.value) at c.end_of-end.ensures.end
     in swapped-there c.self.inside.rows.items (lists c.deref_mut.result.now c.deref_mut-2.result.now c.deref_mut-3.result.now) (first c)
-    (lists c.exchange_row.new.items c.exchange_row.new.bytes c.exchange_row.new.beside) (after c) c.end_of-end.result c.before-start.result c.index.result.now c.exchange_row.new.row
-    c.self.inside.items.len c.self.inside.bytes.len c.self.inside.beside.len end (omega (arith, c.end_of-end.ensures.rows, c.requires.some)) c.index.ensures c.before-start.ensures
+    (lists c.exchange_row.new.items c.exchange_row.new.bytes c.exchange_row.new.beside) (after c) c.end_of-end.result c.before-start.result c.index_mut-row.result.now c.exchange_row.new.row
+    c.self.inside.items.len c.self.inside.bytes.len c.self.inside.beside.len end (omega (arith, c.end_of-end.ensures.rows, c.requires.some)) c.index_mut-row.ensures.value c.before-start.ensures
     c.exchange_row.ensures.same c.exchange_row.ensures.over
     (record { len = sym c.deref-2.ensures.len ∙ ap length c.deref-2.ensures.value; same = c.deref_mut.ensures.value; as_many = c.exchange_row.auto.items; is = refl })
     (record { len = sym c.deref-3.ensures.len ∙ ap length c.deref-3.ensures.value; same = c.deref_mut-2.ensures.value; as_many = c.exchange_row.auto.bytes; is = refl })

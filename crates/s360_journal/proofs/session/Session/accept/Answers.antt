@@ -8,8 +8,8 @@ use Rattle.s360_journal.specs.History.{AreHistory, entries_of, unwound}
 use Rattle.s360_journal.specs.Standing.{Standing, machine_of, refusal_in}
 use Rattle.s360_journal.proofs.ForwardLemmas.{or_full-None, or_full-room}
 use Rattle.s360_journal.proofs.SessionLemmas.{advanced, found-last, machine_of-session}
-use Rattle.s360_journal.proofs.session.Session.advance.Goals as goal
-use Rattle.s360_journal.proofs.session.Session.advance.Goals.{After-swap}
+use Rattle.s360_journal.proofs.session.Session.accept.Goals as goal
+use Rattle.s360_journal.proofs.session.Session.accept.Goals.{After-swap}
 
 pub returns-in-Err-clause-refused : goal.returns-in-Err-clause-refused
 returns-in-Err-clause-refused c =
