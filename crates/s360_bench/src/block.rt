@@ -20,8 +20,10 @@ const WORD_AT: u32 = 0x200;
 /// Read 65,535 bytes to 1000.
 const READ: [u8; 8] = [0x02, 0x00, 0x10, 0x00, 0x00, 0x00, 0xFF, 0xFF];
 
-/// The header of a whole block of so many bytes in a tape's file.
-const HEADER: [u8; 6] = [0xFF, 0xFF, 0x00, 0x00, 0xA0, 0x00];
+/// The header of a whole block of so many bytes in a tape's file, where it is the first, and where one as long is before it.
+const FIRST_HEADER: [u8; 6] = [0xFF, 0xFF, 0x00, 0x00, 0xA0, 0x00];
+
+const LATER_HEADER: [u8; 6] = [0xFF, 0xFF, 0xFF, 0xFF, 0xA0, 0x00];
 
 /// Each byte of the block, which alters a byte of zero.
 const FILLING: u8 = 0xC1;
@@ -44,7 +46,7 @@ pub(crate) fn measure_block<R: Clock>(
     let mut storage = Storage::new(alloc, size)?;
     let mut word = READ;
     exchange(&mut storage, WORD_AT, &mut word);
-    let tape = tape_of_a_block(alloc)?;
+    let tape = tape_of_blocks(alloc, &[FILLING])?;
     let (mut forward_time, mut back_time) = (Duration::ZERO, Duration::ZERO);
     let mut bytes: u64 = 0;
     for _ in 0..events {
@@ -61,17 +63,23 @@ pub(crate) fn measure_block<R: Clock>(
         forward: a_second(u64::from(events), forward_time),
         back: a_second(u64::from(events), back_time),
         memory: None,
-        moved: Some(Moved::Blocks {
+        moved: Some(Moved::Both {
             forward: a_second(bytes, forward_time),
             back: a_second(bytes, back_time),
         }),
     })
 }
 
-/// A tape with the block, at its load point.
-fn tape_of_a_block(alloc: Global) -> Result<Tape, BenchFault> {
-    let mut file = Vec::from_slice(alloc, &HEADER)?;
-    file.resize(HEADER.len() + BLOCK, FILLING)?;
+/// A tape with a block for each byte, which it is filled with, at its load point.
+pub(crate) fn tape_of_blocks(alloc: Global, fillings: &[u8]) -> Result<Tape, BenchFault> {
+    let mut file = Vec::new(alloc);
+    let mut header = FIRST_HEADER;
+    for filling in fillings {
+        let block = vec![in alloc; *filling; BLOCK]?;
+        file.extend_from_slice(&header)?;
+        file.extend_from_slice(&block)?;
+        header = LATER_HEADER;
+    }
     Ok(tape_from(alloc, &file, true)?)
 }
 

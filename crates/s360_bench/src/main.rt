@@ -24,7 +24,7 @@ fn main(rt: HostRuntime) -> ExitCode {
     let Some((named, events, size)) = arguments(&rt) else {
         let _ = eprintln!(rt; "usage: s360_bench [LOOP] EVENTS STORAGE");
         let _ = eprintln!(rt;
-            "LOOP is fixed (where none is given), mvc, xc, tr, pack, clc, svc, cards or block"
+            "LOOP is fixed (where none is given), mvc, xc, tr, pack, clc, svc, cards, blocks or block"
         );
         return ExitCode::from(USAGE);
     };

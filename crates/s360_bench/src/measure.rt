@@ -1,11 +1,12 @@
 //! What is measured of a session: time and memory of events that are run forward and taken back.
 use crate::bench_fault::BenchFault;
+use crate::block::tape_of_blocks;
 use crate::measured::{Measured, Moved, a_second};
 use crate::workload::{Filling, START, Workload};
 use s360_device::{COLUMNS, Deck, deck_from};
 use s360_journal::Session;
 use s360_machine::{Bytes, Event, Machine, Patch};
-use s360_tape::blank_tape;
+use s360_tape::{Tape, blank_tape};
 use s360_word::{RegisterNumber, Word};
 use std::alloc::Global;
 use std::fs;
@@ -26,7 +27,11 @@ pub(crate) fn measure<R: Clock + Files>(
     events: u32,
     size: u32,
 ) -> Result<Measured, BenchFault> {
-    let mut session = new_session(alloc, workload.cards(events), size)?;
+    let tape = match workload.reads_blocks() {
+        true => tape_of_blocks(alloc, &[0x01, 0x02])?,
+        false => blank_tape(alloc),
+    };
+    let mut session = new_session(alloc, workload.cards(events), tape, size)?;
     let measured = measure_session(rt, alloc, &mut session, workload, events);
     session.end();
     measured
@@ -58,7 +63,7 @@ fn measure_session<R: Clock + Files>(
         forward: a_second(u64::from(events), forward_time),
         back: a_second(u64::from(events), back_time),
         memory: bytes_of_each(before, after, events),
-        moved: operand_bytes.map(|bytes| Moved::Operands(a_second(bytes, forward_time))),
+        moved: operand_bytes.map(|bytes| Moved::Forward(a_second(bytes, forward_time))),
     })
 }
 
@@ -76,10 +81,10 @@ fn make_ready(session: &mut Session, alloc: Global, workload: Workload) -> Resul
     Ok(())
 }
 
-/// A session over a new machine of so many bytes, with so many cards in its reader.
-fn new_session(alloc: Global, cards: u32, size: u32) -> Result<Session, BenchFault> {
+/// A session over a new machine of so many bytes, with so many cards in its reader and a tape.
+fn new_session(alloc: Global, cards: u32, tape: Tape, size: u32) -> Result<Session, BenchFault> {
     let deck = deck_of(alloc, cards)?;
-    let machine = Machine::new(alloc, size, deck, blank_tape(alloc), blank_tape(alloc))?;
+    let machine = Machine::new(alloc, size, deck, tape, blank_tape(alloc))?;
     Ok(Session::new(alloc, machine, LIMIT))
 }
 

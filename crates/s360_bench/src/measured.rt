@@ -11,10 +11,10 @@ const TENTH: u128 = 100_000;
 /// Bytes a second that events work on.
 #[derive(Clone, Copy, Debug)]
 pub(crate) enum Moved {
-    /// Bytes of first operands, forward.
-    Operands(u128),
-    /// Bytes of blocks, forward and back.
-    Blocks { forward: u128, back: u128 },
+    /// Forward.
+    Forward(u128),
+    /// Forward and back.
+    Both { forward: u128, back: u128 },
 }
 
 /// Events a second each way, bytes of memory an event where the host tells them, and bytes a second
@@ -48,11 +48,11 @@ impl Display for Measured {
         }
         match self.moved {
             None => Ok(()),
-            Some(Moved::Operands(bytes)) => {
+            Some(Moved::Forward(bytes)) => {
                 let bytes = Millions(bytes);
-                write!(f, ", {bytes} million operand bytes a second forward")
+                write!(f, ", {bytes} million bytes a second forward")
             }
-            Some(Moved::Blocks { forward, back }) => {
+            Some(Moved::Both { forward, back }) => {
                 let (forward, back) = (Millions(forward), Millions(back));
                 write!(f, ", {forward} million bytes a second forward, {back} back")
             }

@@ -51,6 +51,15 @@ const READ_CARDS: [u8; 16] = [
     0x02, 0x00, 0x05, 0x00, 0x40, 0x00, 0x00, 0x50, 0x08, 0x00, 0x04, 0x00, 0x00, 0x00, 0x00, 0x00,
 ];
 
+/// SIO 180. The word at 48 is the address of the tape's channel program.
+const START_TAPE: [u8; 4] = [0x9C, 0x00, 0x01, 0x80];
+
+/// Read two blocks of 65,535 bytes to 10000 and rewind, each chained to the next command; transfer in channel to 400.
+const READ_BLOCKS: [u8; 32] = [
+    0x02, 0x01, 0x00, 0x00, 0x40, 0x00, 0xFF, 0xFF, 0x02, 0x01, 0x00, 0x00, 0x40, 0x00, 0xFF, 0xFF,
+    0x07, 0x00, 0x00, 0x00, 0x40, 0x00, 0x00, 0x01, 0x08, 0x00, 0x04, 0x00, 0x00, 0x00, 0x00, 0x00,
+];
+
 /// What the bytes of an area are.
 #[derive(Clone, Copy, Debug)]
 pub(crate) enum Filling {
@@ -77,17 +86,17 @@ impl Filling {
     }
 }
 
-/// So many storage-to-storage instructions in a pass, which a branch follows, each with a first
-/// operand of so many bytes.
+/// So many events of a pass move so many bytes each, and one that moves none follows them: instructions with operands in
+/// storage and a branch, or command words that read blocks and one that rewinds the tape.
 #[derive(Clone, Copy, Debug)]
 struct Operands(u8, u16);
 
 impl Operands {
-    /// The bytes of the first operands of so many events from the start of a pass on.
+    /// The bytes that so many events move from the start of a pass on.
     fn bytes_within(self, events: u32) -> u64 {
-        let Operands(instructions, bytes) = self;
-        let branches = events / (u32::from(instructions) + 1);
-        u64::from(events - branches) * u64::from(bytes)
+        let Operands(moving, bytes) = self;
+        let others = events / (u32::from(moving) + 1);
+        u64::from(events - others) * u64::from(bytes)
     }
 }
 
@@ -98,6 +107,8 @@ enum Turn {
     Instruction,
     /// The card reader's channel executes a command word, which reads a card.
     Card,
+    /// The first tape's channel executes a command word, which reads a block or rewinds the tape.
+    Block,
 }
 
 /// What a loop is: its name, what its events are, its instructions, the areas and the runs of bytes
@@ -190,6 +201,15 @@ static CARDS_ROW: Row = Row {
     operands: None,
 };
 
+static BLOCKS_ROW: Row = Row {
+    name: "blocks",
+    turn: Turn::Block,
+    program: &START_TAPE,
+    areas: &[],
+    runs: &[(0x48, &CHANNEL_ADDRESS), (0x400, &READ_BLOCKS)],
+    operands: Some(Operands(2, 65_535)),
+};
+
 /// A loop.
 #[derive(Clone, Copy, Debug, PartialEq, Eq)]
 pub(crate) enum Workload {
@@ -209,10 +229,12 @@ pub(crate) enum Workload {
     SupervisorCall,
     /// Cards, read by a channel program that one START I/O begins.
     Cards,
+    /// Two tape blocks that differ in each byte, read in turns to the same place by such a program.
+    Blocks,
 }
 
 /// Each loop.
-const WORKLOADS: [Workload; 8] = [
+const WORKLOADS: [Workload; 9] = [
     Workload::Fixed,
     Workload::Move,
     Workload::ExclusiveOr,
@@ -221,6 +243,7 @@ const WORKLOADS: [Workload; 8] = [
     Workload::CompareLogical,
     Workload::SupervisorCall,
     Workload::Cards,
+    Workload::Blocks,
 ];
 
 impl Workload {
@@ -241,20 +264,26 @@ impl Workload {
         match self.row().turn {
             Turn::Instruction => Event::Cpu,
             Turn::Card => Event::Channel(ConfiguredUnit::Reader.unit()),
+            Turn::Block => Event::Channel(ConfiguredUnit::Tape0.unit()),
         }
     }
 
     /// Whether its events are those of a channel, which its instructions start.
     pub(crate) fn is_started(self) -> bool {
-        self.row().turn == Turn::Card
+        self.row().turn != Turn::Instruction
     }
 
     /// The number of cards that so many of its events read.
     pub(crate) fn cards(self, events: u32) -> u32 {
         match self.row().turn {
-            Turn::Instruction => 0,
+            Turn::Instruction | Turn::Block => 0,
             Turn::Card => events,
         }
+    }
+
+    /// Whether its events read blocks of a tape.
+    pub(crate) fn reads_blocks(self) -> bool {
+        self.row().turn == Turn::Block
     }
 
     /// The areas that are patched, with their addresses.
@@ -267,8 +296,7 @@ impl Workload {
         self.row().runs
     }
 
-    /// The bytes of first operands that so many of its events store or compare, where they are
-    /// counted.
+    /// The bytes that so many of its events move or compare, where they are counted.
     pub(crate) fn operand_bytes(self, events: u32) -> Option<u64> {
         Some(self.row().operands?.bytes_within(events))
     }
@@ -283,6 +311,7 @@ impl Workload {
             Workload::CompareLogical => &COMPARE_LOGICAL_ROW,
             Workload::SupervisorCall => &SUPERVISOR_CALL_ROW,
             Workload::Cards => &CARDS_ROW,
+            Workload::Blocks => &BLOCKS_ROW,
         }
     }
 }

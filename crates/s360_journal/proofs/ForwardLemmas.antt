@@ -1,5 +1,6 @@
 -- What an accepted event adds to the journal.
-use Rattle.std.proofs.Common.{◌≡◌, ◌<◌, ◌++◌, ℕ, List, [], ◌∷◌, refl, ap, sym, ◌∙◌, reverse, subst, Bool, true, false, Option, Some, None, Ok, nat_lt, cond}
+use Rattle.std.proofs.Common.{◌≡◌, ◌<◌, ◌++◌, ℕ, List, [], ◌∷◌, refl, ap, sym, ◌∙◌, reverse, subst, Bool, true, false, Option, Some, None, Result, Ok, Err, nat_lt, cond}
+use Rattle.std.specs.Result.{IsErrAnd, IsOkUnless}
 use Rattle.std.proofs.lemmas.Bool.{ltb-true}
 use Rattle.std.proofs.lemmas.List.{reverse-append}
 use Rattle.s360_machine.specs.declared.event.Event.{Event}
@@ -14,6 +15,11 @@ use Rattle.s360_machine.specs.Planned.{IsChangeTo}
 use Rattle.s360_journal.specs.Standing.{or_full}
 use Rattle.s360_journal.specs.History.{Entry, IsHistory}
 use Rattle.s360_journal.proofs.HistoryLemmas.{step-Ok, IsHistory-push, places_of_change-after}
+
+-- an error that a call passes on
+pub unless-there : {A : Type 0} (r : Result A Refusal) (P : Refusal → Type 0) (e : Refusal) → IsErrAnd r P → ((x : Refusal) → P x → x ≡ e) → IsOkUnless r e
+unless-there (Ok a) P e h f = absurd h
+unless-there (Err x) P e h f = f x h
 
 -- where nothing refuses, the event does not, and the journal has room
 pub or_full-None : (o : Option Refusal) (count limit : ℕ) → or_full o count limit ≡ None → o ≡ None

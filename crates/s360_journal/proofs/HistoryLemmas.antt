@@ -1,8 +1,7 @@
 -- A session's machine is its start with the standing events run again.
 use Rattle.std.proofs.Common.{arith, ◌+◌, ◌≡◌, ◌-◌, ◌++◌, ℕ, zero, suc, length, List, [], ◌∷◌, refl, ap, sym, ◌∙◌, map, reverse, subst, Option, Some, None, Ok}
-use Rattle.std.proofs.lemmas.List.{reverse-append, reverse-reverse, map_push, length-map, length-append}
+use Rattle.std.proofs.lemmas.List.{reverse-append, reverse-reverse, map_push, length-append}
 use Rattle.std.proofs.lemmas.Option.{slice_get-get_or}
-use Rattle.std.specs.Option.{option_map}
 use Rattle.std.specs.List.{slice_get}
 use Rattle.s360_machine.specs.declared.event.Event.{Event}
 use Rattle.s360_machine.specs.declared.refusal.Refusal.{Refusal}
@@ -13,7 +12,7 @@ use Rattle.s360_machine.specs.Change.{Change, CanSwap, NeedsNoRoom, after_swap, 
 use Rattle.s360_machine.proofs.SwapLemmas.{places_of_change-after_swap}
 use Rattle.s360_machine.specs.Differences.{differences}
 use Rattle.s360_journal.specs.Rerun.{rerun, AreAccepted}
-use Rattle.s360_journal.specs.Standing.{Standing, IsAfter, machine_of, alteration, last_of}
+use Rattle.s360_journal.specs.Standing.{Standing, IsAfter, machine_of, alteration}
 use Rattle.s360_journal.specs.History.{Entry, unwound, IsHistory}
 
 -- what an event that steps says
@@ -93,16 +92,6 @@ pub machine_of-view : (w : Whole) (xs : List Entry) (limit : ℕ) (s : Standing)
     → record { start = unwound w (reverse xs); events = map (λ (x : Entry). x.event) xs; limit = limit } ≡ s → seen w ≡ machine_of s
 machine_of-view w xs limit s h e = sym (rerun-unwound w xs h) ∙ ap (λ t. machine_of t) e
 
--- the event of the last entry is the last event
-slice_get-events : (xs : List Entry) (i : ℕ) → slice_get (map (λ (x : Entry). x.event) xs) i ≡ option_map (λ (x : Entry). x.event) (slice_get xs i)
-slice_get-events [] i = refl
-slice_get-events (x ∷ xs) zero = refl
-slice_get-events (x ∷ xs) (suc i) = slice_get-events xs i
-
-pub last_of-events : (xs : List Entry) → last_of (map (λ (x : Entry). x.event) xs) ≡ option_map (λ (x : Entry). x.event) (slice_get xs (length xs - 1))
-last_of-events xs =
-    ap (λ n. slice_get (map (λ (x : Entry). x.event) xs) (n - 1)) (length-map xs (λ (x : Entry). x.event)) ∙ slice_get-events xs (length xs - 1)
-
 -- the last of a list that is not empty
 last-at : {X : Type 0} (xs : List X) (n : ℕ) (x : X) → n + 1 ≡ length xs → slice_get xs n ≡ Some x → (ys : List X) × (xs ≡ ys ++ x ∷ [])
 last-at [] n x l h = absurd (omega (arith, l))
@@ -162,10 +151,3 @@ none-last w (x ∷ xs) limit t s e view none is =
     let one : slice_get (x ∷ xs) (length (x ∷ xs) - 1) ≡ Some _ = slice_get-get_or (x ∷ xs) (length (x ∷ xs) - 1) x (omega arith)
     in let both : None ≡ Some _ = none ∙ one
     in cc
-
--- the last entry's change needs no room to be taken back
-pub NeedsNoRoom-last : (w : Whole) (xs ys : List Entry) (x : Entry) → IsHistory w (reverse xs) → xs ≡ ys ++ x ∷ [] → NeedsNoRoom x.changes
-NeedsNoRoom-last w xs ys x h e =
-    let newest : reverse xs ≡ x ∷ reverse ys = ap (λ (zs : List Entry). reverse zs) e ∙ reverse-append ys (x ∷ [])
-    in let history : IsHistory w (x ∷ reverse ys) = subst (λ (zs : List Entry). IsHistory w zs) newest h
-    in history.1

@@ -1,7 +1,7 @@
 pub mod HistoryLemmas
 pub mod SessionLemmas
+pub mod IndexLemmas
 mod EventLemmas
-pub mod LastChangeLemmas
 pub mod BreakpointLemmas
 pub mod StopLemmas
 pub mod ForwardLemmas

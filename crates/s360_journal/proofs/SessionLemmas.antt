@@ -1,31 +1,29 @@
 -- Events and changes of a session, side by side as entries.
-use Rattle.std.proofs.Common.{◌≡◌, ◌<◌, ◌+◌, ◌-◌, ◌++◌, ◌∙◌, ℕ, zero, suc, List, [], ◌∷◌, Option, Some, None, refl, ap, sym, subst, map, reverse, length, take, set, arith, cond}
-use Rattle.std.specs.List.{list_any, slice_get}
+use Rattle.std.proofs.Common.{◌≡◌, ◌+◌, ◌-◌, ◌++◌, ◌∙◌, ℕ, zero, suc, List, [], ◌∷◌, Some, None, refl, ap, sym, subst, map, reverse, length, take, set, arith}
+use Rattle.std.specs.List.{slice_get}
 use Rattle.std.specs.Prelude.{IfSome}
-use Rattle.std.proofs.lemmas.List.{append_assoc, length-append, length-map, map-append, reverse-append, take_at}
+use Rattle.std.proofs.lemmas.List.{length-append, length-map, reverse-append, take_at}
 use Rattle.std.proofs.lemmas.Option.{slice_get-get_or}
-use Rattle.s360_store.specs.declared.place.Place.{Place}
 use Rattle.s360_machine.specs.declared.event.Event.{Event}
-use Rattle.s360_machine.specs.Machine.{Machine, Whole, seen}
+use Rattle.s360_machine.specs.Machine.{Whole, seen}
 use Rattle.s360_machine.specs.Change.{CanSwap, Change, NeedsNoRoom, after_swap, change_after_swap, places_of_change}
-use Rattle.s360_machine.specs.Packed.{IsSwapOf, newest_altering}
+use Rattle.s360_machine.specs.Packed.{IsSwapOf}
 use Rattle.s360_machine.specs.Planned.{IsChangeTo}
 use Rattle.s360_machine.specs.Refusals.{refusal_of}
 use Rattle.s360_machine.specs.Machine.{storage_size}
 use Rattle.s360_machine.specs.Step.{after}
 use Rattle.s360_journal.specs.History.{AreHistory, Entry, IsHistory, entries_of, unwound}
-use Rattle.s360_journal.specs.Rerun.{AreAccepted, last_change_of, rerun}
+use Rattle.s360_journal.specs.Rerun.{AreAccepted, rerun}
 use Rattle.s360_journal.specs.Standing.{IsAfter, Standing, alteration, machine_of}
 use Rattle.s360_journal.proofs.ForwardLemmas.{IsHistory-forward}
-use Rattle.s360_journal.proofs.HistoryLemmas.{AreAccepted-unwound, alteration-last, machine_of-view, none-last, rerun-unwound}
-use Rattle.s360_journal.proofs.LastChangeLemmas.{has_place, last_change_of-entries, newest_with}
+use Rattle.s360_journal.proofs.HistoryLemmas.{AreAccepted-unwound, alteration-last, machine_of-view, rerun-unwound}
 
 pub events-of : (es : List Event) (xs : List Change) → length es ≡ length xs → map (λ (x : Entry). x.event) (entries_of es xs) ≡ es
 events-of [] xs h = refl
 events-of (e ∷ es) [] h = absurd (omega (arith, h))
 events-of (e ∷ es) (x ∷ xs) h = ap (λ l. e ∷ l) (events-of es xs (omega (arith, h)))
 
-changes-of : (es : List Event) (xs : List Change) → length es ≡ length xs → map (λ (x : Entry). x.changes) (entries_of es xs) ≡ xs
+pub changes-of : (es : List Event) (xs : List Change) → length es ≡ length xs → map (λ (x : Entry). x.changes) (entries_of es xs) ≡ xs
 changes-of [] [] h = refl
 changes-of [] (x ∷ xs) h = absurd (omega (arith, h))
 changes-of (e ∷ es) [] h = absurd (omega (arith, h))
@@ -90,25 +88,6 @@ some-session w es [] limit t s e h view is =
     absurd (omega (arith, h.1, ap (λ (k : Standing). length k.events) (view ∙ is), length-append s.events (e ∷ [])))
 some-session w es (x ∷ xs) limit t s e h view is = (_, slice_get-get_or (x ∷ xs) (length (x ∷ xs) - 1) x (omega arith))
 
--- the last change of a place
-map-reverse : (xs : List Entry) → map (λ (x : Entry). x.changes) (reverse xs) ≡ reverse (map (λ (x : Entry). x.changes) xs)
-map-reverse [] = refl
-map-reverse (x ∷ xs) =
-    ap (λ l. map (λ (y : Entry). y.changes) l) (reverse-append (x ∷ []) xs) ∙ map-append (λ (y : Entry). y.changes) (reverse xs) (x ∷ [])
-    ∙ ap (λ l. l ++ x.changes ∷ []) (map-reverse xs) ∙ sym (reverse-append (x.changes ∷ []) (map (λ (y : Entry). y.changes) xs))
-
-newest-same : (xs : List Entry) (p : Place) → newest_with xs p ≡ newest_altering (map (λ (x : Entry). x.changes) xs) p
-newest-same [] p = refl
-newest-same (x ∷ xs) p =
-    ap (λ n. cond (has_place x p) (Some (n + 1)) (newest_with xs p)) (sym (length-map xs (λ (y : Entry). y.changes)))
-    ∙ ap (λ o. cond (has_place x p) (Some (length (map (λ (y : Entry). y.changes) xs) + 1)) o) (newest-same xs p)
-
-pub last_change_of-session : (w : Whole) (es : List Event) (xs : List Change) (p : Place) → AreHistory w es xs
-    → last_change_of (seen (unwound w (reverse (entries_of es xs)))) es p ≡ newest_altering (reverse xs) p
-last_change_of-session w es xs p h =
-    ap (λ fs. last_change_of (seen (unwound w (reverse (entries_of es xs)))) fs p) (sym (events-of es xs h.1)) ∙ last_change_of-entries w (entries_of es xs) p h.0
-    ∙ newest-same (reverse (entries_of es xs)) p ∙ ap (λ l. newest_altering l p) (map-reverse (entries_of es xs) ∙ ap (λ l. reverse l) (changes-of es xs h.1))
-
 -- an event more
 pub AreHistory-forward : (w v : Whole) (es : List Event) (xs : List Change) (e : Event) (x y : Change) → AreHistory w es xs
     → refusal_of (storage_size (seen w)) e ≡ None → IsChangeTo w x (after (seen w) e)
@@ -134,7 +113,7 @@ pub record Last (w : Whole) (es : List Event) (xs : List Change) (fs : List Even
   pub before : AreHistory (after_swap w x) fs (take (length xs - 1) xs)
   pub start : unwound w (reverse (entries_of es xs)) ≡ unwound (after_swap w x) (reverse (entries_of fs (take (length xs - 1) xs)))
 
-split-last : {X : Type 0} (xs : List X) (n : ℕ) → length xs ≡ n + 1 → (x : X) × (xs ≡ take n xs ++ x ∷ [])
+pub split-last : {X : Type 0} (xs : List X) (n : ℕ) → length xs ≡ n + 1 → (x : X) × (xs ≡ take n xs ++ x ∷ [])
 split-last [] n l = absurd (omega (arith, l))
 split-last (x ∷ []) zero l = (x, refl)
 split-last (x ∷ []) (suc n) l = absurd (omega (arith, l))

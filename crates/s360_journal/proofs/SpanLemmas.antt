@@ -1,10 +1,13 @@
 -- Places as spans.
-use Rattle.std.proofs.Common.{◌≡◌, ◌<◌, ◌≤◌, ◌+◌, ◌-◌, ◌++◌, ◌∙◌, ℕ, zero, suc, Some, None, List, [], ◌∷◌, refl, ap, sym, take, drop, get_or, length, append-nil, arith}
+use Rattle.std.proofs.Common.{◌≡◌, ◌<◌, ◌≤◌, ◌+◌, ◌-◌, ◌++◌, ◌∙◌, ℕ, zero, suc, Some, List, [], ◌∷◌, refl, ap, sym, drop, get_or, length, arith}
 use Rattle.std.specs.List.{slice_get}
-use Rattle.std.proofs.lemmas.List.{append_assoc, append_cancel_right, drop_all, drop_more, take-append-drop, take_all}
+use Rattle.std.proofs.lemmas.List.{drop_more}
 use Rattle.s360_store.specs.declared.place.Place.{Place}
-use Rattle.s360_machine.specs.declared.span.Span.{Span}
-use Rattle.s360_machine.specs.Spans.{AreSpans, IsSpan, places_of_span, places_of_spans}
+use Rattle.s360_store.specs.declared.span.Span.{Span}
+use Rattle.s360_store.specs.Spans.{AreSpans, places_of_span, places_of_spans}
+use Rattle.s360_machine.specs.Change.{Change, places_of_change}
+use Rattle.s360_machine.specs.ChangeSpans.{AreSpansOf}
+use Rattle.s360_journal.specs.Places.{ArePlaces}
 
 -- a place is sought by its index
 slice_get-front : (ps qs : List Place) (i : ℕ) → i < length ps → slice_get (ps ++ qs) i ≡ slice_get ps i
@@ -21,9 +24,6 @@ pub record SoughtIn (ss : List Span) (i k left : ℕ) : Type 0 where
   pub whole : AreSpans (drop k ss)
   pub same : slice_get (places_of_spans ss) i ≡ slice_get (places_of_spans (drop k ss)) left
 
-pub sought-whole : (ss : List Span) (i k left : ℕ) (d : Span) → k < length ss → SoughtIn ss i k left → IsSpan (get_or ss k d)
-sought-whole ss i k left d l h = (rw (drop_more ss k d l) at h.whole).0
-
 pub sought-found : (ss : List Span) (i k left : ℕ) (d : Span) (p : Place) → k < length ss → left < length (places_of_span (get_or ss k d)) → slice_get (places_of_span (get_or ss k d)) left ≡ Some p → SoughtIn ss i k left
     → Some p ≡ slice_get (places_of_spans ss) i
 sought-found ss i k left d p l m e h =
@@ -38,8 +38,6 @@ sought-past ss i k left n d l c m h =
       same = same ∙ slice_get-behind (places_of_span (get_or ss k d)) (places_of_spans (drop (k + 1) ss)) left (omega (arith, m, c));
     })
 
-no-place : (i : ℕ) → slice_get {X = Place} [] i ≡ None
-no-place i = refl
-
-pub sought-none : (ss : List Span) (i k left : ℕ) → length ss ≤ k → SoughtIn ss i k left → None ≡ slice_get (places_of_spans ss) i
-sought-none ss i k left l h = sym (rw (drop_all k ss l) at h.same)
+-- the spans of a change, with the number of its places
+pub spans-of-change : (ss : List Span) (x : Change) (n : ℕ) → AreSpansOf ss x → n ≡ length (places_of_change x) → ArePlaces ss n
+spans-of-change ss x n spans e = record { whole = spans.whole; counted = e ∙ ap length (sym spans.places) }

@@ -1,5 +1,5 @@
 -- The last stop at a breakpoint, looked for from the last event back.
-use Rattle.std.proofs.Common.{◌≡◌, ◌+◌, ◌++◌, ℕ, List, [], ◌∷◌, refl, ap, sym, ◌∙◌, append_assoc, length, arith, Bool, true, false, cond, Option, Some, None, Result, Ok, Err, IfOk}
+use Rattle.std.proofs.Common.{◌≡◌, ◌+◌, ◌++◌, ℕ, List, [], ◌∷◌, refl, ap, sym, ◌∙◌, append_assoc, length, min, arith, Bool, true, false, cond, Option, Some, None, Result, Ok, Err, IfOk}
 use Rattle.std.proofs.lemmas.Bool.{true≢false}
 use Rattle.std.specs.Option.{unwrap_or}
 use Rattle.std.specs.Result.{is_ok}
@@ -62,3 +62,9 @@ pub stop-found : (s t u : Standing) (bs : List ℕ) (e : Event) → GoesBack s t
     → is_at_breakpoint (machine_of u) bs ≡ true → length u.events ≡ stop_of (seen s.start) s.events bs
 stop-found s t u bs e h g here =
     sym (h.stop ∙ ap (λ (x : Standing). stop_of (seen x.start) x.events bs) g ∙ stop_of-push (seen u.start) u.events e bs true here)
+
+-- the session s went back to t, and not past a number of changes that stand
+pub record TakesBack (s t : Standing) (k : ℕ) : Type 0 where
+  pub dropped : List Event
+  pub kept : s ≡ record t { events = t.events ++ dropped }
+  pub least : min k (length s.events) ≡ min k (length t.events)

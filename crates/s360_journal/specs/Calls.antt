@@ -1,10 +1,10 @@
 -- Lists of session calls with their answers.
-use Rattle.std.specs.Prelude.{◌≡◌, ◌++◌, ◌-◌, List, [], ◌∷◌, length, take, None, Ok, Err, MatchOption}
+use Rattle.std.specs.Prelude.{◌≡◌, ◌++◌, ◌-◌, List, [], ◌∷◌, length, min, take, None, Ok, Err, MatchOption}
 use Rattle.s360_machine.specs.declared.event.Event.{Event}
 use Rattle.s360_machine.specs.Machine.{seen}
 use Rattle.s360_machine.specs.declared.refusal.Refusal.TheVariants.{Memory}
 use Rattle.s360_journal.specs.declared.calls.Call.{Call}
-use Rattle.s360_journal.specs.declared.calls.Call.TheVariants.{Forward, Back, BackUntil, Standing as standing, LastChange}
+use Rattle.s360_journal.specs.declared.calls.Call.TheVariants.{Forward, Back, BackUntil, BackTo, Standing as standing, LastChange}
 use Rattle.s360_journal.specs.declared.calls.Answer.{Answer}
 use Rattle.s360_journal.specs.declared.calls.Answer.TheVariants.{Forwarded, TookBack, WentBack, Stands, LastChanged}
 use Rattle.s360_journal.specs.Reports.{IsReport}
@@ -18,6 +18,7 @@ abbrev pub events_after : List Event → Call → Answer → List Event
 events_after es (Forward e) (Forwarded (Ok r)) = es ++ e ∷ []
 events_after es Back (TookBack (Ok e)) = take (length es - 1) es
 events_after es (BackUntil breaks) (WentBack k) = take k es
+events_after es (BackTo n) (WentBack k) = take k es
 events_after es c a = es
 
 -- the events that stand after calls with their answers
@@ -34,6 +35,7 @@ IsAnswer s (Forward e) (Forwarded (Err r)) t =
 IsAnswer s Back (TookBack (Ok e)) t = s ≡ record t { events = t.events ++ e ∷ [] }
 IsAnswer s Back (TookBack (Err n)) t = (s.events ≡ []) × (t ≡ s)
 IsAnswer s (BackUntil breaks) (WentBack k) t = (k ≡ stop_of (seen s.start) s.events breaks) × (t ≡ record s { events = take k s.events })
+IsAnswer s (BackTo n) (WentBack k) t = (k ≡ min n (length s.events)) × (t ≡ record s { events = take k s.events })
 IsAnswer s standing (Stands n) t = (n ≡ length s.events) × (t ≡ s)
 IsAnswer s (LastChange p) (LastChanged k) t = (k ≡ last_change_of (seen s.start) s.events p) × (t ≡ s)
 IsAnswer s c a t = ⊥

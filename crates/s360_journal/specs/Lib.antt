@@ -9,4 +9,5 @@ pub mod Offers
 pub mod Running
 pub mod Events
 pub mod History
+pub mod Indexed
 pub mod Calls

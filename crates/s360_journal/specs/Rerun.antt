@@ -22,6 +22,15 @@ AreAccepted m (e ∷ es) = (step m e ≡ Ok (after m e)) × AreAccepted (after m
 abbrev pub alters : Machine → Event → Place → Bool
 alters m e p = list_any (λ q. same_place q p) (differences m (after m e))
 
+-- the numbers of the events that alter the place, where the events are numbered from this one on
+abbrev pub altering_events_from : ℕ → Machine → List Event → Place → List ℕ
+altering_events_from k m [] p = []
+altering_events_from k m (e ∷ es) p = if alters m e p then k ∷ altering_events_from (k + 1) (after m e) es p else altering_events_from (k + 1) (after m e) es p
+
+-- the numbers of the changes of a place, ascending; changes are numbered from 1
+abbrev pub changes_of : Machine → List Event → Place → List ℕ
+changes_of start es p = altering_events_from 1 start es p
+
 -- a number, or else what another answers
 abbrev pub or_else : Option ℕ → Option ℕ → Option ℕ
 or_else (Some k) other = Some k

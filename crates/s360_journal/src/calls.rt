@@ -24,6 +24,8 @@ pub enum Call {
     Back,
     /// `Session::back_until`
     BackUntil(Breaks),
+    /// `Session::back_to`
+    BackTo(u32),
     /// `Session::standing`
     Standing,
     /// `Session::last_change`
@@ -37,7 +39,7 @@ pub enum Answer {
     Forwarded(Result<Report, Refusal>),
     /// Of `Session::back`.
     TookBack(Result<Event, NothingStands>),
-    /// Of `Session::back_until`.
+    /// Of `Session::back_until` and `Session::back_to`.
     WentBack(u32),
     /// Of `Session::standing`.
     Stands(u32),
@@ -63,6 +65,7 @@ impl Session {
             Call::Forward(event) => Answer::Forwarded(self.forward(event)),
             Call::Back => Answer::TookBack(self.back()),
             Call::BackUntil(breaks) => Answer::WentBack(self.back_until(&breaks)),
+            Call::BackTo(number) => Answer::WentBack(self.back_to(number)),
             Call::Standing => Answer::Stands(self.standing()),
             Call::LastChange(place) => Answer::LastChanged(self.last_change(place)),
         }

@@ -9,6 +9,7 @@
 mod breaks;
 mod calls;
 mod events;
+mod indexing;
 mod laws;
 mod places;
 mod report;

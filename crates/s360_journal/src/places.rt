@@ -4,18 +4,21 @@
 //! spans stand within the value, so that the report of a plain instruction takes no memory.
 ghost use Rattle.std.specs.Prelude.{◌≡◌, ◌↔◌, [], ◌-◌, length, slice_get, IfOk, IfSome, IsTrue};
 ghost use Rattle.s360_machine.specs.Change.{places_of_change};
-ghost use Rattle.s360_machine.specs.Spans.{AreSpans, places_of_spans};
+ghost use Rattle.s360_store.specs.Spans.{AreSpans, places_of_spans};
 
-use s360_machine::{Packed, Span, Spans};
-use s360_store::Place;
+use s360_machine::Packed;
+use s360_store::{Place, Span};
 use smallvec::SmallVec;
 use std::alloc::{AllocError, Global};
 use std::marker::Model;
 
+/// So many spans stand within places, which take no memory.
+const WITHIN: usize = 4;
+
 /// Places in their order, each once, which a contract sees as a list.
 #[derive(Debug, Drop)]
 pub struct Places {
-    spans: Spans,
+    spans: SmallVec<Span, WITHIN>,
     /// The number of places.
     count: u32,
 }
@@ -24,7 +27,7 @@ impl Model for Places {
     ghost use Rattle.std.specs.Prelude.{List};
     ghost use Rattle.s360_store.specs.declared.place.Place.{Place};
     ghost use Rattle.s360_journal.specs.Places.{ArePlaces};
-    ghost use Rattle.s360_machine.specs.Spans.{places_of_spans};
+    ghost use Rattle.s360_store.specs.Spans.{places_of_spans};
 
     ghost Value = { List Place };
 
@@ -59,7 +62,9 @@ impl Places {
         if number == 0 {
             return Ok(Places { spans, count: 0 });
         }
-        changes.push_spans(number, &mut spans)?;
+        for span in changes.spans(number) {
+            spans.push(span)?;
+        }
         let count = changes.count(number);
         Ok(Places { spans, count })
     }

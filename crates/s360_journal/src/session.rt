@@ -1,16 +1,18 @@
 //! The session: the machine, and the journal of the changes that stand.
 ghost use Rattle.std.specs.Prelude.{◌≡◌, ◌↔◌, ◌++◌, ◌∷◌, ◌≤◌, [], length, take, OnOk, OnErr, IfOk, IsTrue, Err};
-ghost use Rattle.std.specs.Prelude.{IsOkUnless, MatchOption};
+ghost use Rattle.std.specs.Prelude.{IsOkUnless, MatchOption, min};
 ghost use Rattle.s360_machine.specs.Machine.{seen};
 ghost use Rattle.s360_machine.specs.declared.refusal.Refusal.TheVariants.{Memory};
 ghost use Rattle.s360_journal.specs.Reports.{IsReport};
-ghost use Rattle.s360_journal.specs.Rerun.{rerun, AreAccepted, last_change_of};
+ghost use Rattle.s360_journal.specs.Rerun.{rerun, AreAccepted, changes_of, last_change_of};
 ghost use Rattle.s360_journal.specs.Stops.{stop_of};
 ghost use Rattle.s360_journal.specs.Standing.{IsAfter, Standing, refusal_in, alteration, last_kind_of};
 
 use crate::breaks::Breaks;
 use crate::events::Events;
+use crate::indexing::{index_last, unindex_last};
 use crate::report::{Report, is_idle};
+use s360_index::Index;
 use s360_machine::{Event, EventKind, Machine, Packed, Refusal};
 use s360_store::Place;
 use std::alloc::{AllocError, Global};
@@ -32,6 +34,8 @@ pub struct Session {
     events: Events,
     /// What each of them altered.
     changes: Packed,
+    /// For each place the numbers of the changes that altered it, counted from 1.
+    index: Index,
     limit: u32,
     alloc: Global,
 }
@@ -40,12 +44,13 @@ impl Model for Session {
     ghost use Rattle.std.specs.Prelude.{◌≤◌, length, reverse};
     ghost use Rattle.s360_journal.specs.Standing.{Standing};
     ghost use Rattle.s360_journal.specs.History.{AreHistory, entries_of, unwound};
+    ghost use Rattle.s360_journal.specs.Indexed.{IsIndexOf};
 
     ghost Value = { Standing };
 
     ghost view = { λ s. record { start = unwound s.machine.whole (reverse (entries_of s.events s.changes)); events = s.events; limit = s.limit } };
 
-    ghost invariant = { λ s. AreHistory s.machine.whole s.events s.changes × (length s.events ≤ s.limit) × (s.limit ≤ 10000000) };
+    ghost invariant = { λ s. AreHistory s.machine.whole s.events s.changes × IsIndexOf s.index s.changes × (length s.events ≤ s.limit) × (s.limit ≤ 10000000) };
 }
 
 impl Session {
@@ -59,6 +64,7 @@ impl Session {
             machine,
             events: Events::new(alloc),
             changes: Packed::new(alloc),
+            index: Index::new(alloc),
             limit,
             alloc,
         }
@@ -122,7 +128,15 @@ impl Session {
     pub fn last_change(&self, place: Place) -> Option<u32>
         ensures { result ≡ last_change_of (seen self.now.start) self.now.events place }
     {
-        self.changes.last_altering(place)
+        self.changes_of(place).last().copied()
+    }
+
+    /// The numbers of all changes that altered a place, counted from 1, ascending; none of a place that the machine lacks.
+    /// It takes no memory.
+    pub fn changes_of(&self, place: Place) -> &[u32]
+        ensures { result.now ≡ changes_of (seen self.now.start) self.now.events place }
+    {
+        self.index.numbers(place)
     }
 
     /// Why an event is refused, but for want of memory. It takes no memory.
@@ -163,15 +177,17 @@ impl Session {
         if let Some(refusal) = self.refusal(&event) {
             return Err(refusal);
         }
-        let changes = match self.machine.plan(&event) {
-            Ok(changes) => changes,
-            Err(refusal) => return Err(refusal),
-        };
+        let changes = self.machine.plan(&event)?;
         self.machine.room(&changes)?;
         self.changes.append(changes)?;
         let count = self.changes.len();
+        if index_last(&mut self.index, &self.changes, count).is_err() {
+            self.changes.keep(count - 1);
+            return Err(Refusal::Memory);
+        }
         match self.events.push(event) {
             Err(AllocError) => {
+                unindex_last(&mut self.index, &self.changes, count);
                 self.changes.keep(count - 1);
                 Err(Refusal::Memory)
             }
@@ -208,10 +224,23 @@ impl Session {
         let Some(event) = self.events.pop() else {
             return Err(NothingStands);
         };
-        let count = self.changes.len();
-        self.changes.swap(count, &mut self.machine);
-        self.changes.keep(count - 1);
+        let number = self.changes.len();
+        self.changes.swap(number, &mut self.machine);
+        unindex_last(&mut self.index, &self.changes, number);
+        self.changes.keep(number - 1);
         Ok(event)
+    }
+
+    /// Goes back to a change: takes back all changes after the one of this number, or none if no more stand. It answers how
+    /// many stand then. It takes no memory.
+    pub fn back_to(&mut self, number: u32) -> u32
+        ensures stand { result ≡ min number (length self.old.events) }
+        ensures kept { self.new ≡ record self.old { events = take result self.old.events } }
+    {
+        while self.standing() > number {
+            let _event = self.back();
+        }
+        self.standing()
     }
 
     /// Goes back to the last stop: to the greatest number of changes, below that which stand, after

@@ -1,10 +1,9 @@
 -- What an instruction alters that makes a value, compared with what stands there.
-use Rattle.std.proofs.Common.{◌≡◌, ◌≢◌, ◌<◌, ◌≤◌, ◌+◌, ◌-◌, ◌++◌, ◌^◌, ℕ, zero, suc, List, [], ◌∷◌, Bool, true, false, refl, ap, sym, inl, inr, take, drop, get_or, length, arith, add-zero, ◌∙◌, nat_eq, Option, Some, None, IfSome, nat_lt}
+use Rattle.std.proofs.Common.{◌≡◌, ◌≢◌, ◌<◌, ◌≤◌, ◌+◌, ◌++◌, ◌^◌, ℕ, List, [], ◌∷◌, Bool, true, false, refl, ap, sym, inl, take, drop, get_or, length, arith, ◌∙◌, nat_eq, Option, Some, None, IfSome}
 use Rattle.std.specs.Prelude.{OnSome}
 use Rattle.std.specs.Bool.{beq}
-use Rattle.std.specs.List.{list_any, slice_get}
-use Rattle.std.proofs.Math.Dec.{leb}
-use Rattle.std.proofs.lemmas.Bool.{eq-eqb, leb-true, ltb-true, ltb-false}
+use Rattle.std.specs.List.{list_any}
+use Rattle.std.proofs.lemmas.Bool.{eq-eqb}
 use Rattle.std.proofs.lemmas.List.{drop_all, append-nil, set-get_or, length-set, length-append, length-take-le, take_all}
 use Rattle.s360_model.specs.Core.{Core, core_with_bytes, core_with_psw}
 use Rattle.s360_model.specs.Psw.{IsCurrentPsw}
@@ -17,8 +16,7 @@ use Rattle.s360_store.specs.Differences.{AreKept, IsCoreChangeTo}
 use Rattle.s360_store.specs.Order.{IsAscending}
 use Rattle.s360_store.specs.Cells.{byte_cells}
 use Rattle.s360_store.specs.Plans.{HasBytes, IsPlanOf}
-use Rattle.s360_store.specs.Items.{is_in_run}
-use Rattle.s360_store.proofs.ItemLemmas.{has-run, is_in_run-inside, is_in_run-outside, no-byte-in-run}
+use Rattle.s360_store.proofs.ItemLemmas.{has-run, no-byte-in-run}
 use Rattle.s360_store.proofs.ByteCellLemmas.{IsAscending-bytes, byte_cells-more, byte_cells-parts, length-byte_cells}
 use Rattle.s360_store.proofs.DifferenceLemmas.{places_of_cells-differences}
 use Rattle.s360_store.proofs.KeptLemmas.{AreKept-other, AreKept-same, IsCellOf}
@@ -128,38 +126,6 @@ alters-bytes m psw address new i first run all inside fits k =
     = IsPlanOf-bytes (core_with_psw psw m) address new fits inside
     in rw made.makes at (IsCoreChangeTo-ascending m (psw_cell psw ∷ byte_cells address new) _ (rw whole at k.kept) ascending)
 
--- the place of a byte of a run
-pub place-in-run : (a i : ℕ) (run : List ℕ) → i < length run → slice_get (places_of_cells (byte_cells a run)) i ≡ Some (Byte (a + i))
-place-in-run a i [] l = absurd (omega arith)
-place-in-run a zero (b ∷ run) l = rw add-zero refl
-place-in-run a (suc i) (b ∷ run) l =
-    let sum : a + 1 + i ≡ a + suc i = omega arith
-    in rw sum at (place-in-run (a + 1) i run (omega arith))
-
-pub no-place-in-run : (a i : ℕ) (run : List ℕ) → length run ≤ i → slice_get (places_of_cells (byte_cells a run)) i ≡ None
-no-place-in-run a i [] l = refl
-no-place-in-run a zero (b ∷ run) l = absurd (omega arith)
-no-place-in-run a (suc i) (b ∷ run) l = no-place-in-run (a + 1) i run (omega arith)
-
--- the test that the code makes
-pub test-in-run : (at a : ℕ) (run : List ℕ) → a ≤ at → nat_lt (at - a) (length run) ≡ list_any (λ q. same_place q (Byte at)) (places_of_cells (byte_cells a run))
-test-in-run at a run l =
-    let by : (t : Bool) → nat_lt (at - a) (length run) ≡ t → t ≡ is_in_run a (length run) (Byte at)
-    = λ t. elim t as (λ x. nat_lt (at - a) (length run) ≡ x → x ≡ is_in_run a (length run) (Byte at)) [
-      | true ↦ λ h. sym (is_in_run-inside a (length run) at l (let w : at - a < length run = ltb-true (at - a) (length run) h in omega arith))
-      | false ↦ λ h. sym (is_in_run-outside a (length run) at (inr (let w : length run ≤ at - a = ltb-false (at - a) (length run) h in omega arith)))
-    ]
-    in by (nat_lt (at - a) (length run)) refl ∙ sym (has-run a (length run) (Byte at) run refl)
-
-pub test-below-run : (at a : ℕ) (run : List ℕ) → at < a → leb a at ≡ list_any (λ q. same_place q (Byte at)) (places_of_cells (byte_cells a run))
-test-below-run at a run l =
-    let by : (t : Bool) → leb a at ≡ t → t ≡ is_in_run a (length run) (Byte at)
-    = λ t. elim t as (λ x. leb a at ≡ x → x ≡ is_in_run a (length run) (Byte at)) [
-      | true ↦ λ h. absurd (let w : a ≤ at = leb-true a at h in omega arith)
-      | false ↦ λ h. sym (is_in_run-outside a (length run) at (inl l))
-    ]
-    in by (leb a at) refl ∙ sym (has-run a (length run) (Byte at) run refl)
-
 pub other-in-run : (p : Place) (a : ℕ) (run : List ℕ) → ((n : ℕ) → p ≡ Byte n → ⊥) → list_any (λ q. same_place q p) (places_of_cells (byte_cells a run)) ≡ false
 other-in-run p a run h = has-run a (length run) p run refl ∙ no-byte-in-run a (length run) p h
 
@@ -202,14 +168,6 @@ keeps-without-word registers r (Some w) h = absurd (h w refl)
 pub no-item : (xs : List ℕ) → length xs ≡ 0 → xs ≡ []
 no-item [] h = refl
 no-item (x ∷ xs) h = absurd (omega (arith, h))
-
--- one place more
-pub places-more : (ps : List Place) (i : ℕ) (p : Place) → slice_get ps i ≡ Some p → take (i + 1) ps ≡ take i ps ++ p ∷ []
-places-more [] i p h = absurd (let none : Some p ≡ None = sym h in cc)
-places-more (q ∷ ps) zero p h = (let same : q ≡ p = cc in rw same refl)
-places-more (q ∷ ps) (suc i) p h =
-    let on : suc i + 1 ≡ suc (i + 1) = omega arith
-    in rw on (ap (λ (l : List Place). q ∷ l) (places-more ps i p h))
 
 -- cells whose values fit their places
 pub AllFit-from : (m : Core) (cs : List Cell) → AreCellsOf m cs → AllFit cs

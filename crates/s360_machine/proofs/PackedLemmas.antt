@@ -1,25 +1,25 @@
 -- Changes in rows, with lists of what stands apart.
-use Rattle.std.proofs.Common.{subst, ◌≡◌, ◌<◌, ◌≤◌, ◌+◌, ◌-◌, ◌++◌, ◌∙◌, ℕ, zero, suc, List, [], ◌∷◌, refl, ap, sym, take, drop, set, get_or, length, reverse, arith, Some, None, append-nil, Option, Bool, true, false, if◌then◌else◌}
-use Rattle.std.proofs.lemmas.List.{append_assoc, drop-append-le, drop-drop, drop-take, drop_all, drop_at, length-append, length-drop, length-reverse, length-take-le, reverse-append, take-append-drop, take-append-le, take-take, take_all, take_at, take_more}
+use Rattle.std.proofs.Common.{subst, ◌≡◌, ◌<◌, ◌≤◌, ◌+◌, ◌-◌, ◌++◌, ◌∙◌, ℕ, zero, suc, List, [], ◌∷◌, refl, ap, sym, take, drop, set, get_or, length, reverse, arith, Some, None, append-nil, Option, Bool, true, false}
+use Rattle.std.proofs.lemmas.List.{append_assoc, drop-append-le, drop-drop, drop-take, drop_at, length-append, length-drop, length-reverse, length-take-le, reverse-append, take-append-drop, take-take, take_at, take_more}
 use Rattle.std.specs.List.{slice_get}
 use Rattle.s360_machine.specs.declared.packed.End.{End}
 use Rattle.s360_machine.specs.declared.row.Row.{Row}
 use Rattle.s360_machine.specs.declared.row.Row.TheVariants.{Nothing, Psw, Register, Bytes, More}
-use Rattle.s360_store.specs.declared.cells.Item.{Item}
-use Rattle.s360_store.specs.declared.cells.Item.TheVariants.{Single, Run}
+use Rattle.s360_store.specs.declared.items.Item.{Item}
+use Rattle.s360_store.specs.declared.items.Item.TheVariants.{Single, Run}
 use Rattle.s360_store.specs.declared.place.Cell.{Cell}
 use Rattle.s360_store.specs.declared.place.Place.{Place}
 use Rattle.s360_store.specs.declared.place.Place.TheVariants.{Byte}
-use Rattle.s360_store.specs.Cells.{AllFit, byte_cells, places_of_cells}
+use Rattle.s360_store.specs.Cells.{AllFit, byte_cells}
 use Rattle.s360_store.specs.Items.{Appended, AreItems, bytes_of_items, cells_of_items}
 use Rattle.s360_store.proofs.ByteCellLemmas.{length-byte_cells}
 use Rattle.s360_machine.specs.declared.beside.Beside.{Beside}
-use Rattle.s360_machine.specs.Beside.{IsNothing, places_of_beside}
-use Rattle.s360_machine.specs.Change.{CanSwap, Change, after_swap, change_after_swap, places_of_change}
+use Rattle.s360_machine.specs.Beside.{IsNothing}
+use Rattle.s360_machine.specs.Change.{CanSwap, Change, after_swap, change_after_swap}
 use Rattle.s360_machine.specs.Machine.{Whole}
 use Rattle.s360_machine.specs.Changes.{change_of, change_of_core, change_with}
-use Rattle.s360_machine.specs.Packed.{ArePacked, HasBefore, HasOwn, IsAppended, IsSwapOf, byte_values, bytes_of_changes, change_alters, newest_altering, value_if_byte, changes_of_rows, lists, IsEnd, IsWithin, Lists, change_of_row, end_before, joined, lists_from, lists_to, newest, older, others, own, unpacked}
-use Rattle.s360_machine.specs.Rows.{HasPlaces, HasSameCounts, IsOver, IsPlain, beside_of_row, bytes_of_row, cells_of_row, items_of_row}
+use Rattle.s360_machine.specs.Packed.{ArePacked, HasBefore, HasOwn, IsAppended, IsSwapOf, byte_values, bytes_of_changes, value_if_byte, changes_of_rows, lists, IsEnd, IsWithin, Lists, change_of_row, end_before, joined, lists_from, lists_to, newest, older, others, own, unpacked}
+use Rattle.s360_machine.specs.Rows.{HasSameCounts, IsOver, IsPlain, beside_of_row, bytes_of_row, cells_of_row, items_of_row}
 use Rattle.s360_machine.proofs.SwapLemmas.{IsSwap, IsSwap-from, same-change}
 
 -- the end of a list that had more put to it
@@ -76,34 +76,6 @@ ArePacked-joined r rs ls ms o over h = (
   subst (λ k. IsOver r k.items k.bytes) (sym (own-joined r ls ms o)) over,
   subst (λ k. ArePacked rs k) (sym (others-joined r ls ms o)) h,
 )
-
--- the end of all rows
-abbrev pub end_of_all : List Row → Lists → End
-end_of_all rows ls = record { rows = length rows; items = length ls.items; bytes = length ls.bytes; beside = length ls.beside }
-
-all-to : (rows : List Row) (ls : Lists) → lists_to (end_of_all rows ls) ls ≡ ls
-all-to rows ls =
-    same-lists (lists_to (end_of_all rows ls) ls) ls (take_all (length ls.items) ls.items (omega arith)) (take_all (length ls.bytes) ls.bytes (omega arith)) (take_all (length ls.beside) ls.beside (omega arith))
-
-all-from : (rows : List Row) (ls ms : Lists) → joined ms (lists_from (end_of_all rows ls) ls) ≡ ms
-all-from rows ls ms =
-    same-lists (joined ms (lists_from (end_of_all rows ls) ls)) ms
-    (ap (λ l. ms.items ++ l) (drop_all (length ls.items) ls.items (omega arith)) ∙ append-nil ms.items)
-    (ap (λ l. ms.bytes ++ l) (drop_all (length ls.bytes) ls.bytes (omega arith)) ∙ append-nil ms.bytes)
-    (ap (λ l. ms.beside ++ l) (drop_all (length ls.beside) ls.beside (omega arith)) ∙ append-nil ms.beside)
-
-pub IsEnd-all : (rows : List Row) (ls : Lists) → ArePacked (reverse rows) ls → IsEnd rows ls (end_of_all rows ls)
-IsEnd-all rows ls h =
-    let all : take (length rows) rows ≡ rows = take_all (length rows) rows (omega arith)
-    in let none : drop (length rows) rows ≡ [] = drop_all (length rows) rows (omega arith)
-    in let left : length rows - length rows ≡ 0 = omega arith
-    in record {
-      within = record { rows = omega arith; items = omega arith; bytes = omega arith; beside = omega arith };
-      packed = rw (all, all-to rows ls) h;
-      changes = rw (all, all-to rows ls, left) refl;
-      rest = λ rs ms. rw (none, all-from rows ls ms, left) refl;
-      rest_packed = λ rs ms k. rw (none, all-from rows ls ms) k;
-    }
 
 -- the end before the last of the changes
 older-take : {X : Type 0} (k n : ℕ) (xs : List X) → n ≤ length xs → older k (take n xs) ≡ take (n - k) xs
@@ -307,15 +279,6 @@ change-there rows ls e r h last k =
     ∙ length-take-le (e.rows - 1) rows (omega (arith, h.within.rows))
     in ap (λ l. slice_get l (e.rows - 1)) old ∙ get-there (reverse rest) (reverse (take n all)) x (e.rows - 1) count
 
--- the places of a change with something beside the core, and of one with nothing
-pub places-with : (cells : List Cell) (o : Option Beside) (b : Beside) → Some b ≡ o → places_of_change (change_with cells o) ≡ places_of_cells cells ++ places_of_beside b
-places-with cells None b e = absurd (cc)
-places-with cells (Some d) b e = let same : b ≡ d = cc in ap (λ k. places_of_cells cells ++ places_of_beside k) (sym same)
-
-pub places-without : (cells : List Cell) (o : Option Beside) → None ≡ o → places_of_change (change_with cells o) ≡ places_of_cells cells
-places-without cells None e = append-nil (places_of_cells cells)
-places-without cells (Some d) e = absurd (cc)
-
 -- items are no more than their cells
 pub items-few : (is : List Item) (bs : List ℕ) → AreItems is → bytes_of_items is ≡ length bs → length is ≤ length (cells_of_items is bs)
 items-few [] bs h e = omega arith
@@ -338,14 +301,6 @@ plain-few (Psw psw) h = omega arith
 plain-few (Register n word psw) h = omega arith
 plain-few (Bytes count address psw) h = omega (arith, h.1)
 plain-few (More beside items bytes count) h = absurd h
-
--- the places of a row's runs have addresses
-pub over-places : (r : Row) (is : List Item) (bs : List ℕ) → IsOver r is bs → HasPlaces r is
-over-places Nothing is bs h = tt
-over-places (Psw psw) is bs h = tt
-over-places (Register n word psw) is bs h = tt
-over-places (Bytes count address psw) is bs h = (h.2, h.3)
-over-places (More beside items bytes count) is bs h = h.3.whole
 
 -- a change of little is appended
 over-plain : (r : Row) (bs : List ℕ) → IsPlain r → length bs ≡ 8 → IsOver r [] (take (bytes_of_row r) bs)
@@ -536,51 +491,6 @@ swap-there w v x y can ev ey fit =
     let back : IsSwap w x v (change_after_swap w x) = IsSwap-from w x v (change_after_swap w x) can ev refl (subst (λ (z : Change). AllFit z.cells) ey fit)
     in record { machine = ev; again = back.again; restores_machine = back.whole; restores_change = back.change }
 
--- the newest change that alters a place is sought from the end
-pub record Seeking (rows : List Row) (ls : Lists) (e : End) (p : Place) : Type 0 where
-  pub end : IsEnd rows ls e
-  pub left : newest_altering (unpacked (reverse rows) ls) p ≡ newest_altering (drop (length rows - e.rows) (unpacked (reverse rows) ls)) p
-
-pub seeking-begun : (rows : List Row) (ls : Lists) (e : End) (p : Place) → IsEnd rows ls e → e.rows ≡ length rows → Seeking rows ls e p
-seeking-begun rows ls e p h all =
-    let none : length rows - e.rows ≡ 0 = omega (arith, all)
-    in record { end = h; left = ap (λ n. newest_altering (drop n (unpacked (reverse rows) ls)) p) (sym none) }
-
-pub record Sought (rows : List Row) (ls : Lists) (e b : End) (r : Row) (ms : Lists) (p : Place) : Type 0 where
-  pub over : IsOver r ms.items ms.bytes
-  pub found : change_alters (change_of_row r ms) p ≡ true → newest_altering (unpacked (reverse rows) ls) p ≡ Some e.rows
-  pub passed : change_alters (change_of_row r ms) p ≡ false → Seeking rows ls b p
-
-pub sought-there : (rows : List Row) (ls : Lists) (e b : End) (r : Row) (p : Place) → Seeking rows ls e p → 0 < e.rows → r ≡ get_or rows (e.rows - 1) r → b ≡ end_before e r
-    → Sought rows ls e b r (slices ls b e) p
-sought-there rows ls e b r p h some is before =
-    let last : last_row rows e r = last-row rows e r some h.end.within.rows is
-    in let here : IsLast rows ls e r = IsEnd-before rows ls e r h.end some last
-    in let parts : slices ls b e ≡ own r (lists_to e ls) = ap (λ k. slices ls k e) before ∙ slices-own rows ls e r h.end.within here.has
-    in let all : List Change = unpacked (reverse rows) ls
-    in let rest : List Change = unpacked (reverse (take (e.rows - 1) rows)) (lists_to (end_before e r) ls)
-    in let first : drop (length rows - e.rows) all ≡ change_of_row r (slices ls b e) ∷ rest = here.change ∙ ap (λ k. change_of_row r k ∷ rest) (sym parts)
-    in let count : length rest + 1 ≡ e.rows
-    = omega (arith, length-unpacked (reverse (take (e.rows - 1) rows)) (lists_to (end_before e r) ls), length-reverse (take (e.rows - 1) rows), length-take-le (e.rows - 1) rows (omega (arith, h.end.within.rows)), some)
-    in let left : newest_altering all p ≡ (if change_alters (change_of_row r (slices ls b e)) p then Some (length rest + 1) else newest_altering rest p)
-    = h.left ∙ ap (λ xs. newest_altering xs p) first
-    in let ended : IsEnd rows ls b = subst (λ k. IsEnd rows ls k) (sym before) here.before
-    in let further : length rows - b.rows ≡ length rows - e.rows + 1 = omega (arith, some, h.end.within.rows, ap (λ (k : End). k.rows) before)
-    in record {
-      over = subst (λ k. IsOver r k.items k.bytes) (sym parts) here.over;
-      found = λ t. left ∙ ap (λ c. if c then Some (length rest + 1) else newest_altering rest p) t ∙ ap (λ n. Some n) count;
-      passed = λ f. record {
-        end = ended;
-        left = left ∙ ap (λ c. if c then Some (length rest + 1) else newest_altering rest p) f
-            ∙ ap (λ xs. newest_altering xs p) (sym (ap (λ n. drop n all) further ∙ drop-further (length rows - e.rows) all rest _ first));
-      };
-    }
-
-pub sought-all : (rows : List Row) (ls : Lists) (e : End) (p : Place) → Seeking rows ls e p → e.rows ≡ 0 → None ≡ newest_altering (unpacked (reverse rows) ls) p
-sought-all rows ls e p h none =
-    let many : length (unpacked (reverse rows) ls) ≡ length rows = length-unpacked (reverse rows) ls ∙ length-reverse rows
-    in sym (h.left ∙ ap (λ xs. newest_altering xs p) (drop_all (length rows - e.rows) (unpacked (reverse rows) ls) (omega (arith, none, many))))
-
 -- the bytes of the changes are those of the list
 values-of-bytes : (a : ℕ) (bs : List ℕ) → byte_values (byte_cells a bs) ≡ bs
 values-of-bytes a [] = refl
@@ -593,10 +503,6 @@ byte_values-append (c ∷ cs) ds = ap (λ l. value_if_byte c.place c.value ++ l)
 no-byte-value : (p : Place) (v : ℕ) → ((a : ℕ) → p ≡ Byte a → ⊥) → value_if_byte p v ≡ []
 no-byte-value (Byte a) v h = absurd (h a refl)
 no-byte-value p v h = refl
-
-fit-left : (cs ds : List Cell) → AllFit (cs ++ ds) → AllFit cs
-fit-left [] ds h = tt
-fit-left (c ∷ cs) ds h = (h.0, fit-left cs ds h.1)
 
 pub fit-right : (cs ds : List Cell) → AllFit (cs ++ ds) → AllFit ds
 fit-right [] ds h = h

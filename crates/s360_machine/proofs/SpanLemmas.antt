@@ -1,88 +1,102 @@
--- Spans of places.
-use Rattle.std.proofs.Common.{◌≡◌, ◌<◌, ◌≤◌, ◌+◌, ◌++◌, ◌∙◌, ◌^◌, ℕ, zero, suc, Some, List, [], ◌∷◌, refl, ap, sym, take, drop, get_or, length, append-nil, arith, add-zero}
+-- The places of a change as spans.
+use Rattle.std.proofs.Common.{◌≡◌, ◌<◌, ◌≤◌, ◌+◌, ◌++◌, ◌∙◌, ℕ, zero, suc, Option, Some, None, List, [], ◌∷◌, refl, ap, sym, map, drop, length, append-nil, arith}
 use Rattle.std.specs.List.{slice_get}
-use Rattle.std.proofs.lemmas.List.{append_assoc, drop-drop, drop-map, length-drop, length-take-le, map-append, take_more}
+use Rattle.std.proofs.lemmas.List.{append_assoc, drop-map, length-drop, map-append}
 use Rattle.s360_store.specs.declared.place.Place.{Place}
-use Rattle.s360_store.specs.declared.place.Place.TheVariants.{Byte}
+use Rattle.s360_store.specs.declared.place.Place.TheVariants.{Psw as psw_place}
 use Rattle.s360_store.specs.declared.place.Cell.{Cell}
-use Rattle.s360_store.specs.declared.cells.Item.{Item}
-use Rattle.s360_store.specs.Cells.{byte_cells, places_of_cells}
-use Rattle.s360_store.specs.Items.{bytes_of_item, bytes_of_items, cells_of_item, cells_of_items}
-use Rattle.s360_machine.specs.declared.span.Span.{Span}
-use Rattle.s360_machine.specs.declared.span.Span.TheVariants.{Place as OnePlace, Bytes}
-use Rattle.s360_machine.specs.Spans.{AddsPlaces, AreSpans, IsSpan, byte_places, places_of_span, places_of_spans}
+use Rattle.s360_store.specs.declared.items.Item.{Item}
+use Rattle.s360_store.specs.declared.items.Item.TheVariants.{Single, Run}
+use Rattle.s360_store.specs.declared.span.Span.{Span}
+use Rattle.s360_store.specs.declared.span.Span.TheVariants.{Place as OnePlace, Bytes as byte_span}
+use Rattle.s360_store.specs.Cells.{places_of_cells}
+use Rattle.s360_store.specs.Items.{AreItems, bytes_of_item, bytes_of_items, cells_of_item, cells_of_items}
+use Rattle.s360_store.specs.Spans.{AreSpans, places_of_span, places_of_spans, span_of_item}
+use Rattle.s360_store.proofs.SpanLemmas.{places-of-bytes, places-of-run}
+use Rattle.s360_machine.specs.declared.beside.Beside.{Beside}
+use Rattle.s360_machine.specs.declared.row.Row.{Row}
+use Rattle.s360_machine.specs.declared.row.Row.TheVariants.{Nothing, Psw, Register, Bytes, More}
+use Rattle.s360_machine.specs.Beside.{places_of_beside}
+use Rattle.s360_machine.specs.Change.{Change}
+use Rattle.s360_machine.specs.ChangeSpans.{AreSpansOf, spans_beside, spans_of_row}
+use Rattle.s360_machine.specs.Changes.{change_with}
+use Rattle.s360_machine.specs.Packed.{change_of_row, lists}
+use Rattle.s360_machine.specs.Rows.{IsOver, cells_of_row}
 
-pub length-byte_places : (a n : ℕ) → length (byte_places a n) ≡ n
-length-byte_places a zero = refl
-length-byte_places a (suc n) = ap suc (length-byte_places (a + 1) n)
+-- spans joined
+pub AreSpans-append : (ss ts : List Span) → AreSpans ss → AreSpans ts → AreSpans (ss ++ ts)
+AreSpans-append [] ts h k = k
+AreSpans-append (s ∷ ss) ts h k = (h.0, AreSpans-append ss ts h.1 k)
 
-pub byte_places-get : (a n i : ℕ) → i < n → slice_get (byte_places a n) i ≡ Some (Byte (a + i))
-byte_places-get a zero i l = absurd (omega (arith, l))
-byte_places-get a (suc n) zero l = rw add-zero refl
-byte_places-get a (suc n) (suc i) l = let sum : a + 1 + i ≡ a + suc i = omega arith in rw sum at (byte_places-get (a + 1) n i (omega (arith, l)))
+pub places_of_spans-append : (ss ts : List Span) → places_of_spans (ss ++ ts) ≡ places_of_spans ss ++ places_of_spans ts
+places_of_spans-append [] ts = refl
+places_of_spans-append (s ∷ ss) ts =
+    ap (λ (ps : List Place). places_of_span s ++ ps) (places_of_spans-append ss ts) ∙ sym (append_assoc (places_of_span s) (places_of_spans ss) (places_of_spans ts))
 
--- the places of the cells of bytes
-pub places-of-bytes : (a : ℕ) (bs : List ℕ) → places_of_cells (byte_cells a bs) ≡ byte_places a (length bs)
-places-of-bytes a [] = refl
-places-of-bytes a (b ∷ bs) = ap (λ (ps : List Place). Byte a ∷ ps) (places-of-bytes (a + 1) bs)
+-- those of items
+AreSpans-items : (is : List Item) → AreItems is → AreSpans (map (λ i. span_of_item i) is)
+AreSpans-items [] h = tt
+AreSpans-items (Single c ∷ is) h = (tt, AreSpans-items is h.1)
+AreSpans-items (Run address count ∷ is) h = (h.0, AreSpans-items is h.1)
 
-pub places-of-run : (a n : ℕ) (bs : List ℕ) → n ≤ length bs → byte_places a n ≡ places_of_cells (byte_cells a (take n bs))
-places-of-run a n bs l = sym (places-of-bytes a (take n bs) ∙ ap (byte_places a) (length-take-le n bs l))
+places-of-item : (i : Item) (bs : List ℕ) → bytes_of_item i ≤ length bs → places_of_span (span_of_item i) ≡ places_of_cells (cells_of_item i bs)
+places-of-item (Single c) bs l = refl
+places-of-item (Run address count) bs l = places-of-run address count bs l
 
--- a span more
-pub places_of_spans-push : (ss : List Span) (s : Span) → places_of_spans (ss ++ s ∷ []) ≡ places_of_spans ss ++ places_of_span s
-places_of_spans-push [] s = append-nil (places_of_span s)
-places_of_spans-push (r ∷ ss) s =
-    ap (λ (ps : List Place). places_of_span r ++ ps) (places_of_spans-push ss s) ∙ sym (append_assoc (places_of_span r) (places_of_spans ss) (places_of_span s))
+places-of-items : (is : List Item) (bs : List ℕ) → bytes_of_items is ≤ length bs → places_of_spans (map (λ i. span_of_item i) is) ≡ places_of_cells (cells_of_items is bs)
+places-of-items [] bs l = refl
+places-of-items (i ∷ is) bs l =
+    let rest : List ℕ = drop (bytes_of_item i) bs
+    in ap (λ (ps : List Place). ps ++ places_of_spans (map (λ j. span_of_item j) is)) (places-of-item i bs (omega (arith, l)))
+    ∙ ap (λ (ps : List Place). places_of_cells (cells_of_item i bs) ++ ps) (places-of-items is rest (omega (arith, l, length-drop (bytes_of_item i) bs)))
+    ∙ sym (map-append (λ (c : Cell). c.place) (cells_of_item i bs) (cells_of_items is rest))
 
-AreSpans-push : (ss : List Span) (s : Span) → IsSpan s → AreSpans ss → AreSpans (ss ++ s ∷ [])
-AreSpans-push [] s w h = (w, tt)
-AreSpans-push (r ∷ ss) s w h = (h.0, AreSpans-push ss s w h.1)
+-- single places
+AreSpans-places : (ps : List Place) → AreSpans (map (λ p. OnePlace p) ps)
+AreSpans-places [] = tt
+AreSpans-places (p ∷ ps) = (tt, AreSpans-places ps)
 
-pub adds-one : (old new : List Span) (s : Span) → IsSpan s → new ≡ old ++ s ∷ [] → AddsPlaces old new (places_of_span s)
-adds-one old new s w e = rw e (record { listed = places_of_spans-push old s; whole = AreSpans-push old s w })
+places-of-places : (ps : List Place) → places_of_spans (map (λ p. OnePlace p) ps) ≡ ps
+places-of-places [] = refl
+places-of-places (p ∷ ps) = ap (λ (qs : List Place). p ∷ qs) (places-of-places ps)
 
--- no place more, and some after others
-pub adds-none : (ss : List Span) → AddsPlaces ss ss []
-adds-none ss = record { listed = sym (append-nil (places_of_spans ss)); whole = λ h. h }
+-- those of the core
+record AreSpansOver (ss : List Span) (cs : List Cell) : Type 0 where
+  pub whole : AreSpans ss
+  pub places : places_of_spans ss ≡ places_of_cells cs
 
-pub adds-then : (old middle new : List Span) (ps qs : List Place) → AddsPlaces old middle ps → AddsPlaces middle new qs → AddsPlaces old new (ps ++ qs)
-adds-then old middle new ps qs h k = record {
-  listed = k.listed ∙ ap (λ (rs : List Place). rs ++ qs) h.listed ∙ append_assoc (places_of_spans old) ps qs;
-  whole = λ w. k.whole (h.whole w);
+spans-of-core : (r : Row) (is : List Item) (bs : List ℕ) → IsOver r is bs → AreSpansOver (spans_of_row r ++ map (λ i. span_of_item i) is) (cells_of_row r is bs)
+spans-of-core Nothing is bs h = rw h.0 (record { whole = tt; places = refl })
+spans-of-core (Psw psw) is bs h = rw h.0 (record { whole = (tt, tt); places = refl })
+spans-of-core (Register n word psw) is bs h = rw h.0 (record { whole = (tt, (tt, tt)); places = refl })
+spans-of-core (Bytes count address psw) is bs h = rw h.0 (record {
+  whole = (tt, ((h.2, h.3), tt));
+  places = ap (λ (ps : List Place). psw_place ∷ ps) (append-nil _ ∙ ap (λ n. places_of_span (byte_span address n)) (sym h.1) ∙ sym (places-of-bytes address bs));
+})
+spans-of-core (More beside items bytes count) is bs h = record {
+  whole = AreSpans-items is h.3.whole;
+  places = places-of-items is bs (omega (arith, h.3.all));
 }
 
--- items, of which so many are added
-pub record AddsItems (old new : List Span) (is : List Item) (k : ℕ) : Type 0 where
-  pub adds : (bs : List ℕ) → bytes_of_items is ≤ length bs → AddsPlaces old new (places_of_cells (cells_of_items (take k is) bs))
-
-pub items-none : (ss : List Span) (is : List Item) → AddsItems ss ss is 0
-items-none ss is = record { adds = λ bs l. adds-none ss }
-
-cells_of_items-more : (is : List Item) (i : Item) (bs : List ℕ) → cells_of_items (is ++ i ∷ []) bs ≡ cells_of_items is bs ++ cells_of_item i (drop (bytes_of_items is) bs)
-cells_of_items-more [] i bs = append-nil (cells_of_item i bs)
-cells_of_items-more (j ∷ is) i bs =
-    ap (λ (cs : List Cell). cells_of_item j bs ++ cs) (cells_of_items-more is i (drop (bytes_of_item j) bs) ∙ ap (λ (ds : List ℕ). cells_of_items is (drop (bytes_of_item j) bs) ++ cells_of_item i ds) (drop-drop (bytes_of_items is) (bytes_of_item j) bs))
-    ∙ sym (append_assoc (cells_of_item j bs) (cells_of_items is (drop (bytes_of_item j) bs)) (cells_of_item i (drop (bytes_of_items (j ∷ is)) bs)))
-
-bytes-through : (is : List Item) (k : ℕ) (d : Item) → k < length is → bytes_of_items (take k is) + bytes_of_item (get_or is k d) ≤ bytes_of_items is
-bytes-through [] k d l = absurd (omega (arith, l))
-bytes-through (i ∷ is) zero d l = omega arith
-bytes-through (i ∷ is) (suc k) d l = omega (arith, bytes-through is k d (omega (arith, l)))
-
-pub items-more : (old middle new : List Span) (is : List Item) (k : ℕ) (d : Item) (s : Span) → k < length is
-    → ((bs : List ℕ) → bytes_of_item (get_or is k d) ≤ length bs → places_of_span s ≡ places_of_cells (cells_of_item (get_or is k d) bs))
-    → AddsItems old middle is k → AddsPlaces middle new (places_of_span s) → AddsItems old new is (k + 1)
-items-more old middle new is k d s l same h one = record {
-  adds = λ bs m.
-      let rest : List ℕ = drop (bytes_of_items (take k is)) bs
-      in let few : bytes_of_item (get_or is k d) ≤ length rest = omega (arith, m, bytes-through is k d l, length-drop (bytes_of_items (take k is)) bs)
-      in let more : places_of_cells (cells_of_items (take (k + 1) is) bs) ≡ places_of_cells (cells_of_items (take k is) bs) ++ places_of_span s
-      = ap (λ js. places_of_cells (cells_of_items js bs)) (take_more is k d l) ∙ ap places_of_cells (cells_of_items-more (take k is) (get_or is k d) bs)
-      ∙ map-append (λ (c : Cell). c.place) (cells_of_items (take k is) bs) (cells_of_item (get_or is k d) rest)
-      ∙ ap (λ (ps : List Place). places_of_cells (cells_of_items (take k is) bs) ++ ps) (sym (same rest few))
-      in rw more (adds-then old middle new (places_of_cells (cells_of_items (take k is) bs)) (places_of_span s) (h.adds bs m) one);
-}
+-- those of a change
+pub spans-own : (r : Row) (is : List Item) (bs : List ℕ) (xs : List Beside) (x : Change) → IsOver r is bs → change_of_row r (lists is bs xs) ≡ x
+    → AreSpansOf ((spans_of_row r ++ map (λ i. span_of_item i) is) ++ spans_beside (slice_get xs 0) 0) x
+spans-own r is bs xs x h e =
+    let core = spans-of-core r is bs h
+    in let by : (b : Option Beside) → AreSpansOf ((spans_of_row r ++ map (λ i. span_of_item i) is) ++ spans_beside b 0) (change_with (cells_of_row r is bs) b)
+    = λ b. elim b as (λ c. AreSpansOf ((spans_of_row r ++ map (λ i. span_of_item i) is) ++ spans_beside c 0) (change_with (cells_of_row r is bs) c)) [
+      | None ↦ record {
+        whole = AreSpans-append (spans_of_row r ++ map (λ i. span_of_item i) is) [] core.whole tt;
+        places = places_of_spans-append (spans_of_row r ++ map (λ i. span_of_item i) is) [] ∙ ap (λ (ps : List Place). ps ++ []) core.places;
+      }
+      | Some y ↦ record {
+        whole = AreSpans-append (spans_of_row r ++ map (λ i. span_of_item i) is) (map (λ p. OnePlace p) (places_of_beside y)) core.whole (AreSpans-places (places_of_beside y));
+        places = places_of_spans-append (spans_of_row r ++ map (λ i. span_of_item i) is) (map (λ p. OnePlace p) (places_of_beside y))
+            ∙ ap (λ (ps : List Place). ps ++ places_of_spans (map (λ p. OnePlace p) (places_of_beside y))) core.places
+            ∙ ap (λ (ps : List Place). places_of_cells (cells_of_row r is bs) ++ ps) (places-of-places (places_of_beside y));
+      }
+    ]
+    in rw (← e) (by (slice_get xs 0))
 
 -- the place of a part's first cell
 first-place : (cs ds : List Cell) (p : Place) → 0 < length cs → slice_get (places_of_cells cs) 0 ≡ Some p → slice_get (places_of_cells (cs ++ ds)) 0 ≡ Some p
@@ -99,3 +113,7 @@ pub place-of-part : (cs part : List Cell) (i : ℕ) (p : Place) → drop i cs �
     → slice_get (places_of_cells cs) i ≡ Some p
 place-of-part cs part i p is some first =
     first-there (places_of_cells cs) i ∙ ap (λ (ps : List Place). slice_get ps 0) (drop-map (λ (c : Cell). c.place) i cs ∙ ap places_of_cells is) ∙ first-place part (drop (i + length part) cs) p some first
+
+pub spans-joined : (all row first second items beside : List Span) → all ≡ first ++ (second ++ (items ++ beside)) → row ≡ first ++ second → all ≡ (row ++ items) ++ beside
+spans-joined all row first second items beside e r =
+    e ∙ sym (append_assoc first second (items ++ beside)) ∙ ap (λ (ss : List Span). ss ++ (items ++ beside)) (sym r) ∙ sym (append_assoc row items beside)

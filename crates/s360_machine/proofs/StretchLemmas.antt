@@ -1,14 +1,14 @@
 -- Stretches of successive bytes among the places of single cells and runs.
-use Rattle.std.proofs.Common.{◌≡◌, ◌<◌, ◌≤◌, ◌+◌, ◌++◌, ◌∙◌, ℕ, zero, suc, Option, Some, None, List, [], ◌∷◌, Bool, true, false, refl, ap, sym, subst, take, drop, get_or, length, arith, nat_eq, if◌then◌else◌}
+use Rattle.std.proofs.Common.{◌≡◌, ◌<◌, ◌≤◌, ◌+◌, ◌++◌, ◌∙◌, ℕ, suc, Option, Some, None, List, [], ◌∷◌, Bool, true, false, refl, ap, sym, subst, take, drop, get_or, length, arith, nat_eq, if◌then◌else◌}
 use Rattle.std.proofs.lemmas.Bool.{eq-eqb}
-use Rattle.std.proofs.lemmas.List.{append-nil, drop_all, drop_more, length-append, length-drop, length-take-le, map-append, take-append-drop}
-use Rattle.s360_store.specs.declared.cells.Item.{Item}
-use Rattle.s360_store.specs.declared.cells.Item.TheVariants.{Single, Run}
+use Rattle.std.proofs.lemmas.List.{drop_all, drop_more, length-append, length-drop, length-take-le, map-append}
+use Rattle.s360_store.specs.declared.items.Item.{Item}
+use Rattle.s360_store.specs.declared.items.Item.TheVariants.{Single, Run}
 use Rattle.s360_store.specs.declared.place.Cell.{Cell}
 use Rattle.s360_store.specs.declared.place.Place.{Place}
 use Rattle.s360_store.specs.declared.place.Place.TheVariants.{Byte}
-use Rattle.s360_store.specs.Cells.{AllFit, byte_cells, places_of_cells}
-use Rattle.s360_store.specs.Items.{bytes_of_item, bytes_of_items, cells_of_item, cells_of_items}
+use Rattle.s360_store.specs.Cells.{byte_cells, places_of_cells}
+use Rattle.s360_store.specs.Items.{cells_of_items}
 use Rattle.s360_machine.specs.Rows.{ArePartsOf}
 use Rattle.s360_machine.specs.Stretches.{begun_by, goes_on, next_after, stretches}
 use Rattle.s360_machine.proofs.PackedLemmas.{fit-right, items-few}

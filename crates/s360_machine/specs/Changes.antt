@@ -1,8 +1,7 @@
 -- What an event alters as its change has it: a row with all its parts, or cells and what is beside the core.
-use Rattle.std.specs.Prelude.{◌≡◌, ℕ, Option, Some, None, List, [], ◌∷◌, Box, box_value}
+use Rattle.std.specs.Prelude.{◌≡◌, ℕ, Option, Some, None, List, [], ◌∷◌, box_value}
 use Rattle.s360_store.specs.declared.place.Cell.{Cell}
 use Rattle.s360_machine.specs.declared.beside.Beside.{Beside}
-use Rattle.s360_machine.specs.declared.changes.Full.{Full}
 use Rattle.s360_machine.specs.declared.changes.Parts.{Parts}
 use Rattle.s360_machine.specs.declared.changes.Parts.TheVariants.{Plain, Full as full}
 use Rattle.s360_store.specs.Cells.{AllFit}

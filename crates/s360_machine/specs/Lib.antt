@@ -15,9 +15,9 @@ pub mod EventKinds
 pub mod IoChanges
 pub mod Beside
 pub mod Change
-pub mod Spans
 pub mod Rows
 pub mod PlainRows
+pub mod ChangeSpans
 pub mod Stretches
 pub mod Changes
 pub mod Differences

@@ -1,13 +1,12 @@
 -- Changes as they stand in the journal: a row of 16 bytes for each, and three lists for what stands apart from the rows, with
 -- that of the newest change at their ends: single cells and runs, the bytes of the runs, and what is beside the core.
-use Rattle.std.specs.Prelude.{◌≡◌, ◌<◌, ◌≤◌, ◌+◌, ◌-◌, ◌++◌, ℕ, Bool, if◌then◌else◌, Option, Some, None, List, [], ◌∷◌, length, take, drop, reverse, slice_get}
-use Rattle.std.specs.List.{list_any}
-use Rattle.s360_store.specs.declared.cells.Item.{Item}
+use Rattle.std.specs.Prelude.{◌≡◌, ◌<◌, ◌≤◌, ◌-◌, ◌++◌, ℕ, Bool, Option, Some, None, List, [], ◌∷◌, length, take, drop, reverse, slice_get}
+use Rattle.s360_store.specs.declared.items.Item.{Item}
 use Rattle.s360_store.specs.declared.place.Cell.{Cell}
 use Rattle.s360_store.specs.declared.place.Place.{Place}
 use Rattle.s360_store.specs.declared.place.Place.TheVariants.{Byte}
 use Rattle.s360_store.specs.Cells.{places_of_cells}
-use Rattle.s360_store.specs.Places.{same_place}
+use Rattle.s360_store.specs.Places.{is_among}
 use Rattle.s360_machine.specs.declared.row.Row.{Row}
 use Rattle.s360_machine.specs.declared.beside.Beside.{Beside}
 use Rattle.s360_machine.specs.declared.packed.End.{End}
@@ -120,17 +119,9 @@ pub record IsSwapOf (w : Whole) (x : Change) (v : Whole) : Type 0 where
   pub restores_machine : after_swap v (change_after_swap w x) ≡ w
   pub restores_change : change_after_swap v (change_after_swap w x) ≡ x
 
--- the number of the newest change that alters a place, where the newest comes first
+-- a change alters a place
 abbrev pub change_alters : Change → Place → Bool
-change_alters x p = list_any (λ q. same_place q p) (places_of_change x)
-
-abbrev pub newest_altering : List Change → Place → Option ℕ
-newest_altering [] p = None
-newest_altering (x ∷ xs) p = if change_alters x p then Some (length xs + 1) else newest_altering xs p
-
--- of changes in their order
-abbrev pub last_altering : List Change → Place → Option ℕ
-last_altering xs p = newest_altering (reverse xs) p
+change_alters x p = is_among (places_of_change x) p
 
 -- the values of the cells of bytes
 abbrev pub value_if_byte : Place → ℕ → List ℕ

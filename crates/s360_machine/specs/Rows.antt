@@ -3,7 +3,7 @@
 use Rattle.std.specs.Prelude.{◌≡◌, ◌<◌, ◌≤◌, ◌+◌, ◌^◌, ℕ, true, List, [], ◌∷◌, length}
 use Rattle.s360_store.specs.declared.place.Cell.{Cell}
 use Rattle.s360_store.specs.declared.place.Place.TheVariants.{Psw as psw_place, Register as register_place}
-use Rattle.s360_store.specs.declared.cells.Item.{Item}
+use Rattle.s360_store.specs.declared.items.Item.{Item}
 use Rattle.s360_store.specs.Cells.{AllFit, byte_cells}
 use Rattle.s360_store.specs.Items.{AreItems, bytes_of_items, cells_of_items}
 use Rattle.s360_machine.specs.declared.row.Row.{Row}
@@ -64,13 +64,7 @@ IsOver (Bytes count address psw) is bs = (is ≡ []) × (length bs ≡ count) ×
 IsOver (More beside items bytes count) is bs = (length is ≡ items) × (length bs ≡ bytes) × (length (cells_of_items is bs) ≡ count) × ArePartsOf is bs
 IsOver r is bs = (is ≡ []) × (bs ≡ [])
 
--- its bytes are some, with addresses of 32 bits, and so are those of its runs
-abbrev pub HasPlaces : Row → List Item → Type 0
-HasPlaces (Bytes count address psw) is = (0 < count) × (address + count ≤ 2 ^ 32)
-HasPlaces (More beside items bytes count) is = AreItems is
-HasPlaces r is = Unit {0}
-
--- and it has no bytes
+-- no bytes of it stand apart
 abbrev pub HasNoneApart : Row → Type 0
 HasNoneApart (Bytes count address psw) = ⊥
 HasNoneApart (More beside items bytes count) = ⊥

@@ -1,7 +1,7 @@
 -- Stretches of successive bytes of storage among places in their order.
 use Rattle.std.specs.Prelude.{◌+◌, ℕ, Bool, false, nat_eq, if◌then◌else◌, Option, Some, None, List, [], ◌∷◌}
-use Rattle.s360_store.specs.declared.cells.Item.{Item}
-use Rattle.s360_store.specs.declared.cells.Item.TheVariants.{Single, Run}
+use Rattle.s360_store.specs.declared.items.Item.{Item}
+use Rattle.s360_store.specs.declared.items.Item.TheVariants.{Single, Run}
 use Rattle.s360_store.specs.declared.place.Place.{Place}
 use Rattle.s360_store.specs.declared.place.Place.TheVariants.{Byte}
 

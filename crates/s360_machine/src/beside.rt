@@ -1,7 +1,5 @@
 //! What an event alters beside the core: of the control part, of the units and of their devices.
-ghost use Rattle.std.specs.Prelude.{◌≡◌, ◌≤◌, ◌<◌, ◌+◌, ◌++◌, ◌∷◌, [], if◌then◌else◌, length, map, IfSome, IsTrue, OnOk};
-ghost use Rattle.std.specs.List.{list_any};
-ghost use Rattle.s360_store.specs.Places.{same_place};
+ghost use Rattle.std.specs.Prelude.{◌≡◌, ◌≤◌, ◌<◌, ◌+◌, ◌++◌, ◌∷◌, [], if◌then◌else◌, length, map, IfSome, IsTrue};
 ghost use Rattle.s360_model.specs.Exchanges.{CanIfAny, after_if_any, back_if_any};
 ghost use Rattle.s360_channel.specs.UnitChanges.{state_place, unit_change_after_swap, units_after_swap};
 ghost use Rattle.s360_machine.specs.Beside.{IsNothing, places_of_beside};
@@ -10,16 +8,13 @@ ghost use Rattle.s360_machine.specs.IoChanges.{CanSwapMedia, media_after_swap};
 ghost use Rattle.s360_machine.specs.IoChanges.{media_change_after_swap, media_needs, unit_of_change};
 ghost use Rattle.s360_machine.specs.Machine.{room_for};
 ghost use Rattle.s360_machine.specs.Media.{media_of, room_of};
-ghost use Rattle.s360_machine.specs.Spans.{AddsPlaces};
 
 use crate::control::Control;
 use crate::control_change::ControlChange;
 use crate::media::{Devices, MediaChange};
-use crate::span::{Spans, push_place};
 use arrayvec::ArrayVec;
 use s360_channel::{ConfiguredUnit, UnitChange, Units};
 use s360_store::Place;
-use std::alloc::AllocError;
 
 /// So many places there are beside those of the core: two of the control part, those of six units, and one of a
 /// device.
@@ -77,23 +72,6 @@ impl Beside {
             places.push(Place::UnitMedia(change.unit().unit()));
         }
         places
-    }
-
-    /// Whether a place is among them.
-    pub(crate) fn alters(&self, place: Place) -> bool
-        ensures { result ≡ list_any (λ q. same_place q place) (places_of_beside self.now) }
-    {
-        self.places().iter().any(|other| other.is(place))
-    }
-
-    /// Adds the places to spans.
-    pub(crate) fn push_spans(&self, spans: &mut Spans) -> Result<(), AllocError>
-        ensures { OnOk result (AddsPlaces spans.old.items spans.new.items (places_of_beside self.now)) }
-    {
-        for place in self.places().iter() {
-            push_place(spans, *place)?;
-        }
-        Ok(())
     }
 }
 

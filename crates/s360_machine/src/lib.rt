@@ -7,6 +7,7 @@
 
 mod altering;
 mod beside;
+mod change_spans;
 mod changes;
 mod channel_event;
 mod control;
@@ -28,9 +29,9 @@ mod refusal;
 mod row;
 mod run_state;
 mod short_run;
-mod span;
 mod timer;
 
+pub use change_spans::ChangeSpans;
 pub use changes::Changes;
 pub use event::{Event, Patch};
 pub use event_kind::{EventKind, KeyKind, PatchKind};
@@ -42,4 +43,3 @@ pub use refusal::Refusal;
 pub use run_state::RunState;
 pub use s360_channel::ConfiguredUnit;
 pub use s360_store::Bytes;
-pub use span::{Span, Spans};

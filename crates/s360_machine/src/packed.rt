@@ -1,22 +1,19 @@
 //! The changes of the journal, in little memory: a row of 16 bytes for each, all bytes of storage that they alter in one
 //! buffer, and what is rarer in lists apart.
 ghost use Rattle.std.specs.Prelude.{◌≡◌, ◌<◌, ◌≤◌, ◌-◌, ◌++◌, ◌∷◌, [], false, length, reverse, slice_get, slice_set, take, vec_capacity, vec_len, IfOk, IfSome, IsTrue, OnErr, OnOk, box_value};
-ghost use Rattle.std.specs.List.{list_any};
 ghost use Rattle.s360_store.specs.Cells.{AllFit};
-ghost use Rattle.s360_store.specs.Places.{same_place};
 ghost use Rattle.s360_machine.specs.Beside.{IsNothing};
 ghost use Rattle.s360_machine.specs.Change.{CanSwap, Change, HasRoom, change_after_swap, places_of_change};
+ghost use Rattle.s360_machine.specs.ChangeSpans.{AreSpansOf, spans_left};
 ghost use Rattle.s360_machine.specs.Changes.{AreFit, change_of, change_of_parts};
-ghost use Rattle.s360_machine.specs.Packed.{ArePacked, HasBefore, IsAppended, IsEnd, IsOwnOf, IsSwapOf, bytes_of_changes, end_before, last_altering, last_stretches, lists};
-ghost use Rattle.s360_machine.specs.Packed.{newest_altering, unpacked};
+ghost use Rattle.s360_machine.specs.Packed.{ArePacked, HasBefore, IsAppended, IsEnd, IsOwnOf, IsSwapOf, bytes_of_changes, end_before, last_stretches, lists};
 ghost use Rattle.s360_machine.specs.Rows.{IsOver};
-ghost use Rattle.s360_machine.specs.Spans.{AddsPlaces};
 
 use crate::beside::Beside;
+use crate::change_spans::ChangeSpans;
 use crate::changes::{Changes, Full, Parts};
 use crate::machine::Machine;
 use crate::row::Row;
-use crate::span::Spans;
 use s360_store::{Item, Place};
 use std::alloc::{AllocError, Global};
 use std::marker::Model;
@@ -63,7 +60,7 @@ struct Own<'a> {
     beside: &'a [Beside],
 }
 
-impl Own<'_> {
+impl<'a> Own<'a> {
     /// The number of its places.
     fn len(&self) -> u32
         requires { IsOver self.now.row self.now.items.now self.now.bytes.now }
@@ -88,29 +85,13 @@ impl Own<'_> {
         places.get((i - self.row.len()) as usize).copied()
     }
 
-    /// Whether a place is among its own.
-    fn alters(&self, place: Place) -> bool
-        ensures { (x : Change) → IsOwnOf self.now x → result ≡ list_any (λ q. same_place q place) (places_of_change x) }
+    /// Its places as spans.
+    #[inline(always)]
+    fn spans(&self) -> ChangeSpans<'a>
+        ensures { (x : Change) → IsOwnOf self.now x → AreSpansOf (spans_left result) x }
     {
-        if self.row.alters(self.items, place) {
-            return true;
-        }
-        match self.beside.first() {
-            Some(beside) => beside.alters(place),
-            None => false,
-        }
-    }
-
-    /// Adds its places to spans.
-    fn push_spans(&self, spans: &mut Spans) -> Result<(), AllocError>
-        requires { IsOver self.now.row self.now.items.now self.now.bytes.now }
-        ensures { OnOk result ((x : Change) → IsOwnOf self.now x → AddsPlaces spans.old.items spans.new.items (places_of_change x)) }
-    {
-        self.row.push_spans(self.items, spans)?;
-        match self.beside.first() {
-            Some(beside) => beside.push_spans(spans),
-            None => Ok(()),
-        }
+        let (first, second) = self.row.spans();
+        ChangeSpans::of(first, second, self.items, self.beside.first())
     }
 }
 
@@ -146,36 +127,6 @@ fn end_of(rows: &[Row], items: &[Item], bytes: &[u8], beside: &[Beside], count: 
         end = end.before(&rows[end.rows - 1]);
     }
     end
-}
-
-/// The number of the last change that alters a place, counted from 1, if one does.
-fn last_of(
-    rows: &[Row],
-    items: &[Item],
-    bytes: &[u8],
-    beside: &[Beside],
-    place: Place,
-) -> Option<u32>
-    requires packed { ArePacked (reverse rows.now) (lists items.now bytes.now beside.now) }
-    requires few { length rows.now ≤ 10000000 }
-    ensures { result ≡ newest_altering (unpacked (reverse rows.now) (lists items.now bytes.now beside.now)) place }
-{
-    let mut end = end_of(rows, items, bytes, beside, rows.len());
-    while end.rows > 0 {
-        let row = rows[end.rows - 1];
-        let start = end.before(&row);
-        let own = Own {
-            row,
-            items: &items[start.items..end.items],
-            bytes: &bytes[start.bytes..end.bytes],
-            beside: &beside[start.beside..end.beside],
-        };
-        if own.alters(place) {
-            return Some(end.rows as u32);
-        }
-        end = start;
-    }
-    None
 }
 
 /// Adds what is beside the core to a list that has room for it, if there is anything, and says whether there is.
@@ -373,20 +324,14 @@ impl Packed {
         self.own(number).place(i)
     }
 
-    /// Adds the places of a change, counted from 1, to spans.
-    pub fn push_spans(&self, number: u32, spans: &mut Spans) -> Result<(), AllocError>
+    /// The places of a change, counted from 1, as spans. It takes no memory.
+    #[inline(always)]
+    pub fn spans(&self, number: u32) -> ChangeSpans<'_>
         requires some { 0 < number }
         requires inside { number ≤ length self.now }
-        ensures { OnOk result (IfSome (slice_get self.now (number - 1)) (λ x. AddsPlaces spans.old.items spans.new.items (places_of_change x))) }
+        ensures { IfSome (slice_get self.now (number - 1)) (λ x. AreSpansOf (spans_left result) x) }
     {
-        self.own(number).push_spans(spans)
-    }
-
-    /// The number of the last change that alters a place, counted from 1, if one does. It takes no memory.
-    pub fn last_altering(&self, place: Place) -> Option<u32>
-        ensures { result ≡ last_altering self.now place }
-    {
-        last_of(&self.rows, &self.items, &self.bytes, &self.beside, place)
+        self.own(number).spans()
     }
 
     /// The values that the changes keep for bytes of storage, joined in the order of the changes and, within each, of

@@ -1,20 +1,16 @@
 //! Rows of 16 bytes: what an event alters of the core where that is the PSW and little beside it, and
 //! else how much of it stands in lists apart.
-ghost use Rattle.std.specs.Prelude.{None, ◌≡◌, ◌<◌, ◌≤◌, ℕ, List, length, slice_get, OnOk, Some};
-ghost use Rattle.std.specs.List.{list_any};
+ghost use Rattle.std.specs.Prelude.{None, ◌≡◌, ◌<◌, ◌≤◌, ◌++◌, ℕ, List, length, slice_get, Some};
 ghost use Rattle.s360_store.specs.Cells.{places_of_cells};
-ghost use Rattle.s360_store.specs.Places.{same_place};
-ghost use Rattle.s360_store.specs.declared.cells.Item.{Item as AnItem};
-ghost use Rattle.s360_machine.specs.Rows.{ArePartsOf, HasPlaces, IsOver, beside_of_row, bytes_of_row, cells_of_row, items_of_row};
+ghost use Rattle.s360_store.specs.declared.items.Item.{Item as AnItem};
+ghost use Rattle.s360_machine.specs.ChangeSpans.{span_if_any, spans_of_row};
+ghost use Rattle.s360_machine.specs.Rows.{ArePartsOf, IsOver, beside_of_row, bytes_of_row, cells_of_row, items_of_row};
 ghost use Rattle.s360_store.specs.Items.{cells_of_items};
 ghost use Rattle.s360_machine.specs.Stretches.{begun_by, next_after, stretches};
-ghost use Rattle.s360_machine.specs.Spans.{AddsPlaces};
 
-use crate::span::{Span, Spans, push_items, push_place, push_span};
 use s360_psw::Psw;
-use s360_store::{Item, Place, is_in_run, one_has, part_at};
+use s360_store::{Item, Place, Span, part_at};
 use s360_word::{RegisterNumber, Word};
-use std::alloc::AllocError;
 
 /// What an event alters. Each variant has its smallest fields first, so that none takes more than 16 bytes.
 #[derive(Clone, Copy, Debug)]
@@ -105,47 +101,25 @@ impl Row {
         }
     }
 
-    /// Whether a place is among its own.
-    pub(crate) fn alters(&self, items: &[Item], place: Place) -> bool
-        ensures { (bs : List ℕ) → IsOver self.now items.now bs → result ≡ list_any (λ q. same_place q place) (places_of_cells (cells_of_row self.now items.now bs)) }
+    /// Its places, as one or two spans, but for those of single cells and runs that stand apart.
+    #[inline(always)]
+    pub(crate) fn spans(&self) -> (Option<Span>, Option<Span>)
+        ensures { spans_of_row self.now ≡ span_if_any result.0 ++ span_if_any result.1 }
     {
+        let psw = Some(Span::Place(Place::Psw));
         match self {
-            Row::Nothing => false,
-            Row::Psw(_) => Place::Psw.is(place),
+            Row::Nothing | Row::More { .. } => (None, None),
+            Row::Psw(_) => (psw, None),
             Row::Register { register, .. } => {
-                Place::Psw.is(place) || Place::Register(register.number()).is(place)
+                (psw, Some(Span::Place(Place::Register(register.number()))))
             }
-            Row::Bytes { count, address, .. } => {
-                Place::Psw.is(place) || is_in_run(*address, u32::from(*count), place)
-            }
-            Row::More { .. } => one_has(items, place),
-        }
-    }
-
-    /// Adds its places to spans. The single cells and the runs are its own.
-    pub(crate) fn push_spans(&self, items: &[Item], spans: &mut Spans) -> Result<(), AllocError>
-        requires over { HasPlaces self.now items.now }
-        ensures { OnOk result ((bs : List ℕ) → IsOver self.now items.now bs → AddsPlaces spans.old.items spans.new.items (places_of_cells (cells_of_row self.now items.now bs))) }
-    {
-        match self {
-            Row::Nothing => Ok(()),
-            Row::Psw(_) => push_place(spans, Place::Psw),
-            Row::Register { register, .. } => {
-                push_place(spans, Place::Psw)?;
-                push_place(spans, Place::Register(register.number()))
-            }
-            Row::Bytes { count, address, .. } => {
-                push_place(spans, Place::Psw)?;
-                let count = u32::from(*count);
-                push_span(
-                    spans,
-                    Span::Bytes {
-                        address: *address,
-                        count,
-                    },
-                )
-            }
-            Row::More { .. } => push_items(spans, items),
+            Row::Bytes { count, address, .. } => (
+                psw,
+                Some(Span::Bytes {
+                    address: *address,
+                    count: u32::from(*count),
+                }),
+            ),
         }
     }
 

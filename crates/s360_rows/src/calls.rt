@@ -7,12 +7,13 @@ use s360_machine::{Bytes, Event, Patch, Refusal};
 use s360_store::Place;
 use std::alloc::Global;
 
-/// The call that a line asks of a session: how many changes stand, a step back, the last change of a byte or a
-/// register, or the event that it offers.
+/// The call that a line asks of a session: how many changes stand, a step back, going back to a change, the last change of
+/// a byte or a register, or the event that it offers.
 pub(crate) fn call(alloc: Global, line: &str) -> Option<Call> {
     match line.split_once(" ") {
         None if line == "standing" => Some(Call::Standing),
         None if line == "back" => Some(Call::Back),
+        Some(("to", number)) => Some(Call::BackTo(number.parse().ok()?)),
         Some(("last", "p")) => Some(Call::LastChange(Place::Psw)),
         Some(("last", place)) => Some(Call::LastChange(place_of(place)?)),
         _ => Some(Call::Forward(event(alloc, line)?)),
@@ -20,7 +21,7 @@ pub(crate) fn call(alloc: Global, line: &str) -> Option<Call> {
 }
 
 /// The place that the words of a byte or a register are.
-fn place_of(words: &str) -> Option<Place> {
+pub(crate) fn place_of(words: &str) -> Option<Place> {
     let (kind, digits) = words.split_once(" ")?;
     let number = u32::from_str_radix(digits, 16).ok()?;
     match kind {

@@ -11,6 +11,8 @@ mod devices;
 #[cfg(test)]
 mod held;
 #[cfg(test)]
+mod indexes;
+#[cfg(test)]
 mod instructions;
 #[cfg(test)]
 mod machine;

@@ -1,5 +1,5 @@
 //! Sessions: calls in which few changes may stand, previews, and lists of calls.
-use crate::calls::{call, calls, event, long_patch, text_of_answer, text_of_report};
+use crate::calls::{call, calls, event, long_patch, place_of, text_of_answer, text_of_report};
 use crate::held::{Lent, lend_with_tape};
 use crate::rows::{Subject, Words, assert_no_fault, fault_of_rows};
 use s360_device::deck_from;
@@ -68,6 +68,12 @@ impl<'a> Running<'a> {
         text_of_answer(alloc, &answer)
     }
 
+    /// The changes of a place.
+    fn changes(&self, alloc: Global, place: &str) -> Option<String> {
+        let changes = self.session.changes_of(place_of(place)?);
+        format!(in alloc; "{changes:?}").ok()
+    }
+
     /// The last changes of places that the machine lacks.
     fn of_lacking_places(&self, alloc: Global) -> Option<String> {
         let byte = self.session.last_change(Place::Byte(0x2000));
@@ -84,6 +90,7 @@ impl<'a> Subject for Running<'a> {
         match words.next_word() {
             "picture" => self.picture(alloc),
             "lacking" => self.of_lacking_places(alloc),
+            "changes" => self.changes(alloc, words.behind_the_first()),
             "event" => format!(in alloc; "{:?}", self.session.last_event()).ok(),
             "memory" => self.stands(alloc, words.behind_the_first()),
             "do" => self.perform(alloc, words.behind_the_first()),
@@ -117,14 +124,50 @@ fn sessions(rt: HostRuntime) {
 }
 
 /// Tables, and how many changes may stand in the session of each.
-const TABLES: [(u8, &str); 6] = [
+const TABLES: [(u8, &str); 7] = [
     (0, NOTHING_STANDS),
     (1, ONE_STANDS),
     (6, SIX_STAND),
     (5, IDLE),
     (13, PREVIEWS),
     (13, MEMORY),
+    (13, CHANGES),
 ];
+
+/// The changes of two bytes, of which some are taken back.
+const CHANGES: &str = "
+do patch s 300 01 -> [Byte(768)]
+do patch s 300 02 -> [Byte(768)]
+do back -> Patch(Bytes { at: 768, bytes: Bytes { items: [2] } })
+do patch s 301 05 -> [Byte(769)]
+do patch s 300 03 -> [Byte(768)]
+changes s 300 -> [1, 3]
+changes s 301 -> [2]
+do back -> Patch(Bytes { at: 768, bytes: Bytes { items: [3] } })
+do back -> Patch(Bytes { at: 769, bytes: Bytes { items: [5] } })
+changes s 300 -> [1]
+changes s 301 -> []
+do last s 300 -> Some(1)
+do last s 301 -> None
+* Bytes of one patch, then of parts of it.
+do patch s 400 01020304 -> [Byte(1024), Byte(1025), Byte(1026), Byte(1027)]
+do patch s 401 0505 -> [Byte(1025), Byte(1026)]
+do patch s 3FF 0606 -> [Byte(1023), Byte(1024)]
+changes s 3FF -> [4]
+changes s 400 -> [2, 4]
+changes s 401 -> [2, 3]
+changes s 402 -> [2, 3]
+changes s 403 -> [2]
+* Going back to a change that stands, to one that does not, and to the start.
+do to 3 -> until 3
+changes s 400 -> [2]
+changes s 401 -> [2, 3]
+do to 3 -> until 3
+do to 9 -> until 3
+do to 0 -> until 0
+changes s 300 -> []
+changes s 402 -> []
+";
 
 /// No change may stand: refusals for an event's own sake come first, then a full journal.
 const NOTHING_STANDS: &str = "

@@ -18,17 +18,6 @@ IsBefore-trans p q r (inl a) (inr b) = inl (omega arith)
 IsBefore-trans p q r (inr a) (inl b) = inl (omega arith)
 IsBefore-trans p q r (inr a) (inr b) = inr (omega arith, omega arith)
 
-pub same_from_numbers : (p q : Place) → kind_of p ≡ kind_of q → number_of p ≡ number_of q → p ≡ q
-same_from_numbers Psw Psw k n = refl
-same_from_numbers (Register a) (Register b) k n = ap (λ i. Register i) n
-same_from_numbers (Byte a) (Byte b) k n = ap (λ i. Byte i) n
-same_from_numbers (Key a) (Key b) k n = ap (λ i. Key i) n
-same_from_numbers Run Run k n = refl
-same_from_numbers External External k n = refl
-same_from_numbers (UnitState u) (UnitState v) k n = ap (λ i. UnitState (record { 0 = i })) n
-same_from_numbers (UnitMedia u) (UnitMedia v) k n = ap (λ i. UnitMedia (record { 0 = i })) n
-same_from_numbers p q k n = absurd (omega arith)
-
 IsBeforeAll-among : (p q : Place) (qs : List Place) → IsBeforeAll p qs → Among q qs → IsBefore p q
 IsBeforeAll-among p q (r ∷ qs) h (inl e) = rw e h.0
 IsBeforeAll-among p q (r ∷ qs) h (inr a) = IsBeforeAll-among p q qs h.1 a
@@ -98,11 +87,6 @@ IsBeforeAll-append p (q ∷ qs) rs h k = (h.0, IsBeforeAll-append p qs rs h.1 k)
 pub IsAscending-append : (ps qs : List Place) → IsAscending ps → IsAscending qs → ((p : Place) → Among p ps → IsBeforeAll p qs) → IsAscending (ps ++ qs)
 IsAscending-append [] qs a b h = b
 IsAscending-append (p ∷ ps) qs a b h = (IsBeforeAll-append p ps qs a.0 (h p (inl refl)), IsAscending-append ps qs a.1 b (λ q x. h q (inr x)))
-
-pub Among-append : (r : Place) (ps qs : List Place) → Among r (ps ++ qs) → Among r ps ⊎ Among r qs
-Among-append r [] qs a = inr a
-Among-append r (p ∷ ps) qs (inl e) = inl (inl e)
-Among-append r (p ∷ ps) qs (inr x) = elim (Among-append r ps qs x) [ inl y ↦ inl (inr y) | inr y ↦ inr y ]
 
 pub Among-append_left : (r : Place) (ps qs : List Place) → Among r ps → Among r (ps ++ qs)
 Among-append_left r [] qs a = absurd a

@@ -60,10 +60,6 @@ cells_after_exchange-twice m (c ∷ cs) h =
     in ap (λ x. record { place = c.place; value = x } ∷ cells_after_exchange (with_value (after_exchange n cs) c.place (value_at m c.place)) (cells_after_exchange n cs)) v
     ∙ ap (λ l. c ∷ l) t
 
-pub AllFit-push : (cs : List Cell) (c : Cell) → AllFit cs → Fits c.place c.value → AllFit (cs ++ c ∷ [])
-AllFit-push [] c h f = (f, tt)
-AllFit-push (d ∷ cs) c h f = (h.0, AllFit-push cs c h.1 f)
-
 -- what an exchange leaves may be exchanged again
 pub AreCellsOf-cells_after_exchange : (m n : Core) (cs : List Cell) → ((p : Place) → IsPlaceOf m p → IsPlaceOf n p) → AreCellsOf m cs → AllFit (cells_after_exchange m cs) → AreCellsOf n (cells_after_exchange m cs)
 AreCellsOf-cells_after_exchange m n [] k h f = tt
@@ -85,46 +81,6 @@ AreCellsOf-again m cs h f = AreCellsOf-cells_after_exchange m (after_exchange m 
 
 -- what follows where the condition of an exchange holds
 pub ruleset exchanges = (after_exchange-twice, cells_after_exchange-twice, AreCellsOf-again)
-
--- an exchange of all cells that has come to the index i
-pub record Exchanging (m : Core) (cs : List Cell) (n : Core) (items : List Cell) (i : ℕ) : Type 0 where
-  pub core : after_exchange n (drop i items) ≡ after_exchange m cs
-  pub cells : take i items ++ cells_after_exchange n (drop i items) ≡ cells_after_exchange m cs
-  pub may : AreCellsOf n (drop i items)
-  pub fit : AllFit (take i items)
-
-pub Exchanging-more : (m : Core) (cs : List Cell) (n : Core) (items : List Cell) (i : ℕ) (d : Cell) (o : Core) (x : Cell)
-    → i < length items → Exchanging m cs n items i
-    → o ≡ with_value n (get_or items i d).place (get_or items i d).value
-    → x ≡ record { place = (get_or items i d).place; value = value_at n (get_or items i d).place }
-    → Fits (get_or items i d).place x.value
-    → Exchanging m cs o (set items i x) (i + 1)
-Exchanging-more m cs n items i d o x h e eo ex f =
-    let c : Cell = get_or items i d
-    in let split : drop i items ≡ c ∷ drop (i + 1) items = drop_more items i d h
-    in let after : drop (i + 1) (set items i x) ≡ drop (i + 1) items = drop-set-lt (i + 1) items i x (omega arith)
-    in let before : take (i + 1) (set items i x) ≡ take i items ++ x ∷ [] = take_more_set items i x h
-    in let may : AreCellsOf n (c ∷ drop (i + 1) items) = rw split at e.may
-    in record {
-      core = rw (after, eo) (rw split at e.core);
-      cells = rw (after, before, eo, ex, append_assoc) (rw split at e.cells);
-      may = rw (after, eo) (AreCellsOf-kept n (drop (i + 1) items) c.place c.value may.3);
-      fit = rw before (AllFit-push (take i items) x e.fit (rw (ap (λ (y : Cell). y.place) ex) f));
-    }
-
--- what an exchange leaves may be exchanged again, which restores all
-pub record IsExchange (m : Core) (cs : List Cell) (n : Core) (items : List Cell) : Type 0 where
-  pub again : AreCellsOf n items
-  pub core : after_exchange n items ≡ m
-  pub cells : cells_after_exchange n items ≡ cs
-
-pub IsExchange-from : (m : Core) (cs : List Cell) (n : Core) (items : List Cell)
-    → AreCellsOf m cs → n ≡ after_exchange m cs → items ≡ cells_after_exchange m cs → AllFit items → IsExchange m cs n items
-IsExchange-from m cs n items h en ei f = record {
-  again = rw (en, ei) (AreCellsOf-again m cs h (rw ei at f));
-  core = rw (en, ei) (after_exchange-twice m cs h);
-  cells = rw (en, ei) (cells_after_exchange-twice m cs h);
-}
 
 -- an exchange keeps the places
 pub places_of_cells-cells_after_exchange : (m : Core) (cs : List Cell) → places_of_cells (cells_after_exchange m cs) ≡ places_of_cells cs

@@ -5,8 +5,8 @@ use borrow.Rule.Slice.PartMut.{put_mid}
 use Rattle.std.proofs.lemmas.List.{append_assoc, drop-drop, drop-set-lt, drop_all, drop_more, length-append, length-drop, length-take-le, set-get_or, take-append-drop, take_all, take_more, take_more_set}
 use Rattle.s360_model.specs.Core.{Core}
 use Rattle.s360_model.specs.Storage.{Storage, with_run}
-use Rattle.s360_store.specs.declared.cells.Item.{Item}
-use Rattle.s360_store.specs.declared.cells.Item.TheVariants.{Single, Run}
+use Rattle.s360_store.specs.declared.items.Item.{Item}
+use Rattle.s360_store.specs.declared.items.Item.TheVariants.{Single, Run}
 use Rattle.s360_store.specs.declared.place.Place.{Place}
 use Rattle.s360_store.specs.declared.place.Cell.{Cell}
 use Rattle.s360_store.specs.Cells.{AllFit, AreCellsOf, IsFresh, after_exchange, byte_cells, cells_after_exchange}
@@ -56,9 +56,6 @@ pub record ExchangingItems (m n : Core) (is₀ is : List Item) (bs₀ bs : List 
   pub items : AreItems is
   pub done : bytes_of_items (take k is) ≡ from
   pub left : from + bytes_of_items (drop k is) ≡ length bs
-
-pub exchanging-first : (m : Core) (is : List Item) (bs : List ℕ) → AreItems is → bytes_of_items is ≡ length bs → AreCellsOf m (cells_of_items is bs) → ExchangingItems m m is is bs bs 0 0
-exchanging-first m is bs w e h = record { core = refl; cells = refl; fit = tt; can = h; items = w; done = refl; left = omega (arith, e) }
 
 -- the bytes of the run at an index are inside storage
 pub exchanging-inside : (m n : Core) (is₀ is : List Item) (bs₀ bs : List ℕ) (k from a count : ℕ) (d : Item) → k < length is → get_or is k d ≡ Run a count
@@ -152,22 +149,6 @@ exchanging-swapped m psw registers s t is₀ is bs₀ bs taken k from a count d 
     in let unchanged : set is k (Run a count) ≡ is = ap (λ (i : Item). set is k i) (sym g) ∙ set-get_or is k d
     in rw unchanged (exchanging-run m n (core_of psw registers t) is₀ is bs₀ bs (put_mid from count bs taken) taken k from a count d l g after back (AllFit-run a taken fits) count-taken
     (take-put_mid from count bs taken (from + count) (omega (arith, count-taken)) (omega (arith, bytes))) (drop-put_mid from count bs taken (from + count) (omega arith) (omega (arith, bytes)) count-taken) x)
-
--- all were exchanged
-pub exchanged-core : (m n : Core) (is₀ is : List Item) (bs₀ bs : List ℕ) (k from : ℕ) → length is ≤ k → ExchangingItems m n is₀ is bs₀ bs k from → n ≡ after_exchange m (cells_of_items is₀ bs₀)
-exchanged-core m n is₀ is bs₀ bs k from l x =
-    let none : drop k is ≡ [] = drop_all k is l in sym (rw none at x.core)
-
-pub exchanged-cells : (m n : Core) (is₀ is : List Item) (bs₀ bs : List ℕ) (k from : ℕ) → length is ≤ k → ExchangingItems m n is₀ is bs₀ bs k from
-    → (cells_of_items is bs ≡ cells_after_exchange m (cells_of_items is₀ bs₀)) × AllFit (cells_of_items is bs) × (bytes_of_items is ≡ length bs)
-exchanged-cells m n is₀ is bs₀ bs k from l x =
-    let none : drop k is ≡ [] = drop_all k is l
-    in let all : take k is ≡ is = take_all k is l
-    in let end : from + 0 ≡ length bs = rw none at x.left
-    in let whole : take from bs ≡ bs = take_all from bs (omega (arith, end))
-    in let cells : cells_after_exchange m (cells_of_items is₀ bs₀) ≡ cells_of_items is bs ++ [] = rw (none, all, whole) at x.cells
-    in let done : bytes_of_items is ≡ from = rw all at x.done
-    in (sym (cells ∙ append-nil (cells_of_items is bs)), rw (all, whole) at x.fit, omega (arith, done, end))
 
 pub length-cells_after_exchange : (m : Core) (cs : List Cell) → length (cells_after_exchange m cs) ≡ length cs
 length-cells_after_exchange m [] = refl

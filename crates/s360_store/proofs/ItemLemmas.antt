@@ -13,9 +13,9 @@ use Rattle.std.proofs.lemmas.Option.{get_or_from_slice_get, slice_get_within}
 use Rattle.s360_store.specs.declared.place.Place.{Place}
 use Rattle.s360_store.specs.declared.place.Place.TheVariants.{Byte}
 use Rattle.s360_store.specs.declared.place.Cell.{Cell}
-use Rattle.s360_store.specs.declared.cells.Item.{Item}
-use Rattle.s360_store.specs.declared.cells.Item.TheVariants.{Single, Run}
-use Rattle.s360_store.specs.declared.cells.Part.TheVariants.{Cell as OfCell}
+use Rattle.s360_store.specs.declared.items.Item.{Item}
+use Rattle.s360_store.specs.declared.items.Item.TheVariants.{Single, Run}
+use Rattle.s360_store.specs.declared.items.Part.TheVariants.{Cell as OfCell}
 use Rattle.s360_store.specs.Cells.{HasEachOnce, IsFresh, byte_cells, places_of_cells}
 use Rattle.s360_store.specs.Order.{IsAscending, IsBefore, IsBeforeAll}
 use Rattle.s360_store.specs.Items.{AddsRun, AllMiss, AreItems, IsItem, IsJoined, IsPartAt, IsReplaced, IsRunBefore, IsSingle, MissesBytes, bytes_of_item, bytes_of_items, cells_of_item, cells_of_items, count_of_item, first_place, has_place, is_in_run, last_place}

@@ -39,16 +39,6 @@ pub record IsCellOf (m : Core) (before : List Cell) (c : Cell) : Type 0 where
   pub fits : Fits c.place c.value
   pub fresh : IsFresh c.place before
 
-pub IsCellOf-at : (m : Core) (cs : List Cell) (i : ℕ) (d : Cell) → i < length cs → AreCellsOf m cs → IsCellOf m (take i cs) (get_or cs i d)
-IsCellOf-at m [] i d l h = absurd (omega arith)
-IsCellOf-at m (c ∷ cs) zero d l h = record { inside = h.0; fits = h.1; fresh = tt }
-IsCellOf-at m (c ∷ cs) (suc i) d l h =
-    let rest : IsCellOf m (take i cs) (get_or cs i d) = IsCellOf-at m cs i d (omega arith) h.3
-    in record { inside = rest.inside; fits = rest.fits; fresh = (λ e. IsFresh-at cs i d c.place (omega arith) h.2 (sym e), rest.fresh) }
-
-pub IsCellOf-cell : (m : Core) (cs : List Cell) (i : ℕ) (c : Cell) → c ≡ get_or cs i c → i < length cs → AreCellsOf m cs → IsCellOf m (take i cs) c
-IsCellOf-cell m cs i c e l h = subst (λ (x : Cell). IsCellOf m (take i cs) x) (sym e) (IsCellOf-at m cs i c l h)
-
 pub after_exchange-push : (m : Core) (cs : List Cell) (c : Cell) → after_exchange m (cs ++ c ∷ []) ≡ with_value (after_exchange m cs) c.place c.value
 after_exchange-push m [] c = refl
 after_exchange-push m (d ∷ cs) c = after_exchange-push (with_value m d.place d.value) cs c
@@ -75,24 +65,8 @@ AreKept-other m plan kept c k at v = record {
   alter = AllDiffer-push m kept c k.alter v;
 }
 
-plan-more : (plan : List Cell) (i : ℕ) (c : Cell) → c ≡ get_or plan i c → i < length plan → take (i + 1) plan ≡ take i plan ++ c ∷ []
-plan-more plan i c e l = take_more plan i c l ∙ ap (λ (x : Cell). take i plan ++ x ∷ []) (sym e)
-
-pub AreKept-skip : (m : Core) (plan kept : List Cell) (i : ℕ) (c : Cell) → c ≡ get_or plan i c → i < length plan → AreCellsOf m plan → AreKept m (take i plan) kept
-    → value_at m c.place ≡ c.value → AreKept m (take (i + 1) plan) kept
-AreKept-skip m plan kept i c e l h k v =
-    rw (plan-more plan i c e l) (AreKept-same m (take i plan) kept c k (IsCellOf-cell m plan i c e l h).fresh v)
-
-pub AreKept-push : (m : Core) (plan kept : List Cell) (i : ℕ) (c : Cell) → c ≡ get_or plan i c → i < length plan → AreCellsOf m plan → AreKept m (take i plan) kept
-    → value_at m c.place ≢ c.value → AreKept m (take (i + 1) plan) (kept ++ c ∷ [])
-AreKept-push m plan kept i c e l h k v =
-    rw (plan-more plan i c e l) (AreKept-other m (take i plan) kept c k (IsCellOf-cell m plan i c e l h) v)
-
 -- the cell that a plan answers at an index
 pub cell-at : (cs : List Cell) (i : ℕ) (c : Cell) → slice_get cs i ≡ Some c → c ≡ get_or cs i c
 cell-at [] i c h = absurd (let none : Some c ≡ None = sym h in cc)
 cell-at (d ∷ cs) zero c h = (let same : d ≡ c = cc in sym same)
 cell-at (d ∷ cs) (suc i) c h = cell-at cs i c h
-
-pub AreKept-none : (m : Core) → AreKept m [] []
-AreKept-none m = record { cells = tt; makes = refl; among = λ p h. tt; alter = tt }

@@ -14,3 +14,4 @@ pub mod ByteCellLemmas
 pub mod RunLemmas
 pub mod ItemLemmas
 pub mod ItemExchangeLemmas
+pub mod SpanLemmas

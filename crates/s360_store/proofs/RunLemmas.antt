@@ -15,10 +15,6 @@ IsFresh-earlier : (x a : ℕ) (bs : List ℕ) → x < a → IsFresh (Byte x) (by
 IsFresh-earlier x a [] l = tt
 IsFresh-earlier x a (b ∷ bs) l = (λ s. let e : x ≡ a = cc in omega (arith, e, l), IsFresh-earlier x (a + 1) bs (omega arith))
 
-pub IsFresh-psw : (a : ℕ) (bs : List ℕ) → IsFresh Psw (byte_cells a bs)
-IsFresh-psw a [] = tt
-IsFresh-psw a (b ∷ bs) = (λ s. cc, IsFresh-psw (a + 1) bs)
-
 -- they make a core with the run
 pub IsPlanOf-bytes : (m : Core) (a : ℕ) (bs : List ℕ) → ((i : ℕ) → i < length bs → get_or bs i 0 < 256) → HasBytes a (length bs) m
     → IsPlanOf m (byte_cells a bs) (core_with_bytes a bs m)

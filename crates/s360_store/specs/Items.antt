@@ -6,10 +6,10 @@ use Rattle.s360_model.specs.Storage.{Storage}
 use Rattle.s360_store.specs.declared.place.Place.{Place}
 use Rattle.s360_store.specs.declared.place.Place.TheVariants.{Byte}
 use Rattle.s360_store.specs.declared.place.Cell.{Cell}
-use Rattle.s360_store.specs.declared.cells.Item.{Item}
-use Rattle.s360_store.specs.declared.cells.Item.TheVariants.{Single, Run}
-use Rattle.s360_store.specs.declared.cells.Part.{Part}
-use Rattle.s360_store.specs.declared.cells.Part.TheVariants.{Cell as OfCell, Bytes as OfBytes}
+use Rattle.s360_store.specs.declared.items.Item.{Item}
+use Rattle.s360_store.specs.declared.items.Item.TheVariants.{Single, Run}
+use Rattle.s360_store.specs.declared.items.Part.{Part}
+use Rattle.s360_store.specs.declared.items.Part.TheVariants.{Cell as OfCell, Bytes as OfBytes}
 use Rattle.s360_store.specs.Cells.{byte_cells}
 use Rattle.s360_store.specs.Places.{same_place}
 

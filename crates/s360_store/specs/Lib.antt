@@ -3,6 +3,7 @@ pub mod Order
 pub mod Cells
 pub mod Plans
 pub mod Items
+pub mod Spans
 pub mod PlanParts
 pub mod Protection
 pub mod Differences

@@ -1,5 +1,6 @@
 -- The places of the core: what stands at one, and the core with another value there.
-use Rattle.std.specs.Prelude.{ℕ, ◌<◌, ◌^◌, Bool, true, false, nat_eq, length, slice_index, slice_set, MatchOption, Option, None, Some}
+use Rattle.std.specs.Prelude.{ℕ, ◌<◌, ◌^◌, Bool, true, false, nat_eq, length, slice_index, slice_set, MatchOption, Option, None, Some, List}
+use Rattle.std.specs.List.{list_any}
 use Rattle.std.specs.Option.{option_map_or}
 use Rattle.s360_model.specs.Core.{Core, core_with_key, core_with_psw, core_with_word}
 use Rattle.s360_model.specs.Psw.{IsCurrentPsw}
@@ -18,6 +19,10 @@ same_place External External = true
 same_place (UnitState u) (UnitState v) = nat_eq u.0 v.0
 same_place (UnitMedia u) (UnitMedia v) = nat_eq u.0 v.0
 same_place p q = false
+
+-- one of the places is this one
+abbrev pub is_among : List Place → Place → Bool
+is_among ps p = list_any (λ q. same_place q p) ps
 
 -- the places that a core has: its PSW, the registers by their numbers, the bytes by their addresses, and the
 -- storage keys by the numbers of their blocks

@@ -6,7 +6,7 @@ ghost use Rattle.s360_store.specs.Cells.{AllFit, AreCellsOf, after_exchange, cel
 ghost use Rattle.s360_store.specs.Items.{AreItems, bytes_of_items, cells_of_items, core_of};
 ghost use Rattle.s360_store.specs.Places.{Fits, IsPlaceOf, value_at, with_value};
 
-use crate::cells::Item;
+use crate::items::Item;
 use crate::place::{Cell, Place};
 use crate::storage::Storage;
 use s360_psw::{InstructionLength, Psw};

@@ -17,7 +17,8 @@ ghost use Rattle.s360_store.specs.Plans.{after_put, after_put_bytes, planned_val
 ghost use Rattle.s360_store.specs.Plans.{AddsToPlan, HasBlock, HasBytes, HasPsw, HasRegister};
 ghost use Rattle.s360_store.specs.declared.place.Place.TheVariants.{Key, Psw as psw_place, Register};
 
-use crate::cells::{Cells, Part};
+use crate::cells::Cells;
+use crate::items::Part;
 use crate::place::{Cell, Place};
 use indexmap::IndexMap;
 use s360_psw::{InstructionLength, Psw};

@@ -1,6 +1,6 @@
 use Rattle.std.proofs.Common.{arith}
-use Rattle.s360_machine.specs.declared.span.Span.{Span}
-use Rattle.s360_machine.specs.declared.span.Span.TheVariants.{Place as OnePlace}
+use Rattle.s360_store.specs.declared.span.Span.{Span}
+use Rattle.s360_store.specs.declared.span.Span.TheVariants.{Place as OnePlace}
 use Rattle.s360_store.specs.declared.place.Place.TheVariants.{Psw}
 use Rattle.s360_journal.proofs.SpanLemmas.{sought-found, sought-past}
 use Rattle.s360_journal.proofs.places.place_at.Goals as goal

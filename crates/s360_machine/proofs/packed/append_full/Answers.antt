@@ -1,7 +1,6 @@
-use Rattle.std.proofs.Common.{◌≡◌, ◌≤◌, ◌-◌, ◌++◌, ◌∷◌, ◌∙◌, [], List, ap, sym, length, arith}
+use Rattle.std.proofs.Common.{◌++◌, ◌∷◌, ◌∙◌, [], List, ap, length, arith}
 use Rattle.std.proofs.lemmas.List.{length-append}
 use Rattle.s360_store.specs.Cells.{AllFit}
-use Rattle.s360_store.specs.Items.{Appended}
 use Rattle.s360_machine.specs.declared.beside.Beside.{Beside}
 use Rattle.s360_machine.proofs.PackedLemmas.{appended-full, bytes-few, items-few}
 use Rattle.s360_machine.proofs.packed.append_full.Goals as goal

@@ -1,6 +1,6 @@
-use Rattle.std.proofs.Common.{◌≤◌, arith, length, refl}
-use Rattle.s360_store.specs.declared.cells.Item.{Item}
-use Rattle.s360_store.specs.declared.cells.Item.TheVariants.{Single}
+use Rattle.std.proofs.Common.{arith, refl}
+use Rattle.s360_store.specs.declared.items.Item.{Item}
+use Rattle.s360_store.specs.declared.items.Item.TheVariants.{Single}
 use Rattle.s360_store.specs.declared.place.Place.TheVariants.{Psw}
 use Rattle.s360_machine.proofs.StretchLemmas.{items-below, stretching-all, stretching-begun, stretching-more}
 use Rattle.s360_machine.proofs.row.stretches_of.Goals as goal

@@ -1,7 +1,7 @@
 use Rattle.std.proofs.Common.{◌≡◌, ◌+◌, ◌-◌, arith}
 use Rattle.s360_store.specs.declared.place.Place.TheVariants.{Psw}
-use Rattle.s360_store.specs.declared.cells.Item.{Item}
-use Rattle.s360_store.specs.declared.cells.Item.TheVariants.{Single}
+use Rattle.s360_store.specs.declared.items.Item.{Item}
+use Rattle.s360_store.specs.declared.items.Item.TheVariants.{Single}
 use Rattle.s360_store.proofs.ItemExchangeLemmas.{exchanging-inside, exchanging-single, exchanging-swapped}
 use Rattle.s360_store.proofs.exchange.exchange_items.Goals as goal
 use Rattle.s360_store.proofs.exchange.exchange_items.Goals.{in-Single, in-Run}

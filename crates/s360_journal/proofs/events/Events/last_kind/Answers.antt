@@ -2,10 +2,8 @@ use Rattle.std.proofs.Common.{◌≡◌, ◌-◌, ◌∙◌, Some, ap, sym, leng
 use Rattle.std.specs.List.{slice_get}
 use Rattle.s360_machine.specs.declared.event.Event.TheVariants.{Cpu as cpu, Channel as channel, Tick as tick, Key as key}
 use Rattle.s360_machine.specs.declared.operator.Key.TheVariants.{Load as load}
-use Rattle.s360_machine.specs.declared.event.Event.{Event}
 use Rattle.s360_journal.specs.declared.events.Tag.TheVariants.{Cpu, Channel, Tick, Load, Other}
 use Rattle.s360_journal.specs.Events.{events_of}
-use Rattle.s360_journal.specs.Standing.{last_kind_of}
 use Rattle.s360_journal.proofs.EventLemmas.{last-kind, newest-first}
 use Rattle.s360_journal.proofs.events.Events.last_kind.Goals as goal
 

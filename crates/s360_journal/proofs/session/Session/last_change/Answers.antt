@@ -1,6 +1,10 @@
-use Rattle.std.proofs.Common.{◌∙◌, sym}
-use Rattle.s360_journal.proofs.SessionLemmas.{last_change_of-session}
+use Rattle.std.proofs.Common.{◌∙◌, ap, sym, length, ◌-◌}
+use Rattle.std.specs.List.{slice_get}
+use Rattle.s360_machine.specs.Machine.{seen}
+use Rattle.s360_journal.proofs.IndexLemmas.{last_change_of-last}
 use Rattle.s360_journal.proofs.session.Session.last_change.Goals as goal
 
 pub returns : goal.returns
-returns c = rw (← c.self.view_is) (c.last_altering.ensures ∙ sym (last_change_of-session c.self.inside.machine.whole c.self.inside.events c.self.inside.changes c.args.place c.self.invariant.0))
+returns c =
+    c.copied.ensures ∙ c.last.ensures.value ∙ ap (λ ns. slice_get ns (length ns - 1)) c.changes_of.ensures
+    ∙ sym (last_change_of-last 1 (seen c.args.self.now.start) c.args.self.now.events c.args.place)

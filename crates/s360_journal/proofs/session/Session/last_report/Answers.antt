@@ -1,11 +1,9 @@
 use Rattle.std.proofs.Common.{◌≡◌, ◌-◌, length, List, Some, subst}
 use Rattle.std.specs.List.{slice_get}
-use Rattle.std.specs.Prelude.{IfOk, IfSome, Result, Ok, Err}
+use Rattle.std.specs.Prelude.{IfOk, Result, Ok, Err}
 use Rattle.s360_store.specs.declared.place.Place.{Place}
-use Rattle.s360_machine.specs.declared.event.Event.{Event}
-use Rattle.s360_machine.specs.Change.{Change, places_of_change}
+use Rattle.s360_machine.specs.Change.{Change}
 use Rattle.s360_journal.specs.Reports.{IsReport}
-use Rattle.s360_journal.specs.Standing.{IsAfter, Standing, alteration}
 use Rattle.s360_journal.specs.declared.report.Report.{Report}
 use Rattle.s360_journal.proofs.SessionLemmas.{alteration-session, some-session}
 use Rattle.s360_journal.proofs.session.Session.last_report.Goals as goal

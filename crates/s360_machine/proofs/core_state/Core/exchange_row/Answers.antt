@@ -1,6 +1,6 @@
 use Rattle.std.proofs.Common.{◌≡◌, ◌∙◌, ℕ, List, ap, length, arith}
 use Rattle.s360_model.specs.Core.{Core}
-use Rattle.s360_store.specs.declared.cells.Item.{Item}
+use Rattle.s360_store.specs.declared.items.Item.{Item}
 use Rattle.s360_store.specs.Cells.{byte_cells}
 use Rattle.s360_store.specs.Items.{cells_of_items, core_of}
 use Rattle.s360_store.specs.declared.place.Place.TheVariants.{Psw}

@@ -1,7 +1,6 @@
-use Rattle.std.proofs.Common.{◌≡◌, ap, ◌∙◌, sym, subst}
+use Rattle.std.proofs.Common.{◌≡◌, ap, ◌∙◌}
 use Rattle.s360_machine.specs.Changes.{change_of_parts}
-use Rattle.s360_machine.specs.Machine.{Whole, WithRoom}
-use Rattle.s360_machine.specs.Change.{Change, CanSwap, NeedsNoRoom, after_swap, change_after_swap}
+use Rattle.s360_machine.specs.Change.{Change, after_swap, change_after_swap}
 use Rattle.s360_machine.proofs.SwapLemmas.{IsSwap, IsSwap-from}
 use Rattle.s360_machine.proofs.machine.Machine.swap_all.Goals as goal
 use Rattle.s360_machine.proofs.machine.Machine.swap_all.Goals.{After-exchange_parts}

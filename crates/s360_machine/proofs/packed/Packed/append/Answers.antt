@@ -3,7 +3,7 @@ use Rattle.std.proofs.lemmas.List.{length-append}
 use Rattle.s360_machine.specs.declared.row.Row.{Row}
 use Rattle.s360_machine.specs.Change.{Change}
 use Rattle.s360_machine.specs.Changes.{change_of_parts}
-use Rattle.s360_machine.specs.Packed.{ArePacked, IsAppended, Lists, changes_of_rows, lists}
+use Rattle.s360_machine.specs.Packed.{ArePacked, Lists, changes_of_rows, lists}
 use Rattle.s360_machine.proofs.PackedLemmas.{changes-appended, length-changes, packed-appended}
 use Rattle.s360_machine.proofs.packed.Packed.append.Goals as goal
 use Rattle.s360_machine.proofs.packed.Packed.append.Goals.{After-push_reserved}

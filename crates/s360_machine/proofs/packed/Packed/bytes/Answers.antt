@@ -1,4 +1,4 @@
-use Rattle.std.proofs.Common.{◌≡◌, ◌∙◌, List, sym, ap}
+use Rattle.std.proofs.Common.{◌∙◌, List, sym, ap}
 use Rattle.s360_machine.specs.Change.{Change}
 use Rattle.s360_machine.specs.Packed.{bytes_of_changes, lists}
 use Rattle.s360_machine.proofs.PackedLemmas.{bytes-of-rows}

@@ -1,4 +1,4 @@
-use Rattle.std.proofs.Common.{◌≡◌, ◌∙◌, List, sym, ap, take, arith, length}
+use Rattle.std.proofs.Common.{◌≡◌, ◌∙◌, List, ap, take, arith, length}
 use Rattle.s360_machine.specs.Change.{Change}
 use Rattle.s360_machine.specs.Packed.{IsEnd, Lists, changes_of_rows, lists, lists_to}
 use Rattle.s360_machine.proofs.PackedLemmas.{first-changes, length-changes, same-lists}

@@ -1,4 +1,4 @@
-use Rattle.std.proofs.Common.{◌≡◌, ◌∙◌, sym, ap, arith, length, refl}
+use Rattle.std.proofs.Common.{ap, arith, length, refl}
 use Rattle.s360_machine.specs.Packed.{IsEnd, lists}
 use Rattle.s360_machine.proofs.PackedLemmas.{There, length-changes, own-there, same-lists, slices}
 use Rattle.s360_machine.proofs.packed.Packed.own.Goals as goal

@@ -1,4 +1,4 @@
-use Rattle.std.proofs.Common.{◌≡◌, ◌<◌, ◌-◌, ◌++◌, ◌∙◌, sym, ap, arith, length, take, drop, set, refl}
+use Rattle.std.proofs.Common.{◌-◌, ◌++◌, ◌∙◌, sym, ap, arith, length, take, drop, set, refl}
 use Rattle.s360_machine.specs.Packed.{IsEnd, Lists, change_of_row, changes_of_rows, lists}
 use Rattle.s360_machine.specs.Change.{Change}
 use Rattle.std.proofs.lemmas.List.{length-set}

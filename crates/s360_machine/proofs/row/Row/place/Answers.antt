@@ -1,12 +1,11 @@
-use Rattle.std.proofs.Common.{◌≡◌, ◌<◌, ◌+◌, ◌-◌, ◌∙◌, ℕ, zero, suc, List, [], ◌∷◌, Some, sym, ap, refl, length, arith}
+use Rattle.std.proofs.Common.{◌≡◌, ◌<◌, ◌-◌, ◌∙◌, ℕ, zero, suc, List, ◌∷◌, ap, length, arith}
 use Rattle.std.specs.List.{slice_get}
-use Rattle.std.proofs.lemmas.List.{length-map}
-use Rattle.s360_store.specs.declared.place.Cell.{Cell}
 use Rattle.s360_store.specs.declared.place.Place.{Place}
 use Rattle.s360_store.specs.Cells.{byte_cells, places_of_cells}
 use Rattle.s360_store.specs.Items.{cells_of_items, cells_of_part}
 use Rattle.s360_store.proofs.ByteCellLemmas.{length-byte_cells}
-use Rattle.s360_machine.proofs.SpanLemmas.{byte_places-get, places-of-bytes, place-of-part}
+use Rattle.s360_store.proofs.SpanLemmas.{byte_places-get, places-of-bytes}
+use Rattle.s360_machine.proofs.SpanLemmas.{place-of-part}
 use Rattle.s360_machine.proofs.row.Row.place.Goals as goal
 
 pub overflow_add-result : goal.overflow_add-result

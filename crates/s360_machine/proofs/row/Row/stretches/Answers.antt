@@ -1,4 +1,4 @@
-use Rattle.std.proofs.Common.{◌≡◌, ◌+◌, ◌++◌, ◌∙◌, [], List, None, ap, sym, append-nil, arith}
+use Rattle.std.proofs.Common.{◌≡◌, ◌+◌, ◌++◌, [], None, ap, append-nil, arith}
 use Rattle.s360_store.specs.Cells.{byte_cells, places_of_cells}
 use Rattle.s360_machine.specs.Stretches.{stretches}
 use Rattle.s360_machine.proofs.StretchLemmas.{run-more}

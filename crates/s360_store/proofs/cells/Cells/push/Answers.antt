@@ -1,6 +1,6 @@
 use Rattle.std.proofs.Common.{◌≡◌, ◌∷◌, [], ◌++◌, ap, length, arith}
 use Rattle.std.proofs.lemmas.List.{length-append}
-use Rattle.s360_store.specs.declared.cells.Item.TheVariants.{Single}
+use Rattle.s360_store.specs.declared.items.Item.TheVariants.{Single}
 use Rattle.s360_store.specs.Items.{cells_of_items}
 use Rattle.s360_store.proofs.ItemLemmas.{AreItems-append, bytes_of_items-append, cells_of_items-single}
 use Rattle.s360_store.proofs.cells.Cells.push.Goals as goal

@@ -1,6 +1,6 @@
 use Rattle.std.proofs.Common.{ℕ, List, ◌≡◌, ◌∙◌, sym, length, Some, None}
 use Rattle.std.specs.List.{position, refill}
-use Rattle.s360_store.specs.declared.cells.Item.{Item}
+use Rattle.s360_store.specs.declared.items.Item.{Item}
 use Rattle.s360_store.specs.declared.place.Cell.{Cell}
 use Rattle.s360_store.specs.declared.place.Place.{Place}
 use Rattle.s360_store.specs.Cells.{IsFresh}

@@ -1,0 +1,2 @@
+pub mod HistoryLemmas
+pub mod SegmentLemmas

@@ -1,0 +1,4 @@
+pub mod Numbers
+pub mod Segments
+pub mod Histories
+pub mod Views
