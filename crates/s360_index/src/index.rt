@@ -39,7 +39,8 @@ impl Model for Index {
     ghost invariant = { λ i. AreSegments i.bytes };
 }
 
-/// Puts a number at the end of those of a place in a map, unless it stands there. Want of memory leaves the numbers of all places as they were.
+/// Puts a number at the end of those of a place in a map, unless it stands there. Want of memory leaves the numbers of all
+/// places as they were.
 fn put_other(
     others: &mut BTreeMap<Place, Vec<u32>>,
     alloc: Global,

@@ -11,7 +11,9 @@ pub(crate) fn put_number(numbers: &mut Vec<u32>, number: u32) -> Result<(), Allo
     ensures err { OnErr result (numbers.new.items ≡ numbers.old.items) }
 {
     if numbers.last() != Some(&number) {
-        numbers.push(number)?;
+        // In two steps, of which the compiler puts each where it is called.
+        numbers.reserve(1)?;
+        numbers.push_reserved(number);
     }
     Ok(())
 }

@@ -140,14 +140,3 @@ alteration-last w xs x limit t s e h view last is =
     in let start : unwound w (reverse xs) ≡ s.start = ap (λ (k : Standing). k.start) (view ∙ is)
     in let events : map (λ (y : Entry). y.event) xs ≡ s.events ++ e ∷ [] = ap (λ (k : Standing). k.events) (view ∙ is)
     in alteration-newest w split.0 x s e (subst (λ (zs : List Entry). IsHistory w zs) newest h) (rw newest at start) (rw split.1 at events)
-
--- no entry is the last where none stands
-pub none-last : (w : Whole) (xs : List Entry) (limit : ℕ) (t s : Standing) (e : Event)
-    → record { start = unwound w (reverse xs); events = map (λ (y : Entry). y.event) xs; limit = limit } ≡ t
-    → None ≡ slice_get xs (length xs - 1) → IsAfter t s e → ⊥
-none-last w [] limit t s e view none is =
-    omega (arith, ap (λ (k : Standing). length k.events) (view ∙ is), length-append s.events (e ∷ []))
-none-last w (x ∷ xs) limit t s e view none is =
-    let one : slice_get (x ∷ xs) (length (x ∷ xs) - 1) ≡ Some _ = slice_get-get_or (x ∷ xs) (length (x ∷ xs) - 1) x (omega arith)
-    in let both : None ≡ Some _ = none ∙ one
-    in cc

@@ -19,6 +19,7 @@ use Rattle.s360_machine.specs.Change.{Change, after_swap, change_after_swap, pla
 use Rattle.s360_machine.specs.ChangeSpans.{AreSpansOf}
 use Rattle.s360_machine.specs.Differences.{differences}
 use Rattle.s360_machine.specs.Packed.{change_alters}
+use Rattle.s360_machine.proofs.SpanLemmas.{places_of_spans-append}
 use Rattle.s360_journal.specs.History.{AreHistory, Entry, IsHistory, entries_of, unwound}
 use Rattle.s360_journal.specs.Indexed.{IsIndexOf, MayIndex, altering, altering_from}
 use Rattle.s360_journal.specs.Rerun.{alters, altering_events_from, changes_of, last_numbered_from, or_else, rerun}
@@ -343,6 +344,15 @@ pub ok-there : {A E : Type 0} (r : Result A E) (P : Type 0) → is_err r ≡ fal
 ok-there (Ok a) P h p = p
 ok-there (Err e) P h p = absurd (let no : true ≡ false = h in cc)
 
+-- what a clause on a result comes to
+pub ok-from : {A E : Type 0} (r : Result A E) (P Q : Type 0) → (P → Q) → OnOk r P → OnOk r Q
+ok-from (Ok a) P Q f p = f p
+ok-from (Err e) P Q f p = p
+
+pub err-from : {A E : Type 0} (r : Result A E) (P Q : Type 0) → (P → Q) → OnErr r P → OnErr r Q
+err-from (Ok a) P Q f p = p
+err-from (Err e) P Q f p = f p
+
 pub err-any : {A E : Type 0} (r : Result A E) (P : Type 0) → P → OnErr r P
 err-any (Ok a) P p = tt
 err-any (Err e) P p = p
@@ -353,6 +363,9 @@ pub record Indexing (k : ℕ) (g h : Histories) (all left : List Span) : Type 0 
   pub places : places_of_spans all ≡ past ++ places_of_spans left
   pub whole : AreSpans left
   pub gains : Gains k past g h
+
+pub indexing-begun : (k : ℕ) (g : Histories) (all : List Span) → AreSpans all → Indexing k g g all all
+indexing-begun k g all w = record { past = []; places = refl; whole = w; gains = λ p. refl }
 
 pub indexing-span : (k : ℕ) (g h : Histories) (all left next : List Span) (s : Span) → left ≡ s ∷ next → Indexing k g h all left → IsSpan s × AreSpans next
 indexing-span k g h all left next s e i = rw e at i.whole
@@ -368,6 +381,37 @@ indexing-more k g h i all left next s e x gains = record {
   whole = (indexing-span k g h all left next s e x).1;
   gains = gains-more k x.past (places_of_span s) g h i x.gains gains;
 }
+
+-- over optional spans
+AreSpans-parts : (ss ts : List Span) → AreSpans (ss ++ ts) → AreSpans ss × AreSpans ts
+AreSpans-parts [] ts h = (tt, h)
+AreSpans-parts (s ∷ ss) ts h = let parts : AreSpans ss × AreSpans ts = AreSpans-parts ss ts h.1 in ((h.0, parts.0), parts.1)
+
+pub within-spans : (ss ts : List Span) (x : Change) → AreSpansOf (ss ++ ts) x → AreSpans ss × AreSpans ts
+within-spans ss ts x h = AreSpans-parts ss ts h.whole
+
+pub index-within : (g h i : Histories) (xs ys : List Change) (x : Change) (k : ℕ) (ss ts : List Span) → ys ≡ xs ++ x ∷ [] → k ≡ length xs + 1 → AreSpansOf (ss ++ ts) x → IsIndexOf g xs
+    → Gains k (places_of_spans ss) g h → Gains k (places_of_spans ts) h i → IsIndexOf i ys
+index-within g h i xs ys x k ss ts is count spans whole a b =
+    rw is (index-whole g i xs x (places_of_spans ss ++ places_of_spans ts) (sym (places_of_spans-append ss ts) ∙ spans.places) whole
+    (rw count at (gains-more k (places_of_spans ss) (places_of_spans ts) g h i a b)))
+
+pub index-first-part : (g h : Histories) (xs : List Change) (x : Change) (k : ℕ) (ss ts : List Span) → k ≡ length xs + 1 → AreSpansOf (ss ++ ts) x → IsIndexOf g xs
+    → GainsInPart k (places_of_spans ss) g h → MayIndex h xs x
+index-first-part g h xs x k ss ts count spans whole a =
+    index-part g h xs x (places_of_spans ss) (places_of_spans ts) (sym (places_of_spans-append ss ts) ∙ spans.places) whole (rw count at a)
+
+pub index-second-part : (g h i : Histories) (xs : List Change) (x : Change) (k : ℕ) (ss ts : List Span) → k ≡ length xs + 1 → AreSpansOf (ss ++ ts) x → IsIndexOf g xs
+    → Gains k (places_of_spans ss) g h → GainsInPart k (places_of_spans ts) h i → MayIndex i xs x
+index-second-part g h i xs x k ss ts count spans whole a b =
+    index-part g i xs x (places_of_spans ss ++ places_of_spans ts) [] (append-nil (places_of_spans ss ++ places_of_spans ts) ∙ sym (places_of_spans-append ss ts) ∙ spans.places) whole
+    (rw count at (gains-then-part k (places_of_spans ss) (places_of_spans ts) g h i a b))
+
+pub unindex-within : (g h i : Histories) (xs : List Change) (x : Change) (k : ℕ) (ss ts : List Span) → k ≡ length xs + 1 → AreSpansOf (ss ++ ts) x → MayIndex g xs x
+    → Loses k (places_of_spans ss) g h → Loses k (places_of_spans ts) h i → IsIndexOf i xs
+unindex-within g h i xs x k ss ts count spans may a b =
+    index-before g i xs x (places_of_spans ss ++ places_of_spans ts) (sym (places_of_spans-append ss ts) ∙ spans.places) may
+    (rw count at (loses-more k (places_of_spans ss) (places_of_spans ts) g h i (λ p. rw count (may-index-once g xs x may p)) a b))
 
 pub indexing-all : (g h : Histories) (xs ys : List Change) (x : Change) (k : ℕ) (all left : List Span) → left ≡ [] → ys ≡ xs ++ x ∷ [] → k ≡ length xs + 1
     → AreSpansOf all x → IsIndexOf g xs → Indexing k g h all left → IsIndexOf h ys
@@ -387,6 +431,9 @@ pub record Unindexing (k : ℕ) (g h : Histories) (all left : List Span) : Type 
   pub places : places_of_spans all ≡ past ++ places_of_spans left
   pub whole : AreSpans left
   pub loses : Loses k past g h
+
+pub unindexing-begun : (k : ℕ) (g : Histories) (all : List Span) → AreSpans all → Unindexing k g g all all
+unindexing-begun k g all w = record { past = []; places = refl; whole = w; loses = record { each = λ p. inl refl; inside = λ p h. absurd (let no : false ≡ true = h in cc) } }
 
 pub unindexing-span : (k : ℕ) (g h : Histories) (all left next : List Span) (s : Span) → left ≡ s ∷ next → Unindexing k g h all left → IsSpan s × AreSpans next
 unindexing-span k g h all left next s e i = rw e at i.whole

@@ -1,12 +1,17 @@
 -- A run of calls leaves the start and the limit, and the events that stand by its calls and answers.
-use Rattle.std.proofs.Common.{◌≡◌, ◌-◌, ◌++◌, List, [], ◌∷◌, refl, ap, sym, ◌∙◌, length, length-append, take, arith, Ok, Err}
+use Rattle.std.proofs.Common.{◌≡◌, ◌-◌, ◌++◌, List, [], ◌∷◌, refl, ap, sym, ◌∙◌, length, length-append, take, arith, Ok, Err, Option, Some, None, Result}
 use Rattle.std.proofs.lemmas.List.{take_at}
 use Rattle.s360_machine.specs.declared.event.Event.{Event}
 use Rattle.s360_journal.specs.declared.calls.Call.{Call}
 use Rattle.s360_journal.specs.declared.calls.Call.TheVariants.{Forward, Back, BackUntil, BackTo, Standing as standing, LastChange}
 use Rattle.s360_journal.specs.declared.calls.Answer.{Answer}
 use Rattle.s360_journal.specs.declared.calls.Answer.TheVariants.{Forwarded, TookBack, WentBack, Stands, LastChanged}
-use Rattle.s360_journal.specs.Standing.{Standing}
+use Rattle.std.specs.Prelude.{IfOk, IsOkUnless, MatchOption, OnErr, OnOk}
+use Rattle.s360_machine.specs.declared.refusal.Refusal.{Refusal}
+use Rattle.s360_machine.specs.declared.refusal.Refusal.TheVariants.{Memory}
+use Rattle.s360_journal.specs.declared.report.Report.{Report}
+use Rattle.s360_journal.specs.Reports.{IsReport}
+use Rattle.s360_journal.specs.Standing.{Standing, alteration, refusal_in}
 use Rattle.s360_journal.specs.Calls.{events_after, standing_events, IsAnswer, IsRun}
 
 pub record Leads (s t : Standing) (events : List Event) : Type 0 where
@@ -57,3 +62,17 @@ Leads-IsRun s t (c ∷ cs) (a ∷ answers) h =
     }
 Leads-IsRun s t [] (a ∷ answers) h = absurd h
 Leads-IsRun s t (c ∷ cs) [] h = absurd h
+
+-- what an offered event is answered
+none-accepted : (o : Option Refusal) (r : Result Report Refusal) (p : Report) → r ≡ Ok p → MatchOption o (IsOkUnless r Memory) (λ q. r ≡ Err q) → o ≡ None
+none-accepted None r p e h = refl
+none-accepted (Some q) r p e h = absurd (let no : Ok p ≡ Err q = sym e ∙ h in cc)
+
+refused : (o : Option Refusal) (r : Result Report Refusal) (x : Refusal) → r ≡ Err x → MatchOption o (IsOkUnless r Memory) (λ q. r ≡ Err q) → MatchOption o (x ≡ Memory) (λ q. x ≡ q)
+refused None r x e h = rw e at h
+refused (Some q) r x e h = let same : r ≡ Err q = h in cc
+
+pub IsAnswer-forward : (s t : Standing) (e : Event) (r : Result Report Refusal) → OnOk r (t ≡ record s { events = s.events ++ e ∷ [] }) → IfOk r (λ q. IsReport q (alteration s e)) → OnErr r (t ≡ s)
+    → MatchOption (refusal_in s e) (IsOkUnless r Memory) (λ q. r ≡ Err q) → IsAnswer s (Forward e) (Forwarded r) t
+IsAnswer-forward s t e (Ok r) ok report err refusal = (none-accepted (refusal_in s e) (Ok r) r refl refusal, report, ok)
+IsAnswer-forward s t e (Err x) ok report err refusal = (refused (refusal_in s e) (Err x) x refl refusal, err)

@@ -1,5 +1,5 @@
 -- Events and changes of a session, side by side as entries.
-use Rattle.std.proofs.Common.{◌≡◌, ◌+◌, ◌-◌, ◌++◌, ◌∙◌, ℕ, zero, suc, List, [], ◌∷◌, Some, None, refl, ap, sym, subst, map, reverse, length, take, set, arith}
+use Rattle.std.proofs.Common.{◌≡◌, ◌<◌, ◌+◌, ◌-◌, ◌++◌, ◌∙◌, ℕ, zero, suc, List, [], ◌∷◌, Some, None, refl, ap, sym, subst, map, reverse, length, take, set, arith}
 use Rattle.std.specs.List.{slice_get}
 use Rattle.std.specs.Prelude.{IfSome}
 use Rattle.std.proofs.lemmas.List.{length-append, length-map, reverse-append, take_at}
@@ -150,6 +150,18 @@ pub found-last : (xs ys : List Change) (x : Change) (n : ℕ) → ys ≡ xs ++ x
 found-last xs ys x n is count =
     let last : n - 1 ≡ length xs = omega (arith, count, ap length is, length-append xs (x ∷ []))
     in ap (λ zs. slice_get zs (n - 1)) is ∙ ap (λ k. slice_get (xs ++ x ∷ []) k) last ∙ last-there xs x
+
+-- the last change of a session, by its number
+pub record IsLastChange (w : Whole) (xs : List Change) (n : ℕ) (x : Change) : Type 0 where
+  pub found : slice_get xs (n - 1) ≡ Some x
+  pub can : CanSwap w x
+  pub no_room : NeedsNoRoom x
+
+pub last-change : (w : Whole) (es : List Event) (xs : List Change) (n : ℕ) → AreHistory w es xs → 0 < n → n ≡ length xs → (x : Change) × IsLastChange w xs n x
+last-change w es xs n h some count =
+    let parts : (e : Event) × (es ≡ take (n - 1) es ++ e ∷ []) = split-last es (n - 1) (omega (arith, some, count, h.1))
+    in let last : (x : Change) × Last w es xs (take (n - 1) es) parts.0 x = last-session w es xs (take (n - 1) es) parts.0 h parts.1
+    in (last.0, record { found = found-last (take (length xs - 1) xs) xs last.0 n last.1.changes count; can = last.1.can; no_room = last.1.no_room })
 
 -- a session after an event that was accepted
 pub advanced : (w u v : Whole) (es : List Event) (xs ys zs : List Change) (e : Event) (x : Change) (n : ℕ) → AreHistory w es xs → refusal_of (storage_size (seen w)) e ≡ None

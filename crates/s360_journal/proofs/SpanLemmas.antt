@@ -37,7 +37,3 @@ sought-past ss i k left n d l c m h =
       whole = (rw (drop_more ss k d l) at h.whole).1;
       same = same ∙ slice_get-behind (places_of_span (get_or ss k d)) (places_of_spans (drop (k + 1) ss)) left (omega (arith, m, c));
     })
-
--- the spans of a change, with the number of its places
-pub spans-of-change : (ss : List Span) (x : Change) (n : ℕ) → AreSpansOf ss x → n ≡ length (places_of_change x) → ArePlaces ss n
-spans-of-change ss x n spans e = record { whole = spans.whole; counted = e ∙ ap length (sym spans.places) }

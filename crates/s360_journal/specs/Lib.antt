@@ -1,4 +1,5 @@
 pub mod Places
+pub mod SpanLists
 pub mod Reports
 pub mod Rerun
 pub mod Breakpoints

@@ -1,10 +1,38 @@
 //! The number of the last change, in the index at the places that the change alters.
 ghost use Rattle.std.specs.Prelude.{◌≡◌, ◌<◌, ◌-◌, length, slice_get, take, IfSome, OnErr, OnOk};
+ghost use Rattle.s360_store.specs.Spans.{AreSpans, places_of_spans};
+ghost use Rattle.s360_index.specs.Histories.{Gains, GainsInPart, Loses};
+ghost use Rattle.s360_machine.specs.ChangeSpans.{span_if_any};
 ghost use Rattle.s360_journal.specs.Indexed.{IsIndexOf, MayIndex};
 
 use s360_index::Index;
-use s360_machine::Packed;
+use s360_machine::{ChangeSpans, Packed};
+use s360_store::Span;
 use std::alloc::AllocError;
+
+/// Puts a number at the places of a span, if there is one. Want of memory leaves it at some of them.
+#[inline(always)]
+fn put_if_any(index: &mut Index, span: Option<Span>, number: u32) -> Result<(), AllocError>
+    requires { AreSpans (span_if_any span) }
+    ensures ok { OnOk result (Gains number (places_of_spans (span_if_any span)) index.old index.new) }
+    ensures err { OnErr result (GainsInPart number (places_of_spans (span_if_any span)) index.old index.new) }
+{
+    match span {
+        Some(span) => index.put(span, number),
+        None => Ok(()),
+    }
+}
+
+/// Takes a number from the places of a span, if there is one, where it stands there. It takes no memory.
+#[inline(always)]
+fn take_if_any(index: &mut Index, span: Option<Span>, number: u32)
+    requires { AreSpans (span_if_any span) }
+    ensures { Loses number (places_of_spans (span_if_any span)) index.old index.new }
+{
+    if let Some(span) = span {
+        index.take(span, number);
+    }
+}
 
 /// Puts the number of the last change at the places that it alters. Want of memory leaves it at some of them.
 #[inline(always)]
@@ -15,10 +43,18 @@ fn put_last(index: &mut Index, changes: &Packed, number: u32) -> Result<(), Allo
     ensures ok { OnOk result (IsIndexOf index.new changes.now) }
     ensures err { OnErr result (IfSome (slice_get changes.now (number - 1)) (λ x. MayIndex index.new (take (number - 1) changes.now) x)) }
 {
-    for span in changes.spans(number) {
-        index.put(span, number)?;
+    match changes.spans(number) {
+        ChangeSpans::Within(first, second) => {
+            put_if_any(index, first, number)?;
+            put_if_any(index, second, number)
+        }
+        ChangeSpans::Apart(spans) => {
+            for span in spans {
+                index.put(span, number)?;
+            }
+            Ok(())
+        }
     }
-    Ok(())
 }
 
 /// Takes the number of the last change from the places that it alters, where it stands there. It takes no memory.
@@ -29,13 +65,21 @@ pub(crate) fn unindex_last(index: &mut Index, changes: &Packed, number: u32)
     requires index { IfSome (slice_get changes.now (number - 1)) (λ x. MayIndex index.old (take (number - 1) changes.now) x) }
     ensures { IsIndexOf index.new (take (number - 1) changes.now) }
 {
-    for span in changes.spans(number) {
-        index.take(span, number);
+    match changes.spans(number) {
+        ChangeSpans::Within(first, second) => {
+            take_if_any(index, first, number);
+            take_if_any(index, second, number);
+        }
+        ChangeSpans::Apart(spans) => {
+            for span in spans {
+                index.take(span, number);
+            }
+        }
     }
 }
 
 /// Puts the number of the last change at the places that it alters. Want of memory leaves it at none of them.
-#[inline(always)]
+#[inline(never)]
 pub(crate) fn index_last(index: &mut Index, changes: &Packed, number: u32) -> Result<(), AllocError>
     requires some { 0 < number }
     requires last { number ≡ length changes.now }

@@ -1,24 +1,31 @@
 //! The places of a report.
 //!
-//! They stand as spans, so that a report of many bytes in one run is as short as that of one. A few
+//! They stand as spans, so that a report of many bytes in one run is as short as that of one. Two
 //! spans stand within the value, so that the report of a plain instruction takes no memory.
 ghost use Rattle.std.specs.Prelude.{◌≡◌, ◌↔◌, [], ◌-◌, length, slice_get, IfOk, IfSome, IsTrue};
 ghost use Rattle.s360_machine.specs.Change.{places_of_change};
+ghost use Rattle.s360_machine.specs.ChangeSpans.{spans_of};
 ghost use Rattle.s360_store.specs.Spans.{AreSpans, places_of_spans};
+ghost use Rattle.s360_journal.specs.SpanLists.{spans_listed};
 
-use s360_machine::Packed;
+use s360_machine::{ChangeSpans, Packed};
 use s360_store::{Place, Span};
-use smallvec::SmallVec;
 use std::alloc::{AllocError, Global};
 use std::marker::Model;
 
-/// So many spans stand within places, which take no memory.
-const WITHIN: usize = 4;
+/// Spans, in their order.
+#[derive(Debug, Drop)]
+enum SpanList {
+    /// Two, one or none, as most changes have.
+    Within(Option<Span>, Option<Span>),
+    /// Any number.
+    Apart(Vec<Span>),
+}
 
 /// Places in their order, each once, which a contract sees as a list.
 #[derive(Debug, Drop)]
 pub struct Places {
-    spans: SmallVec<Span, WITHIN>,
+    spans: SpanList,
     /// The number of places.
     count: u32,
 }
@@ -26,14 +33,15 @@ pub struct Places {
 impl Model for Places {
     ghost use Rattle.std.specs.Prelude.{List};
     ghost use Rattle.s360_store.specs.declared.place.Place.{Place};
-    ghost use Rattle.s360_journal.specs.Places.{ArePlaces};
     ghost use Rattle.s360_store.specs.Spans.{places_of_spans};
+    ghost use Rattle.s360_journal.specs.Places.{ArePlaces};
+    ghost use Rattle.s360_journal.specs.SpanLists.{spans_listed};
 
     ghost Value = { List Place };
 
-    ghost view = { λ p. places_of_spans p.spans.items };
+    ghost view = { λ p. places_of_spans (spans_listed p.spans) };
 
-    ghost invariant = { λ p. ArePlaces p.spans.items p.count };
+    ghost invariant = { λ p. ArePlaces (spans_listed p.spans) p.count };
 }
 
 /// The place at `i` of spans, counted from 0, if there are so many.
@@ -51,20 +59,46 @@ fn place_at(spans: &[Span], i: u32) -> Option<Place>
     None
 }
 
+impl SpanList {
+    /// The spans of a change.
+    #[inline(always)]
+    fn of(alloc: Global, spans: ChangeSpans<'_>) -> Result<SpanList, AllocError>
+        ensures { IfOk result (λ list. spans_listed list ≡ spans_of spans.entry) }
+    {
+        match spans {
+            ChangeSpans::Within(first, second) => Ok(SpanList::Within(first, second)),
+            ChangeSpans::Apart(apart) => Ok(SpanList::Apart(apart.collect(alloc)?)),
+        }
+    }
+
+    /// The place at `i`, counted from 0, if there are so many.
+    fn place(&self, i: u32) -> Option<Place>
+        requires { AreSpans (spans_listed self.now) }
+        ensures { result ≡ slice_get (places_of_spans (spans_listed self.now)) i }
+    {
+        match self {
+            SpanList::Within(None, None) => None,
+            SpanList::Within(Some(span), None) | SpanList::Within(None, Some(span)) => {
+                place_at(&[*span], i)
+            }
+            SpanList::Within(Some(first), Some(second)) => place_at(&[*first, *second], i),
+            SpanList::Apart(spans) => place_at(spans, i),
+        }
+    }
+}
+
 impl Places {
     /// The places of the last of the changes, if there is one.
     #[inline(always)]
     pub(crate) fn of_last(alloc: Global, changes: &Packed) -> Result<Places, AllocError>
         ensures { IfOk result (λ places. IfSome (slice_get changes.now (length changes.now - 1)) (λ x. places ≡ places_of_change x)) }
     {
-        let mut spans = SmallVec::new(alloc);
         let number = changes.len();
         if number == 0 {
+            let spans = SpanList::Within(None, None);
             return Ok(Places { spans, count: 0 });
         }
-        for span in changes.spans(number) {
-            spans.push(span)?;
-        }
+        let spans = SpanList::of(alloc, changes.spans(number))?;
         let count = changes.count(number);
         Ok(Places { spans, count })
     }
@@ -87,6 +121,6 @@ impl Places {
     pub fn get(&self, i: u32) -> Option<Place>
         ensures { result ≡ slice_get self.now i }
     {
-        place_at(&self.spans, i)
+        self.spans.place(i)
     }
 }

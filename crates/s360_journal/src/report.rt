@@ -29,9 +29,10 @@ impl Report {
     pub(crate) fn of_last(alloc: Global, changes: &Packed) -> Result<Report, AllocError>
         ensures { IfOk result (λ report. IfSome (slice_get changes.now (length changes.now - 1)) (λ x. IsReport report (places_of_change x))) }
     {
-        if is_idle(changes) {
+        let places = Places::of_last(alloc, changes)?;
+        if places.is_empty() {
             return Ok(Report::Idle);
         }
-        Ok(Report::Changed(Places::of_last(alloc, changes)?))
+        Ok(Report::Changed(places))
     }
 }

@@ -221,14 +221,18 @@ impl Session {
         ensures err { OnErr result (self.new ≡ self.old) }
         ensures nothing { OnErr result (self.old.events ≡ []) }
     {
-        let Some(event) = self.events.pop() else {
-            return Err(NothingStands);
-        };
         let number = self.changes.len();
+        if number == 0 {
+            return Err(NothingStands);
+        }
         self.changes.swap(number, &mut self.machine);
         unindex_last(&mut self.index, &self.changes, number);
         self.changes.keep(number - 1);
-        Ok(event)
+        // It is taken last, so that it need not be held meanwhile.
+        match self.events.pop() {
+            Some(event) => Ok(event),
+            None => unreachable!(),
+        }
     }
 
     /// Goes back to a change: takes back all changes after the one of this number, or none if no more stand. It answers how

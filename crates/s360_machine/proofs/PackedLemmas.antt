@@ -411,6 +411,7 @@ slices-own rows ls e r w h =
 
 pub record There (rows : List Row) (ls : Lists) (r : Row) (ms : Lists) (number : ℕ) : Type 0 where
   pub over : IsOver r ms.items ms.bytes
+  pub beside : length ms.beside ≡ beside_of_row r
   pub change : slice_get (changes_of_rows rows ls) (number - 1) ≡ Some (change_of_row r ms)
 
 pub own-there : (rows : List Row) (ls ms : Lists) (e s : End) (r : Row) (number : ℕ) → IsEnd rows ls e → e.rows ≡ number → 0 < number → r ≡ get_or rows (e.rows - 1) r
@@ -422,6 +423,7 @@ own-there rows ls ms e s r number h n some is before same =
     in let parts : slices ms s e ≡ own r (lists_to e ls) = ap (λ k. slices k s e) same ∙ ap (λ k. slices ls k e) before ∙ slices-own rows ls e r h.within here.has
     in record {
       over = subst (λ k. IsOver r k.items k.bytes) (sym parts) here.over;
+      beside = ap (λ k. length k.beside) parts ∙ here.own_is.beside;
       change = ap (λ k. slice_get (changes_of_rows rows ls) (k - 1)) (sym n) ∙ change-there rows ls e r h last here ∙ ap (λ k. Some (change_of_row r k)) (sym parts);
     }
 

@@ -1,5 +1,5 @@
 -- The places of a change as spans.
-use Rattle.std.proofs.Common.{◌≡◌, ◌<◌, ◌≤◌, ◌+◌, ◌++◌, ◌∙◌, ℕ, zero, suc, Option, Some, None, List, [], ◌∷◌, refl, ap, sym, map, drop, length, append-nil, arith}
+use Rattle.std.proofs.Common.{◌≡◌, ◌<◌, ◌≤◌, ◌+◌, ◌++◌, ◌∙◌, ℕ, zero, suc, Bool, Option, Some, None, List, [], ◌∷◌, refl, ap, sym, map, drop, length, append-nil, arith}
 use Rattle.std.specs.List.{slice_get}
 use Rattle.std.proofs.lemmas.List.{append_assoc, drop-map, length-drop, map-append}
 use Rattle.s360_store.specs.declared.place.Place.{Place}
@@ -11,7 +11,7 @@ use Rattle.s360_store.specs.declared.span.Span.{Span}
 use Rattle.s360_store.specs.declared.span.Span.TheVariants.{Place as OnePlace, Bytes as byte_span}
 use Rattle.s360_store.specs.Cells.{places_of_cells}
 use Rattle.s360_store.specs.Items.{AreItems, bytes_of_item, bytes_of_items, cells_of_item, cells_of_items}
-use Rattle.s360_store.specs.Spans.{AreSpans, places_of_span, places_of_spans, span_of_item}
+use Rattle.s360_store.specs.Spans.{AreSpans, byte_places, places_of_span, places_of_spans, span_of_item}
 use Rattle.s360_store.proofs.SpanLemmas.{places-of-bytes, places-of-run}
 use Rattle.s360_machine.specs.declared.beside.Beside.{Beside}
 use Rattle.s360_machine.specs.declared.row.Row.{Row}
@@ -21,7 +21,7 @@ use Rattle.s360_machine.specs.Change.{Change}
 use Rattle.s360_machine.specs.ChangeSpans.{AreSpansOf, spans_beside, spans_of_row}
 use Rattle.s360_machine.specs.Changes.{change_with}
 use Rattle.s360_machine.specs.Packed.{change_of_row, lists}
-use Rattle.s360_machine.specs.Rows.{IsOver, cells_of_row}
+use Rattle.s360_machine.specs.Rows.{IsOver, beside_of_row}
 
 -- spans joined
 pub AreSpans-append : (ss ts : List Span) → AreSpans ss → AreSpans ts → AreSpans (ss ++ ts)
@@ -60,40 +60,43 @@ places-of-places : (ps : List Place) → places_of_spans (map (λ p. OnePlace p)
 places-of-places [] = refl
 places-of-places (p ∷ ps) = ap (λ (qs : List Place). p ∷ qs) (places-of-places ps)
 
--- those of the core
-record AreSpansOver (ss : List Span) (cs : List Cell) : Type 0 where
-  pub whole : AreSpans ss
-  pub places : places_of_spans ss ≡ places_of_cells cs
+-- all its parts but its bytes stand within the row
+abbrev pub HasNoMore : Row → Type 0
+HasNoMore (More beside items bytes count) = ⊥
+HasNoMore r = Unit {0}
 
-spans-of-core : (r : Row) (is : List Item) (bs : List ℕ) → IsOver r is bs → AreSpansOver (spans_of_row r ++ map (λ i. span_of_item i) is) (cells_of_row r is bs)
-spans-of-core Nothing is bs h = rw h.0 (record { whole = tt; places = refl })
-spans-of-core (Psw psw) is bs h = rw h.0 (record { whole = (tt, tt); places = refl })
-spans-of-core (Register n word psw) is bs h = rw h.0 (record { whole = (tt, (tt, tt)); places = refl })
-spans-of-core (Bytes count address psw) is bs h = rw h.0 (record {
+-- those of a change that stands within its row
+pub within-own : (r : Row) (is : List Item) (bs : List ℕ) (xs : List Beside) (x : Change) → HasNoMore r → IsOver r is bs → length xs ≡ beside_of_row r → change_of_row r (lists is bs xs) ≡ x → AreSpansOf (spans_of_row r) x
+within-own Nothing is bs [] x w h n e = rw (← e) (record { whole = tt; places = refl })
+within-own (Psw psw) is bs [] x w h n e = rw (← e) (record { whole = (tt, tt); places = refl })
+within-own (Register number word psw) is bs [] x w h n e = rw (← e) (record { whole = (tt, (tt, tt)); places = refl })
+within-own (Bytes count address psw) is bs [] x w h n e = rw (← e) (record {
   whole = (tt, ((h.2, h.3), tt));
-  places = ap (λ (ps : List Place). psw_place ∷ ps) (append-nil _ ∙ ap (λ n. places_of_span (byte_span address n)) (sym h.1) ∙ sym (places-of-bytes address bs));
+  places = ap (λ (ps : List Place). psw_place ∷ (ps ++ [])) (ap (λ k. byte_places address k) (sym h.1) ∙ sym (places-of-bytes address bs));
 })
-spans-of-core (More beside items bytes count) is bs h = record {
-  whole = AreSpans-items is h.3.whole;
-  places = places-of-items is bs (omega (arith, h.3.all));
-}
+within-own Nothing is bs (y ∷ ys) x w h n e = absurd (omega (arith, n))
+within-own (Psw psw) is bs (y ∷ ys) x w h n e = absurd (omega (arith, n))
+within-own (Register number word psw) is bs (y ∷ ys) x w h n e = absurd (omega (arith, n))
+within-own (Bytes count address psw) is bs (y ∷ ys) x w h n e = absurd (omega (arith, n))
+within-own (More beside items bytes count) is bs xs x w h n e = absurd w
 
--- those of a change
-pub spans-own : (r : Row) (is : List Item) (bs : List ℕ) (xs : List Beside) (x : Change) → IsOver r is bs → change_of_row r (lists is bs xs) ≡ x
-    → AreSpansOf ((spans_of_row r ++ map (λ i. span_of_item i) is) ++ spans_beside (slice_get xs 0) 0) x
-spans-own r is bs xs x h e =
-    let core = spans-of-core r is bs h
-    in let by : (b : Option Beside) → AreSpansOf ((spans_of_row r ++ map (λ i. span_of_item i) is) ++ spans_beside b 0) (change_with (cells_of_row r is bs) b)
-    = λ b. elim b as (λ c. AreSpansOf ((spans_of_row r ++ map (λ i. span_of_item i) is) ++ spans_beside c 0) (change_with (cells_of_row r is bs) c)) [
+-- and of one that stands apart
+pub apart-own : (beside : Bool) (items bytes count : ℕ) (is : List Item) (bs : List ℕ) (xs : List Beside) (x : Change) → IsOver (More beside items bytes count) is bs
+    → change_of_row (More beside items bytes count) (lists is bs xs) ≡ x → AreSpansOf (map (λ i. span_of_item i) is ++ spans_beside (slice_get xs 0) 0) x
+apart-own beside items bytes count is bs xs x h e =
+    let whole : AreSpans (map (λ i. span_of_item i) is) = AreSpans-items is h.3.whole
+    in let core : places_of_spans (map (λ i. span_of_item i) is) ≡ places_of_cells (cells_of_items is bs) = places-of-items is bs (omega (arith, h.3.all))
+    in let by : (b : Option Beside) → AreSpansOf (map (λ i. span_of_item i) is ++ spans_beside b 0) (change_with (cells_of_items is bs) b)
+    = λ b. elim b as (λ c. AreSpansOf (map (λ i. span_of_item i) is ++ spans_beside c 0) (change_with (cells_of_items is bs) c)) [
       | None ↦ record {
-        whole = AreSpans-append (spans_of_row r ++ map (λ i. span_of_item i) is) [] core.whole tt;
-        places = places_of_spans-append (spans_of_row r ++ map (λ i. span_of_item i) is) [] ∙ ap (λ (ps : List Place). ps ++ []) core.places;
+        whole = AreSpans-append (map (λ i. span_of_item i) is) [] whole tt;
+        places = places_of_spans-append (map (λ i. span_of_item i) is) [] ∙ ap (λ (ps : List Place). ps ++ []) core;
       }
       | Some y ↦ record {
-        whole = AreSpans-append (spans_of_row r ++ map (λ i. span_of_item i) is) (map (λ p. OnePlace p) (places_of_beside y)) core.whole (AreSpans-places (places_of_beside y));
-        places = places_of_spans-append (spans_of_row r ++ map (λ i. span_of_item i) is) (map (λ p. OnePlace p) (places_of_beside y))
-            ∙ ap (λ (ps : List Place). ps ++ places_of_spans (map (λ p. OnePlace p) (places_of_beside y))) core.places
-            ∙ ap (λ (ps : List Place). places_of_cells (cells_of_row r is bs) ++ ps) (places-of-places (places_of_beside y));
+        whole = AreSpans-append (map (λ i. span_of_item i) is) (map (λ p. OnePlace p) (places_of_beside y)) whole (AreSpans-places (places_of_beside y));
+        places = places_of_spans-append (map (λ i. span_of_item i) is) (map (λ p. OnePlace p) (places_of_beside y))
+            ∙ ap (λ (ps : List Place). ps ++ places_of_spans (map (λ p. OnePlace p) (places_of_beside y))) core
+            ∙ ap (λ (ps : List Place). places_of_cells (cells_of_items is bs) ++ ps) (places-of-places (places_of_beside y));
       }
     ]
     in rw (← e) (by (slice_get xs 0))
@@ -113,7 +116,3 @@ pub place-of-part : (cs part : List Cell) (i : ℕ) (p : Place) → drop i cs �
     → slice_get (places_of_cells cs) i ≡ Some p
 place-of-part cs part i p is some first =
     first-there (places_of_cells cs) i ∙ ap (λ (ps : List Place). slice_get ps 0) (drop-map (λ (c : Cell). c.place) i cs ∙ ap places_of_cells is) ∙ first-place part (drop (i + length part) cs) p some first
-
-pub spans-joined : (all row first second items beside : List Span) → all ≡ first ++ (second ++ (items ++ beside)) → row ≡ first ++ second → all ≡ (row ++ items) ++ beside
-spans-joined all row first second items beside e r =
-    e ∙ sym (append_assoc first second (items ++ beside)) ∙ ap (λ (ss : List Span). ss ++ (items ++ beside)) (sym r) ∙ sym (append_assoc row items beside)

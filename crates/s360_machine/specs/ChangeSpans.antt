@@ -7,6 +7,8 @@ use Rattle.s360_store.specs.declared.span.Span.TheVariants.{Place as OnePlace, B
 use Rattle.s360_store.specs.Spans.{AreSpans, places_of_spans, span_of_item}
 use Rattle.s360_machine.specs.declared.beside.Beside.{Beside}
 use Rattle.s360_machine.specs.declared.change_spans.ChangeSpans.{ChangeSpans}
+use Rattle.s360_machine.specs.declared.change_spans.ChangeSpans.TheVariants.{Within, Apart}
+use Rattle.s360_machine.specs.declared.change_spans.SpansApart.{SpansApart}
 use Rattle.s360_machine.specs.declared.row.Row.{Row}
 use Rattle.s360_machine.specs.declared.row.Row.TheVariants.{Nothing, Psw, Register, Bytes, More}
 use Rattle.s360_machine.specs.Beside.{places_of_beside}
@@ -29,9 +31,13 @@ abbrev pub spans_beside : Option Beside → ℕ → List Span
 spans_beside None n = []
 spans_beside (Some x) n = map (λ p. OnePlace p) (drop n (places_of_beside x))
 
--- those that are left
-abbrev pub spans_left : ChangeSpans → List Span
-spans_left s = span_if_any s.first ++ (span_if_any s.second ++ (map (λ i. span_of_item i) s.items.now ++ spans_beside (option_copied s.beside) s.past))
+-- those that are left of what stands apart
+abbrev pub spans_apart : SpansApart → List Span
+spans_apart s = map (λ i. span_of_item i) s.items.now ++ spans_beside (option_copied s.beside) s.past
+
+abbrev pub spans_of : ChangeSpans → List Span
+spans_of (Within first second) = span_if_any first ++ span_if_any second
+spans_of (Apart s) = spans_apart s
 
 -- they have just the places of the change
 pub record AreSpansOf (ss : List Span) (x : Change) : Type 0 where

@@ -1,17 +1,24 @@
-//! The places of a change as spans, one after another, of which a change of many bytes in one run has few.
+//! The places of a change as spans, of which a change of many bytes in one run has few.
 ghost use Rattle.std.specs.Prelude.{◌≡◌, ◌++◌, map};
 ghost use Rattle.std.specs.Option.{option_copied};
 ghost use Rattle.s360_store.specs.Spans.{span_of_item};
-ghost use Rattle.s360_machine.specs.ChangeSpans.{span_if_any, spans_beside, spans_left};
+ghost use Rattle.s360_machine.specs.ChangeSpans.{spans_beside, spans_apart};
 
 use crate::beside::Beside;
 use s360_store::{Item, Span};
 
-/// The spans of a change that are left, in their order.
+/// The places of a change as spans, in their order.
 #[derive(Clone, Copy, Debug)]
-pub struct ChangeSpans<'a> {
-    first: Option<Span>,
-    second: Option<Span>,
+pub enum ChangeSpans<'a> {
+    /// Two, one or none, as most changes have.
+    Within(Option<Span>, Option<Span>),
+    /// Those of what stands apart from the rows.
+    Apart(SpansApart<'a>),
+}
+
+/// The spans that are left of what stands apart from the rows, in their order.
+#[derive(Clone, Copy, Debug)]
+pub struct SpansApart<'a> {
     /// Single cells and runs, each of which is a span.
     items: &'a [Item],
     beside: Option<&'a Beside>,
@@ -19,20 +26,12 @@ pub struct ChangeSpans<'a> {
     past: usize,
 }
 
-impl<'a> ChangeSpans<'a> {
+impl<'a> SpansApart<'a> {
     /// Of these parts.
-    #[inline(always)]
-    pub(crate) fn of(
-        first: Option<Span>,
-        second: Option<Span>,
-        items: &'a [Item],
-        beside: Option<&'a Beside>,
-    ) -> ChangeSpans<'a>
-        ensures { spans_left result ≡ span_if_any first ++ (span_if_any second ++ (map (λ i. span_of_item i) items.now ++ spans_beside (option_copied beside.entry) 0)) }
+    pub(crate) fn of(items: &'a [Item], beside: Option<&'a Beside>) -> SpansApart<'a>
+        ensures { spans_apart result ≡ map (λ i. span_of_item i) items.now ++ spans_beside (option_copied beside.entry) 0 }
     {
-        ChangeSpans {
-            first,
-            second,
+        SpansApart {
             items,
             beside,
             past: 0,
@@ -40,24 +39,17 @@ impl<'a> ChangeSpans<'a> {
     }
 }
 
-impl Iterator for ChangeSpans<'_> {
+impl Iterator for SpansApart<'_> {
     ghost use Rattle.std.specs.Iterator.{YieldsFirst, item_count};
-    ghost use Rattle.s360_machine.specs.ChangeSpans.{spans_left};
+    ghost use Rattle.s360_machine.specs.ChangeSpans.{spans_apart};
 
     type Item = Span;
 
-    ghost next_gives = { YieldsFirst spans_left };
+    ghost next_gives = { YieldsFirst spans_apart };
 
-    ghost remaining = { item_count spans_left };
+    ghost remaining = { item_count spans_apart };
 
-    #[inline(always)]
     fn next(&mut self) -> Option<Span> {
-        if let Some(span) = self.first.take() {
-            return Some(span);
-        }
-        if let Some(span) = self.second.take() {
-            return Some(span);
-        }
         if let Some((item, others)) = self.items.split_first() {
             self.items = others;
             return Some(item.span());

@@ -31,7 +31,7 @@ mod run_state;
 mod short_run;
 mod timer;
 
-pub use change_spans::ChangeSpans;
+pub use change_spans::{ChangeSpans, SpansApart};
 pub use changes::Changes;
 pub use event::{Event, Patch};
 pub use event_kind::{EventKind, KeyKind, PatchKind};

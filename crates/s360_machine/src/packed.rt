@@ -4,17 +4,17 @@ ghost use Rattle.std.specs.Prelude.{◌≡◌, ◌<◌, ◌≤◌, ◌-◌, ◌+
 ghost use Rattle.s360_store.specs.Cells.{AllFit};
 ghost use Rattle.s360_machine.specs.Beside.{IsNothing};
 ghost use Rattle.s360_machine.specs.Change.{CanSwap, Change, HasRoom, change_after_swap, places_of_change};
-ghost use Rattle.s360_machine.specs.ChangeSpans.{AreSpansOf, spans_left};
+ghost use Rattle.s360_machine.specs.ChangeSpans.{AreSpansOf, spans_of};
 ghost use Rattle.s360_machine.specs.Changes.{AreFit, change_of, change_of_parts};
 ghost use Rattle.s360_machine.specs.Packed.{ArePacked, HasBefore, IsAppended, IsEnd, IsOwnOf, IsSwapOf, bytes_of_changes, end_before, last_stretches, lists};
 ghost use Rattle.s360_machine.specs.Rows.{IsOver};
 
 use crate::beside::Beside;
-use crate::change_spans::ChangeSpans;
+use crate::change_spans::{ChangeSpans, SpansApart};
 use crate::changes::{Changes, Full, Parts};
 use crate::machine::Machine;
 use crate::row::Row;
-use s360_store::{Item, Place};
+use s360_store::{Item, Place, Span};
 use std::alloc::{AllocError, Global};
 use std::marker::Model;
 
@@ -88,10 +88,24 @@ impl<'a> Own<'a> {
     /// Its places as spans.
     #[inline(always)]
     fn spans(&self) -> ChangeSpans<'a>
-        ensures { (x : Change) → IsOwnOf self.now x → AreSpansOf (spans_left result) x }
+        ensures { (x : Change) → IsOwnOf self.now x → AreSpansOf (spans_of result) x }
     {
-        let (first, second) = self.row.spans();
-        ChangeSpans::of(first, second, self.items, self.beside.first())
+        let psw = Some(Span::Place(Place::Psw));
+        match self.row {
+            Row::Nothing => ChangeSpans::Within(None, None),
+            Row::Psw(_) => ChangeSpans::Within(psw, None),
+            Row::Register { register, .. } => {
+                let register = Span::Place(Place::Register(register.number()));
+                ChangeSpans::Within(psw, Some(register))
+            }
+            Row::Bytes { count, address, .. } => {
+                let count = u32::from(count);
+                ChangeSpans::Within(psw, Some(Span::Bytes { address, count }))
+            }
+            Row::More { .. } => {
+                ChangeSpans::Apart(SpansApart::of(self.items, self.beside.first()))
+            }
+        }
     }
 }
 
@@ -329,7 +343,7 @@ impl Packed {
     pub fn spans(&self, number: u32) -> ChangeSpans<'_>
         requires some { 0 < number }
         requires inside { number ≤ length self.now }
-        ensures { IfSome (slice_get self.now (number - 1)) (λ x. AreSpansOf (spans_left result) x) }
+        ensures { IfSome (slice_get self.now (number - 1)) (λ x. AreSpansOf (spans_of result) x) }
     {
         self.own(number).spans()
     }

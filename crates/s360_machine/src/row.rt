@@ -1,15 +1,14 @@
 //! Rows of 16 bytes: what an event alters of the core where that is the PSW and little beside it, and
 //! else how much of it stands in lists apart.
-ghost use Rattle.std.specs.Prelude.{None, ◌≡◌, ◌<◌, ◌≤◌, ◌++◌, ℕ, List, length, slice_get, Some};
+ghost use Rattle.std.specs.Prelude.{None, ◌≡◌, ◌<◌, ◌≤◌, ℕ, List, length, slice_get, Some};
 ghost use Rattle.s360_store.specs.Cells.{places_of_cells};
 ghost use Rattle.s360_store.specs.declared.items.Item.{Item as AnItem};
-ghost use Rattle.s360_machine.specs.ChangeSpans.{span_if_any, spans_of_row};
 ghost use Rattle.s360_machine.specs.Rows.{ArePartsOf, IsOver, beside_of_row, bytes_of_row, cells_of_row, items_of_row};
 ghost use Rattle.s360_store.specs.Items.{cells_of_items};
 ghost use Rattle.s360_machine.specs.Stretches.{begun_by, next_after, stretches};
 
 use s360_psw::Psw;
-use s360_store::{Item, Place, Span, part_at};
+use s360_store::{Item, Place, part_at};
 use s360_word::{RegisterNumber, Word};
 
 /// What an event alters. Each variant has its smallest fields first, so that none takes more than 16 bytes.
@@ -98,28 +97,6 @@ impl Row {
             Row::Register { register, .. } if i == 1 => Place::Register(register.number()),
             Row::Bytes { address, .. } if i > 0 => Place::Byte(*address + (i - 1)),
             Row::Nothing | Row::Psw(_) | Row::Register { .. } | Row::Bytes { .. } => Place::Psw,
-        }
-    }
-
-    /// Its places, as one or two spans, but for those of single cells and runs that stand apart.
-    #[inline(always)]
-    pub(crate) fn spans(&self) -> (Option<Span>, Option<Span>)
-        ensures { spans_of_row self.now ≡ span_if_any result.0 ++ span_if_any result.1 }
-    {
-        let psw = Some(Span::Place(Place::Psw));
-        match self {
-            Row::Nothing | Row::More { .. } => (None, None),
-            Row::Psw(_) => (psw, None),
-            Row::Register { register, .. } => {
-                (psw, Some(Span::Place(Place::Register(register.number()))))
-            }
-            Row::Bytes { count, address, .. } => (
-                psw,
-                Some(Span::Bytes {
-                    address: *address,
-                    count: u32::from(*count),
-                }),
-            ),
         }
     }
 

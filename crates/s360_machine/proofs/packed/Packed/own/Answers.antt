@@ -22,7 +22,7 @@ there c =
 pub returns-clause-own : goal.returns-clause-own
 returns-clause-own c =
     let here = there (goal.at.returns-clause-own c).After-deref-7
-    in rw (← c.self.view_is, here.change) (here.over, refl)
+    in rw (← c.self.view_is, here.change) (record { over = here.over; beside = here.beside; change = refl })
 
 pub returns-clause-over : goal.returns-clause-over
 returns-clause-over c = (there (goal.at.returns-clause-over c).After-deref-7).over
