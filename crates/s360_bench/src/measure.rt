@@ -27,10 +27,7 @@ pub(crate) fn measure<R: Clock + Files>(
     events: u32,
     size: u32,
 ) -> Result<Measured, BenchFault> {
-    let tape = match workload.reads_blocks() {
-        true => tape_of_blocks(alloc, &[0x01, 0x02])?,
-        false => blank_tape(alloc),
-    };
+    let tape = tape_of_blocks(alloc, workload.blocks())?;
     let mut session = new_session(alloc, workload.cards(events), tape, size)?;
     let measured = measure_session(rt, alloc, &mut session, workload, events);
     session.end();
@@ -58,12 +55,12 @@ fn measure_session<R: Clock + Files>(
         let _ = session.back();
     }
     let back_time = begun.elapsed(rt)?;
-    let operand_bytes = workload.operand_bytes(events);
+    let moved_bytes = workload.moved_bytes(events);
     Ok(Measured {
         forward: a_second(u64::from(events), forward_time),
         back: a_second(u64::from(events), back_time),
         memory: bytes_of_each(before, after, events),
-        moved: operand_bytes.map(|bytes| Moved::Forward(a_second(bytes, forward_time))),
+        moved: moved_bytes.map(|bytes| Moved::Forward(a_second(bytes, forward_time))),
     })
 }
 

@@ -60,6 +60,9 @@ const READ_BLOCKS: [u8; 32] = [
     0x07, 0x00, 0x00, 0x00, 0x40, 0x00, 0x00, 0x01, 0x08, 0x00, 0x04, 0x00, 0x00, 0x00, 0x00, 0x00,
 ];
 
+/// What each of those blocks is filled with.
+static BLOCK_FILLINGS: [u8; 2] = [0x01, 0x02];
+
 /// What the bytes of an area are.
 #[derive(Clone, Copy, Debug)]
 pub(crate) enum Filling {
@@ -86,17 +89,20 @@ impl Filling {
     }
 }
 
-/// So many events of a pass move so many bytes each, and one that moves none follows them: instructions with operands in
-/// storage and a branch, or command words that read blocks and one that rewinds the tape.
+/// What the events of a pass move or compare: the first of them so many bytes each, and the one that follows them none.
+/// These are instructions with operands in storage and a branch, or command words that read blocks and one that rewinds
+/// the tape.
 #[derive(Clone, Copy, Debug)]
-struct Operands(u8, u16);
+struct Moving {
+    events: u8,
+    bytes: u16,
+}
 
-impl Operands {
+impl Moving {
     /// The bytes that so many events move from the start of a pass on.
     fn bytes_within(self, events: u32) -> u64 {
-        let Operands(moving, bytes) = self;
-        let others = events / (u32::from(moving) + 1);
-        u64::from(events - others) * u64::from(bytes)
+        let others = events / (u32::from(self.events) + 1);
+        u64::from(events - others) * u64::from(self.bytes)
     }
 }
 
@@ -112,7 +118,7 @@ enum Turn {
 }
 
 /// What a loop is: its name, what its events are, its instructions, the areas and the runs of bytes
-/// that are patched, each with its address, and the operands whose bytes are counted.
+/// that are patched, each with its address, and what its events move, where it is counted.
 #[derive(Clone, Copy, Debug)]
 struct Row {
     name: &'static str,
@@ -120,7 +126,7 @@ struct Row {
     program: &'static [u8],
     areas: &'static [(u32, Filling)],
     runs: &'static [(u32, &'static [u8])],
-    operands: Option<Operands>,
+    moving: Option<Moving>,
 }
 
 static FIXED_ROW: Row = Row {
@@ -129,7 +135,7 @@ static FIXED_ROW: Row = Row {
     program: &ADD_AND_STORE,
     areas: &[],
     runs: &[],
-    operands: None,
+    moving: None,
 };
 
 static MOVE_ROW: Row = Row {
@@ -141,7 +147,10 @@ static MOVE_ROW: Row = Row {
         (0x600, Filling::Rising(0x01)),
     ],
     runs: &[],
-    operands: Some(Operands(2, 256)),
+    moving: Some(Moving {
+        events: 2,
+        bytes: 256,
+    }),
 };
 
 static EXCLUSIVE_OR_ROW: Row = Row {
@@ -150,7 +159,10 @@ static EXCLUSIVE_OR_ROW: Row = Row {
     program: &EXCLUSIVE_OR,
     areas: &[(0x500, Filling::Same(0xFF))],
     runs: &[],
-    operands: Some(Operands(1, 256)),
+    moving: Some(Moving {
+        events: 1,
+        bytes: 256,
+    }),
 };
 
 static TRANSLATE_ROW: Row = Row {
@@ -159,7 +171,10 @@ static TRANSLATE_ROW: Row = Row {
     program: &TRANSLATE,
     areas: &[(0x500, Filling::Rising(0x01))],
     runs: &[],
-    operands: Some(Operands(1, 256)),
+    moving: Some(Moving {
+        events: 1,
+        bytes: 256,
+    }),
 };
 
 static PACK_ROW: Row = Row {
@@ -168,7 +183,10 @@ static PACK_ROW: Row = Row {
     program: &PACK_TWICE,
     areas: &[(0x500, Filling::Same(0xF1)), (0x600, Filling::Same(0xF2))],
     runs: &[],
-    operands: Some(Operands(2, 16)),
+    moving: Some(Moving {
+        events: 2,
+        bytes: 16,
+    }),
 };
 
 static COMPARE_LOGICAL_ROW: Row = Row {
@@ -180,7 +198,10 @@ static COMPARE_LOGICAL_ROW: Row = Row {
         (0x500, Filling::Rising(0x00)),
     ],
     runs: &[],
-    operands: Some(Operands(1, 256)),
+    moving: Some(Moving {
+        events: 1,
+        bytes: 256,
+    }),
 };
 
 static SUPERVISOR_CALL_ROW: Row = Row {
@@ -189,7 +210,7 @@ static SUPERVISOR_CALL_ROW: Row = Row {
     program: &CALL,
     areas: &[],
     runs: &[(0x60, &CALL_NEW_PSW), (0x300, &CALL_RETURN)],
-    operands: None,
+    moving: None,
 };
 
 static CARDS_ROW: Row = Row {
@@ -198,7 +219,7 @@ static CARDS_ROW: Row = Row {
     program: &START_READER,
     areas: &[],
     runs: &[(0x48, &CHANNEL_ADDRESS), (0x400, &READ_CARDS)],
-    operands: None,
+    moving: None,
 };
 
 static BLOCKS_ROW: Row = Row {
@@ -207,7 +228,10 @@ static BLOCKS_ROW: Row = Row {
     program: &START_TAPE,
     areas: &[],
     runs: &[(0x48, &CHANNEL_ADDRESS), (0x400, &READ_BLOCKS)],
-    operands: Some(Operands(2, 65_535)),
+    moving: Some(Moving {
+        events: 2,
+        bytes: 65_535,
+    }),
 };
 
 /// A loop.
@@ -281,9 +305,12 @@ impl Workload {
         }
     }
 
-    /// Whether its events read blocks of a tape.
-    pub(crate) fn reads_blocks(self) -> bool {
-        self.row().turn == Turn::Block
+    /// The blocks of the tape that its events read, by the byte that each is filled with.
+    pub(crate) fn blocks(self) -> &'static [u8] {
+        match self.row().turn {
+            Turn::Instruction | Turn::Card => &[],
+            Turn::Block => &BLOCK_FILLINGS,
+        }
     }
 
     /// The areas that are patched, with their addresses.
@@ -297,8 +324,8 @@ impl Workload {
     }
 
     /// The bytes that so many of its events move or compare, where they are counted.
-    pub(crate) fn operand_bytes(self, events: u32) -> Option<u64> {
-        Some(self.row().operands?.bytes_within(events))
+    pub(crate) fn moved_bytes(self, events: u32) -> Option<u64> {
+        Some(self.row().moving?.bytes_within(events))
     }
 
     fn row(self) -> &'static Row {

@@ -13,6 +13,7 @@ use Rattle.std.specs.declared.cmp.Ordering.{Ordering}
 use Rattle.std.specs.declared.cmp.Ordering.TheVariants.{Less, Equal, Greater}
 use Rattle.std.specs.BTreeMap.{insert_entry, is_at}
 use Rattle.std.specs.Map.{lookup, set_value}
+use Rattle.s360_index.proofs.SegmentLemmas.{slice_get-set_at, slice_get-set_other}
 use Rattle.s360_store.specs.declared.place.Place.{Place}
 use Rattle.s360_store.specs.declared.place.Place.TheVariants.{Psw, Register, Byte}
 use Rattle.s360_store.specs.Items.{is_in_run}
@@ -238,22 +239,10 @@ abbrev pub Changes : (List ℕ → List ℕ) → Place → Histories → Histori
 Changes f k g h = (p : Place) → numbers h p ≡ cond (same_place k p) (f (numbers g p)) (numbers g p)
 
 -- the items of a list, with another at a place
-slice_get-set_same : {X : Type 0} (xs : List X) (n : ℕ) (x : X) → n < length xs → slice_get (set xs n x) n ≡ Some x
-slice_get-set_same [] n x l = absurd (omega arith)
-slice_get-set_same (y ∷ ys) zero x l = refl
-slice_get-set_same (y ∷ ys) (suc n) x l = slice_get-set_same ys n x (omega (arith, l))
-
-slice_get-set_other : {X : Type 0} (xs : List X) (n m : ℕ) (x : X) → n ≢ m → slice_get (set xs n x) m ≡ slice_get xs m
-slice_get-set_other [] n m x other = refl
-slice_get-set_other (y ∷ ys) zero zero x other = absurd (other refl)
-slice_get-set_other (y ∷ ys) zero (suc m) x other = refl
-slice_get-set_other (y ∷ ys) (suc n) zero x other = refl
-slice_get-set_other (y ∷ ys) (suc n) (suc m) x other = slice_get-set_other ys n m x (λ e. other (ap suc e))
-
 slice_get-set : {X : Type 0} (xs : List X) (n m : ℕ) (x : X) → n < length xs → slice_get (set xs n x) m ≡ cond (eqb n m) (Some x) (slice_get xs m)
 slice_get-set {X} xs n m x l = elim (eqb_tells n m) [
-  | inl e ↦ ap (λ i. slice_get (set xs n x) i) (sym e.1) ∙ slice_get-set_same xs n x l ∙ ap (λ b. cond b (Some x) (slice_get xs m)) (sym e.0)
-  | inr e ↦ slice_get-set_other xs n m x e.1 ∙ ap (λ b. cond b (Some x) (slice_get xs m)) (sym e.0)
+  | inl e ↦ ap (λ i. slice_get (set xs n x) i) (sym e.1) ∙ slice_get-set_at xs n x l ∙ ap (λ b. cond b (Some x) (slice_get xs m)) (sym e.0)
+  | inr e ↦ slice_get-set_other xs n m x (λ s. e.1 (sym s)) ∙ ap (λ b. cond b (Some x) (slice_get xs m)) (sym e.0)
 ]
 
 pub Changes-register : {A : Type 0} (f : List ℕ → List ℕ) (psw : List ℕ) (rs : List (Vec ℕ A)) (s : Segments) (es : List (Place × Vec ℕ A)) (n : ℕ) (old new : Vec ℕ A)

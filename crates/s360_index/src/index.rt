@@ -124,8 +124,8 @@ impl Index {
         }
     }
 
-    /// Takes a number from the end of those of each place of a span, where it stands there; bytes that have the same
-    /// numbers as one of them may lose it too. It takes no memory.
+    /// Takes a number from the end of those of each place of a span, where it stands there. Other places may lose it too:
+    /// bytes that have the same numbers as one of the span do. It takes no memory.
     #[inline(always)]
     pub fn take(&mut self, span: Span, number: u32)
         requires { IsSpan span }
