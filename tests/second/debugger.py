@@ -11,6 +11,7 @@ from .machine import OPERATING, STOPPED, Loading, Machine
 from .tapes import Tape
 
 MOST_BREAKPOINTS = 64
+MOST_PATCHED = 256
 NO_SUCH_UNIT = "refused 3 no such unit"
 CONDITIONS = {0: "none", 0x80: "timer", 0x40: "key", 0xC0: "timer key"}
 
@@ -77,6 +78,8 @@ class Debugger:
         return self.report("enter", lambda: self.machine.enter(text.encode("cp037")))
 
     def answer_patch(self, kind, *words):
+        if kind == "s" and len(words[1]) > 2 * MOST_PATCHED:
+            return ["refused 5 patch too long"]
         places = self.places_of(kind, *words)
         if places is None:
             return ["refused 2 outside storage"]

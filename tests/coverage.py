@@ -1,0 +1,187 @@
+#!/usr/bin/env python3
+"""Says of each instruction, device command and script line which worked row carries it out.
+
+    tests/coverage.py            fails where one is carried out by no row
+    tests/coverage.py --table    prints the first row of each, too
+
+What a row carries out is no list that is kept by hand: the second machine answers the row's lines,
+and notes which instructions and commands it brought to their end, and which lines it answered with
+no fault and no refusal. Its answers have to be those of the row. The program then has to answer the
+first row of each as well, with status 0: a run that is out of memory has another status.
+
+It needs the program as `rt ci` or `./run` has built it, and Python's standard library alone.
+"""
+import argparse
+import os
+import sys
+import tempfile
+from concurrent.futures import ThreadPoolExecutor, ProcessPoolExecutor
+
+import rows
+from second.channels import CONSOLE, PRINTER, PUNCH, READER, TAPES
+from second.core import SIZE
+from second.debugger import Debugger
+from second.devices import CARD, REFUSED
+from second.machine import Machine
+from second.tapes import Tape, items_of
+
+# The operation codes of docs/INSTRUCTIONS.md.
+INSTRUCTIONS = [*range(0x04, 0x0B), *range(0x10, 0x20), *range(0x40, 0x4D), 0x4E, 0x4F, 0x50]
+INSTRUCTIONS += [*range(0x54, 0x60), 0x80, 0x82, *range(0x86, 0x99), *range(0x9C, 0xA0)]
+INSTRUCTIONS += [*range(0xD1, 0xD8), 0xDC, 0xDD, *range(0xF1, 0xF4)]
+# The commands of docs/DEVICES.md. The tapes are alike.
+TAPE = "tape"
+DEVICES = {READER: "reader", PUNCH: "punch", PRINTER: "printer", CONSOLE: "console"}
+DEVICES |= {unit: TAPE for unit in TAPES}
+OF_ALL_UNITS = (0x03, 0x04)
+SKIPS = [base + 8 * channel for base in (0x81, 0x83) for channel in range(1, 13)]
+COMMANDS = {
+    "reader": [0x02, 0x42, 0x82, 0xC2, 0x23, 0x63, 0xA3],
+    "punch": [0x01, 0x41, 0x81],
+    "printer": [0x01, 0x09, 0x11, 0x19, 0x0B, 0x13, 0x1B, *SKIPS],
+    "console": [0x01, 0x09, 0x0A, 0x0B],
+    TAPE: [0x01, 0x1F, 0x17, 0x02, 0x0C, 0x37, 0x27, 0x3F, 0x2F, 0x07, 0x0F],
+}
+# The lines of docs/DEBUGGER.md: the first word, with each second word that makes it another line.
+LINES = {
+    "key": ["start", "stop", "reset", "interrupt", "request", "eof"],
+    "patch": ["s", "r", "k", "p"],
+    "last": ["s", "r", "k", "u", "d", "p", "run", "ext"],
+    "show": ["regs", "psw", "s", "k", "ext", "u", "d", "m", "image"],
+}
+OTHER_LINES = ["step", "channel", "tick", "load", "enter", "run", "back", "until", "break", "clear"]
+OTHER_LINES += ["standing"]
+# What a faulty line and a refusal begin with.
+FAULT, REFUSAL = b"? ", b"refused "
+
+
+def instruction(code):
+    return f"instruction {code:02X}"
+
+
+def command(device, code):
+    return f"{device} command {code:02X}"
+
+
+def line_named(words):
+    """The line of the table that these words are."""
+    return "line " + " ".join(words[:2] if words[0] in LINES else words[:1])
+
+
+def wanted():
+    """All that has to be carried out."""
+    yield from map(instruction, INSTRUCTIONS)
+    for device, codes in COMMANDS.items():
+        yield from (command(device, code) for code in (*OF_ALL_UNITS, *codes))
+    yield from (line_named([word, other]) for word, others in LINES.items() for other in others)
+    yield from (line_named([word]) for word in OTHER_LINES)
+
+
+class NotingMachine(Machine):
+    """A machine that notes which instructions and commands came to their end."""
+
+    def __init__(self, deck, tapes, size):
+        super().__init__(deck, tapes, size)
+        self.carried_out = set()
+
+    def execute(self, bytes_of_it, following, length_code):
+        super().execute(bytes_of_it, following, length_code)
+        self.carried_out.add(instruction(bytes_of_it[0]))
+
+    def end(self, unit, program, ccw, kind, is_wrong, residual):
+        super().end(unit, program, ccw, kind, is_wrong, residual)
+        if kind != REFUSED:
+            self.carried_out.add(command(DEVICES[unit], program.command))
+
+
+class OtherAnswers(Exception):
+    """The second machine answers a line of a row otherwise."""
+
+
+def debugger_of(row):
+    """The second machine with the media and the storage of a row."""
+    deck = row.media.get("--reader", b"")
+    cards = [deck[at : at + CARD] for at in range(0, len(deck), CARD)]
+    tapes = [
+        Tape(recorded=items_of(image), is_protected=f"--protect{number}" in row.args)
+        for number, image in enumerate(row.media.get(f"--tape{n}", b"") for n in range(len(TAPES)))
+    ]
+    size = int(row.args[row.args.index("--storage") + 1]) if "--storage" in row.args else SIZE
+    debugger = Debugger()
+    debugger.machine = NotingMachine(cards, tapes, size)
+    return debugger
+
+
+def lines_of(script):
+    """The lines of a script that have an answer."""
+    *ended, last = script.split(b"\n")
+    for line in (*(line.removesuffix(b"\r") for line in ended), last):
+        if line.strip(b" ") and not line.startswith(b"*"):
+            yield line
+
+
+def carried_out(row):
+    """What a row carries out."""
+    debugger, found = debugger_of(row), set()
+    left = row.answers.splitlines()
+    for line in lines_of(row.script):
+        if left and left[0].startswith(FAULT):
+            del left[0]
+            continue
+        text = line.decode()
+        answers = [answer.encode() for answer in debugger.answer(text)]
+        if left[: len(answers)] != answers:
+            raise OtherAnswers(f"{row.name}: {text}: {answers}, and not {left[: len(answers)]}")
+        if not answers[0].startswith(REFUSAL):
+            found.add(line_named(text.split()))
+        del left[: len(answers)]
+    return found | debugger.machine.carried_out
+
+
+def first_rows(wanted_rows):
+    """The first row of each thing that is carried out."""
+    with ProcessPoolExecutor(os.cpu_count()) as pool:
+        found = list(pool.map(carried_out, wanted_rows))
+    first = {}
+    for row, things in zip(wanted_rows, found):
+        for thing in things:
+            first.setdefault(thing, row)
+    return first
+
+
+def faults_of(rows_of_table):
+    """What is wrong with what the program answers to rows, by their names."""
+    with tempfile.TemporaryDirectory() as folder, ThreadPoolExecutor(os.cpu_count()) as pool:
+        placed = [row.placed(folder) for row in rows_of_table]
+        faults = pool.map(lambda row: rows.fault_of_answers(row, rows.PROGRAM), placed)
+        return {row.name: fault for row, fault in zip(rows_of_table, faults) if fault}
+
+
+def main():
+    parser = argparse.ArgumentParser(
+        description=__doc__, formatter_class=argparse.RawTextHelpFormatter
+    )
+    parser.add_argument("--table", action="store_true", help="print the first row of each")
+    options = parser.parse_args()
+    try:
+        first = first_rows(list(rows.rows()))
+    except OtherAnswers as fault:
+        sys.exit(str(fault))
+    things = list(wanted())
+    names = {first[thing].name: first[thing] for thing in things if thing in first}
+    faults = faults_of(list(names.values()))
+    for name, fault in faults.items():
+        print(f"{name}: {fault}")
+    failed = 0
+    for thing in things:
+        row = first[thing].name if thing in first else "no row"
+        is_wrong = thing not in first or row in faults
+        failed += is_wrong
+        if options.table or is_wrong:
+            print(f"{thing}: {row}")
+    print(f"{len(things) - failed} passed, {failed} failed")
+    return 1 if failed else 0
+
+
+if __name__ == "__main__":
+    sys.exit(main())
