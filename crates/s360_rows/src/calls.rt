@@ -2,7 +2,7 @@
 //! of them is there where a line is no command or memory is out.
 use crate::rows::Words;
 use s360_debug::read_command;
-use s360_journal::{Answer, Call, Places, Report};
+use s360_journal::{Answer, Call, Places, Report, Session};
 use s360_machine::{Bytes, Event, Patch, Refusal};
 use s360_store::Place;
 use std::alloc::Global;
@@ -44,6 +44,19 @@ pub(crate) fn calls(alloc: Global, lines: &str) -> Option<Vec<Call>> {
 /// The event that a line offers.
 pub(crate) fn event(alloc: Global, line: &str) -> Option<Event> {
     read_command(alloc, line.as_bytes()).ok()?.into_event()
+}
+
+/// Offers the events of lines to a session, and answers whether none was refused.
+pub(crate) fn carry_out(alloc: Global, session: &mut Session, lines: &str) -> bool {
+    for line in lines.lines() {
+        let Some(event) = event(alloc, line) else {
+            return false;
+        };
+        if session.forward(event).is_err() {
+            return false;
+        }
+    }
+    true
 }
 
 /// A patch of so many bytes: its address and its length are the next words.

@@ -13,15 +13,17 @@ pub(crate) trait Lent {
     fn use_session(&mut self, alloc: Global, session: &mut Session) -> Option<String>;
 }
 
-/// Lends a session over a machine of so many bytes with a tape on 180, where at most so many changes may stand.
-pub(crate) fn lend_with_tape<L: Lent>(
+/// Lends a session over a machine of so many bytes with the cards of a file in its reader and a tape on 180, where at
+/// most so many changes may stand.
+pub(crate) fn lend_over<L: Lent>(
     alloc: Global,
     size: u32,
+    deck: &[u8],
     tape: Tape,
     limit: u8,
     lent: &mut L,
 ) -> Option<String> {
-    let deck = deck_from(alloc, &[]).ok()?;
+    let deck = deck_from(alloc, deck).ok()?;
     let machine = Machine::new(alloc, size, deck, tape, blank_tape(alloc)).ok()?;
     let mut session = Session::new(alloc, machine, u32::from(limit));
     let text = lent.use_session(alloc, &mut session);
@@ -29,7 +31,17 @@ pub(crate) fn lend_with_tape<L: Lent>(
     text
 }
 
-/// Lends a session over a machine of 65,536 bytes.
+/// Lends a session over a machine of so many bytes with no card and blank tapes.
+pub(crate) fn lend_blank<L: Lent>(
+    alloc: Global,
+    size: u32,
+    limit: u8,
+    lent: &mut L,
+) -> Option<String> {
+    lend_over(alloc, size, &[], blank_tape(alloc), limit, lent)
+}
+
+/// Lends a session over a machine of 65,536 bytes with no card and blank tapes.
 pub(crate) fn lend<L: Lent>(alloc: Global, limit: u8, lent: &mut L) -> Option<String> {
-    lend_with_tape(alloc, 65_536, blank_tape(alloc), limit, lent)
+    lend_blank(alloc, 65_536, limit, lent)
 }

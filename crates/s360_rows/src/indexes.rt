@@ -1,12 +1,11 @@
 //! The changes of each place beside the reports of a rerun, after long lists of random events and steps back.
 ghost use Rattle.std.specs.Prelude.{◌<◌};
 
-use crate::held::{Lent, lend_with_tape};
+use crate::held::{Lent, lend_blank};
 use crate::rows::assert_no_fault;
 use s360_journal::{Report, Session};
 use s360_machine::{ConfiguredUnit, Event, Key, Patch};
 use s360_store::{Bytes, Place};
-use s360_tape::blank_tape;
 use s360_word::{ProtectionKey, RegisterNumber};
 use std::alloc::Global;
 use std::collections::BTreeMap;
@@ -215,13 +214,7 @@ impl Lent for Lists {
 #[test]
 fn changes_of_each_place(rt: HostRuntime) {
     for seed in 0..LISTS {
-        let fault = lend_with_tape(
-            rt.alloc(),
-            STORAGE,
-            blank_tape(rt.alloc()),
-            255,
-            &mut Lists { seed },
-        );
+        let fault = lend_blank(rt.alloc(), STORAGE, 255, &mut Lists { seed });
         assert_no_fault(&rt, fault);
     }
 }

@@ -3,6 +3,8 @@
 #![tactic(auto)]
 
 #[cfg(test)]
+mod answers;
+#[cfg(test)]
 mod calls;
 #[cfg(test)]
 mod channel_programs;
@@ -21,6 +23,8 @@ mod packed;
 #[cfg(test)]
 mod plans;
 #[cfg(test)]
+mod refused;
+#[cfg(test)]
 mod rows;
 #[cfg(test)]
 mod scripts;
@@ -30,5 +34,3 @@ mod sessions;
 mod slate;
 #[cfg(test)]
 mod storage;
-#[cfg(test)]
-mod tape_reads;

@@ -35,19 +35,58 @@ const CARRIED_OUT: [usize; 13] = [1, 2, 3, 4, 5, 5, 5, 5, 6, 7, 7, 7, 7];
 /// More reads of one byte than a number of eight bits counts.
 const COMMENT: usize = 400;
 
-/// A reader that gives one byte a call, and fails after so many.
+/// More bytes than any stream here gives or takes.
+const MANY: usize = 2_000_000;
+
+/// Where a stream stops once, though it would then go on: behind so many bytes, with an error. Without one it gives or
+/// takes no byte.
+#[derive(Clone, Copy)]
+struct Stop {
+    after: usize,
+    error: Option<io::ErrorKind>,
+}
+
+/// A stream that does not stop.
+const NEVER: Stop = Stop {
+    after: MANY,
+    error: None,
+};
+
+/// How a writer stops: with an error after which it is at times written again, or another, or it takes no byte.
+const STOPS: [Option<io::ErrorKind>; 4] = [
+    Some(io::ErrorKind::Interrupted),
+    Some(io::ErrorKind::WouldBlock),
+    Some(io::ErrorKind::Other),
+    None,
+];
+
+impl Stop {
+    /// Whether a byte is given or taken.
+    fn goes_on(&mut self) -> io::Result<bool> {
+        if self.after > 0 {
+            self.after -= 1;
+            return Ok(true);
+        }
+        self.after = MANY;
+        match self.error {
+            Some(kind) => Err(io::Error::from(kind)),
+            None => Ok(false),
+        }
+    }
+}
+
+/// A reader that gives one byte a call.
 #[derive(Drop)]
 struct SlowReader<'a> {
     left: &'a [u8],
-    calls: usize,
+    stop: Stop,
 }
 
 impl<'a> Read for SlowReader<'a> {
     fn read(&mut self, buffer: &mut [u8]) -> io::Result<usize> {
-        if self.calls == 0 {
-            return Err(io::Error::from(io::ErrorKind::Other));
+        if !self.stop.goes_on()? {
+            return Ok(0);
         }
-        self.calls -= 1;
         let Some((byte, rest)) = self.left.split_first() else {
             return Ok(0);
         };
@@ -60,11 +99,11 @@ impl<'a> Read for SlowReader<'a> {
     }
 }
 
-/// A writer that takes one byte a call, and fails once after so many: it would take the rest.
+/// A writer that takes one byte a call.
 #[derive(Drop)]
 struct SlowWriter {
     taken: Vec<u8>,
-    room: usize,
+    stop: Stop,
 }
 
 impl Write for SlowWriter {
@@ -72,12 +111,10 @@ impl Write for SlowWriter {
         let Some(byte) = buffer.first() else {
             return Ok(0);
         };
-        if self.room == 0 {
-            self.room = ROOM;
-            return Err(io::Error::from(io::ErrorKind::Other));
+        if !self.stop.goes_on()? {
+            return Ok(0);
         }
         self.taken.push(*byte)?;
-        self.room -= 1;
         Ok(1)
     }
 
@@ -103,19 +140,21 @@ fn run<R: Read, W: Write>(
     run_script(alloc, session, reader, writer)
 }
 
-/// Carries a script out over a reader that gives so many bytes before it fails, and a writer that takes so many
-/// before it does. Nothing is answered where memory was wanting.
+/// Carries a script out over a reader and a writer that stop so. Nothing is answered where memory was wanting.
 fn carry_out(
     alloc: Global,
     session: &mut Session,
     script: &[u8],
-    calls: usize,
-    room: usize,
+    reads: Stop,
+    writes: Stop,
 ) -> Option<Left> {
     let taken = Vec::with_capacity(alloc, ROOM).ok()?;
     let left = script;
-    let mut reader = SlowReader { left, calls };
-    let mut writer = SlowWriter { taken, room };
+    let mut reader = SlowReader { left, stop: reads };
+    let mut writer = SlowWriter {
+        taken,
+        stop: writes,
+    };
     let outcome = run(alloc, session, &mut reader, &mut writer);
     let written = writer.taken;
     match outcome {
@@ -139,20 +178,19 @@ struct Beside<'a> {
 
 impl<'a> Lent for Beside<'a> {
     fn use_session(&mut self, alloc: Global, session: &mut Session) -> Option<String> {
-        let _left = carry_out(alloc, session, self.script, self.script.len() + 1, ROOM)?;
+        let _left = carry_out(alloc, session, self.script, NEVER, NEVER)?;
         let is_same = session.standing() == self.other.standing()
             && are_same(session.machine(), self.other.machine());
         format!(in alloc; "{is_same}").ok()
     }
 }
 
-/// A script over a reader that gives so many bytes before it fails, and a writer that takes so many before it does.
-/// What it leaves is to be as after another script.
+/// A script over a reader and a writer that stop so. What it leaves is to be as after another script.
 #[derive(Drop)]
 struct Cut<'a> {
     script: &'a [u8],
-    calls: usize,
-    room: usize,
+    reads: Stop,
+    writes: Stop,
     beside: &'a [u8],
 }
 
@@ -160,7 +198,7 @@ impl<'a> Lent for Cut<'a> {
     /// Its outcome, the number of bytes written, whether they are a first part of the answers, and whether the
     /// session is as after the other script.
     fn use_session(&mut self, alloc: Global, session: &mut Session) -> Option<String> {
-        let left = carry_out(alloc, session, self.script, self.calls, self.room)?;
+        let left = carry_out(alloc, session, self.script, self.reads, self.writes)?;
         let (outcome, count) = (left.outcome, left.written.len());
         let is_first = ADD_ANSWERS.as_bytes().starts_with(&left.written);
         let other = &*session;
@@ -178,7 +216,7 @@ struct Whole<'a> {
 
 impl<'a> Lent for Whole<'a> {
     fn use_session(&mut self, alloc: Global, session: &mut Session) -> Option<String> {
-        let left = carry_out(alloc, session, self.script, self.script.len() + 1, ROOM)?;
+        let left = carry_out(alloc, session, self.script, NEVER, NEVER)?;
         quoted(alloc, &left.written)
     }
 }
@@ -191,29 +229,36 @@ fn behind_a_comment(alloc: Global) -> Option<Vec<u8>> {
     Some(script)
 }
 
-/// What a script leaves over streams that do not fail, beside the script itself.
-fn text_of_whole(alloc: Global, script: &[u8]) -> Option<String> {
+/// What a script leaves over streams that do not stop, beside another.
+fn text_of_whole(alloc: Global, script: &[u8], beside: &[u8]) -> Option<String> {
     let mut whole = Cut {
         script,
-        calls: script.len() + 1,
-        room: ROOM,
-        beside: ADD.as_bytes(),
+        reads: NEVER,
+        writes: NEVER,
+        beside,
     };
     lend(alloc, 10, &mut whole)
 }
 
-/// What the script leaves where its reader fails after so many bytes, beside a session that is begun.
-fn text_of_failed_read(alloc: Global, calls: usize) -> Option<String> {
+/// What the script leaves where its reader fails so, beside a session that is begun.
+fn text_of_failed_read(alloc: Global, after: usize, kind: io::ErrorKind) -> Option<String> {
+    let error = Some(kind);
     let mut cut = Cut {
         script: ADD.as_bytes(),
-        calls,
-        room: ROOM,
+        reads: Stop { after, error },
+        writes: NEVER,
         beside: &[],
     };
     lend(alloc, 10, &mut cut)
 }
 
-/// The first lines of the script that are carried out where its writer fails after so many bytes.
+/// What a script of so many blanks leaves, beside a session that is begun.
+fn text_of_blanks(alloc: Global, count: usize) -> Option<String> {
+    let script = vec![in alloc; b' '; count].ok()?;
+    text_of_whole(alloc, &script, &[])
+}
+
+/// The first lines of the script that are carried out where its writer stops after so many bytes.
 fn carried_out(room: usize) -> Option<usize> {
     let (written, _) = ADD_ANSWERS.split_at_checked(room)?;
     let line_feeds = written.split('\n').count().saturating_sub(1);
@@ -224,19 +269,22 @@ fn carried_out(room: usize) -> Option<usize> {
     Some(length)
 }
 
-/// What the script leaves where its writer fails after so many bytes, beside the lines that are carried out then.
+/// What the script leaves where its writer stops after so many bytes, beside the lines that are carried out then.
 fn text_of_failed_write(alloc: Global, room: usize) -> Option<String> {
     let (beside, _) = ADD.as_bytes().split_at_checked(carried_out(room)?)?;
     let mut cut = Cut {
         script: ADD.as_bytes(),
-        calls: ADD.len() + 1,
-        room,
+        reads: NEVER,
+        writes: Stop {
+            after: room,
+            error: STOPS[room % STOPS.len()],
+        },
         beside,
     };
     lend(alloc, 10, &mut cut)
 }
 
-/// What is wrong where the writer fails after so many bytes: it has taken them and no more, and the session stands as
+/// What is wrong where the writer stops after so many bytes: it has taken them and no more, and the session stands as
 /// after the line whose answer was cut.
 fn fault_of_write(alloc: Global, room: usize) -> Option<String> {
     let wanted = format!(in alloc; "Err(Write) {room:X} true true").ok()?;
@@ -247,7 +295,7 @@ fn fault_of_write(alloc: Global, room: usize) -> Option<String> {
     format!(in alloc; "{wanted}: found {text}").ok()
 }
 
-/// Scripts over streams that give or take one byte a call.
+/// Scripts over streams that give or take one byte a call, and at times stop.
 #[derive(Drop)]
 struct Scripts;
 
@@ -256,9 +304,16 @@ impl Subject for Scripts {
         match words.next_word() {
             "limit" => lend(alloc, 1, &mut Whole { script: TICKS }),
             "full" => lend(alloc, 1, &mut Whole { script: PATCHES }),
-            "whole" => text_of_whole(alloc, ADD.as_bytes()),
-            "long" => text_of_whole(alloc, &behind_a_comment(alloc)?),
-            _ => text_of_failed_read(alloc, words.below(0x1_0000) as usize),
+            "whole" => text_of_whole(alloc, ADD.as_bytes(), ADD.as_bytes()),
+            "long" => text_of_whole(alloc, &behind_a_comment(alloc)?, ADD.as_bytes()),
+            "blanks" => text_of_blanks(alloc, words.below(0x20_0000) as usize),
+            kind => {
+                let kind = match kind {
+                    "interrupted" => io::ErrorKind::Interrupted,
+                    _ => io::ErrorKind::Other,
+                };
+                text_of_failed_read(alloc, words.below(0x1_0000) as usize, kind)
+            }
         }
     }
 }
@@ -271,6 +326,11 @@ fn slow_streams_that_fail(rt: HostRuntime) {
     assert_no_fault(&rt, fault_of_rows(rt.alloc(), &mut Scripts, STREAMS));
 }
 
+#[test]
+fn longest_scripts(rt: HostRuntime) {
+    assert_no_fault(&rt, fault_of_rows(rt.alloc(), &mut Scripts, LONGEST));
+}
+
 /// More ticks than may stand where one change may, and more patches.
 const TICKS: &[u8] = b"tick\ntick\nrun 5\nstanding\n";
 
@@ -281,14 +341,25 @@ const PATCHES: &[u8] = b"patch r 1 5\npatch r 1 5\n";
 const STREAMS: &str = r#"
 * a writer with room for all answers
 whole -> Ok(7) 18E true true
-* a reader that fails at its first byte, within a line, behind one, and before its end
-cut 0 -> Err(Read) 0 true true
-cut 5 -> Err(Read) 0 true true
-cut 13 -> Err(Read) 0 true true
-cut 4C -> Err(Read) 0 true true
+* a reader that fails once, though it would then give the rest: at its first byte, within a line, behind one, and before
+* its end
+fails 0 -> Err(Read) 0 true true
+fails 5 -> Err(Read) 0 true true
+fails 13 -> Err(Read) 0 true true
+fails 4C -> Err(Read) 0 true true
+interrupted 0 -> Err(Read) 0 true true
+interrupted 5 -> Err(Read) 0 true true
+interrupted 13 -> Err(Read) 0 true true
+interrupted 4C -> Err(Read) 0 true true
 * a reader that gives its bytes in more than 300 calls
 long -> Ok(7) 18E true true
 * a session where one change may stand
 limit -> "1 changed 4 s000050 s000051 s000052 ext\nrefused 6 journal full\nrun 0 refused 6 journal full\nstanding 1\n"
 full -> "1 changed 1 r1\nrefused 6 journal full\n"
 "#;
+
+/// Scripts of blanks: of the greatest length, and of a byte more.
+const LONGEST: &str = "
+blanks 100000 -> Ok(0) 0 true true
+blanks 100001 -> Err(TooLong) 0 true true
+";

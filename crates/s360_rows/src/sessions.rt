@@ -1,6 +1,6 @@
 //! Sessions: calls in which few changes may stand, previews, and lists of calls.
 use crate::calls::{call, calls, event, long_patch, place_of, text_of_answer, text_of_report};
-use crate::held::{Lent, lend_with_tape};
+use crate::held::{Lent, lend_blank};
 use crate::rows::{Subject, Words, assert_no_fault, fault_of_rows};
 use s360_device::deck_from;
 use s360_journal::{Answer, Outcome, Session, run_calls};
@@ -113,7 +113,7 @@ impl Lent for Table {
 
 /// Lends a session over such a machine, where at most so many changes may stand.
 fn lend<L: Lent>(alloc: Global, limit: u8, lent: &mut L) -> Option<String> {
-    lend_with_tape(alloc, STORAGE, blank_tape(alloc), limit, lent)
+    lend_blank(alloc, STORAGE, limit, lent)
 }
 
 #[test]
