@@ -1,22 +1,27 @@
 #!/usr/bin/env python3
 """Runs each worked row and each unit test again and again with one growth of memory refused.
 
-Each of the first EACH growths is refused in turn, and beyond them every STRIDE-th. A test that
-MOST_GROWTHS names takes at most so many.
+Each growth of what TO_THE_END names is refused in turn, until a run meets none. Of all else each of the
+first EACH is, and beyond them every STRIDE-th. A test that MOST_GROWTHS names takes at most so many.
 
 With nothing refused a row has its answers, and a test passes. With a growth refused the program has
 to end with status 1, say that memory is out, and have written the answers of whole first lines. A
 test has to name want of memory as what it met in place of the right answer. A run that passes all
 the same did without the growth.
 
+A test may tell how many events of a line stood after want of memory within it. Then EVENTS_OF_LINES says
+of each such line which numbers have to be met, and that no other is.
+
 It needs what `rt ci` has built, and a C compiler. It prints what is wrong, and how many rows and
 tests were right with each refused growth.
 """
 import os
 import pathlib
+import re
 import subprocess
 import sys
 import tempfile
+from collections import defaultdict
 from concurrent.futures import ThreadPoolExecutor
 
 import rows
@@ -26,6 +31,44 @@ WANT_OF_MEMORY = ("Memory", "AllocError", "AllocFailed", "OutOfMemory", "out of 
 # Past so many growths a row or a test is tried at every 101st alone.
 EACH = 3000
 STRIDE = 101
+# What is swept to the end, and of what it refuses each growth.
+TO_THE_END = {
+    "logical/worked-rows": "a move that spreads a byte",
+    "tapes/discarded-blocks": "a tape block that is written in place of others",
+    "tapes/longest-block-read": "the longest tape block",
+    "decks/data-chain": "a card that is read into two places",
+    "console/read": "a line that is entered and read",
+    "s360_rows_tests refused::moves": "`forward` of a move, beside the session before",
+    "s360_rows_tests refused::written_blocks": "of a tape block that is written",
+    "s360_rows_tests refused::read_blocks": "of the longest tape block",
+    "s360_rows_tests refused::chained_data": "of a card that is read into two places",
+    "s360_rows_tests refused::entered_lines": "of a line that is entered, and its read",
+    "s360_rows_tests refused::parted_bytes": "of patches that part bytes of one history",
+    "s360_rows_tests answers::memory_within_a_line": "`answer`",
+    "s360_rows_tests images::files_of_decks_and_tapes": "`deck_from`, `tape_from`, `image_of`",
+    "s360_rows_tests devices::card_reader": "`plan` and `room` of the card reader",
+    "s360_rows_tests devices::tape": "`plan` and `room` of a tape",
+    "s360_rows_tests channel_programs::programs_over_the_device_of_the_tests": "`channel_plan`",
+    "s360_rows_tests packed::packed_changes": "`Packed::append`",
+}
+# How many events stand after want of memory within a line, which a test tells: all numbers that are met.
+OUT_OF_MEMORY_AFTER = re.compile(r"out of memory after (\d+) events of ([\w ]+)")
+EVENTS_OF_LINES = {
+    "s360_rows_tests answers::memory_within_a_line": {
+        "tick": {0, 1},
+        "patch r 1 5": {0, 1},
+        "patch s 300 0102030405060708090A": {0, 1},
+        "enter AB": {0, 1},
+        "load 180": {0, 1},
+        "run 4": {0, 1, 2, 3, 4},
+        "run 9": {0, 1},
+        "back": {0},
+        "until": {0},
+        "break 200": {0},
+        "last s 50": {0},
+        "show s 50 4": {0},
+    },
+}
 # How many growths a test may take, where that is bounded.
 MOST_GROWTHS = {
     "s360_rows_tests plans::rising_puts": 60,
@@ -41,6 +84,7 @@ class Subject:
     def __init__(self, name, program, args, script=b"", answers=None):
         self.name, self.program, self.args = name, program, args
         self.script, self.answers = script, answers
+        self.events_of_lines = defaultdict(set)
 
     def run(self, shim, **variables):
         environment = dict(os.environ, LD_PRELOAD=str(shim), **variables)
@@ -66,16 +110,32 @@ class Subject:
             if whole.returncode != 0 or self.fault_of(whole):
                 return [f"{self.name}: status {whole.returncode} with nothing refused"], 0
             count = int(pathlib.Path(file.name).read_text())
-        refused = [*range(1, min(count, EACH) + 1), *range(EACH + 1, count + 1, STRIDE)]
+        each = count if self.name in TO_THE_END else min(count, EACH)
+        refused = [*range(1, each + 1), *range(each + 1, count + 1, STRIDE)]
         found = []
         most = MOST_GROWTHS.get(self.name, count)
         if count > most:
             found.append(f"{self.name}: {count} growths, and at most {most} are allowed")
         for nth in refused:
-            fault = self.fault_of(self.run(shim, REFUSE_NTH=str(nth)))
+            done = self.run(shim, REFUSE_NTH=str(nth))
+            self.note_events(done)
+            fault = self.fault_of(done)
             if fault:
                 found.append(f"{self.name}: growth {nth} of {count} refused: {fault}")
-        return found, len(refused)
+        return [*found, *self.faults_of_lines()], len(refused)
+
+    def note_events(self, done):
+        """Notes how many events of a line stood after want of memory, if the run tells that."""
+        said = (done.stdout + done.stderr).decode(errors="replace")
+        for count, line in OUT_OF_MEMORY_AFTER.findall(said):
+            self.events_of_lines[line].add(int(count))
+
+    def faults_of_lines(self):
+        wanted = EVENTS_OF_LINES.get(self.name, {})
+        for line in sorted({*wanted, *self.events_of_lines}):
+            found = self.events_of_lines[line]
+            if found != wanted.get(line):
+                yield f"{self.name}: {line}: {sorted(found)} events stood after want of memory"
 
 
 def subjects(folder):
@@ -98,12 +158,14 @@ def main():
         subprocess.run(["cc", "-O1", "-shared", "-fPIC", "-o", shim, source], check=True)
         with ThreadPoolExecutor(os.cpu_count()) as pool:
             results = list(pool.map(lambda subject: subject.faults(shim, folder), wanted))
+    missing = {*TO_THE_END, *EVENTS_OF_LINES, *MOST_GROWTHS} - {subject.name for subject in wanted}
+    results += [([f"{name}: there is no such row or test"], 0) for name in sorted(missing)]
     for faults, _ in results:
         for fault in faults:
             print(fault)
     failed = sum(bool(faults) for faults, _ in results)
     print(f"{sum(refused for _, refused in results)} growths refused, one a run")
-    print(f"{len(wanted) - failed} passed, {failed} failed")
+    print(f"{len(results) - failed} passed, {failed} failed")
     return 1 if failed or not wanted else 0
 
 

@@ -13,6 +13,8 @@ mod devices;
 #[cfg(test)]
 mod held;
 #[cfg(test)]
+mod images;
+#[cfg(test)]
 mod indexes;
 #[cfg(test)]
 mod instructions;
