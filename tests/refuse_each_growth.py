@@ -1,6 +1,8 @@
 #!/usr/bin/env python3
 """Runs each worked row and each unit test again and again with one growth of memory refused.
 
+    tests/refuse_each_growth.py [WORD ..]    with words, those that have one of them in their name
+
 Each growth of what TO_THE_END names is refused in turn, until a run meets none. Of all else each of the
 first EACH is, and beyond them every STRIDE-th. A test that MOST_GROWTHS names takes at most so many.
 
@@ -151,14 +153,16 @@ def subjects(folder):
 
 
 def main():
+    words = sys.argv[1:]
     with tempfile.TemporaryDirectory() as folder:
-        wanted = list(subjects(folder))
+        wanted = [s for s in subjects(folder) if not words or any(w in s.name for w in words)]
         shim = pathlib.Path(folder) / "refuse_nth.so"
         source = TOP / "tests/refuse_nth.c"
         subprocess.run(["cc", "-O1", "-shared", "-fPIC", "-o", shim, source], check=True)
         with ThreadPoolExecutor(os.cpu_count()) as pool:
             results = list(pool.map(lambda subject: subject.faults(shim, folder), wanted))
-    missing = {*TO_THE_END, *EVENTS_OF_LINES, *MOST_GROWTHS} - {subject.name for subject in wanted}
+    named = set() if words else {*TO_THE_END, *EVENTS_OF_LINES, *MOST_GROWTHS}
+    missing = named - {subject.name for subject in wanted}
     results += [([f"{name}: there is no such row or test"], 0) for name in sorted(missing)]
     for faults, _ in results:
         for fault in faults:

@@ -21,6 +21,7 @@ from typing import NamedTuple
 
 TOP = pathlib.Path(__file__).resolve().parent.parent.parent
 sys.path.insert(0, str(TOP / "tests"))
+from second.debugger import Debugger
 from second.tapes import FIRST, LAST, LONGEST_BLOCK, MARK, TAPE_MARK, TapeFault
 from second.tapes import header, image_of, items_of, shown_image, shown_item
 
@@ -203,6 +204,19 @@ CHAIN_ENDS = b"""run 65539 idle
 180 sense 000000000000 position 1 of 1 loaded
 """
 CHAIN_MEMORY = 60_000_000
+# Two moves that alter 256 bytes each time, and a branch to the first of them. So many events are run that they
+# would take some gigabytes.
+LOOP_OF_MOVES = (
+    "patch p 0000000000000200",
+    "patch s 500 " + "01" * 256,
+    "patch s 600 " + "02" * 256,
+    "patch s 200 D2FF07000500D2FF0700060047F00200",
+)
+RUNS = 900
+EVENTS_OF_RUN = 10_000
+# Bounds of the address space, in bytes.
+BOUNDS = [mebibytes * 2**20 for mebibytes in (64, 128, 256, 512)]
+OUT_OF_MEMORY = b"s360dbg: memory: out of memory\n"
 
 
 def loaded(count):
@@ -255,6 +269,8 @@ FIRST_FAULTS = {
     **dict.fromkeys(range(16, 21), b"short header at 15"),
     21: b"short block at 15",
 }
+# The first bytes of that file that are tapes, and what is on them.
+FIRST_ITEMS = {0: b"none\nnone\n", 9: b"block 3 C1C2C3\nnone\n", 15: b"block 3 C1C2C3\nmark\n"}
 OTHER_FAULTS = {
     "020000008000C1C2": b"part out of place at 8",
     "000000006000": b"bad flags at 0",
@@ -313,6 +329,11 @@ def tape_files():
     for length, fault in FIRST_FAULTS.items():
         image = WHOLE_BLOCKS[:length]
         yield image, faulty(f"the first {length} bytes of a tape", name_of(image), fault)
+    for length, items in FIRST_ITEMS.items():
+        image = WHOLE_BLOCKS[:length]
+        args = ["--tape0", name_of(image)]
+        script = b"show m 180 1\nshow m 180 2\nshow m 180 3\n"
+        yield image, Case(f"the first {length} bytes of a tape", args, script, 0, items + b"none\n")
     for digits, fault in OTHER_FAULTS.items():
         yield bytes.fromhex(digits), faulty(f"no tape {digits}", f"{digits}.tape", fault)
     for whole, option, unit in ((WHOLE_BLOCKS, "tape0", 180), (BLOCK_IN_PARTS, "tape1", 181)):
@@ -456,16 +477,55 @@ def fault_of_read_back(writing, folder):
     return None if right else (done.returncode, done.stdout, done.stderr)
 
 
+def bounded(kind, most, folder, script, args=()):
+    """A run of the program under a bound of its memory."""
+
+    def bound():
+        resource.setrlimit(kind, (most, most))
+
+    how = {"capture_output": True, "timeout": SECONDS, "cwd": folder, "preexec_fn": bound}
+    return subprocess.run([PROGRAM, *args], input=script, **how)
+
+
 def fault_of_chain(folder):
     """What is wrong with a data chain of the most words, in memory that is in proportion to its bytes."""
-
-    def limit_memory():
-        resource.setrlimit(resource.RLIMIT_DATA, (CHAIN_MEMORY, CHAIN_MEMORY))
-
-    how = {"capture_output": True, "timeout": SECONDS, "cwd": folder, "preexec_fn": limit_memory}
-    done = subprocess.run([PROGRAM], input=CHAINED_TO_ITSELF, **how)
+    done = bounded(resource.RLIMIT_DATA, CHAIN_MEMORY, folder, CHAINED_TO_ITSELF)
     right = done.returncode == 0 and done.stdout.endswith(CHAIN_ENDS) and not done.stderr
     return None if right else (done.returncode, done.stdout[-200:], done.stderr)
+
+
+def runs_of_moves():
+    """The lines of a script that runs the loop of moves again and again, with their answers."""
+    debugger = Debugger()
+    for line in LOOP_OF_MOVES:
+        yield line, *debugger.answer(line)
+    first = len(LOOP_OF_MOVES)
+    for events in range(EVENTS_OF_RUN, RUNS * EVENTS_OF_RUN + 1, EVENTS_OF_RUN):
+        # Of three events the last is the branch.
+        last_move = events - 1 if events % 3 == 0 else events
+        yield f"run {EVENTS_OF_RUN}", f"run {EVENTS_OF_RUN} done"
+        yield "standing", f"standing {first + events}"
+        yield "last p", f"last {first + events}"
+        yield "last s 7FF", f"last {first + last_move}"
+
+
+def fault_under_a_bound(most, folder):
+    """What is wrong with a session that runs out of memory: the answers before that are right, and whole lines."""
+    lines, answers = zip(*runs_of_moves())
+    script, whole = ("".join(f"{line}\n" for line in text).encode() for text in (lines, answers))
+    done = bounded(resource.RLIMIT_AS, most, folder, script)
+    lines_written = done.stdout.count(b"\n")
+    is_first_part = whole.startswith(done.stdout) and done.stdout.endswith(b"\n")
+    is_cut = len(LOOP_OF_MOVES) < lines_written < len(answers)
+    right = is_first_part and is_cut and (done.returncode, done.stderr) == (1, OUT_OF_MEMORY)
+    return None if right else (done.returncode, lines_written, done.stdout[-200:], done.stderr)
+
+
+def fault_of_a_tape_under_a_bound(folder):
+    """What is wrong with a tape that takes more memory than there is."""
+    done = bounded(resource.RLIMIT_AS, BOUNDS[0], folder, b"standing\n", ["--tape0", "blocks.tape"])
+    right = (done.returncode, done.stdout, done.stderr) == (1, b"", OUT_OF_MEMORY)
+    return None if right else (done.returncode, done.stdout, done.stderr)
 
 
 def fault_at_a_terminal(folder):
@@ -515,6 +575,11 @@ def main():
         make_files(folder)
         faults = [(case.what, fault_of(case, folder)) for case in CASES]
         faults.append(("a data chain of the most words", fault_of_chain(folder)))
+        for most in BOUNDS:
+            fault = fault_under_a_bound(most, folder)
+            faults.append((f"a session in an address space of {most} bytes", fault))
+        fault = fault_of_a_tape_under_a_bound(folder)
+        faults.append(("a tape in an address space that it does not fit", fault))
         faults.append(("a script that is typed at a terminal", fault_at_a_terminal(folder)))
         faults.append(("a write that fails once", fault_of_failed_writes(folder)))
         for what, writing in WRITINGS.items():
