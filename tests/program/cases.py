@@ -547,7 +547,7 @@ def fault_at_a_terminal(folder):
     return None if right else (done.returncode, done.stdout, done.stderr)
 
 
-def fault_of_failed_writes(folder):
+def fault_of_failed_writes(folder, **variables):
     """What is wrong where one write fails, and each later one would be made: nothing comes after it."""
     shim = folder / "fail_nth_write.so"
     source = TOP / "tests/program/fail_nth_write.c"
@@ -555,7 +555,7 @@ def fault_of_failed_writes(folder):
     script, whole = b"standing\n" * MANY_LINES, STANDING * MANY_LINES
     before = None
     for nth in itertools.count(1):
-        environment = dict(os.environ, LD_PRELOAD=str(shim), FAIL_NTH=str(nth))
+        environment = dict(os.environ, LD_PRELOAD=str(shim), FAIL_NTH=str(nth), **variables)
         how = {"capture_output": True, "timeout": SECONDS, "cwd": folder, "env": environment}
         done = subprocess.run([PROGRAM], input=script, **how)
         if done.returncode == 0:
@@ -582,6 +582,8 @@ def main():
         faults.append(("a tape in an address space that it does not fit", fault))
         faults.append(("a script that is typed at a terminal", fault_at_a_terminal(folder)))
         faults.append(("a write that fails once", fault_of_failed_writes(folder)))
+        fault = fault_of_failed_writes(folder, TAKE_NOTHING="1")
+        faults.append(("a write that takes no byte once", fault))
         for what, writing in WRITINGS.items():
             fault = fault_of_read_back(writing, folder)
             faults.append((f"a tape that is written and read back: {what}", fault))
