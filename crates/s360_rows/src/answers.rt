@@ -162,7 +162,15 @@ impl Lent for Answering {
             Err(_) => {
                 let other = &*session;
                 let accepted = other.standing().saturating_sub(before);
-                lend(alloc, LIMIT, &mut Beside { other, line, accepted })
+                lend(
+                    alloc,
+                    LIMIT,
+                    &mut Beside {
+                        other,
+                        line,
+                        accepted,
+                    },
+                )
             }
         }
     }

@@ -284,7 +284,10 @@ struct Offering<'a> {
 impl<'a> Offering<'a> {
     /// What is wrong with the event, which is offered again where memory was wanting, and with the step back.
     fn fault(&self, alloc: Global, session: &mut Session) -> Option<&'static str> {
-        let (first, second) = (event(alloc, self.case.event)?, event(alloc, self.case.event)?);
+        let (first, second) = (
+            event(alloc, self.case.event)?,
+            event(alloc, self.case.event)?,
+        );
         let mut outcome = altered(session, first);
         if outcome == Err(Refusal::Memory) {
             if !stands_as(session, self.before) {
