@@ -18,7 +18,7 @@ fn text_of_deck(alloc: Global, count: usize) -> Option<String> {
 fn bytes_of(alloc: Global, digits: &str) -> Option<Vec<u8>> {
     let mut bytes = Vec::new(alloc);
     let mut rest = digits;
-    while !rest.is_empty() {
+    for _ in 0..digits.len() / 2 {
         let (byte, others) = rest.split_at_checked(2)?;
         bytes.push(u8::from_str_radix(byte, 16).ok()?).ok()?;
         rest = others;
