@@ -65,40 +65,44 @@ impl Media {
 }
 
 /// An event, and how many places it alters.
-struct Case {
-    media: Media,
-    /// The lines of the events that stand before it.
-    start: &'static str,
-    event: &'static str,
+struct Step {
+    line: &'static str,
     altered: u32,
 }
 
+/// Events one after another, each of which is to be refused growths.
+struct Case {
+    media: Media,
+    /// The lines of the events that stand before them.
+    start: &'static str,
+    steps: &'static [Step],
+}
+
 /// A move that spreads a byte, and the same again, which alters the PSW alone.
-static MOVES: [Case; 2] = [
-    Case {
-        media: Media::Nothing,
-        start: "patch r 1 00001000
+static MOVES: Case = Case {
+    media: Media::Nothing,
+    start: "patch r 1 00001000
 patch s 1000 C10000000000
 patch s 200 D20410011000
 patch p 0000000000000200",
-        event: "step",
-        altered: 6,
-    },
-    Case {
-        media: Media::Nothing,
-        start: "patch r 1 00001000
-patch s 1000 C10000000000
-patch s 200 D20410011000
-patch p 0000000000000200
-step
-patch p 0000000000000200",
-        event: "step",
-        altered: 1,
-    },
-];
+    steps: &[
+        Step {
+            line: "step",
+            altered: 6,
+        },
+        Step {
+            line: "patch p 0000000000000200",
+            altered: 1,
+        },
+        Step {
+            line: "step",
+            altered: 1,
+        },
+    ],
+};
 
 /// A block that is written after the second of five, of which the later ones are discarded.
-static WRITTEN_BLOCKS: [Case; 1] = [Case {
+static WRITTEN_BLOCKS: Case = Case {
     media: Media::FiveBlocks,
     start: "patch p 0000000000000200
 patch s 48 00000400
@@ -112,107 +116,90 @@ step
 patch s 600 E9
 patch s 400 0100060000000001
 step",
-    event: "channel 180",
-    altered: 2,
-}];
+    steps: &[Step {
+        line: "channel 180",
+        altered: 2,
+    }],
+};
 
 /// A block of the greatest length that is read: each byte, the state of the unit and its media are altered.
-static READ_BLOCKS: [Case; 1] = [Case {
+static READ_BLOCKS: Case = Case {
     media: Media::LongestBlock,
     start: "patch p 0000000000000200
 patch s 48 00000400
 patch s 200 9C000180
 patch s 400 020006000000FFFF
 step",
-    event: "channel 180",
-    altered: 65_537,
-}];
+    steps: &[Step {
+        line: "channel 180",
+        altered: 65_537,
+    }],
+};
 
 /// A card that is read into two places by chained data: 20 bytes, and then 60 and the card's feed.
-static CHAINED_DATA: [Case; 2] = [
-    Case {
-        media: Media::Card,
-        start: "patch p 0000000000000200
+static CHAINED_DATA: Case = Case {
+    media: Media::Card,
+    start: "patch p 0000000000000200
 patch s 48 00000400
 patch s 200 9C00000C
 patch s 400 0200060080000014000007000000003C
 step",
-        event: "channel C",
-        altered: 21,
-    },
-    Case {
-        media: Media::Card,
-        start: "patch p 0000000000000200
-patch s 48 00000400
-patch s 200 9C00000C
-patch s 400 0200060080000014000007000000003C
-step
-channel C",
-        event: "channel C",
-        altered: 62,
-    },
-];
+    steps: &[
+        Step {
+            line: "channel C",
+            altered: 21,
+        },
+        Step {
+            line: "channel C",
+            altered: 62,
+        },
+    ],
+};
 
 /// A read of the console: it waits for a line, which is entered, and then it is read.
-static ENTERED_LINES: [Case; 3] = [
-    Case {
-        media: Media::Nothing,
-        start: "patch p 0000000000000200
+static ENTERED_LINES: Case = Case {
+    media: Media::Nothing,
+    start: "patch p 0000000000000200
 patch s 48 00000400
 patch s 200 9C00001F
 patch s 400 0A00060020000050
 step",
-        event: "channel 1F",
-        altered: 0,
-    },
-    Case {
-        media: Media::Nothing,
-        start: "patch p 0000000000000200
-patch s 48 00000400
-patch s 200 9C00001F
-patch s 400 0A00060020000050
-step
-channel 1F",
-        event: "enter ABC",
-        altered: 1,
-    },
-    Case {
-        media: Media::Nothing,
-        start: "patch p 0000000000000200
-patch s 48 00000400
-patch s 200 9C00001F
-patch s 400 0A00060020000050
-step
-channel 1F
-enter ABC",
-        event: "channel 1F",
-        altered: 5,
-    },
-];
+    steps: &[
+        Step {
+            line: "channel 1F",
+            altered: 0,
+        },
+        Step {
+            line: "enter ABC",
+            altered: 1,
+        },
+        Step {
+            line: "channel 1F",
+            altered: 5,
+        },
+    ],
+};
 
-/// Bytes that had one history, and are then told apart: within a run, beside two runs and bytes that nothing has altered,
+/// Bytes that had one history, and are then told apart: within a run, over three runs and bytes that nothing has altered,
 /// and at every second byte.
-static PARTED_BYTES: [Case; 3] = [
-    Case {
-        media: Media::Nothing,
-        start: "patch s 400 0101010101010101",
-        event: "patch s 402 0202",
-        altered: 2,
-    },
-    Case {
-        media: Media::Nothing,
-        start: "patch s 400 0101010101010101
-patch s 404 02020202",
-        event: "patch s 3FE 0303030303030303",
-        altered: 8,
-    },
-    Case {
-        media: Media::Nothing,
-        start: "patch s 400 0101010101010101",
-        event: "patch s 400 0201020102010201",
-        altered: 4,
-    },
-];
+static PARTED_BYTES: Case = Case {
+    media: Media::Nothing,
+    start: "patch s 400 0101010101010101",
+    steps: &[
+        Step {
+            line: "patch s 402 0202",
+            altered: 2,
+        },
+        Step {
+            line: "patch s 3FE 0303030303030303",
+            altered: 8,
+        },
+        Step {
+            line: "patch s 400 0403040304030401",
+            altered: 4,
+        },
+    ],
+};
 
 /// Whether a place has the same changes in two sessions.
 fn is_same_at(one: &Session, other: &Session, place: Place) -> bool {
@@ -274,20 +261,28 @@ fn altered(session: &mut Session, event: Event) -> Result<u32, Refusal> {
     }
 }
 
-/// What makes the event of a case in a session, beside one that shows how it was before.
+/// Comes to a step of a case, and answers whether no event before it was refused.
+fn come_to(alloc: Global, session: &mut Session, case: &Case, number: usize) -> bool {
+    let mut is_there = carry_out(alloc, session, case.start);
+    for step in case.steps.iter().take(number) {
+        is_there = is_there && carry_out(alloc, session, step.line);
+    }
+    is_there
+}
+
+/// What makes the event of a step in a session, beside one that shows how it was before.
 #[derive(Drop)]
 struct Offering<'a> {
     before: &'a Session,
     case: &'static Case,
+    number: usize,
 }
 
 impl<'a> Offering<'a> {
     /// What is wrong with the event, which is offered again where memory was wanting, and with the step back.
     fn fault(&self, alloc: Global, session: &mut Session) -> Option<&'static str> {
-        let (first, second) = (
-            event(alloc, self.case.event)?,
-            event(alloc, self.case.event)?,
-        );
+        let step = self.case.steps.get(self.number)?;
+        let (first, second) = (event(alloc, step.line)?, event(alloc, step.line)?);
         let mut outcome = altered(session, first);
         if outcome == Err(Refusal::Memory) {
             if !stands_as(session, self.before) {
@@ -295,7 +290,7 @@ impl<'a> Offering<'a> {
             }
             outcome = altered(session, second);
         }
-        if outcome != Ok(self.case.altered) {
+        if outcome != Ok(step.altered) {
             return Some("it was refused, or another change");
         }
         if session.back().is_err() || !stands_as(session, self.before) {
@@ -307,27 +302,33 @@ impl<'a> Offering<'a> {
 
 impl<'a> Lent for Offering<'a> {
     fn use_session(&mut self, alloc: Global, session: &mut Session) -> Option<String> {
-        if !carry_out(alloc, session, self.case.start) {
+        if !come_to(alloc, session, self.case, self.number) {
             return None;
         }
         String::from_str(alloc, self.fault(alloc, session)?).ok()
     }
 }
 
-/// What makes a session that comes to the event of a case, and has another one make it.
+/// What makes a session that comes to a step, and has another one make it.
 #[derive(Drop)]
 struct Beginning {
     case: &'static Case,
+    number: usize,
 }
 
 impl Lent for Beginning {
     fn use_session(&mut self, alloc: Global, session: &mut Session) -> Option<String> {
-        let case = self.case;
-        if !carry_out(alloc, session, case.start) {
+        let (case, number) = (self.case, self.number);
+        if !come_to(alloc, session, case, number) {
             return None;
         }
         let before = &*session;
-        lend_case(alloc, case, &mut Offering { before, case })
+        let mut offering = Offering {
+            before,
+            case,
+            number,
+        };
+        lend_case(alloc, case, &mut offering)
     }
 }
 
@@ -337,10 +338,10 @@ fn lend_case<L: Lent>(alloc: Global, case: &Case, lent: &mut L) -> Option<String
     lend_over(alloc, STORAGE, case.media.deck(), tape, LIMIT, lent)
 }
 
-/// What is wrong with the first case that has a fault, or an empty text: no more than one growth may be refused in all.
-fn fault_of(alloc: Global, cases: &'static [Case]) -> Option<String> {
-    for case in cases {
-        let fault = lend_case(alloc, case, &mut Beginning { case })?;
+/// What is wrong with the first step that has a fault, or an empty text: no more than one growth may be refused in all.
+fn fault_of(alloc: Global, case: &'static Case) -> Option<String> {
+    for number in 0..case.steps.len() {
+        let fault = lend_case(alloc, case, &mut Beginning { case, number })?;
         if !fault.is_empty() {
             return Some(fault);
         }
