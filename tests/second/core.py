@@ -91,8 +91,12 @@ class Core:
     def put_byte(self, address, byte):
         self.put(f"s{address:06X}", byte)
 
+    def run_of_bytes(self, address, count):
+        get = self.values.get
+        return bytes([get(f"s{at:06X}", 0) for at in range(address, address + count)])
+
     def number(self, address, count):
-        return int.from_bytes(bytes(self.byte(address + i) for i in range(count)), "big")
+        return int.from_bytes(self.run_of_bytes(address, count), "big")
 
     def put_bytes(self, address, run):
         for i, byte in enumerate(run):
@@ -121,7 +125,7 @@ class Core:
 
     def fetch(self, address, count, boundary):
         self.check(address, count, boundary, is_store=False)
-        return int.from_bytes(bytes(self.byte(address + i) for i in range(count)), "big")
+        return self.number(address, count)
 
     def store(self, address, number, count, boundary):
         self.check(address, count, boundary, is_store=True)

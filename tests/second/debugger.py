@@ -1,4 +1,4 @@
-"""The debugger of the second machine: it answers the lines of a script that are right.
+"""The debugger of the second machine: it answers the lines of a script.
 
 What a change altered is kept by the names of its places, so a step back puts their old values back.
 """
@@ -7,6 +7,7 @@ from typing import NamedTuple
 from .channels import TAPES, UNITS, Program, device_name, state_name
 from .core import BLOCK, SIZE
 from .devices import TYPED_LINE
+from .lines import fault_of, lines_of
 from .machine import OPERATING, STOPPED, Loading, Machine
 from .tapes import Tape
 
@@ -30,8 +31,14 @@ class Debugger:
         self.changes = []
         self.breakpoints = set()
 
+    def answers(self, script):
+        """The lines of the answer to each line of a script of any bytes that is not skipped."""
+        for line in lines_of(script):
+            fault = fault_of(line)
+            yield [fault] if fault else self.answer(line.decode())
+
     def answer(self, line):
-        """The lines of the answer to a line."""
+        """The lines of the answer to a line that is right."""
         word, *rest = line.split()
         if word == "enter":
             return self.answer_enter(line.partition("enter")[2][1:])
@@ -202,8 +209,7 @@ class Debugger:
         return [self.bytes_from(first, min(first + 16, end)) for first in range(at, end, 16)]
 
     def bytes_from(self, first, end):
-        run = bytes(self.machine.byte(at) for at in range(first, end))
-        return f"{first:06X} {run.hex().upper()}"
+        return f"{first:06X} {self.machine.run_of_bytes(first, end - first).hex().upper()}"
 
     def show_k(self, address):
         at = int(address, 16)

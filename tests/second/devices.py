@@ -29,6 +29,18 @@ def with_text(name, line):
     return f"{name} {signs}".rstrip(" ")
 
 
+class DeckFault(Exception):
+    """The fault of a file that is no deck's."""
+
+
+def cards_of(file):
+    """The cards of a deck's file."""
+    whole, beyond = divmod(len(file), CARD)
+    if beyond:
+        raise DeckFault(f"short card at {whole * CARD}")
+    return tuple(file[at : at + CARD] for at in range(0, len(file), CARD))
+
+
 class Reader(NamedTuple):
     sense: bytes = NO_SENSE
     cards: tuple = ()

@@ -24,21 +24,21 @@ FLAGS += [0x50, 0x08]
 COUNTS = [1, 1, 2, 3, 39, 40, 77, 79, 80, 80, 81, 131, 132, 133, 255, 256, 257]
 
 
-def address_word(some):
+def address_word(some, size=SIZE):
     key = some.choice([0, 0, 0, 0x50]) | some.choice([0] * 19 + [1 << some.randrange(4)])
     word = CHAIN + 8 * some.choice([0, 0, 0, 0, 1, 2])
-    at = some.choices([word, CHAIN + some.randrange(8), SIZE - 8, SIZE], [90, 4, 3, 3])[0]
+    at = some.choices([word, CHAIN + some.randrange(8), size - 8, size], [90, 4, 3, 3])[0]
     return bytes([key]) + at.to_bytes(3, "big")
 
 
-def command_word(some, operands, unit):
+def command_word(some, operands, unit, size=SIZE):
     if some.random() < 0.15:
         target = CHAIN + 8 * some.randrange(MOST_WORDS)
-        targets = [target, target + some.randrange(8), SIZE - 8, SIZE]
+        targets = [target, target + some.randrange(8), size - 8, size]
         data, command = some.choices(targets, [90, 4, 3, 3])[0], some.choice(TRANSFERS)
     else:
         near = [operands + some.randrange(256), BLOCK - some.randrange(81)]
-        far = [SIZE - some.randrange(84), some.getrandbits(24)]
+        far = [size - some.randrange(84), some.getrandbits(24)]
         data = some.choices([*near, *far], [80, 8, 8, 4])[0]
         others = COMMANDS[some.choice(list(COMMANDS))]
         commands = [*map(some.choice, (COMMANDS[unit], others)), 0x03, 0x04, some.getrandbits(8)]
@@ -49,9 +49,9 @@ def command_word(some, operands, unit):
     return b"".join(word.to_bytes(4, "big") for word in words)
 
 
-def chain(some, operands, unit):
+def chain(some, operands, unit, size=SIZE):
     count = some.randint(1, MOST_WORDS)
-    return b"".join(command_word(some, operands, unit) for _ in range(count))
+    return b"".join(command_word(some, operands, unit, size) for _ in range(count))
 
 
 def initial_record(some):

@@ -8,7 +8,7 @@ after a step back.
 import random
 
 from .channels import CAW, CSW, IDLE, READER, START, TAPES, UNITS, Ended, Program
-from .core import ADDRESSES, BLOCK, SIZE, WORD, signed
+from .core import ADDRESSES, BLOCK, WORD, signed
 from .debugger import Debugger
 from .devices import SIGNS
 from .machine import STOPPED, TIMER, Loading
@@ -87,7 +87,7 @@ class Script:
 
     def word(self):
         near_operands = OPERANDS + 4 * self.random.randrange(64)
-        near_the_end = SIZE - 16 + self.random.randrange(32)
+        near_the_end = self.machine.size - 16 + self.random.randrange(32)
         words = [self.random.choice(EDGES), self.random.randrange(16), near_operands, near_the_end]
         return self.random.choices([*words, self.random.getrandbits(32)], [7, 3, 4, 1, 5])[0]
 
@@ -174,8 +174,8 @@ class Script:
         return [self.machine.address(field, index) for field in fields]
 
     def patch_inside(self, at, run):
-        if at < SIZE:
-            self.patch_bytes(at, run[: SIZE - at])
+        if at < self.machine.size:
+            self.patch_bytes(at, run[: self.machine.size - at])
 
     def patch_operands(self, instruction):
         """Operands where the instruction takes them, or of an EX its subject with its operands."""
@@ -193,14 +193,14 @@ class Script:
 
     def patch_block(self, number):
         """The address of a block in a register, now and then outside or with low bits."""
-        some = self.random
-        block = some.choice([0, BLOCK, SIZE - BLOCK, some.randrange(0, SIZE, BLOCK), SIZE])
+        some, size = self.random, self.machine.size
+        block = some.choice([0, BLOCK, size - BLOCK, some.randrange(0, size, BLOCK), size])
         word = some.getrandbits(8) << 24 | block | some.choice([0, 0, 0, 0x7F0, 1, 8])
         self.say(f"patch r {number:X} {word:X}")
 
     def patch_key(self):
-        some = self.random
-        at, key = some.choice([0, OPERANDS, SIZE - 1, some.randrange(SIZE)]), some.choice([0, 5])
+        some, size = self.random, self.machine.size
+        at, key = some.choice([0, OPERANDS, size - 1, some.randrange(size)]), some.choice([0, 5])
         self.say(f"patch k {at:X} {key:X}")
 
     def patch_new_psws(self):
@@ -280,8 +280,8 @@ class Script:
         some = self.random
         idle = [unit for unit in UNITS if self.machine.unit(unit) == IDLE]
         unit = some.choice([*UNITS, *TAPES, *idle * 4])
-        self.patch_bytes(CAW, address_word(some))
-        self.patch_bytes(CHAIN, chain(some, OPERANDS, unit))
+        self.patch_bytes(CAW, address_word(some, self.machine.size))
+        self.patch_bytes(CHAIN, chain(some, OPERANDS, unit, self.machine.size))
         return bytes([START, some.getrandbits(8), *unit.to_bytes(2, "big")])
 
     def case(self):
@@ -296,7 +296,8 @@ class Script:
             if some.random() < 0.6:
                 word = self.word()
                 if number == END:
-                    word = some.choice([SIZE] * 4 + [ADDRESSES]) - some.choice(BEFORE_THE_END)
+                    end = some.choice([self.machine.size] * 4 + [ADDRESSES])
+                    word = end - some.choice(BEFORE_THE_END)
                 self.say(f"patch r {number:X} {word:X}")
         address = some.choice([0x300, 0xFFFC, 0xFFFE, 0x201]) if some.random() < 0.1 else 0x200
         psw = self.psw(address)

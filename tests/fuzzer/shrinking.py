@@ -1,0 +1,131 @@
+"""Makes a session that differs smaller, and keeps it as a row with the second machine's answers."""
+import re
+import time
+
+from second.core import SIZE
+from second.devices import CARD
+
+from .comparing import FILES
+from .sessions import outcome_of
+
+# It is made no smaller after so many seconds.
+SECONDS = 120
+NUMBER = re.compile(rb"[0-9A-Fa-f]+")
+
+
+def without_parts(whole):
+    """A list or a text without one of its halves, quarters, and so on down to single parts."""
+    size = len(whole)
+    while size > 1:
+        size = (size + 1) // 2
+        for start in range(0, len(whole), size):
+            yield whole[:start] + whole[start + size :]
+    if len(whole) == 1:
+        yield whole[:0]
+
+
+def smaller_scripts(script):
+    lines = script.split(b"\n")
+    yield from map(b"\n".join, without_parts(lines))
+    for number, line in enumerate(lines):
+        for smaller in smaller_lines(line):
+            yield b"\n".join([*lines[:number], smaller, *lines[number + 1 :]])
+
+
+def smaller_lines(line):
+    """A line with a number in it lower or shorter, or without a part of it."""
+    words = line.split(b" ")
+    for number, word in enumerate(words):
+        for smaller in smaller_words(word):
+            yield b" ".join([*words[:number], smaller, *words[number + 1 :]])
+    if len(line) > 40:
+        yield from without_parts(line)
+
+
+def smaller_words(word):
+    if not NUMBER.fullmatch(word):
+        return
+    yield from (word[: len(word) // 4 * 2], word[len(word) // 4 * 2 :])
+    yield from {b"0", b"1", b"0" * len(word)} - {word}
+    if word.isdigit():
+        yield from {b"%d" % (int(word) // 2), b"%d" % max(int(word) - 1, 0)} - {word}
+    for at in range(0, min(len(word), 64), 2):
+        if word[at : at + 2].strip(b"0"):
+            yield word[:at] + b"00"[: len(word) - at] + word[at + 2 :]
+
+
+def smaller_files(name, file):
+    yield None
+    if name == "reader":
+        cards = [file[at : at + CARD] for at in range(0, len(file), CARD)]
+        yield from map(b"".join, without_parts(cards))
+    else:
+        yield from without_parts(file)
+    for at in range(min(len(file), 4 * CARD)):
+        if file[at]:
+            yield file[:at] + b"\0" + file[at + 1 :]
+
+
+def smaller_media(media):
+    if media.storage != SIZE:
+        yield media._replace(storage=SIZE)
+    for number in (0, 1):
+        if getattr(media, f"protect{number}"):
+            yield media._replace(**{f"protect{number}": False})
+    for name in FILES:
+        file = getattr(media, name)
+        if file is not None:
+            yield from (media._replace(**{name: part}) for part in smaller_files(name, file))
+
+
+def smaller_sessions(session):
+    yield from (session._replace(script=script) for script in smaller_scripts(session.script))
+    yield from (session._replace(media=media) for media in smaller_media(session.media))
+
+
+def weight(session):
+    """What has to fall as a session is made smaller, so that no two are made of each other."""
+    media = session.media
+    files = [getattr(media, name) for name in FILES]
+    lengths = sum(1 + len(file) for file in files if file is not None)
+    other = media.storage != SIZE, media.protect0, media.protect1
+    nonzero = sum(len(file) - file.count(0) for file in files if file is not None)
+    digits = sum(byte not in b"0 \n" for byte in session.script)
+    return len(session.script) + lengths + sum(other), digits + nonzero, session.script
+
+
+def shrunk(session, differs):
+    """A session that still differs, of which no smaller one does, as far as the time allows."""
+    end = time.monotonic() + SECONDS
+    found = True
+    while found:
+        found = False
+        for smaller in smaller_sessions(session):
+            if time.monotonic() > end:
+                return session
+            if weight(smaller) < weight(session) and differs(smaller):
+                session, found = smaller, True
+                break
+    return session
+
+
+def keep(session, folder, name, comment):
+    """Keeps a session as files of a row, which `tests/rows.py` tells of."""
+    folder.mkdir(parents=True, exist_ok=True)
+    outcome, media = outcome_of(session), session.media
+    words = ["--storage", str(media.storage)] if media.storage != SIZE else []
+    words += [f"--protect{number}" for number in (0, 1) if getattr(media, f"protect{number}")]
+    files = {"": b"* %s\n" % comment.encode() + session.script}
+    files[".stdout"] = b"".join(outcome.answers)
+    if words:
+        files[".args"] = "".join(f"{word}\n" for word in words).encode()
+    if outcome.said:
+        files[".stderr"] = outcome.said
+    if media.reader is not None:
+        files[".deck"] = media.reader
+    for ending, file in ((".tape0", media.tape0), (".tape1", media.tape1)):
+        if file is not None:
+            files[ending] = file.hex(" ").upper().encode() + b"\n"
+    for ending, contents in files.items():
+        (folder / f"{name}{ending}").write_bytes(contents)
+    return folder / name
