@@ -115,6 +115,29 @@ class Lines(Sitting):
         masks = self.random.choices([0, 0xFE << 56], [9, 1])[0]
         self.say(f"patch p {masks | INSTRUCTION:016X}")
 
+    def try_instruction(self):
+        """An instruction with registers and operands, and what it leaves."""
+        some = self.random
+        for number in some.sample(range(16), 4):
+            self.say(f"patch r {number:X} {self.word():X}")
+        instruction = self.instruction()
+        self.patch_operands(instruction)
+        self.patch_inside(INSTRUCTION, instruction)
+        self.say(f"patch p {self.psw(INSTRUCTION):016X}")
+        self.say("step")
+        self.say("show psw")
+        self.say("show regs")
+        places = self.debugger.changes[-1].places
+        stored = [int(place[1:], 16) for place in places if place[0] == "s"]
+        if stored:
+            self.say(f"show s {stored[0]:X} {min(stored[-1] - stored[0] + 1, CHUNK)}")
+
+    def show_unit(self, unit):
+        """What its channel does, its sense and media, and its last item."""
+        self.say(f"show u {unit:X}")
+        self.say(f"show d {unit:X}")
+        self.say(f"show m {unit:X} {max(len(self.machine.device(unit).items()), 1)}")
+
     def start_program(self, unit, key=0, at=CHAIN, code=START):
         """SIO of a unit, or another of its instructions."""
         if code == START:
@@ -130,8 +153,7 @@ class Lines(Sitting):
         self.start_program(unit)
         for _ in range(some.randint(1, 4)):
             self.say(f"channel {unit:X}")
-        self.say(f"show u {unit:X}")
-        self.say(f"show d {unit:X}")
+        self.show_unit(unit)
 
     def use_medium(self, unit):
         """What is on a medium, loading from it and reading it."""
@@ -209,8 +231,7 @@ def programs_case(sitting):
         program_line(sitting, units)
     sitting.say(f"show s {CHAIN:X} {8 * WORDS}")
     for unit in units:
-        sitting.say(f"show u {unit:X}")
-        sitting.say(f"show d {unit:X}")
+        sitting.show_unit(unit)
         sitting.say(f"last d {unit:X}")
 
 
@@ -280,7 +301,7 @@ def line_of_bytes(sitting):
 
 def texts(some):
     """Scripts of bytes: lines that are nearly right, and lines of any bytes."""
-    sitting = Lines(some, Media(some.choice(media.SIZES[:4]), media.deck(some)))
+    sitting = Lines(some, Media(media.LEAST, media.deck(some)))
     for _ in range(CASES_OF_BYTES):
         for _ in range(some.randint(4, 16)):
             sitting.say(line_of_bytes(sitting))
@@ -293,16 +314,24 @@ def lines(some):
     """Scripts of right lines, over storage of the least and the most bytes and of some between."""
     sitting = Lines(some, media.media(some))
     for _ in range(CASES_OF_LINES):
-        for _ in range(some.randint(4, 20)):
-            sitting.say(sitting.any_line())
-        if some.random() < 0.01:
-            sitting.set_breakpoints()
-        sitting.case()
-        for _ in range(some.randint(0, 6)):
-            sitting.say(sitting.any_line())
+        lines_case(sitting)
         sitting.take_back()
     sitting.finish()
     return sitting
+
+
+def lines_case(sitting):
+    some = sitting.random
+    for _ in range(some.randint(2, 12)):
+        sitting.say(sitting.any_line())
+    if some.random() < 0.01:
+        sitting.set_breakpoints()
+    if some.random() < 0.1:
+        sitting.case()
+    for _ in range(some.randint(2, 4)):
+        sitting.try_instruction()
+    for _ in range(some.randint(0, 6)):
+        sitting.say(sitting.any_line())
 
 
 def memory(some):
@@ -314,7 +343,7 @@ def memory(some):
     storage = some.choice([65_536 * 4, media.MOST])
     sitting = Lines(some, Media(storage, reader, tape0, tape1), limit)
     parts = [run_additions, run_exclusive_ors, sound_alarms, read_blocks, read_blocks, show_image]
-    for _ in range(some.randint(1, 5)):
+    for _ in range(some.randint(1, 3)):
         some.choice(parts)(sitting)
     sitting.take_back()
     return sitting
@@ -329,12 +358,12 @@ def run_loop(sitting, instructions, count):
 
 def run_additions(sitting):
     sitting.say("patch r 2 1")
-    run_loop(sitting, "1A12", sitting.random.choice([1_000, 10_000, 30_000]))
+    run_loop(sitting, "1A12", sitting.random.choice([1_000, 10_000, 20_000]))
 
 
 def run_exclusive_ors(sitting):
     sitting.patch_bytes(0x700, b"\xff" * CHUNK)
-    run_loop(sitting, "D7FF06000700", sitting.random.choice([500, 2_000, 5_000]))
+    run_loop(sitting, "D7FF06000700", sitting.random.choice([200, 1_000]))
 
 
 def sound_alarms(sitting):
@@ -349,7 +378,7 @@ def read_blocks(sitting):
     words = "020100006000FFFF" * 2 + "0700000060000001" + "0800040000000000"
     sitting.patch_bytes(CHAIN, bytes.fromhex(words))
     sitting.start_program(TAPES[0])
-    sitting.say(f"run {sitting.random.choice([3, 10, 60])}")
+    sitting.say(f"run {sitting.random.choice([3, 10])}")
 
 
 def show_image(sitting):
@@ -357,5 +386,5 @@ def show_image(sitting):
 
 
 KINDS = {kind.__name__: kind for kind in (decks, tapes, programs, texts, lines, memory)}
-# The kinds of which many cases take little time.
-QUICK = tuple(name for name in KINDS if name != memory.__name__)
+# For how many cases of other kinds one stands, if it is not for one.
+WEIGHTS = {memory.__name__: 200}

@@ -7,7 +7,8 @@ from second.tapes import image_of
 
 from .sessions import LEAST, MOST, Media
 
-SIZES = (LEAST, LEAST, LEAST, LEAST + 2_048, 65_536, MOST - 2_048, MOST)
+# Most storages are the least, since a large one takes the program time to make.
+SIZES = (*[LEAST] * 40, *[LEAST + 2_048] * 4, *[65_536] * 4, MOST - 2_048, MOST)
 # Sizes that no storage has, at both ends and between.
 OTHER_SIZES = (0, 1, 2_048, LEAST - 2_048, LEAST - 1, LEAST + 1, MOST + 1, MOST + 2_048)
 LONGEST_FILE = 67_108_864

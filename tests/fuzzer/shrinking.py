@@ -110,22 +110,34 @@ def shrunk(session, differs):
 
 
 def keep(session, folder, name, comment):
-    """Keeps a session as files of a row, which `tests/rows.py` tells of."""
+    """Keeps a session as files in the form of a row, which `tests/rows.py` tells of.
+
+    No row has a deck with a fault, nor what is said on standard error. These are kept beside it.
+    """
     folder.mkdir(parents=True, exist_ok=True)
     outcome, media = outcome_of(session), session.media
     words = ["--storage", str(media.storage)] if media.storage != SIZE else []
     words += [f"--protect{number}" for number in (0, 1) if getattr(media, f"protect{number}")]
-    files = {"": b"* %s\n" % comment.encode() + session.script}
-    files[".stdout"] = b"".join(outcome.answers)
-    if words:
-        files[".args"] = "".join(f"{word}\n" for word in words).encode()
-    if outcome.said:
-        files[".stderr"] = outcome.said
-    if media.reader is not None:
-        files[".deck"] = media.reader
-    for ending, file in ((".tape0", media.tape0), (".tape1", media.tape1)):
-        if file is not None:
-            files[ending] = file.hex(" ").upper().encode() + b"\n"
+    files = {
+        "": b"* %s\n" % comment.encode() + session.script,
+        ".stdout": b"".join(outcome.answers),
+        ".stderr": outcome.said,
+        ".args": "".join(f"{word}\n" for word in words).encode(),
+        ".tape0": digits_of(media.tape0),
+        ".tape1": digits_of(media.tape1),
+    }
+    if media.reader:
+        files |= {".deck": media.reader} if len(media.reader) % CARD else cards_file(media.reader)
     for ending, contents in files.items():
-        (folder / f"{name}{ending}").write_bytes(contents)
+        if contents or ending in ("", ".stdout"):
+            (folder / f"{name}{ending}").write_bytes(contents)
     return folder / name
+
+
+def digits_of(file):
+    return file.hex(" ").upper().encode() + b"\n" if file else b""
+
+
+def cards_file(deck):
+    cards = (deck[at : at + CARD].rstrip(b"\x40") for at in range(0, len(deck), CARD))
+    return {".cards": b"".join(b"%s\n" % (card.hex().upper().encode() or b"40") for card in cards)}
