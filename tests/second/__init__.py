@@ -1,9 +1,10 @@
 """A second machine with its debugger, and random scripts for it.
 
-`second_opinion.py` compares the program with it. Its author had read the definitions of the first
-machine, so it finds slips and not a rule that was misread.
+`second_opinion.py` and `fuzz` compare the program with it. Its author had read the definitions of
+the first machine, so it finds slips and not a rule that was misread.
 
 `core` has the places, `machine` the events and most instructions, `logical` those on bytes in
-storage, `channels` the channels with theirs, `devices` and `tapes` the units, `debugger` the
-answers to lines, `programs` random media and channel programs, and `scripts` random scripts.
+storage, `channels` the channels with theirs, `devices` and `tapes` the units, `lines` how a script
+is read, `debugger` the answers to its lines, `programs` random media and channel programs, and
+`scripts` random scripts.
 """
