@@ -1,5 +1,6 @@
 """The kinds of sessions. Each makes a sitting of some cases from a source of random numbers."""
 from second.channels import CONSOLE, CSW, READER, START, TAPES, UNITS, Program
+from second.core import BLOCK
 from second.devices import SIGNS
 from second.lines import LONGEST_LINE
 
@@ -53,8 +54,10 @@ def programs_case(sitting):
     units = some.sample(UNITS, some.choice([1, 1, 1, 2, 2, 3, 6]))
     words = [media.command_word(some, some.choice(units), size) for _ in range(WORDS)]
     sitting.patch_bytes(CHAIN, b"".join(words))
-    if some.random() < 0.2:
-        sitting.say(f"patch k {some.choice([CHAIN, size - 1]):X} {some.choice('0355F')}")
+    keys = [0]
+    if some.random() < 0.25:
+        keys = [0, 3, 3, 3]
+        sitting.say(f"patch k {some.choice([CHAIN, CHAIN, BLOCK, size - 1]):X} 3")
     if some.random() < 0.3:
         sitting.patch_bytes(CSW, some.randbytes(8))
     if CONSOLE in units:
@@ -62,7 +65,7 @@ def programs_case(sitting):
     for unit in units:
         ends = [CHAIN + 8 * some.randrange(WORDS), CHAIN + some.randrange(64), size - 8, size]
         at = some.choices([CHAIN, *ends], [60, 30, 3, 4, 3])[0]
-        sitting.start_program(unit, some.choice([0, 0, 0, 3, 5]), at)
+        sitting.start_program(unit, some.choice(keys), at)
     for _ in range(some.randint(2, 10)):
         program_line(sitting, units)
     sitting.say(f"show s {CHAIN:X} {8 * WORDS}")

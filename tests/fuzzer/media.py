@@ -1,5 +1,6 @@
 """Random files of decks and tapes: right ones, ones that were spoilt, and any bytes."""
 from second.channels import UNITS
+from second.core import BLOCK
 from second.devices import CARD
 from second.programs import COMMANDS, FLAGS, image, initial_record
 from second.tapes import FIRST, HEADER, LAST, LONGEST_BLOCK, MARK, MIDDLE, TAPE_MARK, WHOLE, header
@@ -27,12 +28,14 @@ def command_word(some, unit, size):
     """A CCW for a unit, which often reads over the words beside it, or goes in a circle."""
     inside = CHAIN + 8 * some.randrange(WORDS)
     beside = inside + some.randrange(8)
-    far = [OPERANDS + some.randrange(256), 64 + some.randrange(16), size - some.randrange(40)]
+    near = [OPERANDS + some.randrange(256), 64 + some.randrange(16)]
+    far = [BLOCK - some.randrange(40), size - some.randrange(40), some.getrandbits(24)]
     if some.random() < 0.2:
-        data = some.choices([inside, beside, size - 8, some.choice(far)], [80, 5, 5, 10])[0]
+        outside = [size - 8, some.choice(far)]
+        data = some.choices([inside, beside, *outside], [80, 5, 5, 10])[0]
         command = some.choice([0x08, 0x08, 0x18, 0xF8])
     else:
-        data = some.choices([inside, beside, *far, some.getrandbits(24)], [30, 20, 20, 4, 4, 2])[0]
+        data = some.choices([inside, beside, *near, *far], [30, 20, 20, 4, 6, 4, 2])[0]
         commands = [some.choice(COMMANDS[unit]), 0x03, 0x04, some.getrandbits(8)]
         command = some.choices(commands, [80, 8, 6, 6])[0]
     flags = some.choices([some.choice(FLAGS), some.getrandbits(8)], [90, 10])[0]
