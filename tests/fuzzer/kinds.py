@@ -1,12 +1,12 @@
 """The kinds of sessions. Each makes a sitting of some cases from a source of random numbers."""
-from second.channels import CONSOLE, CSW, READER, START, TAPES, UNITS, Program
+from second.channels import CONSOLE, CSW, PRINTER, READER, START, TAPES, UNITS, Program
 from second.core import BLOCK
 from second.devices import SIGNS
 from second.lines import LONGEST_LINE
 
 from . import media
 from .lines import INSTRUCTION, Lines
-from .media import CHAIN, WORDS, Media
+from .media import CHAIN, OPERANDS, WORDS, Media
 from .sessions import CHUNK
 
 # Of the address space, in megabytes.
@@ -14,6 +14,8 @@ LIMITS = (64, 64, 64, 80, 96, 128, 256, 512)
 MEGABYTE = 1 << 20
 # So many cases are one session, where they share its media.
 CASES_OF_PROGRAMS, CASES_OF_BYTES, CASES_OF_LINES = 6, 4, 4
+# Commands of the printer that print and space, or only space.
+SPACES = (0x01, 0x09, 0x11, 0x19, 0x0B, 0x13, 0x1B)
 # What a word of a line is put into.
 OTHER_WORDS = (b"0", b"10000001", b"0000001", b"G", b"1F", b"-1", b"*", b"\t")
 
@@ -66,6 +68,9 @@ def programs_case(sitting):
         ends = [CHAIN + 8 * some.randrange(WORDS), CHAIN + some.randrange(64), size - 8, size]
         at = some.choices([CHAIN, *ends], [60, 30, 3, 4, 3])[0]
         sitting.start_program(unit, some.choice(keys), at)
+    if some.random() < 0.03:
+        turn_pages(sitting)
+        units.append(PRINTER)
     for _ in range(some.randint(2, 10)):
         program_line(sitting, units)
     sitting.say(f"show s {CHAIN:X} {8 * WORDS}")
@@ -73,6 +78,17 @@ def programs_case(sitting):
     for unit in units:
         sitting.show_unit(unit)
         sitting.say(f"last d {unit:X}")
+
+
+def turn_pages(sitting):
+    """Lines printed and spaced in a circle, up to the last lines of a page."""
+    some = sitting.random
+    codes = [some.choice(SPACES) for _ in range(some.randint(1, 3))]
+    words = [bytes([code, 0, OPERANDS >> 8, 0, 0x60, 0, 0, some.randint(1, 9)]) for code in codes]
+    back = 0x08 << 56 | CHAIN << 32
+    sitting.patch_bytes(CHAIN, b"".join(words) + back.to_bytes(8, "big"))
+    sitting.start_program(PRINTER)
+    sitting.say(f"run {some.randint(20, 80)}")
 
 
 def program_line(sitting, units):

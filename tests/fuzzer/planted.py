@@ -150,7 +150,7 @@ ERRORS = (
     ),
     Error(
         "a page ends one line later",
-        "lines",
+        "programs",
         "devices.py",
         "if self.line < LAST_LINES <= line",
         "if self.line < LAST_LINES < line",
