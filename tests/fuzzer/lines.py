@@ -10,6 +10,8 @@ from .sessions import CHUNK, Sitting
 
 KEYS = ("start", "stop", "reset", "interrupt", "request", "eof")
 INSTRUCTION = 0x200
+# Commands of a tape that read it or move it, and one that writes a mark.
+MOTIONS = (0x02, 0x0C, 0x37, 0x27, 0x3F, 0x3F, 0x2F, 0x2F, 0x07, 0x1F)
 
 
 class Lines(Sitting):
@@ -148,6 +150,15 @@ class Lines(Sitting):
             self.say(f"channel {unit:X}")
         self.show_unit(unit)
 
+    def move_tape(self, unit):
+        """Commands that read, space and mark a tape, each chained to the next."""
+        commands = self.random.choices(MOTIONS, k=5)
+        words = [bytes([command, 0, OPERANDS >> 8, 0, 0x60, 0, 0, 1]) for command in commands]
+        self.patch_bytes(CHAIN, b"".join(words))
+        self.start_program(unit)
+        self.say("run 6")
+        self.show_unit(unit)
+
     def use_medium(self, unit):
         """What is on a medium, loading from it and reading it."""
         some = self.random
@@ -162,6 +173,8 @@ class Lines(Sitting):
                     self.say(f"channel {unit:X}")
             elif kind == 1 and unit == READER:
                 self.say("key eof")
+            elif kind == 1:
+                self.move_tape(unit)
             elif kind == 2:
                 self.say(f"run {some.randint(1, 20)}")
             else:

@@ -116,6 +116,8 @@ def keep(session, folder, name, comment):
     """
     folder.mkdir(parents=True, exist_ok=True)
     outcome, media = outcome_of(session), session.media
+    if session.limit:
+        comment += f" Under a limit of {session.limit} bytes."
     words = ["--storage", str(media.storage)] if media.storage != SIZE else []
     words += [f"--protect{number}" for number in (0, 1) if getattr(media, f"protect{number}")]
     files = {
