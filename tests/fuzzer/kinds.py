@@ -3,6 +3,8 @@ from second.channels import CONSOLE, CSW, PRINTER, READER, START, TAPES, UNITS, 
 from second.core import BLOCK
 from second.devices import SIGNS
 from second.lines import LONGEST_LINE
+from second.programs import COMMANDS
+from second.tapes import LONGEST_BLOCK, READ, REWIND
 
 from . import media
 from .lines import INSTRUCTION, Lines
@@ -16,6 +18,8 @@ MEGABYTE = 1 << 20
 CASES_OF_PROGRAMS, CASES_OF_BYTES, CASES_OF_LINES = 6, 4, 4
 # Commands of the printer that print and space, or only space.
 SPACES = (0x01, 0x09, 0x11, 0x19, 0x0B, 0x13, 0x1B)
+KEY = 3
+TRANSFER = 0x08
 # What a word of a line is put into.
 OTHER_WORDS = (b"0", b"10000001", b"0000001", b"G", b"1F", b"-1", b"*", b"\t")
 
@@ -55,11 +59,14 @@ def programs_case(sitting):
     some, size = sitting.random, sitting.media.storage
     units = some.sample(UNITS, some.choice([1, 1, 1, 2, 2, 3, 6]))
     words = [media.command_word(some, some.choice(units), size) for _ in range(WORDS)]
-    sitting.patch_bytes(CHAIN, b"".join(words))
     keys = [0]
-    if some.random() < 0.25:
-        keys = [0, 3, 3, 3]
-        sitting.say(f"patch k {some.choice([CHAIN, CHAIN, BLOCK, size - 1]):X} 3")
+    if some.random() < 0.2:
+        # A read from one block of storage to the next, of which one has a key.
+        keys = [0, KEY, KEY, KEY]
+        command = some.choice(COMMANDS[units[0]])
+        words[0] = media.word_of(command, BLOCK - some.randrange(40), 0x60, some.choice([20, 40]))
+        sitting.say(f"patch k {some.choice([CHAIN, CHAIN, BLOCK, size - 1]):X} {KEY}")
+    sitting.patch_bytes(CHAIN, b"".join(words))
     if some.random() < 0.3:
         sitting.patch_bytes(CSW, some.randbytes(8))
     if CONSOLE in units:
@@ -84,9 +91,8 @@ def turn_pages(sitting):
     """Lines printed and spaced in a circle, up to the last lines of a page."""
     some = sitting.random
     codes = [some.choice(SPACES) for _ in range(some.randint(1, 3))]
-    words = [bytes([code, 0, OPERANDS >> 8, 0, 0x60, 0, 0, some.randint(1, 9)]) for code in codes]
-    back = 0x08 << 56 | CHAIN << 32
-    sitting.patch_bytes(CHAIN, b"".join(words) + back.to_bytes(8, "big"))
+    words = [media.word_of(code, OPERANDS, 0x60, some.randint(1, 9)) for code in codes]
+    sitting.patch_bytes(CHAIN, b"".join([*words, media.word_of(TRANSFER, CHAIN, 0, 0)]))
     sitting.start_program(PRINTER)
     sitting.say(f"run {some.randint(20, 80)}")
 
@@ -182,9 +188,11 @@ def lines_case(sitting):
         sitting.say(sitting.any_line())
     if some.random() < 0.01:
         sitting.set_breakpoints()
+    if some.random() < 0.2:
+        sitting.visit_breakpoint()
     if some.random() < 0.1:
         sitting.case()
-    for _ in range(some.randint(2, 4)):
+    for _ in range(some.randint(1, 4)):
         sitting.try_instruction()
     for _ in range(some.randint(0, 6)):
         sitting.say(sitting.any_line())
@@ -224,15 +232,17 @@ def run_exclusive_ors(sitting):
 
 def sound_alarms(sitting):
     """An alarm, and a transfer back to it."""
-    sitting.patch_bytes(CHAIN, bytes.fromhex("0B000000600000010800040000000000"))
+    words = media.word_of(0x0B, 0, 0x60, 1) + media.word_of(TRANSFER, CHAIN, 0, 0)
+    sitting.patch_bytes(CHAIN, words)
     sitting.start_program(CONSOLE)
     sitting.say(f"run {sitting.random.choice([500, 3_000])}")
 
 
 def read_blocks(sitting):
     """Two long blocks of tape to one place, a rewind, and a transfer back to them."""
-    words = "020100006000FFFF" * 2 + "0700000060000001" + "0800040000000000"
-    sitting.patch_bytes(CHAIN, bytes.fromhex(words))
+    words = media.word_of(READ, 0x10000, 0x60, LONGEST_BLOCK) * 2
+    words += media.word_of(REWIND, 0, 0x60, 1) + media.word_of(TRANSFER, CHAIN, 0, 0)
+    sitting.patch_bytes(CHAIN, words)
     sitting.start_program(TAPES[0])
     sitting.say(f"run {sitting.random.choice([3, 10])}")
 

@@ -10,6 +10,7 @@ from .sessions import CHUNK, Sitting
 
 KEYS = ("start", "stop", "reset", "interrupt", "request", "eof")
 INSTRUCTION = 0x200
+WAIT = 1 << 49  # of a PSW
 # Commands of a tape that read it or move it, and one that writes a mark.
 MOTIONS = (0x02, 0x0C, 0x37, 0x27, 0x3F, 0x3F, 0x2F, 0x2F, 0x07, 0x1F)
 
@@ -110,6 +111,16 @@ class Lines(Sitting):
         masks = self.random.choices([0, 0xFE << 56], [9, 1])[0]
         self.say(f"patch p {masks | INSTRUCTION:016X}")
 
+    def visit_breakpoint(self):
+        """A breakpoint that the CPU comes to, at times waiting or stopped, and the way back."""
+        some = self.random
+        address = some.choice([0, INSTRUCTION, INSTRUCTION, self.address()])
+        self.say(f"break {address:X}")
+        for _ in range(some.randint(1, 3)):
+            self.say(f"patch p {some.choice([0, 0, WAIT]) | address:016X}")
+            self.say(some.choice(["step", "tick", "key stop", "key start", "run 3"]))
+        self.say(some.choice(["until", "until", "run 5"]))
+
     def try_instruction(self):
         """An instruction with registers and operands, and what it leaves."""
         some = self.random
@@ -153,7 +164,7 @@ class Lines(Sitting):
     def move_tape(self, unit):
         """Commands that read, space and mark a tape, each chained to the next."""
         commands = self.random.choices(MOTIONS, k=5)
-        words = [bytes([command, 0, OPERANDS >> 8, 0, 0x60, 0, 0, 1]) for command in commands]
+        words = [media.word_of(command, OPERANDS, 0x60, 1) for command in commands]
         self.patch_bytes(CHAIN, b"".join(words))
         self.start_program(unit)
         self.say("run 6")

@@ -40,7 +40,11 @@ def command_word(some, unit, size):
         command = some.choices(commands, [80, 8, 6, 6])[0]
     flags = some.choices([some.choice(FLAGS), some.getrandbits(8)], [90, 10])[0]
     count = some.choices([some.choice(COUNTS), some.getrandbits(16), 0], [93, 4, 3])[0]
-    words = command << 24 | data, flags << 24 | some.getrandbits(8) << 16 | count
+    return word_of(command, data, flags, count, some.getrandbits(8))
+
+
+def word_of(command, data, flags, count, ignored=0):
+    words = command << 24 | data, flags << 24 | ignored << 16 | count
     return b"".join(word.to_bytes(4, "big") for word in words)
 
 

@@ -9,6 +9,7 @@ LONGEST_LINE = 1_024
 MOST_EVENTS, MOST_SHOWN = 10_000_000, 256
 TOO_LONG, UNKNOWN = "? line too long", "? unknown"
 ENTER = b"enter"
+SIGNED = SIGNS.encode()
 
 
 def written_as(pattern):
@@ -55,7 +56,7 @@ def fault_of(line):
     first, *words = filter(None, line.split(b" "))
     if first == ENTER:
         text = line.lstrip(b" ").removeprefix(ENTER)
-        return None if all(byte in SIGNS.encode() for byte in text) else argument(1)
+        return None if text.strip(SIGNED) == b"" else argument(1)
     form, number = FORMS.get(first), 1
     if form is None:
         return UNKNOWN
