@@ -78,11 +78,11 @@ def programs_case(sitting):
     if some.random() < 0.03:
         turn_pages(sitting)
         units.append(PRINTER)
-    for _ in range(some.randint(2, 10)):
+    for _ in range(some.randint(2, 8)):
         program_line(sitting, units)
     sitting.say(f"show s {CHAIN:X} {8 * WORDS}")
     sitting.say(f"show s {CSW:X} 8")
-    for unit in units:
+    for unit in some.sample(units, min(len(units), 2)):
         sitting.show_unit(unit)
         sitting.say(f"last d {unit:X}")
 
@@ -184,17 +184,17 @@ def lines(some):
 
 def lines_case(sitting):
     some = sitting.random
-    for _ in range(some.randint(2, 12)):
+    for _ in range(some.randint(2, 10)):
         sitting.say(sitting.any_line())
     if some.random() < 0.01:
         sitting.set_breakpoints()
     if some.random() < 0.2:
         sitting.visit_breakpoint()
-    if some.random() < 0.1:
+    if some.random() < 0.05:
         sitting.case()
     for _ in range(some.randint(1, 4)):
         sitting.try_instruction()
-    for _ in range(some.randint(0, 6)):
+    for _ in range(some.randint(0, 4)):
         sitting.say(sitting.any_line())
 
 

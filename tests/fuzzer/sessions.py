@@ -13,7 +13,7 @@ LEAST, MOST = 8_192, 1_048_576
 CHUNK = 256
 # So many changes are taken back one by one, and so much is shown at the end of a case.
 MOST_BACKS = 40
-MOST_CHUNKS, MOST_IMAGE = 3, 4_096
+MOST_CHUNKS, MOST_IMAGE = 2, 4_096
 # At the end of some sessions all of a storage is shown that has so many bytes.
 MOST_STORAGE = 16_384
 

@@ -20,13 +20,13 @@ NO_SENSE = bytes(1)
 NO_OPERATION, SENSE = 0x03, 0x04
 # The signs of EBCDIC bytes that are shown, and where a card lies.
 SIGNS = string.ascii_letters + string.digits + " .<(+|&!$*);-/,%_>?:#@'=\""
+SHOWN = "".join(sign if sign in SIGNS else "." for sign in bytes(range(256)).decode("cp037"))
 READ_STACKERS, PUNCH_STACKERS = ("R1", "R2", "RP3"), ("P1", "P2", "RP3")
 
 
 def with_text(name, line):
     """A name, and the signs of a line without the blanks at their end."""
-    signs = "".join(sign if sign in SIGNS else "." for sign in line.decode("cp037"))
-    return f"{name} {signs}".rstrip(" ")
+    return f"{name} {''.join(map(SHOWN.__getitem__, line))}".rstrip(" ")
 
 
 class DeckFault(Exception):
