@@ -4,9 +4,18 @@ import subprocess
 from pathlib import Path
 from typing import NamedTuple
 
+from .sessions import outcome_of
+
 SECONDS = 300
 OUT_OF_MEMORY = b"s360dbg: memory: out of memory\n"
 FILES = ("reader", "tape0", "tape1")
+
+
+class Compared(NamedTuple):
+    """How the program differs from an outcome, if it does, and whether it ran out of memory."""
+
+    difference: str | None = None
+    ran_out: bool = False
 
 
 class Program(NamedTuple):
@@ -33,20 +42,26 @@ class Program(NamedTuple):
             command, input=session.script, capture_output=True, timeout=SECONDS, preexec_fn=limits
         )
 
-    def difference(self, session, outcome):
-        """How what the program does differs from an outcome, or None."""
+    def compared(self, session, outcome):
+        """What the program does, beside an outcome."""
         try:
             done = self.run(session)
         except subprocess.TimeoutExpired:
-            return f"no end within {SECONDS} seconds"
+            return Compared(f"no end within {SECONDS} seconds")
         if session.limit and (done.returncode, done.stderr) == (1, OUT_OF_MEMORY):
-            return difference_of_prefix(done.stdout, outcome.answers)
+            return Compared(difference_of_prefix(done.stdout, outcome.answers), ran_out=True)
         if done.returncode != outcome.status:
-            return f"status {done.returncode} and not {outcome.status}: {shown(done.stderr)}"
+            status = f"status {done.returncode} and not {outcome.status}"
+            return Compared(f"{status}: {shown(done.stderr)}")
         if outcome.said not in (None, done.stderr):
-            return f"it says {shown(done.stderr)} and not {shown(outcome.said)}"
+            return Compared(f"it says {shown(done.stderr)} and not {shown(outcome.said)}")
         wanted = b"".join(outcome.answers)
-        return None if done.stdout == wanted else difference_of_answers(done.stdout, wanted)
+        if done.stdout != wanted:
+            return Compared(difference_of_answers(done.stdout, wanted))
+        return Compared()
+
+    def differs(self, session):
+        return self.compared(session, outcome_of(session)).difference is not None
 
 
 def limited_to(limit):
