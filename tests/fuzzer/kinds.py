@@ -230,21 +230,25 @@ def run_exclusive_ors(sitting):
     run_loop(sitting, "D7FF06000700", sitting.random.choice([200, 1_000]))
 
 
+def run_circle(sitting, unit, words, count):
+    """A channel program that goes in a circle, for so many events, and its end by the reset key."""
+    words = [*words, media.word_of(TRANSFER, CHAIN, 0, 0)]
+    sitting.patch_bytes(CHAIN, b"".join(words))
+    sitting.start_program(unit)
+    for line in (f"run {count}", "key reset", "key start"):
+        sitting.say(line)
+
+
 def sound_alarms(sitting):
-    """An alarm, and a transfer back to it."""
-    words = media.word_of(0x0B, 0, 0x60, 1) + media.word_of(TRANSFER, CHAIN, 0, 0)
-    sitting.patch_bytes(CHAIN, words)
-    sitting.start_program(CONSOLE)
-    sitting.say(f"run {sitting.random.choice([500, 3_000])}")
+    words = [media.word_of(0x0B, 0, 0x60, 1)]
+    run_circle(sitting, CONSOLE, words, sitting.random.choice([500, 3_000]))
 
 
 def read_blocks(sitting):
-    """Two long blocks of tape to one place, a rewind, and a transfer back to them."""
-    words = media.word_of(READ, 0x10000, 0x60, LONGEST_BLOCK) * 2
-    words += media.word_of(REWIND, 0, 0x60, 1) + media.word_of(TRANSFER, CHAIN, 0, 0)
-    sitting.patch_bytes(CHAIN, words)
-    sitting.start_program(TAPES[0])
-    sitting.say(f"run {sitting.random.choice([3, 10])}")
+    """Two long blocks of tape to one place, and a rewind."""
+    words = [media.word_of(READ, 0x10000, 0x60, LONGEST_BLOCK)] * 2
+    words.append(media.word_of(REWIND, 0, 0x60, 1))
+    run_circle(sitting, TAPES[0], words, sitting.random.choice([3, 10]))
 
 
 def show_image(sitting):

@@ -92,7 +92,7 @@ ERRORS = (
     ),
     Error(
         "all channels have one mask",
-        "lines",
+        "programs",
         "channels.py",
         "self.psw_field(63 - unit // 256, 1)",
         "self.psw_field(63, 1)",
