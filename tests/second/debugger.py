@@ -141,7 +141,7 @@ class Debugger:
                 return [f"run {count} idle"]
             if self.is_at_breakpoint():
                 return [f"run {count} break"]
-        return [f"run {most} done"]
+        return [f"run {int(most)} done"]
 
     def answer_break(self, address):
         at = int(address, 16)
