@@ -206,7 +206,8 @@ def memory(some):
         reader = media.card_ballast(some, limit)
     storage = some.choice([65_536 * 4, media.MOST])
     sitting = Lines(some, Media(storage, reader, tape0, tape1), limit)
-    parts = [run_additions, run_exclusive_ors, sound_alarms, read_blocks, read_blocks, show_image]
+    parts = [run_exclusive_ors, sound_alarms, read_blocks, show_image, show_image]
+    run_additions(sitting)
     for _ in range(some.randint(1, 3)):
         some.choice(parts)(sitting)
     sitting.take_back()
@@ -222,7 +223,7 @@ def run_loop(sitting, instructions, count):
 
 def run_additions(sitting):
     sitting.say("patch r 2 1")
-    run_loop(sitting, "1A12", sitting.random.choice([1_000, 10_000, 20_000]))
+    run_loop(sitting, "1A12", sitting.random.choice([1_000, 10_000]))
 
 
 def run_exclusive_ors(sitting):

@@ -156,12 +156,12 @@ def two_blocks(some):
 
 def ballast(some, limit):
     """The file of a tape that takes a part of the memory, up to more than there is."""
-    count = int(limit * some.uniform(0, 0.6)) // LONGEST_BLOCK
+    count = int(limit * some.uniform(0, 0.4)) // LONGEST_BLOCK
     block = image_of((bytes(LONGEST_BLOCK),))
     return block * min(count, LONGEST_FILE // len(block))
 
 
 def card_ballast(some, limit):
     """The file of a deck that does so."""
-    count = int(limit * some.uniform(0, 0.3)) // CARD
+    count = int(limit * some.uniform(0, 0.1)) // CARD
     return b"\xc1" * CARD * min(count, LONGEST_FILE // CARD)
