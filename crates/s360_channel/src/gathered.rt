@@ -112,6 +112,21 @@ impl Iterator for Backward<'_> {
     }
 }
 
+/// The same bytes, which are shared.
+impl Clone for Gathered {
+    ghost use Rattle.std.specs.Prelude.{◌≡◌};
+
+    ghost is_clone = { λ gathered copied. copied ≡ gathered };
+
+    fn clone(&self) -> Result<Gathered, AllocError> {
+        let parts = self.parts.clone()?;
+        Ok(Gathered {
+            parts,
+            count: self.count,
+        })
+    }
+}
+
 impl Gathered {
     /// The bytes of a first word.
     pub(crate) fn first(alloc: Global, bytes: Vec<u8>) -> Result<Gathered, AllocError>
@@ -131,17 +146,6 @@ impl Gathered {
         let before = self.parts.clone()?;
         let parts = Rc::new(alloc, Parts::After(before, bytes))?;
         Ok(Gathered { parts, count })
-    }
-
-    /// The same, which shares its bytes with these.
-    pub fn shared(&self) -> Result<Gathered, AllocError>
-        ensures { IfOk result (λ copy. copy ≡ self.now) }
-    {
-        let parts = self.parts.clone()?;
-        Ok(Gathered {
-            parts,
-            count: self.count,
-        })
     }
 
     /// How many they are.

@@ -1,7 +1,7 @@
 //! A channel program: what a channel keeps of it from one command word to the next. Source:
 //! GA22-6821, "Input/Output Operations", execution of input/output operations, and "System Control Panel",
 //! initial program loading.
-ghost use Rattle.std.specs.Prelude.{◌≡◌, ◌≤◌, IfOk, None, length};
+ghost use Rattle.std.specs.Prelude.{◌≡◌, ◌≤◌, None, length};
 ghost use Rattle.std.specs.Option.{option_copied};
 ghost use Rattle.s360_channel.specs.Execution.{after_check, after_conclusion, command_with, ends_with};
 ghost use Rattle.s360_channel.specs.Execution.{gathered_before, gathered_if, gathered_within, goes_on_after};
@@ -16,10 +16,9 @@ use crate::csw::{ChannelStatus, Csw, UnitStatus};
 use crate::engine::ChannelStep;
 use crate::gathered::Gathered;
 use s360_word::ProtectionKey;
-use std::alloc::AllocError;
 
 /// How the next channel command word follows what went before it.
-#[derive(Debug, PartialEq, Eq, Drop)]
+#[derive(Clone, Debug, PartialEq, Eq, Drop)]
 pub enum Progress {
     /// It comes first.
     First,
@@ -35,25 +34,6 @@ pub enum Progress {
 }
 
 impl Progress {
-    /// The same. The bytes that were gathered are shared.
-    fn copy(&self) -> Result<Progress, AllocError>
-        ensures { IfOk result (λ copy. copy ≡ self.now) }
-    {
-        Ok(match self {
-            Progress::First => Progress::First,
-            Progress::Loading => Progress::Loading,
-            Progress::CommandChained => Progress::CommandChained,
-            Progress::InputChained { command, moved } => Progress::InputChained {
-                command: *command,
-                moved: *moved,
-            },
-            Progress::OutputChained { command, gathered } => Progress::OutputChained {
-                command: *command,
-                gathered: gathered.shared()?,
-            },
-        })
-    }
-
     /// Whether no word of the program was executed yet.
     pub(crate) fn is_first(&self) -> bool
         ensures { result ≡ is_first self.now }
@@ -121,7 +101,7 @@ impl Progress {
 }
 
 /// A channel program that a unit executes.
-#[derive(Debug, PartialEq, Eq, Drop)]
+#[derive(Clone, Debug, PartialEq, Eq, Drop)]
 pub struct Program {
     /// The protection key of its stores.
     pub key: ProtectionKey,
@@ -156,18 +136,6 @@ impl Program {
         ensures { result ≡ self.now.address }
     {
         self.address
-    }
-
-    /// The same. The bytes that were gathered are shared.
-    pub(crate) fn copy(&self) -> Result<Program, AllocError>
-        ensures { IfOk result (λ copy. copy ≡ self.now) }
-    {
-        let progress = self.progress.copy()?;
-        Ok(Program {
-            key: self.key,
-            address: self.address,
-            progress,
-        })
     }
 
     /// The program where it goes on with the word after the one at an address.

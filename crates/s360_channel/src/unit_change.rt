@@ -11,7 +11,7 @@ use std::marker::Model;
 use std::{mem, slice};
 
 /// What becomes of units that do not stay as they are.
-#[derive(Debug, Drop)]
+#[derive(Clone, Debug, Drop)]
 pub enum UnitChange {
     /// One unit stands so.
     One(ConfiguredUnit, UnitControl),
@@ -28,7 +28,7 @@ pub struct SeveralUnits {
 }
 
 /// The parts of it, which stand apart, since few events alter several units.
-#[derive(Debug, Drop)]
+#[derive(Clone, Debug, Drop)]
 struct Parts {
     units: Units,
     altered: ArrayVec<ConfiguredUnit, 6>,
@@ -41,6 +41,17 @@ impl Model for SeveralUnits {
     ghost Value = { Contents };
 
     ghost view = { λ s. record { units = (box_value s.parts).units; altered = (box_value s.parts).altered.items } };
+}
+
+impl Clone for SeveralUnits {
+    ghost use Rattle.std.specs.Prelude.{◌≡◌};
+
+    ghost is_clone = { λ several copied. copied ≡ several };
+
+    fn clone(&self) -> Result<SeveralUnits, AllocError> {
+        let parts = self.parts.clone()?;
+        Ok(SeveralUnits { parts })
+    }
 }
 
 impl SeveralUnits {

@@ -9,7 +9,7 @@ use crate::unit_state::UnitState;
 use s360_word::ProtectionKey;
 
 /// The state of a unit, and whether it asks for attention.
-#[derive(Debug, PartialEq, Eq, Drop)]
+#[derive(Clone, Debug, PartialEq, Eq, Drop)]
 pub struct UnitControl {
     /// What the channel does for it.
     pub state: UnitState,

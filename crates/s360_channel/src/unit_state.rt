@@ -8,7 +8,7 @@ use crate::program::Program;
 use std::alloc::AllocError;
 
 /// What a channel does for a unit.
-#[derive(Debug, PartialEq, Eq, Drop)]
+#[derive(Clone, Debug, PartialEq, Eq, Drop)]
 pub enum UnitState {
     /// Nothing.
     Idle,
@@ -35,12 +35,8 @@ impl UnitState {
 
     /// The same. The bytes that its program has gathered are shared.
     pub fn copy(&self) -> Result<UnitState, AllocError>
-        ensures { IfOk result (λ copy. copy ≡ self.now) }
+        ensures { IfOk result (λ copied. copied ≡ self.now) }
     {
-        Ok(match self {
-            UnitState::Idle => UnitState::Idle,
-            UnitState::Active(program) => UnitState::Active(program.copy()?),
-            UnitState::Waiting(csw) => UnitState::Waiting(*csw),
-        })
+        self.clone()
     }
 }

@@ -35,6 +35,17 @@ impl Model for Units {
     ghost invariant = { λ u. HasEachUnit u.controls };
 }
 
+impl Clone for Units {
+    ghost use Rattle.std.specs.Prelude.{◌≡◌};
+
+    ghost is_clone = { λ units copied. copied ≡ units };
+
+    fn clone(&self) -> Result<Units, AllocError> {
+        let controls = self.controls.clone()?;
+        Ok(Units { controls })
+    }
+}
+
 impl Units {
     /// The units of a new machine, which are idle.
     pub fn idle() -> Units

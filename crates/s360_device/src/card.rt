@@ -52,7 +52,7 @@ impl Model for Punched {
 }
 
 /// A card that was punched.
-#[derive(Debug, Drop)]
+#[derive(Clone, Debug, Drop)]
 pub struct PunchedCard {
     /// What is punched in it.
     pub card: Punched,
@@ -68,6 +68,17 @@ fn card_of(bytes: &[u8]) -> Card
     let mut card = [BLANK; COLUMNS];
     card[..bytes.len()].copy_from_slice(bytes);
     card
+}
+
+impl Clone for Punched {
+    ghost use Rattle.std.specs.Prelude.{◌≡◌};
+
+    ghost is_clone = { λ punched copied. copied ≡ punched };
+
+    fn clone(&self) -> Result<Punched, AllocError> {
+        let card = self.card.clone()?;
+        Ok(Punched { card })
+    }
 }
 
 impl Punched {

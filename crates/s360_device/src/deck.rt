@@ -6,7 +6,7 @@ ghost use Rattle.s360_device.specs.declared.fault.DeckFault.TheVariants.{ShortCa
 
 use crate::card::{COLUMNS, Card};
 use crate::fault::DeckFault;
-use std::alloc::Global;
+use std::alloc::{AllocError, Global};
 use std::marker::Model;
 
 /// Cards in the order in which they are fed. A contract sees the list of them.
@@ -24,6 +24,17 @@ impl Model for Deck {
     ghost view = { λ d. d.cards.items };
 
     ghost invariant = { λ d. AreCards d.cards.items };
+}
+
+impl Clone for Deck {
+    ghost use Rattle.std.specs.Prelude.{◌≡◌};
+
+    ghost is_clone = { λ deck copied. copied ≡ deck };
+
+    fn clone(&self) -> Result<Deck, AllocError> {
+        let cards = Vec::from_slice(*self.cards.allocator(), self.as_slice())?;
+        Ok(Deck { cards })
+    }
 }
 
 impl Deck {

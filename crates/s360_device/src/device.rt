@@ -116,6 +116,14 @@ pub trait Device {
     fn sense(&self) -> [u8; 6]
         ensures { result ≡ sense_of self.now };
 
+    /// A device that is equal to this one, with what is kept out of sight.
+    fn copy(&self) -> Result<Self, AllocError>
+        ensures { IfOk result (λ device. bare device ≡ bare self.now) };
+
+    /// A change that is equal to this one.
+    fn copy_change(change: &Self::Change) -> Result<Self::Change, AllocError>
+        ensures { IfOk result (λ copied. copied ≡ change.now) };
+
     // an exchange can be made again, which restores the device and the change
     ghost again: { (d : Self) (x : Self.Change) → can_swap d x → can_swap (after_swap d x) (change_after_swap d x) };
 

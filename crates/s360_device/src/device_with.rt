@@ -188,4 +188,23 @@ impl<M: Media> Device for DeviceWith<M> {
     fn sense(&self) -> [u8; 6] {
         self.sense.bytes()
     }
+
+    fn copy(&self) -> Result<Self, AllocError> {
+        let media = self.media.copy()?;
+        Ok(DeviceWith {
+            sense: SenseBytes::new(self.sense.bytes()),
+            media,
+        })
+    }
+
+    fn copy_change(change: &Self::Change) -> Result<Self::Change, AllocError> {
+        let media = match &change.media {
+            Some(change) => Some(M::copy_change(change)?),
+            None => None,
+        };
+        Ok(DeviceChange {
+            media,
+            sense: SenseBytes::new(change.sense.bytes()),
+        })
+    }
 }

@@ -60,6 +60,14 @@ pub trait Media {
         ensures media { whole self.new ≡ kind.after (whole self.old) change.old }
         ensures change { change.new ≡ kind.back (whole self.old) change.old };
 
+    /// Media that are equal to these, with what is kept out of sight.
+    fn copy(&self) -> Result<Self, AllocError>
+        ensures { IfOk result (λ media. whole media ≡ whole self.now) };
+
+    /// A change that is equal to this one.
+    fn copy_change(change: &Self::Change) -> Result<Self::Change, AllocError>
+        ensures { IfOk result (λ copied. copied ≡ change.now) };
+
     // the exchange restores both if it is done again
     ghost restores_both: { RestoresBoth kind };
 

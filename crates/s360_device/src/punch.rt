@@ -128,6 +128,15 @@ impl Media for PunchMedia {
         change.exchange(&mut self.cards);
     }
 
+    fn copy(&self) -> Result<PunchMedia, AllocError> {
+        let cards = self.cards.clone()?;
+        Ok(PunchMedia { cards })
+    }
+
+    fn copy_change(change: &Motion<PunchedCard>) -> Result<Motion<PunchedCard>, AllocError> {
+        change.clone()
+    }
+
     ghost restores_both = { motion_restores_both punch_table };
 
     ghost whole_of_made = { λ s room. refl };

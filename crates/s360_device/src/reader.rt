@@ -183,6 +183,21 @@ impl Media for ReaderMedia {
         change.motion.exchange(&mut self.stackers);
     }
 
+    fn copy(&self) -> Result<ReaderMedia, AllocError> {
+        let deck = self.deck.clone()?;
+        let stackers = self.stackers.clone()?;
+        let end_of_file = self.end_of_file;
+        Ok(ReaderMedia {
+            deck,
+            stackers,
+            end_of_file,
+        })
+    }
+
+    fn copy_change(change: &ReaderChange) -> Result<ReaderChange, AllocError> {
+        Ok(*change)
+    }
+
     ghost restores_both = { reader_change_restores_both };
 
     ghost whole_of_made = { λ s room. refl };

@@ -6,7 +6,7 @@ use Rattle.std.proofs.lemmas.Bool.Decides.{eqb_tells}
 use Rattle.std.proofs.lemmas.List.FromFn.{length-range_with_len}
 use Rattle.std.proofs.lemmas.Option.{get_or_from_slice_get, slice_get-get_or, slice_get-map, slice_get_past, slice_get_within}
 use Rattle.std.specs.Array.{IsFromFnResultFrom}
-use Rattle.std.specs.List.{range_with_len, slice_get}
+use Rattle.std.specs.List.{AllZip, range_with_len, slice_get}
 use Rattle.std.specs.Option.{option_map}
 use Rattle.std.specs.Ordering.{is_eq, match_ordering}
 use Rattle.std.specs.declared.cmp.Ordering.{Ordering}
@@ -26,7 +26,7 @@ use Rattle.s360_store.proofs.OrderOfPlaces.{compare, compare-true, compare-false
 use Rattle.s360_store.proofs.PlanLemmas.{same_place-true, same_place-refl, same_place-false}
 use Rattle.s360_index.specs.Histories.{Gains, GainsInPart, Histories, Loses, numbers, numbers_among, numbers_or}
 use Rattle.s360_index.specs.Numbers.{MayGain, MayLose, with_number, without_number}
-use Rattle.s360_index.specs.Segments.{AreSegments, Gained, GainedInPart, Lost, is_between, numbers_at, numbers_of_segment}
+use Rattle.s360_index.specs.Segments.{AreSegments, Gained, GainedInPart, KeepsNumbers, Lost, is_between, numbers_at, numbers_of_segment}
 use Rattle.s360_index.specs.Views.{byte_numbers}
 use Rattle.s360_index.specs.declared.segments.Segments.{Segments}
 
@@ -222,6 +222,25 @@ numbers-none {A} psw rs s es e empty whole none f (Register n) =
     ]
     in ap (λ o. numbers_or o (numbers_among (shown es) (Register n))) (slice_get-map (λ (v : Vec ℕ A). v.items) rs n) ∙ by (slice_get rs n) refl
 numbers-none psw rs s es e empty whole none f p = ap (λ xs. numbers_among (shown xs) p) f
+
+-- what is read of elements that are alike is the same
+pub map-alike : {X Y : Type 0} (f : X → Y) (R : X → X → Type 0) (xs ys : List X) → ((x y : X) → R x y → f y ≡ f x) → AllZip R xs ys → map f ys ≡ map f xs
+map-alike f R [] [] same z = refl
+map-alike f R [] (y ∷ ys) same z = absurd z
+map-alike f R (x ∷ xs) [] same z = absurd z
+map-alike f R (x ∷ xs) (y ∷ ys) same z = rw (same x y z.0) (ap (λ zs. f x ∷ zs) (map-alike f R xs ys same z.1))
+
+-- each list is the same
+pub numbers-copied : {A : Type 0} (psw old_psw : List ℕ) (rs old_rs : List (Vec ℕ A)) (s old_s : Segments) (es old_es : List (Place × Vec ℕ A))
+    → psw ≡ old_psw → map (λ (v : Vec ℕ A). v.items) rs ≡ map (λ (v : Vec ℕ A). v.items) old_rs → AreSegments old_s → AreSegments s → KeepsNumbers old_s s
+    → shown es ≡ shown old_es → (p : Place) → numbers (seen psw rs s es) p ≡ numbers (seen old_psw old_rs old_s old_es) p
+numbers-copied psw old_psw rs old_rs s old_s es old_es same registers old_whole whole kept others Psw = same
+numbers-copied psw old_psw rs old_rs s old_s es old_es same registers old_whole whole kept others (Byte a) =
+    byte_numbers-at s a whole ∙ kept a ∙ sym (byte_numbers-at old_s a old_whole)
+numbers-copied {A} psw old_psw rs old_rs s old_s es old_es same registers old_whole whole kept others (Register n) =
+    ap (λ xs. numbers_or (slice_get xs n) (numbers_among (shown es) (Register n))) registers
+    ∙ ap (λ xs. numbers_or (slice_get (map (λ (v : Vec ℕ A). v.items) old_rs) n) (numbers_among xs (Register n))) others
+numbers-copied psw old_psw rs old_rs s old_s es old_es same registers old_whole whole kept others p = ap (λ xs. numbers_among xs p) others
 
 -- what holds of each call's result holds of each element that `from_fn` made
 pub made-each : {F B : Type 0} (g : Mut F (ℕ × Unit {0}) B) (P : B → Type 0) → ((f q : F) (i : ℕ) (y : B) → Called g f (i, tt) y q → P y)

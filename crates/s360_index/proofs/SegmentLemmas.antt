@@ -1,14 +1,15 @@
 -- The bytes of storage in segments, after a change.
-use Rattle.std.proofs.Common.{◌≡◌, ◌≢◌, ◌<◌, ◌≤◌, ◌+◌, ◌++◌, ◌⊎◌, ◌∙◌, ℕ, zero, suc, Some, Result, Ok, Err, List, [], ◌∷◌, true, false, refl, ap, sym, inl, inr, set, length, arith, ◌-◌, take, replicate}
-use Rattle.std.specs.List.{slice_get}
+use Rattle.std.proofs.Common.{◌≡◌, ◌≢◌, ◌<◌, ◌≤◌, ◌+◌, ◌++◌, ◌⊎◌, ◌∙◌, ℕ, zero, suc, Some, Result, Ok, Err, List, [], ◌∷◌, true, false, refl, ap, sym, subst, inl, inr, set, length, arith, ◌-◌, take, replicate}
+use Rattle.std.specs.List.{AllZip, slice_get}
 use Rattle.std.specs.Prelude.{OnErr, slice_index_or}
 use Rattle.std.proofs.lemmas.Bool.{and_from, and_left, and_parts, and_right, cases_eq, cases_lt, cond-true, cond-false, le-leb, leb-true, lt-leb, lt-ltb, le-ltb, ltb-true}
 use Rattle.std.proofs.lemmas.List.{get_or_append_left, get_or-append_right, get_or_past, length-set, length_push, take_all}
+use Rattle.std.proofs.lemmas.List.Elements.{length_all_zip}
 use Rattle.std.proofs.lemmas.Option.{get_or_from_slice_get, same_Some, slice_get-get_or, slice_get_read, slice_get_within}
 use Rattle.s360_index.specs.declared.segments.Segment.{Segment}
 use Rattle.s360_index.specs.declared.segments.Segments.{Segments}
 use Rattle.s360_index.specs.Numbers.{with_number, without_number}
-use Rattle.s360_index.specs.Segments.{AreSegments, Gained, IsCut, IsInside, IsSegment, KeepsCuts, KeepsNumbers, KeepsNumbersBefore, KeepsNumbersFrom, Lost, Relabelled, is_between, label, numbers_at, numbers_of_segment}
+use Rattle.s360_index.specs.Segments.{AreSegments, Gained, IsCut, IsInside, IsSameSegment, IsSegment, KeepsCuts, KeepsNumbers, KeepsNumbersBefore, KeepsNumbersFrom, Lost, Relabelled, is_between, label, numbers_at, numbers_of_segment}
 
 -- what holds whatever the result
 pub OnErr-from : {T E P : Type 0} (r : Result T E) → P → OnErr r P
@@ -587,3 +588,47 @@ Lost-less s t k start mid end m l = record {
   each = l.each;
   inside = λ a h. let both = inside-is_between start mid a h in l.inside a (is_between-inside start end a both.0 (omega (arith, both.1, m)));
 }
+
+-- ---- a copy
+
+-- a segment of it, and what it was made from
+same-at : (gs hs : List Segment) (i : ℕ) (h : Segment) → AllZip IsSameSegment gs hs → slice_get hs i ≡ Some h → (g : Segment) × (slice_get gs i ≡ Some g) × IsSameSegment g h
+same-at [] [] i h z there = absurd (cc)
+same-at [] (k ∷ hs) i h z there = absurd z
+same-at (g ∷ gs) [] i h z there = absurd z
+same-at (g ∷ gs) (k ∷ hs) zero h z there = (g, refl, subst (λ (x : Segment). IsSameSegment g x) (same_Some k h there) z.0)
+same-at (g ∷ gs) (k ∷ hs) (suc i) h z there = same-at gs hs i h z.1 there
+
+numbers-same : (gs hs : List Segment) (i : ℕ) → AllZip IsSameSegment gs hs → numbers_of_segment (slice_get hs i) ≡ numbers_of_segment (slice_get gs i)
+numbers-same [] [] i z = refl
+numbers-same [] (h ∷ hs) i z = absurd z
+numbers-same (g ∷ gs) [] i z = absurd z
+numbers-same (g ∷ gs) (h ∷ hs) zero z = z.0.numbers
+numbers-same (g ∷ gs) (h ∷ hs) (suc i) z = numbers-same gs hs i z.1
+
+label-copied : (s t : Segments) (a : ℕ) → t.labels.items ≡ s.labels.items → label t a ≡ label s a
+label-copied s t a labels = ap (λ ls. slice_index_or ls a 0) labels
+
+pub KeepsNumbers-copied : (s t : Segments) → t.labels.items ≡ s.labels.items → AllZip IsSameSegment s.segments.items t.segments.items → KeepsNumbers s t
+KeepsNumbers-copied s t labels z a =
+    ap (λ l. numbers_of_segment (slice_get t.segments.items l)) (label-copied s t a labels) ∙ numbers-same s.segments.items t.segments.items (label s a) z
+
+pub AreSegments-copied : (s t : Segments) → t.labels.items ≡ s.labels.items → AllZip IsSameSegment s.segments.items t.segments.items → AreSegments s → AreSegments t
+AreSegments-copied s t labels z whole =
+    let long : length t.labels.items ≡ length s.labels.items = ap (λ ls. length ls) labels
+    in record {
+      labelled = λ a l.
+          omega (arith, whole.labelled a (omega (arith, l, long)), label-copied s t a labels, length_all_zip IsSameSegment s.segments.items t.segments.items z);
+      unaltered = numbers-same s.segments.items t.segments.items 0 z ∙ whole.unaltered;
+      whole = λ i h some there.
+          let from : (g : Segment) × (slice_get s.segments.items i ≡ Some g) × IsSameSegment g h = same-at s.segments.items t.segments.items i h z there
+          in let p : IsSegment s i from.0 = whole.whole i from.0 some from.1
+          in let start : h.start ≡ from.0.start = from.2.start
+          in let end : h.end ≡ from.0.end = from.2.end
+          in record {
+            some = omega (arith, p.some, start, end);
+            inside = omega (arith, p.inside, end, long);
+            has = λ a low high. label-copied s t a labels ∙ p.has a (omega (arith, low, start)) (omega (arith, high, end));
+            all = λ a at. let q : (from.0.start ≤ a) × (a < from.0.end) = p.all a (sym (label-copied s t a labels) ∙ at) in (omega (arith, q.0, start), omega (arith, q.1, end));
+          };
+    }

@@ -23,6 +23,12 @@ pub record IsSegment (s : Segments) (i : ℕ) (g : Segment) : Type 0 where
   pub has : (a : ℕ) → g.start ≤ a → a < g.end → label s a ≡ i
   pub all : (a : ℕ) → label s a ≡ i → (g.start ≤ a) × (a < g.end)
 
+-- a segment of the same bytes with the same numbers
+pub record IsSameSegment (g h : Segment) : Type 0 where
+  pub start : h.start ≡ g.start
+  pub end : h.end ≡ g.end
+  pub numbers : h.numbers.items ≡ g.numbers.items
+
 -- each byte is in one, no number is of the bytes that no change has altered, and those of each other follow each other
 pub record AreSegments (s : Segments) : Type 0 where
   pub labelled : (a : ℕ) → a < length s.labels.items → label s a < length s.segments.items

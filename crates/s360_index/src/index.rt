@@ -1,5 +1,5 @@
 //! The index: for each place the numbers of the changes that altered it.
-ghost use Rattle.std.specs.Prelude.{◌≡◌, [], if◌then◌else◌, OnErr, OnOk};
+ghost use Rattle.std.specs.Prelude.{◌≡◌, [], if◌then◌else◌, IfOk, OnErr, OnOk};
 ghost use Rattle.s360_store.specs.Places.{same_place};
 ghost use Rattle.s360_store.specs.declared.place.Place.{Place as APlace};
 ghost use Rattle.s360_store.specs.Spans.{IsSpan, places_of_span};
@@ -80,6 +80,23 @@ impl Index {
             others: BTreeMap::new(alloc),
             alloc,
         }
+    }
+
+    /// An index with the same numbers.
+    pub fn copy(&self) -> Result<Index, AllocError>
+        ensures { IfOk result (λ copied. (p : APlace) → numbers copied p ≡ numbers self.now p) }
+    {
+        let psw = self.psw.clone()?;
+        let registers = self.registers.clone()?;
+        let bytes = self.bytes.copy()?;
+        let others = self.others.clone()?;
+        Ok(Index {
+            psw,
+            registers,
+            bytes,
+            others,
+            alloc: self.alloc,
+        })
     }
 
     /// The numbers of a place. It takes no memory.

@@ -20,6 +20,21 @@ pub(crate) struct Segment {
     numbers: Vec<u32>,
 }
 
+impl Clone for Segment {
+    ghost use Rattle.s360_index.specs.Segments.{IsSameSegment};
+
+    ghost is_clone = { IsSameSegment };
+
+    fn clone(&self) -> Result<Segment, AllocError> {
+        let numbers = Vec::from_slice(*self.numbers.allocator(), &self.numbers)?;
+        Ok(Segment {
+            start: self.start,
+            end: self.end,
+            numbers,
+        })
+    }
+}
+
 /// The bytes of storage, each in a segment.
 #[derive(Debug, Drop)]
 pub(crate) struct Segments {
@@ -66,6 +81,21 @@ impl Segments {
             segments: Vec::new(alloc),
             alloc,
         }
+    }
+
+    /// Segments that have the same numbers.
+    pub(crate) fn copy(&self) -> Result<Segments, AllocError>
+        requires whole { AreSegments self.now }
+        ensures whole { IfOk result (λ copied. AreSegments copied) }
+        ensures numbers { IfOk result (λ copied. KeepsNumbers self.now copied) }
+    {
+        let labels = Vec::from_slice(self.alloc, &self.labels)?;
+        let segments = self.segments.clone()?;
+        Ok(Segments {
+            labels,
+            segments,
+            alloc: self.alloc,
+        })
     }
 
     /// The index of the segment of a byte.

@@ -21,7 +21,7 @@ use s360_store::Place;
 pub(crate) const BESIDE: usize = 9;
 
 /// What an event alters beside the core. It stands apart from the change that has it, since few events alter any.
-#[derive(Debug, Drop)]
+#[derive(Clone, Debug, Drop)]
 pub(crate) struct Beside {
     pub(crate) control: ControlChange,
     pub(crate) units: Option<UnitChange>,

@@ -48,6 +48,18 @@ impl Model for Core {
 }
 
 impl Core {
+    /// A core that is equal to this one.
+    pub(crate) fn copy(&self) -> Result<Core, AllocError>
+        ensures { IfOk result (λ core. core ≡ self.now) }
+    {
+        let storage = self.storage.copy()?;
+        Ok(Core {
+            psw: self.psw,
+            registers: self.registers,
+            storage,
+        })
+    }
+
     /// A core with so many bytes of storage and everything zero.
     pub(crate) fn new(alloc: Global, size: u32) -> Result<Core, StoreFault>
         ensures zero { IfOk result (λ c. c ≡ zero_core size) }

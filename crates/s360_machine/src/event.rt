@@ -17,7 +17,7 @@ use s360_word::{ProtectionKey, RegisterNumber, Unit, Word};
 use std::alloc::AllocError;
 
 /// What a patch puts into the machine from outside. It ignores protection.
-#[derive(Debug, Drop)]
+#[derive(Clone, Debug, Drop)]
 pub enum Patch {
     /// Bytes from an address on, at most 256.
     Bytes { at: u32, bytes: Bytes },
@@ -31,7 +31,7 @@ pub enum Patch {
 }
 
 /// What happens to the machine at once.
-#[derive(Debug, Drop)]
+#[derive(Clone, Debug, Drop)]
 pub enum Event {
     /// The central processing unit takes an interruption, or executes an instruction with the
     /// interruption that it causes.

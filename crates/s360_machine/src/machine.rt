@@ -109,6 +109,22 @@ impl Machine {
         })
     }
 
+    /// A machine that is equal to this one, with what is kept out of sight.
+    pub fn copy(&self) -> Result<Machine, AllocError>
+        ensures { IfOk result (λ m. m.whole ≡ self.now.whole) }
+    {
+        let core = self.core.copy()?;
+        let units = self.units.clone()?;
+        let devices = self.devices.copy()?;
+        Ok(Machine {
+            core,
+            control: self.control,
+            units,
+            devices,
+            alloc: self.alloc,
+        })
+    }
+
     /// The current PSW.
     pub fn psw(&self) -> Psw
         ensures { result ≡ self.now.whole.core.psw }

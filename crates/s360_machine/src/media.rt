@@ -46,6 +46,23 @@ pub(crate) enum MediaChange {
     Tape1(DeviceChange<TapeChange>),
 }
 
+impl Clone for MediaChange {
+    ghost use Rattle.std.specs.Prelude.{◌≡◌};
+
+    ghost is_clone = { λ change copied. copied ≡ change };
+
+    fn clone(&self) -> Result<MediaChange, AllocError> {
+        Ok(match self {
+            MediaChange::Reader(change) => MediaChange::Reader(Reader::copy_change(change)?),
+            MediaChange::Punch(change) => MediaChange::Punch(Punch::copy_change(change)?),
+            MediaChange::Printer(change) => MediaChange::Printer(Printer::copy_change(change)?),
+            MediaChange::Console(change) => MediaChange::Console(Console::copy_change(change)?),
+            MediaChange::Tape0(change) => MediaChange::Tape0(Tape::copy_change(change)?),
+            MediaChange::Tape1(change) => MediaChange::Tape1(Tape::copy_change(change)?),
+        })
+    }
+}
+
 impl MediaChange {
     /// The unit whose device it is.
     pub(crate) fn unit(&self) -> ConfiguredUnit
@@ -63,6 +80,26 @@ impl MediaChange {
 }
 
 impl Devices {
+    /// Devices that are equal to these, with what is kept out of sight.
+    pub(crate) fn copy(&self) -> Result<Devices, AllocError>
+        ensures { IfOk result (λ devices. media_of devices ≡ media_of self.now) }
+    {
+        let reader = self.reader.copy()?;
+        let punch = self.punch.copy()?;
+        let printer = self.printer.copy()?;
+        let console = self.console.copy()?;
+        let tape0 = self.tape0.copy()?;
+        let tape1 = self.tape1.copy()?;
+        Ok(Devices {
+            reader,
+            punch,
+            printer,
+            console,
+            tape0,
+            tape1,
+        })
+    }
+
     /// What a key of the operator makes of them, unless it is refused for its own sake
     /// (refusals 2 to 5).
     pub(crate) fn change_of_key(&self, key: &Key) -> Result<Option<MediaChange>, AllocError>

@@ -15,7 +15,7 @@ use s360_word::Unit;
 use std::alloc::AllocError;
 
 /// A key that the operator presses.
-#[derive(Debug, PartialEq, Eq, Drop)]
+#[derive(Clone, Debug, PartialEq, Eq, Drop)]
 pub enum Key {
     /// The stopped machine operates. It does nothing while the machine loads.
     Start,

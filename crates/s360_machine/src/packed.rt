@@ -225,6 +225,22 @@ impl Packed {
         }
     }
 
+    /// A list that is equal to this one.
+    pub fn copy(&self) -> Result<Packed, AllocError>
+        ensures { IfOk result (λ changes. changes ≡ self.now) }
+    {
+        let rows = Vec::from_slice(*self.rows.allocator(), self.rows.as_slice())?;
+        let items = Vec::from_slice(*self.items.allocator(), self.items.as_slice())?;
+        let bytes = Vec::from_slice(*self.bytes.allocator(), self.bytes.as_slice())?;
+        let beside = self.beside.clone()?;
+        Ok(Packed {
+            rows,
+            items,
+            bytes,
+            beside,
+        })
+    }
+
     /// The number of changes.
     pub fn len(&self) -> u32
         ensures len { result ≡ length self.now }

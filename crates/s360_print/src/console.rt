@@ -192,6 +192,21 @@ impl Media for ConsoleMedia {
         change.list.exchange(&mut self.typed, &mut self.entered);
     }
 
+    fn copy(&self) -> Result<ConsoleMedia, AllocError> {
+        let typed = self.typed.clone()?;
+        let entered = self.entered.clone()?;
+        Ok(ConsoleMedia {
+            alloc: self.alloc,
+            typed,
+            entered,
+            taken: self.taken,
+        })
+    }
+
+    fn copy_change(change: &ConsoleChange) -> Result<ConsoleChange, AllocError> {
+        change.clone()
+    }
+
     ghost restores_both = { console_change_restores_both };
 
     ghost whole_of_made = { λ s room. refl };

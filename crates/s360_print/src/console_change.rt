@@ -8,7 +8,7 @@ use s360_device::Motion;
 use std::alloc::AllocError;
 
 /// What is exchanged with the media of a console.
-#[derive(Debug, Drop)]
+#[derive(Clone, Debug, Drop)]
 pub struct ConsoleChange {
     /// What is done to one of its lists.
     pub(crate) list: ListChange,
@@ -17,7 +17,7 @@ pub struct ConsoleChange {
 }
 
 /// What is done to one of the console's two lists. Nothing alters both.
-#[derive(Debug, Drop)]
+#[derive(Clone, Debug, Drop)]
 pub(crate) enum ListChange {
     /// An item is typed, or taken back, or nothing is done.
     Typed(Motion<TypedItem>),

@@ -27,7 +27,7 @@ impl Model for PrintedLine {
 }
 
 /// A line that was printed.
-#[derive(Debug, Drop)]
+#[derive(Clone, Debug, Drop)]
 pub struct Record {
     /// The page, from 1.
     pub page: u32,
@@ -45,6 +45,17 @@ fn print_line(bytes: &[u8]) -> [u8; LINE_WIDTH]
     let mut line = [BLANK; LINE_WIDTH];
     line[..bytes.len()].copy_from_slice(bytes);
     line
+}
+
+impl Clone for PrintedLine {
+    ghost use Rattle.std.specs.Prelude.{◌≡◌};
+
+    ghost is_clone = { λ line copied. copied ≡ line };
+
+    fn clone(&self) -> Result<PrintedLine, AllocError> {
+        let bytes = self.bytes.clone()?;
+        Ok(PrintedLine { bytes })
+    }
 }
 
 impl PrintedLine {

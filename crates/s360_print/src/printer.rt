@@ -159,6 +159,18 @@ impl Media for PrinterMedia {
         change.motion.exchange(&mut self.records);
     }
 
+    fn copy(&self) -> Result<PrinterMedia, AllocError> {
+        let records = self.records.clone()?;
+        Ok(PrinterMedia {
+            position: self.position,
+            records,
+        })
+    }
+
+    fn copy_change(change: &PrinterChange) -> Result<PrinterChange, AllocError> {
+        change.clone()
+    }
+
     ghost restores_both = { printer_change_restores_both };
 
     ghost whole_of_made = { λ s room. refl };

@@ -4,7 +4,7 @@ use crate::paper::Record;
 use s360_device::Motion;
 
 /// What is exchanged with the media of a printer.
-#[derive(Debug, Drop)]
+#[derive(Clone, Debug, Drop)]
 pub struct PrinterChange {
     /// A line that is printed, or taken back.
     pub(crate) motion: Motion<Record>,

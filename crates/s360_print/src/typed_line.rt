@@ -25,6 +25,17 @@ impl Model for Line {
     ghost invariant = { λ l. length l.bytes.items ≤ line_limit };
 }
 
+impl Clone for Line {
+    ghost use Rattle.std.specs.Prelude.{◌≡◌};
+
+    ghost is_clone = { λ line copied. copied ≡ line };
+
+    fn clone(&self) -> Result<Line, AllocError> {
+        let bytes = self.bytes.clone()?;
+        Ok(Line { bytes })
+    }
+}
+
 impl Line {
     /// The line with these bytes.
     pub fn new(alloc: Global, bytes: &[u8]) -> Result<Line, AllocError>
@@ -45,7 +56,7 @@ impl Line {
 }
 
 /// What the console did at the operator's paper.
-#[derive(Debug, Drop)]
+#[derive(Clone, Debug, Drop)]
 pub enum TypedItem {
     /// It typed a line, without a carriage return after it.
     Text(Line),

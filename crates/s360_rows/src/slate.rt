@@ -180,4 +180,17 @@ impl Device for Slate {
     fn sense(&self) -> [u8; 6] {
         self.sense
     }
+
+    fn copy(&self) -> Result<Slate, AllocError> {
+        let written = Vec::from_slice(*self.written.allocator(), self.written.as_slice())?;
+        Ok(Slate {
+            sense: self.sense,
+            has_line: self.has_line,
+            written,
+        })
+    }
+
+    fn copy_change(change: &Self::Change) -> Result<Self::Change, AllocError> {
+        Ok(*change)
+    }
 }

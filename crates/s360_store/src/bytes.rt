@@ -1,6 +1,7 @@
 //! Bytes in their order, as patches, texts and channel programs have them.
 ghost use Rattle.std.specs.Prelude.{◌≡◌};
 
+use std::alloc::AllocError;
 use std::marker::Model;
 
 /// Bytes in their order, which a contract sees as a list.
@@ -15,6 +16,17 @@ impl Model for Bytes {
     ghost Value = { List ℕ };
 
     ghost view = { λ b. b.items.items };
+}
+
+impl Clone for Bytes {
+    ghost use Rattle.std.specs.Prelude.{◌≡◌};
+
+    ghost is_clone = { λ bytes copied. copied ≡ bytes };
+
+    fn clone(&self) -> Result<Bytes, AllocError> {
+        let items = Vec::from_slice(*self.items.allocator(), self.as_slice())?;
+        Ok(Bytes::new(items))
+    }
 }
 
 impl Bytes {

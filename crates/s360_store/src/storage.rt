@@ -15,7 +15,7 @@ use crate::place::{Cell, Place};
 use crate::protection::{Access, Checked};
 use byteorder::{BigEndian, ByteOrder};
 use s360_word::ProtectionKey;
-use std::alloc::Global;
+use std::alloc::{AllocError, Global};
 use std::marker::Model;
 
 /// Bytes in a block, which has one storage key.
@@ -70,6 +70,15 @@ impl Storage {
         }
         let bytes = vec![in alloc; 0u8; size as usize]?;
         let keys = vec![in alloc; ProtectionKey::new(0); (size / BLOCK_SIZE) as usize]?;
+        Ok(Storage { bytes, keys })
+    }
+
+    /// A storage that is equal to this one.
+    pub fn copy(&self) -> Result<Storage, AllocError>
+        ensures { IfOk result (λ storage. storage ≡ self.now) }
+    {
+        let bytes = Vec::from_slice(*self.bytes.allocator(), &self.bytes)?;
+        let keys = Vec::from_slice(*self.keys.allocator(), &self.keys)?;
         Ok(Storage { bytes, keys })
     }
 

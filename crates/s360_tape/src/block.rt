@@ -25,6 +25,17 @@ impl Model for Block {
     ghost invariant = { λ b. length b.bytes.items ≤ block_limit };
 }
 
+impl Clone for Block {
+    ghost use Rattle.std.specs.Prelude.{◌≡◌};
+
+    ghost is_clone = { λ block copied. copied ≡ block };
+
+    fn clone(&self) -> Result<Block, AllocError> {
+        let bytes = self.bytes.clone()?;
+        Ok(Block { bytes })
+    }
+}
+
 impl Block {
     /// A block of the bytes of a vector. It takes no memory.
     pub(crate) fn new(bytes: Vec<u8>) -> Block

@@ -208,6 +208,21 @@ impl Media for TapeMedia {
         change.slot.exchange(&mut self.slots);
     }
 
+    fn copy(&self) -> Result<TapeMedia, AllocError> {
+        let slots = self.slots.clone()?;
+        Ok(TapeMedia {
+            slots,
+            visible: self.visible,
+            position: self.position,
+            protected: self.protected,
+            unloaded: self.unloaded,
+        })
+    }
+
+    fn copy_change(change: &TapeChange) -> Result<TapeChange, AllocError> {
+        change.clone()
+    }
+
     ghost restores_both = { tape_change_restores_both };
 
     ghost whole_of_made = { λ s room. refl };

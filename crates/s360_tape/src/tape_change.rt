@@ -2,7 +2,7 @@
 use crate::slot_change::SlotChange;
 
 /// What is exchanged with the media of a tape.
-#[derive(Debug, Drop)]
+#[derive(Clone, Debug, Drop)]
 pub struct TapeChange {
     /// An item that is written, or taken back.
     pub(crate) slot: SlotChange,
