@@ -50,7 +50,7 @@ LINES = {
     "show": ["regs", "psw", "s", "k", "ext", "u", "d", "m", "image"],
 }
 OTHER_LINES = ["step", "channel", "tick", "load", "enter", "run", "back", "until", "break", "clear"]
-OTHER_LINES += ["standing"]
+OTHER_LINES += ["standing", "withdraw"]
 # What a faulty line and a refusal begin with.
 FAULT, REFUSAL = b"? ", b"refused "
 

@@ -77,6 +77,12 @@ class Lines(Sitting):
         is_idle = self.machine.value("run") == STOPPED and not self.units_with(Program)
         return 10_000_000 if is_idle else self.random.choice([1, 2, 3, 5, 20, 60])
 
+    def withdrawal(self):
+        """Of one of the last changes, or of one that is not there."""
+        stand = len(self.debugger.changes)
+        number = stand + 1 - self.random.choice([0, 1, 1, 2, 3, self.random.randrange(40)])
+        return f"withdraw {max(number, 1)}"
+
     def any_line(self):
         """A line that is right."""
         some = self.random
@@ -91,6 +97,7 @@ class Lines(Sitting):
             lambda: f"run {self.count_of_run()}": 8,
             lambda: "back": 8,
             lambda: "until": 3,
+            self.withdrawal: 4,
             lambda: f"break {self.digits(self.address(), 6)}": 4,
             lambda: f"clear {self.digits(self.address(), 6)}": 2,
             lambda: "standing": 2,

@@ -2,7 +2,7 @@
 
 What a change altered is kept by the names of its places, so a step back puts their old values back.
 """
-from typing import NamedTuple
+from typing import Callable, NamedTuple
 
 from .channels import TAPES, UNITS, Program, device_name, state_name
 from .core import BLOCK, SIZE
@@ -18,9 +18,11 @@ CONDITIONS = {0: "none", 0x80: "timer", 0x40: "key", 0xC0: "timer key"}
 
 
 class Change(NamedTuple):
-    """A standing change: its event, the values before it by place, and what it altered."""
+    """A standing change: its event by name and by what it does, the values before it by place, and
+    what it altered."""
 
     event: str
+    act: Callable[[], None]
     noted: dict
     places: list
 
@@ -49,7 +51,7 @@ class Debugger:
     def happen(self, event, act):
         self.machine.begin()
         act()
-        self.changes.append(Change(event, self.machine.noted, self.machine.changed()))
+        self.changes.append(Change(event, act, self.machine.noted, self.machine.changed()))
 
     def report(self, event, act):
         self.happen(event, act)
@@ -171,6 +173,17 @@ class Debugger:
             if self.is_at_breakpoint():
                 break
         return [f"until {len(self.changes)}"]
+
+    def answer_withdraw(self, count):
+        number = int(count)
+        if number > len(self.changes):
+            return ["no such change"]
+        later = self.changes[number:]
+        while len(self.changes) >= number:
+            self.take_back()
+        for change in later:
+            self.happen(change.event, change.act)
+        return [f"withdrawn {number}"]
 
     # What stands, and what is shown.
 

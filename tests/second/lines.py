@@ -39,7 +39,8 @@ SHOWN |= {b"k": (ADDRESS,), b"u": (UNIT,), b"d": (UNIT,), b"m": (UNIT, COUNT), b
 KEYS = dict.fromkeys((b"start", b"stop", b"reset", b"interrupt", b"request", b"eof"), ())
 FORMS = dict.fromkeys((b"step", b"tick", b"back", b"until", b"standing"), ())
 FORMS |= {b"channel": (UNIT,), b"load": (UNIT,), b"break": (ADDRESS,), b"clear": (ADDRESS,)}
-FORMS |= {b"run": (COUNT,), b"patch": PATCHES, b"last": PLACES, b"show": SHOWN, b"key": KEYS}
+FORMS |= {b"run": (COUNT,), b"withdraw": (COUNT,)}
+FORMS |= {b"patch": PATCHES, b"last": PLACES, b"show": SHOWN, b"key": KEYS}
 
 
 def lines_of(script):

@@ -275,6 +275,15 @@ class Script:
             self.say("until")
             self.show()
 
+    def withdraw(self):
+        """A change is withdrawn, mostly one of the last, and now and then one that is not there."""
+        some = self.random
+        stand = len(self.debugger.changes)
+        number = stand + 1 - some.choice([0, 1, 2, 3, *[some.randrange(1, 60)] * 4])
+        if number > 0:
+            self.say(f"withdraw {number}")
+            self.show()
+
     def start_of_program(self):
         """SIO, with its CAW and CCWs."""
         some = self.random
@@ -314,6 +323,8 @@ class Script:
             self.channels()
         if some.random() < 0.3:
             self.run_and_return()
+        if some.random() < 0.05:
+            self.withdraw()
 
     def step(self):
         self.say("step")

@@ -1,6 +1,6 @@
 -- What a command answers, and what stands afterwards (own profile). Each line of an answer is ended by one
 -- line feed.
-use Rattle.std.specs.Prelude.{◌≡◌, ℕ, ◌+◌, if◌then◌else◌, nat_lt, Option, Some, None, List, [], ◌∷◌, ◌++◌, codes, length, take, ◌-◌}
+use Rattle.std.specs.Prelude.{◌≡◌, ℕ, ◌+◌, Bool, true, false, if◌then◌else◌, nat_lt, Option, Some, None, List, [], ◌∷◌, ◌++◌, codes, length, take, ◌-◌}
 use Rattle.s360_model.specs.Text.{decimal}
 use Rattle.s360_store.specs.declared.place.Place.{Place}
 use Rattle.s360_machine.specs.declared.event.Event.{Event}
@@ -15,8 +15,9 @@ use Rattle.s360_journal.specs.Breakpoints.{has_room_for, with_address, without_a
 use Rattle.s360_journal.specs.Stops.{stop_of}
 use Rattle.s360_journal.specs.Offers.{unless_refused, with_events}
 use Rattle.s360_journal.specs.Running.{run_of}
+use Rattle.s360_journal.specs.Withdrawals.{is_standing, without_event}
 use Rattle.s360_language.specs.declared.command.Command.{Command}
-use Rattle.s360_language.specs.declared.command.Command.TheVariants.{Back, Standing as standing, Last, Show, Break, Clear, Until, Run}
+use Rattle.s360_language.specs.declared.command.Command.TheVariants.{Back, Standing as standing, Last, Show, Break, Clear, Until, Run, Withdraw}
 use Rattle.s360_language.specs.declared.command.LineFault.{LineFault}
 use Rattle.s360_language.specs.declared.command.LineFault.TheVariants.{LineTooLong, Unknown, Argument, Memory}
 use Rattle.s360_language.specs.Commands.{event_of}
@@ -78,6 +79,14 @@ break_text breaks at = if has_room_for breaks at then breaks_text (with_address 
 abbrev pub stop_in : Debugger → ℕ
 stop_in d = stop_of (seen d.session.start) d.session.events d.breaks
 
+-- a withdrawal, and the events that it leaves
+abbrev pub withdrawal_text : ℕ → Bool → List ℕ
+withdrawal_text number true = codes "withdrawn " ++ decimal number ++ codes "\n"
+withdrawal_text number false = codes "no such change" ++ codes "\n"
+
+abbrev pub events_left : ℕ → List Event → List Event
+events_left number es = if is_standing number es then without_event number es else es
+
 -- a command's answer; each that has no row of its own offers an event
 unfoldable pub answer_to : Debugger → Command → List ℕ
 answer_to d Back = back_text (length d.session.events) (last_kind_of d.session.events)
@@ -87,6 +96,7 @@ answer_to d (Show shown) = shown_text (machine_of d.session) shown
 answer_to d (Break at) = break_text d.breaks at
 answer_to d (Clear at) = breaks_text (without_address d.breaks at)
 answer_to d Until = codes "until " ++ decimal (stop_in d) ++ codes "\n"
+answer_to d (Withdraw number) = withdrawal_text number (is_standing number d.session.events)
 answer_to d (Run most) = run_text (length (run_of d.breaks d.session most).events) (run_of d.breaks d.session most).why
 answer_to d command = text_of_offer d.session (event_of command)
 
@@ -105,6 +115,7 @@ state_after d Back = record d { session = record d.session { events = take (leng
 state_after d (Break at) = record d { breaks = with_address d.breaks at }
 state_after d (Clear at) = record d { breaks = without_address d.breaks at }
 state_after d Until = record d { session = record d.session { events = take (stop_in d) d.session.events } }
+state_after d (Withdraw number) = record d { session = record d.session { events = events_left number d.session.events } }
 state_after d command = record d { session = with_events d.session (accepted_events d command) }
 
 -- after want of memory the first n of the accepted events are added, for some n

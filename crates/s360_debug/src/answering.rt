@@ -11,10 +11,12 @@ ghost use Rattle.s360_journal.specs.Offers.{with_events};
 ghost use Rattle.s360_debug.specs.Answers.{text_of_report};
 ghost use Rattle.s360_debug.specs.Answers.{back_text, last_text};
 ghost use Rattle.s360_debug.specs.Answers.{place_names, fault_text, changed_after};
+ghost use Rattle.s360_debug.specs.Answers.{events_left, withdrawal_text};
+ghost use Rattle.s360_journal.specs.Withdrawals.{is_standing};
 
 use crate::open_line::OpenLine;
 use crate::running::answer_run;
-use s360_journal::{Breaks, Places, Report, Session};
+use s360_journal::{Breaks, Places, Report, Session, Withdrawal};
 use s360_language::{Command, LineFault, push_event, push_place, refusal_text, text_of_shown};
 use s360_machine::{Event, EventKind, Refusal};
 use s360_text::Text;
@@ -45,6 +47,7 @@ pub fn answer(
         Command::Break { at } => answer_break(alloc, breaks, at),
         Command::Clear { at } => answer_clear(alloc, breaks, at),
         Command::Until => answer_until(alloc, session, breaks),
+        Command::Withdraw { number } => answer_withdraw(alloc, session, number),
         Command::Run { most } => answer_run(alloc, session, breaks, most),
         command => match command.into_event() {
             Some(event) => answer_event(alloc, session, event),
@@ -149,16 +152,16 @@ fn answer_break(alloc: Global, breaks: &mut Breaks, at: u32) -> Result<Text, All
     if breaks.add(at) {
         Ok(line.finish(breaks.len()))
     } else {
-        full_text(alloc)
+        text_of_line(alloc, "breaks full")
     }
 }
 
-/// No breakpoint more can be kept.
-fn full_text(alloc: Global) -> Result<Text, AllocError>
-    ensures { IfOk result (λ text. text ≡ codes "breaks full" ++ codes "\n") }
+/// A line of these words.
+fn text_of_line(alloc: Global, words: &str) -> Result<Text, AllocError>
+    ensures { IfOk result (λ text. text ≡ words.now ++ codes "\n") }
 {
     let mut text = Text::new(alloc);
-    text.push_text("breaks full")?;
+    text.push_text(words)?;
     text.push_text("\n")?;
     Ok(text)
 }
@@ -183,6 +186,20 @@ fn answer_until(alloc: Global, session: &mut Session, breaks: &Breaks) -> Result
 {
     let line = OpenLine::new(alloc, "until ")?;
     Ok(line.finish(session.back_until(breaks)))
+}
+
+/// Withdraws a change. Room for its text is made first, so that want of memory leaves all changes standing.
+fn answer_withdraw(alloc: Global, session: &mut Session, number: u32) -> Result<Text, AllocError>
+    ensures text { IfOk result (λ text. text ≡ withdrawal_text number (is_standing number session.old.events)) }
+    ensures state { OnOk result (session.new ≡ record session.old { events = events_left number session.old.events }) }
+    ensures memory { OnErr result (session.new ≡ session.old) }
+{
+    let line = OpenLine::new(alloc, "withdrawn ")?;
+    match session.withdraw(number) {
+        Ok(()) => Ok(line.finish(number)),
+        Err(Withdrawal::NoSuchChange) => text_of_line(alloc, "no such change"),
+        Err(Withdrawal::Memory) => Err(AllocError),
+    }
 }
 
 /// The number of changes that stand.

@@ -17,7 +17,7 @@ use Rattle.s360_journal.specs.History.{Entry, IsHistory}
 use Rattle.s360_journal.proofs.HistoryLemmas.{step-Ok, IsHistory-push, places_of_change-after}
 
 -- an error that a call passes on
-pub unless-there : {A : Type 0} (r : Result A Refusal) (P : Refusal → Type 0) (e : Refusal) → IsErrAnd r P → ((x : Refusal) → P x → x ≡ e) → IsOkUnless r e
+pub unless-there : {A E : Type 0} (r : Result A E) (P : E → Type 0) (e : E) → IsErrAnd r P → ((x : E) → P x → x ≡ e) → IsOkUnless r e
 unless-there (Ok a) P e h f = absurd h
 unless-there (Err x) P e h f = f x h
 

@@ -4,6 +4,7 @@ pub mod IndexLemmas
 mod EventLemmas
 pub mod BreakpointLemmas
 pub mod StopLemmas
+pub mod WithdrawalLemmas
 pub mod ForwardLemmas
 pub mod RunLemmas
 pub mod LawLemmas

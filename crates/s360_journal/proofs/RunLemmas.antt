@@ -3,9 +3,9 @@ use Rattle.std.proofs.Common.{◌≡◌, ◌-◌, ◌++◌, List, [], ◌∷◌,
 use Rattle.std.proofs.lemmas.List.{take_at}
 use Rattle.s360_machine.specs.declared.event.Event.{Event}
 use Rattle.s360_journal.specs.declared.calls.Call.{Call}
-use Rattle.s360_journal.specs.declared.calls.Call.TheVariants.{Forward, Back, BackUntil, BackTo, Standing as standing, LastChange}
+use Rattle.s360_journal.specs.declared.calls.Call.TheVariants.{Forward, Back, BackUntil, BackTo, Withdraw, Standing as standing, LastChange}
 use Rattle.s360_journal.specs.declared.calls.Answer.{Answer}
-use Rattle.s360_journal.specs.declared.calls.Answer.TheVariants.{Forwarded, TookBack, WentBack, Stands, LastChanged}
+use Rattle.s360_journal.specs.declared.calls.Answer.TheVariants.{Forwarded, TookBack, WentBack, Withdrew, Stands, LastChanged}
 use Rattle.std.specs.Prelude.{IfOk, IsOkUnless, MatchOption, OnErr, OnOk}
 use Rattle.s360_machine.specs.declared.refusal.Refusal.{Refusal}
 use Rattle.s360_machine.specs.declared.refusal.Refusal.TheVariants.{Memory}
@@ -46,6 +46,9 @@ Leads-IsAnswer s t (BackUntil breaks) (WentBack k) h =
     record { start = ap (λ (x : Standing). x.start) h.1; limit = ap (λ (x : Standing). x.limit) h.1; stands = ap (λ (x : Standing). x.events) h.1 }
 Leads-IsAnswer s t (BackTo n) (WentBack k) h =
     record { start = ap (λ (x : Standing). x.start) h.1; limit = ap (λ (x : Standing). x.limit) h.1; stands = ap (λ (x : Standing). x.events) h.1 }
+Leads-IsAnswer s t (Withdraw k) (Withdrew (Ok done)) h =
+    record { start = ap (λ (x : Standing). x.start) h.1; limit = ap (λ (x : Standing). x.limit) h.1; stands = ap (λ (x : Standing). x.events) h.1 }
+Leads-IsAnswer s t (Withdraw k) (Withdrew (Err w)) h = unchanged s t h.1
 Leads-IsAnswer s t standing (Stands n) h = unchanged s t h.1
 Leads-IsAnswer s t (LastChange p) (LastChanged k) h = unchanged s t h.1
 Leads-IsAnswer s t c a h = absurd h

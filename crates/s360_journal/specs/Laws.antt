@@ -1,11 +1,11 @@
 -- What the last change of a place, the breakpoints and the last stop are, in other words than those of their
 -- definitions.
-use Rattle.std.specs.Prelude.{◌≡◌, ◌≢◌, ◌<◌, ◌+◌, ◌↔◌, ◌⊎◌, ℕ, zero, suc, true, false, List, [], ◌∷◌, length, take, Option, Some, None}
+use Rattle.std.specs.Prelude.{◌≡◌, ◌≢◌, ◌<◌, ◌+◌, ◌↔◌, ◌⊎◌, ℕ, zero, suc, true, false, List, [], ◌∷◌, length, take, Option, Some, None, Ok}
 use Rattle.std.specs.List.{Contains}
 use Rattle.s360_store.specs.declared.place.Place.{Place}
 use Rattle.s360_machine.specs.declared.event.Event.{Event}
-use Rattle.s360_machine.specs.Machine.{Machine}
-use Rattle.s360_machine.specs.Step.{after}
+use Rattle.s360_machine.specs.Machine.{Machine, storage_size}
+use Rattle.s360_machine.specs.Step.{after, step}
 use Rattle.s360_journal.specs.Breakpoints.{AreBreakpoints, has_address, has_room_for, with_address, without_address, is_at_breakpoint}
 use Rattle.s360_journal.specs.Rerun.{rerun, alters, last_change_of}
 use Rattle.s360_journal.specs.Stops.{stop_of}
@@ -41,6 +41,10 @@ pub record BreakpointsAreASet : Type 0 where
   pub at_first : AreBreakpoints []
   pub after_add : (breaks : List ℕ) (a : ℕ) → AreBreakpoints breaks → AreBreakpoints (with_address breaks a)
   pub after_remove : (breaks : List ℕ) (a : ℕ) → AreBreakpoints breaks → AreBreakpoints (without_address breaks a)
+
+-- an event that is not refused in one machine is refused in no machine of that storage size
+abbrev pub RefusalDependsOnTheSize : Type 0
+RefusalDependsOnTheSize = (m n : Machine) (e : Event) → storage_size m ≡ storage_size n → step m e ≡ Ok (after m e) → step n e ≡ Ok (after n e)
 
 -- after so many of the events, but not all, the CPU operates at a breakpoint
 abbrev pub IsStop : Machine → List Event → List ℕ → ℕ → Type 0

@@ -11,4 +11,5 @@ pub mod Running
 pub mod Events
 pub mod History
 pub mod Indexed
+pub mod Withdrawals
 pub mod Calls

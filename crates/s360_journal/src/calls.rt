@@ -10,6 +10,7 @@ ghost use Rattle.s360_journal.specs.Standing.{Standing as State};
 use crate::breaks::Breaks;
 use crate::report::Report;
 use crate::session::{NothingStands, Session};
+use crate::withdrawing::Withdrawal;
 use s360_machine::{Event, Machine, Refusal};
 use s360_store::Place;
 use std::alloc::{AllocError, Global};
@@ -26,6 +27,8 @@ pub enum Call {
     BackUntil(Breaks),
     /// `Session::back_to`
     BackTo(u32),
+    /// `Session::withdraw`
+    Withdraw(u32),
     /// `Session::standing`
     Standing,
     /// `Session::last_change`
@@ -41,6 +44,8 @@ pub enum Answer {
     TookBack(Result<Event, NothingStands>),
     /// Of `Session::back_until` and `Session::back_to`.
     WentBack(u32),
+    /// Of `Session::withdraw`.
+    Withdrew(Result<(), Withdrawal>),
     /// Of `Session::standing`.
     Stands(u32),
     /// Of `Session::last_change`.
@@ -66,6 +71,7 @@ impl Session {
             Call::Back => Answer::TookBack(self.back()),
             Call::BackUntil(breaks) => Answer::WentBack(self.back_until(&breaks)),
             Call::BackTo(number) => Answer::WentBack(self.back_to(number)),
+            Call::Withdraw(number) => Answer::Withdrew(self.withdraw(number)),
             Call::Standing => Answer::Stands(self.standing()),
             Call::LastChange(place) => Answer::LastChanged(self.last_change(place)),
         }

@@ -1,6 +1,6 @@
 //! The events of a session, in a byte each. What some carry stands in lists apart: the units of
 //! channel events and of loads, and whole events that carry more.
-ghost use Rattle.std.specs.Prelude.{◌≡◌, ◌++◌, ◌∷◌, [], None, IfSome, OnErr, OnOk};
+ghost use Rattle.std.specs.Prelude.{◌≡◌, ◌++◌, ◌∷◌, [], None, IfOk, IfSome, OnErr, OnOk};
 ghost use Rattle.s360_journal.specs.Standing.{last_kind_of};
 
 use s360_machine::{Event, EventKind, Key, KeyKind};
@@ -53,6 +53,20 @@ impl Events {
             units: Vec::new(alloc),
             others: Vec::new(alloc),
         }
+    }
+
+    /// Events that are equal to these.
+    pub(crate) fn copy(&self) -> Result<Events, AllocError>
+        ensures { IfOk result (λ events. events ≡ self.now) }
+    {
+        let tags = Vec::from_slice(*self.tags.allocator(), self.tags.as_slice())?;
+        let units = Vec::from_slice(*self.units.allocator(), self.units.as_slice())?;
+        let others = self.others.clone()?;
+        Ok(Events {
+            tags,
+            units,
+            others,
+        })
     }
 
     /// Adds an event at the end. Want of memory leaves the events as they were.

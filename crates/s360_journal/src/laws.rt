@@ -1,6 +1,6 @@
 //! Laws of the definitions, each the contract of a call that does nothing.
 ghost use Rattle.s360_journal.specs.Laws.{BreakpointsAreASet, LastChangeIsTheGreatest};
-ghost use Rattle.s360_journal.specs.Laws.{LastStopIsTheGreatest};
+ghost use Rattle.s360_journal.specs.Laws.{LastStopIsTheGreatest, RefusalDependsOnTheSize};
 
 /// The last change of a place is the greatest number of a change that alters it.
 pub fn last_change_is_the_greatest()
@@ -16,4 +16,9 @@ pub fn breakpoints_are_a_set()
 /// breakpoint, and 0 where there is none.
 pub fn last_stop_is_the_greatest()
     ensures { LastStopIsTheGreatest }
+{}
+
+/// An event that is not refused in one machine is refused in no machine whose storage has that size.
+pub fn refusal_depends_on_the_size()
+    ensures { RefusalDependsOnTheSize }
 {}

@@ -15,11 +15,16 @@ mod places;
 mod report;
 mod running;
 mod session;
+mod withdrawing;
 
 pub use breaks::Breaks;
 pub use calls::{Answer, Call, Outcome, run_calls};
-pub use laws::{breakpoints_are_a_set, last_change_is_the_greatest, last_stop_is_the_greatest};
+pub use laws::{
+    breakpoints_are_a_set, last_change_is_the_greatest, last_stop_is_the_greatest,
+    refusal_depends_on_the_size,
+};
 pub use places::Places;
 pub use report::Report;
 pub use running::RunEnd;
 pub use session::{NothingStands, Session};
+pub use withdrawing::Withdrawal;

@@ -1,12 +1,13 @@
 //! The session: the machine, and the journal of the changes that stand.
 ghost use Rattle.std.specs.Prelude.{◌≡◌, ◌↔◌, ◌++◌, ◌∷◌, ◌≤◌, [], length, take, OnOk, OnErr, IfOk, IsTrue, Err};
 ghost use Rattle.std.specs.Prelude.{IsOkUnless, MatchOption, min};
-ghost use Rattle.s360_machine.specs.Machine.{seen};
+ghost use Rattle.s360_machine.specs.Machine.{seen, storage_size};
 ghost use Rattle.s360_machine.specs.declared.refusal.Refusal.TheVariants.{Memory};
 ghost use Rattle.s360_journal.specs.Reports.{IsReport};
 ghost use Rattle.s360_journal.specs.Rerun.{rerun, AreAccepted, changes_of, last_change_of};
 ghost use Rattle.s360_journal.specs.Stops.{stop_of};
-ghost use Rattle.s360_journal.specs.Standing.{IsAfter, Standing, refusal_in, alteration, last_kind_of};
+ghost use Rattle.s360_journal.specs.Standing.{IsAfter, Standing, machine_of, refusal_in, alteration, last_kind_of};
+ghost use Rattle.s360_journal.specs.Withdrawals.{AreAllowed, is_standing};
 
 use crate::breaks::Breaks;
 use crate::events::Events;
@@ -70,6 +71,24 @@ impl Session {
         }
     }
 
+    /// A session that is equal to this one.
+    pub(crate) fn copy(&self) -> Result<Session, AllocError>
+        ensures { IfOk result (λ session. session ≡ self.now) }
+    {
+        let machine = self.machine.copy()?;
+        let events = self.events.copy()?;
+        let changes = self.changes.copy()?;
+        let index = self.index.copy()?;
+        Ok(Session {
+            machine,
+            events,
+            changes,
+            index,
+            limit: self.limit,
+            alloc: self.alloc,
+        })
+    }
+
     /// The allocator that it keeps.
     pub(crate) fn allocator(&self) -> Global {
         self.alloc
@@ -101,6 +120,15 @@ impl Session {
         ensures { result ≡ length self.now.events }
     {
         self.changes.len()
+    }
+
+    /// Whether a change of this number stands, counted from 1.
+    pub(crate) fn stands(&self, number: u32) -> bool
+        ensures stands { result ≡ is_standing number self.now.events }
+        ensures few { length self.now.events ≤ self.now.limit }
+        ensures allowed { AreAllowed (storage_size (seen self.now.start)) self.now.events }
+    {
+        0 < number && number <= self.changes.len()
     }
 
     /// What the last event is that stands, if one does: the one that `back` would answer.
@@ -160,6 +188,7 @@ impl Session {
         ensures ok { OnOk result (IsAfter self.new self.old event) }
         ensures err { OnErr result (self.new ≡ self.old) }
         ensures refused { MatchOption (refusal_in self.old event) (IsOkUnless result Memory) (λ r. result ≡ Err r) }
+        ensures size { storage_size (machine_of self.old) ≡ storage_size (seen self.old.start) }
     {
         match event {
             Event::Cpu => self.accept(Event::Cpu),
@@ -173,6 +202,7 @@ impl Session {
         ensures ok { OnOk result (IsAfter self.new self.old event) }
         ensures err { OnErr result (self.new ≡ self.old) }
         ensures refused { MatchOption (refusal_in self.old event) (IsOkUnless result Memory) (λ r. result ≡ Err r) }
+        ensures size { storage_size (machine_of self.old) ≡ storage_size (seen self.old.start) }
     {
         if let Some(refusal) = self.refusal(&event) {
             return Err(refusal);

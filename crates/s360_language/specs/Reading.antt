@@ -14,7 +14,7 @@ use Rattle.s360_machine.specs.declared.event.Patch.TheVariants.{Bytes as bytes_p
 use Rattle.s360_machine.specs.declared.operator.Key.{Key as OperatorKey}
 use Rattle.s360_machine.specs.declared.operator.Key.TheVariants.{Start, Stop, Reset, Interrupt, EndOfFile, Request, Enter, Load}
 use Rattle.s360_language.specs.declared.command.Command.{Command}
-use Rattle.s360_language.specs.declared.command.Command.TheVariants.{Step, Channel, Tick, Key, Patch, Back, Standing, Last, Show, Break, Clear, Until, Run}
+use Rattle.s360_language.specs.declared.command.Command.TheVariants.{Step, Channel, Tick, Key, Patch, Back, Standing, Last, Show, Break, Clear, Until, Run, Withdraw}
 use Rattle.s360_language.specs.declared.command.Shown.TheVariants.{Registers, Psw as psw, Storage, StorageKey, External as external, UnitState as unit_state, Device as device, Item as item, Image as image}
 use Rattle.s360_language.specs.declared.command.LineFault.{LineFault}
 use Rattle.s360_language.specs.declared.command.LineFault.TheVariants.{LineTooLong, Unknown, Argument, Memory}
@@ -125,6 +125,10 @@ break_reading words = and_then (number_argument 1 6 words) (λ at. finished 2 (B
 
 abbrev pub clear_reading : List (List ℕ) → Reading
 clear_reading words = and_then (number_argument 1 6 words) (λ at. finished 2 (Clear at) (drop 1 words))
+
+-- `withdraw N`, after its first word
+abbrev pub withdraw_reading : List (List ℕ) → Reading
+withdraw_reading words = and_then (argument 1 (count_of most_count) words) (λ number. finished 2 (Withdraw number) (drop 1 words))
 
 -- `run N`, after its first word
 abbrev pub run_reading : List (List ℕ) → Reading
@@ -240,7 +244,8 @@ reading_of_words text (name ∷ words) =
     else (if is_word name (codes "clear") then clear_reading words
     else (if is_word name (codes "until") then finished 1 Until words
     else (if is_word name (codes "run") then run_reading words
-    else Err Unknown))))))))))))))
+    else (if is_word name (codes "withdraw") then withdraw_reading words
+    else Err Unknown)))))))))))))))
 
 -- a line that is too long comes first
 abbrev pub reading_of : List ℕ → Reading

@@ -36,6 +36,8 @@ pub enum Command {
     Clear { at: u32 },
     /// `until`: changes are taken back to the last stop at a breakpoint.
     Until,
+    /// `withdraw N`: the change of this number is withdrawn from among those that stand.
+    Withdraw { number: u32 },
     /// `run N`: at most so many events are offered, each the one whose turn it is.
     Run { most: u32 },
 }
@@ -58,6 +60,7 @@ impl Command {
             | Command::Break { .. }
             | Command::Clear { .. }
             | Command::Until
+            | Command::Withdraw { .. }
             | Command::Run { .. } => None,
         }
     }

@@ -3,7 +3,7 @@
 ghost use Rattle.std.specs.Prelude.{◌≡◌, ◌≤◌, ◌<◌, ◌^◌, ◌∷◌, IfOk, IfSome, drop, take, length, MatchOption, Some, None};
 ghost use Rattle.s360_language.specs.Reading.{Reads, reading_of, reading_of_words, patch_reading};
 ghost use Rattle.s360_language.specs.Reading.{storage_patch, word_patch, key_patch, doubleword_patch};
-ghost use Rattle.s360_language.specs.Reading.{break_reading, clear_reading, run_reading};
+ghost use Rattle.s360_language.specs.Reading.{break_reading, clear_reading, run_reading, withdraw_reading};
 ghost use Rattle.s360_language.specs.Reading.{channel_reading, key_of, key_reading, enter_reading};
 ghost use Rattle.s360_language.specs.Reading.{load_reading};
 ghost use Rattle.s360_language.specs.Reading.{last_reading, show_reading, show_storage, show_item};
@@ -33,7 +33,7 @@ const COUNT_DIGITS: usize = 8;
 /// A line shows at most so many bytes of storage.
 const MOST_SHOWN: u32 = 256;
 
-/// The greatest count of events, and number of an item.
+/// The greatest count of events, and number of an item or a change.
 const MOST_COUNT: u32 = 10_000_000;
 
 /// The command of a line, without its line end. A fault is answered whatever memory there is, and only a
@@ -90,6 +90,8 @@ fn read_named(
         finish(words, 1, Command::Until)
     } else if is(name, "run") {
         read_run(words)
+    } else if is(name, "withdraw") {
+        read_withdraw(words)
     } else {
         Err(LineFault::Unknown)
     }
@@ -132,6 +134,14 @@ fn read_run(mut words: Words<'_>) -> Result<Command, LineFault>
 {
     let most = next_count(&mut words, 1, MOST_COUNT)?;
     finish(words, 2, Command::Run { most })
+}
+
+/// `withdraw N`
+fn read_withdraw(mut words: Words<'_>) -> Result<Command, LineFault>
+    ensures { result ≡ withdraw_reading words.entry }
+{
+    let number = next_count(&mut words, 1, MOST_COUNT)?;
+    finish(words, 2, Command::Withdraw { number })
 }
 
 /// `key` with the name of a key.

@@ -25,7 +25,7 @@ struct Line {
 }
 
 /// Lines of each kind. Each event of the run moves 32 bytes, for which it wants memory.
-static LINES: [Line; 12] = [
+static LINES: [Line; 13] = [
     Line {
         start: "",
         line: "tick",
@@ -81,6 +81,14 @@ patch r 1 5",
         line: "until",
         event: "",
         answer: "until 0\n",
+    },
+    Line {
+        start: "tick
+patch r 1 5
+patch s 300 0102030405060708090A",
+        line: "withdraw 1",
+        event: "",
+        answer: "withdrawn 1\n",
     },
     Line {
         start: "tick",

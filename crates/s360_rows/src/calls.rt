@@ -2,18 +2,19 @@
 //! of them is there where a line is no command or memory is out.
 use crate::rows::Words;
 use s360_debug::read_command;
-use s360_journal::{Answer, Call, Places, Report, Session};
+use s360_journal::{Answer, Call, Places, Report, Session, Withdrawal};
 use s360_machine::{Bytes, Event, Patch, Refusal};
 use s360_store::Place;
 use std::alloc::Global;
 
-/// The call that a line asks of a session: how many changes stand, a step back, going back to a change, the last change of
-/// a byte or a register, or the event that it offers.
+/// The call that a line asks of a session: how many changes stand, a step back, going back to a change, a withdrawal, the
+/// last change of a byte or a register, or the event that it offers.
 pub(crate) fn call(alloc: Global, line: &str) -> Option<Call> {
     match line.split_once(" ") {
         None if line == "standing" => Some(Call::Standing),
         None if line == "back" => Some(Call::Back),
         Some(("to", number)) => Some(Call::BackTo(number.parse().ok()?)),
+        Some(("withdraw", number)) => Some(Call::Withdraw(number.parse().ok()?)),
         Some(("last", "p")) => Some(Call::LastChange(Place::Psw)),
         Some(("last", place)) => Some(Call::LastChange(place_of(place)?)),
         _ => Some(Call::Forward(event(alloc, line)?)),
@@ -95,6 +96,9 @@ pub(crate) fn text_of_answer(alloc: Global, answer: &Answer) -> Option<String> {
         Answer::TookBack(Ok(event)) => format!(in alloc; "{event:?}").ok(),
         Answer::TookBack(Err(fault)) => format!(in alloc; "{fault}").ok(),
         Answer::WentBack(number) => format!(in alloc; "until {number}").ok(),
+        Answer::Withdrew(Ok(())) => format!(in alloc; "withdrawn").ok(),
+        Answer::Withdrew(Err(Withdrawal::Memory)) => None,
+        Answer::Withdrew(Err(fault)) => format!(in alloc; "{fault}").ok(),
         Answer::Stands(count) => format!(in alloc; "{count}").ok(),
         Answer::LastChanged(number) => format!(in alloc; "{number:?}").ok(),
     }

@@ -1,4 +1,4 @@
-//! The changes of each place beside the reports of a rerun, after long lists of random events and steps back.
+//! The changes of each place beside the reports of a rerun, after long lists of random events, steps back and withdrawals.
 ghost use Rattle.std.specs.Prelude.{◌<◌};
 
 use crate::held::{Lent, lend_blank};
@@ -16,7 +16,10 @@ const STORAGE: u32 = 8_192;
 /// So many storage keys it has.
 const KEYS: u32 = 4;
 
-/// So many events and steps back there are in a list.
+/// So many changes can stand.
+const LIMIT: u8 = 255;
+
+/// So many events, steps back and withdrawals there are in a list.
 const LENGTH: u32 = 600;
 
 /// So many lists there are.
@@ -114,14 +117,20 @@ fn changes(alloc: Global, session: &Session, places: &[Place]) -> Option<Vec<Vec
     Some(changes)
 }
 
-/// Makes a list of random events and steps back. A refused event is as none.
+/// Makes a list of random events, steps back and withdrawals. A refused event is as none.
 fn make(alloc: Global, session: &mut Session, seed: u64) -> Option<()> {
     let mut random = Random { state: seed };
     for _ in 0..LENGTH {
-        if random.below(5) == 0 {
-            let _taken = session.back();
-        } else {
-            let _refused = session.forward(event(alloc, &mut random)?);
+        match random.below(20) {
+            0..=3 => {
+                let _taken = session.back();
+            }
+            4 => {
+                let _withdrawn = session.withdraw(random.below(LIMIT.into()));
+            }
+            _ => {
+                let _refused = session.forward(event(alloc, &mut random)?);
+            }
         }
     }
     Some(())
@@ -214,7 +223,7 @@ impl Lent for Lists {
 #[test]
 fn changes_of_each_place(rt: HostRuntime) {
     for seed in 0..LISTS {
-        let fault = lend_blank(rt.alloc(), STORAGE, 255, &mut Lists { seed });
+        let fault = lend_blank(rt.alloc(), STORAGE, LIMIT, &mut Lists { seed });
         assert_no_fault(&rt, fault);
     }
 }

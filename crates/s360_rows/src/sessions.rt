@@ -124,7 +124,7 @@ fn sessions(rt: HostRuntime) {
 }
 
 /// Tables, and how many changes may stand in the session of each.
-const TABLES: [(u8, &str); 7] = [
+const TABLES: [(u8, &str); 8] = [
     (0, NOTHING_STANDS),
     (1, ONE_STANDS),
     (6, SIX_STAND),
@@ -132,6 +132,7 @@ const TABLES: [(u8, &str); 7] = [
     (13, PREVIEWS),
     (13, MEMORY),
     (13, CHANGES),
+    (4, WITHDRAWALS),
 ];
 
 /// The changes of two bytes, of which some are taken back.
@@ -167,6 +168,36 @@ do to 9 -> until 3
 do to 0 -> until 0
 changes s 300 -> []
 changes s 402 -> []
+";
+
+/// Four changes may stand, and some are withdrawn from among them.
+const WITHDRAWALS: &str = "
+do withdraw 1 -> no such change
+do patch s 300 01 -> [Byte(768)]
+do patch s 300 02 -> [Byte(768)]
+do patch s 301 05 -> [Byte(769)]
+do patch s 300 0205 -> idle
+do withdraw 0 -> no such change
+do withdraw 5 -> no such change
+do patch r 1 1 -> journal full
+do standing -> 4
+changes s 300 -> [1, 2]
+* The last patch alters the second byte where the third one is withdrawn.
+do withdraw 3 -> withdrawn
+do standing -> 3
+changes s 300 -> [1, 2]
+changes s 301 -> [3]
+do withdraw 2 -> withdrawn
+changes s 300 -> [1, 2]
+changes s 301 -> [2]
+do withdraw 1 -> withdrawn
+changes s 300 -> [1]
+changes s 301 -> [1]
+do standing -> 1
+do back -> Patch(Bytes { at: 768, bytes: Bytes { items: [2, 5] } })
+do withdraw 1 -> no such change
+changes s 300 -> []
+changes s 301 -> []
 ";
 
 /// No change may stand: refusals for an event's own sake come first, then a full journal.

@@ -8,6 +8,7 @@ use Rattle.s360_journal.specs.Standing.{Standing, machine_of, refusal_in}
 use Rattle.s360_journal.proofs.ForwardLemmas.{or_full-None, or_full-room, unless-there}
 use Rattle.s360_journal.proofs.IndexLemmas.{err-there, index-appended, index-swapped, kept-appended, may-index-last, ok-there}
 use Rattle.s360_journal.proofs.SessionLemmas.{advanced, found-last, machine_of-session}
+use Rattle.s360_journal.proofs.WithdrawalLemmas.{size-session}
 use Rattle.s360_journal.proofs.session.Session.accept.Goals as goal
 use Rattle.s360_journal.proofs.session.Session.accept.Goals.{After-swap}
 
@@ -41,6 +42,17 @@ invariant_of-self-then-is_err c =
       rw (c.room.ensures.whole, kept) c.self.invariant.0,
       rw c.keep.ensures (err-there c.index_last.result _ (sym c.is_err.ensures.value ∙ c.if-is_err.true) c.index_last.ensures.err),
       c.self.invariant.2,
+      c.self.invariant.3,
+    )
+
+pub invariant_of-self-in-Err : goal.invariant_of-self-in-Err
+invariant_of-self-in-Err c =
+    let kept : c.keep-in-Err.new.self ≡ c.self.inside.changes
+    = kept-appended c.self.inside.changes c.append.new.self c.keep-in-Err.new.self c.in_ok-changes.changes c.len-count.result c.in_ok-append.ensures.ok c.len-count.ensures.len c.keep-in-Err.ensures
+    in (
+      rw (c.room.ensures.whole, kept, c.in-Err.ensures.err) c.self.invariant.0,
+      rw c.keep-in-Err.ensures c.unindex_last.ensures,
+      rw c.in-Err.ensures.err c.self.invariant.2,
       c.self.invariant.3,
     )
 
@@ -92,3 +104,26 @@ returns-in-Ok-clause-ok c =
     let stands : c.push.new.self ≡ c.self.inside.events ++ c.args.event ∷ [] = c.in-Ok.ensures.ok
     in rw stands (ap (λ (k : Whole). record { start = k; events = c.self.inside.events ++ c.args.event ∷ []; limit = c.self.inside.limit }) (journal (goal.at.returns-in-Ok-clause-ok c).After-swap).1
     ∙ ap (λ (t : Standing). record t { events = t.events ++ c.args.event ∷ [] }) c.self.view_is)
+
+-- no event has altered the size of storage
+
+pub returns-in-Some-clause-size : goal.returns-in-Some-clause-size
+returns-in-Some-clause-size c = size-session c.self.inside.machine.whole c.self.inside.events c.self.inside.changes c.self.inside.limit c.args.self.now c.self.invariant.0 c.self.view_is
+
+pub returns-in_err-changes-clause-size : goal.returns-in_err-changes-clause-size
+returns-in_err-changes-clause-size c = size-session c.self.inside.machine.whole c.self.inside.events c.self.inside.changes c.self.inside.limit c.args.self.now c.self.invariant.0 c.self.view_is
+
+pub returns-in_err-room-clause-size : goal.returns-in_err-room-clause-size
+returns-in_err-room-clause-size c = size-session c.self.inside.machine.whole c.self.inside.events c.self.inside.changes c.self.inside.limit c.args.self.now c.self.invariant.0 c.self.view_is
+
+pub returns-in_err-append-clause-size : goal.returns-in_err-append-clause-size
+returns-in_err-append-clause-size c = size-session c.self.inside.machine.whole c.self.inside.events c.self.inside.changes c.self.inside.limit c.args.self.now c.self.invariant.0 c.self.view_is
+
+pub returns-then-is_err-clause-size : goal.returns-then-is_err-clause-size
+returns-then-is_err-clause-size c = size-session c.self.inside.machine.whole c.self.inside.events c.self.inside.changes c.self.inside.limit c.args.self.now c.self.invariant.0 c.self.view_is
+
+pub returns-in-Err-clause-size : goal.returns-in-Err-clause-size
+returns-in-Err-clause-size c = size-session c.self.inside.machine.whole c.self.inside.events c.self.inside.changes c.self.inside.limit c.args.self.now c.self.invariant.0 c.self.view_is
+
+pub returns-in-Ok-clause-size : goal.returns-in-Ok-clause-size
+returns-in-Ok-clause-size c = size-session c.self.inside.machine.whole c.self.inside.events c.self.inside.changes c.self.inside.limit c.args.self.now c.self.invariant.0 c.self.view_is
