@@ -45,12 +45,17 @@ def tapes(some):
     return sitting
 
 
+def make_cases(sitting, count, make_case):
+    """So many cases, each of which is taken back."""
+    for _ in range(count):
+        make_case(sitting)
+        sitting.take_back()
+
+
 def programs(some):
     """Channel programs that overwrite themselves, of any units beside each other."""
     sitting = Lines(some, media.media(some))
-    for _ in range(CASES_OF_PROGRAMS):
-        programs_case(sitting)
-        sitting.take_back()
+    make_cases(sitting, CASES_OF_PROGRAMS, programs_case)
     sitting.finish()
     return sitting
 
@@ -164,20 +169,20 @@ def line_of_bytes(sitting):
 def texts(some):
     """Scripts of bytes: lines that are nearly right, and lines of any bytes."""
     sitting = Lines(some, Media(media.LEAST, media.deck(some)))
-    for _ in range(CASES_OF_BYTES):
-        for _ in range(some.randint(4, 16)):
-            sitting.say(line_of_bytes(sitting))
-        sitting.take_back()
+    make_cases(sitting, CASES_OF_BYTES, texts_case)
     sitting.finish(line_of_bytes(sitting).replace(b"\n", b""))
     return sitting
+
+
+def texts_case(sitting):
+    for _ in range(sitting.random.randint(4, 16)):
+        sitting.say(line_of_bytes(sitting))
 
 
 def lines(some):
     """Scripts of right lines, over storage of the least and the most bytes and of some between."""
     sitting = Lines(some, media.media(some))
-    for _ in range(CASES_OF_LINES):
-        lines_case(sitting)
-        sitting.take_back()
+    make_cases(sitting, CASES_OF_LINES, lines_case)
     sitting.finish()
     return sitting
 
