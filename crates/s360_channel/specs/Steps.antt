@@ -4,12 +4,17 @@ use Rattle.s360_model.specs.Core.{Core}
 use Rattle.s360_model.specs.Storage.{Storage}
 use Rattle.s360_store.specs.declared.place.Cell.{Cell}
 use Rattle.s360_store.specs.Plans.{IsPlanOf}
+use Rattle.s360_device.specs.declared.device.Begin.{Begin}
+use Rattle.s360_device.specs.Transfers.{MovesBytes}
 use Rattle.s360_channel.specs.declared.engine.ChannelStep.{ChannelStep}
 use Rattle.s360_channel.specs.declared.engine.ChannelStep.TheVariants.{NotYet, GoesOn, Ends}
+use Rattle.s360_channel.specs.declared.fetching.Fetched.{Fetched}
+use Rattle.s360_channel.specs.declared.fetching.Fetched.TheVariants.{Broken, Whole}
 use Rattle.s360_channel.specs.declared.program.Program.{Program}
+use Rattle.s360_channel.specs.declared.program.Progress.{Progress}
 use Rattle.s360_channel.specs.declared.unit_state.UnitState.{UnitState}
 use Rattle.s360_channel.specs.declared.unit_state.UnitState.TheVariants.{Active, Waiting}
-use Rattle.s360_channel.specs.Execution.{Ending, Execution, Run, core_with_run}
+use Rattle.s360_channel.specs.Execution.{Ending, Execution, Run, command_with, core_with_run}
 
 -- the state of the unit after a step of a program
 abbrev pub state_after_step : {C : Type 0} → Program → ChannelStep C → UnitState
@@ -43,6 +48,12 @@ pub record AltersDevice {D C : Type 0} (CanSwap : D → C → Type 0) (after_swa
 -- the device is as before after a command that ends
 abbrev pub KeepsDevice : {D : Type 0} → (D → ℕ → List ℕ → D → Type 0) → D → Ending → Type 0
 KeepsDevice IsAfter device e = IsAfter device e.command e.output device
+
+-- the word with which a program goes on moves bytes, by how its device begins commands; one that meets a program check
+-- moves none
+abbrev pub WordMovesBytes : (ℕ → Begin) → Progress → Fetched → Type 0
+WordMovesBytes begin progress (Broken last) = ⊥
+WordMovesBytes begin progress (Whole at c) = MovesBytes (begin (command_with progress c))
 
 -- the plan puts a run, if there is one, into any core that has this storage
 abbrev pub StoresRun : Storage → List Cell → Option Run → Type 0

@@ -1,8 +1,8 @@
 //! One channel event: a channel command word executed over a device. Source: GA22-6821,
 //! "Input/Output Operations", execution of input/output operations.
 ghost use Rattle.std.specs.Prelude.{◌≡◌, ◌≤◌, ◌<◌, ◌+◌, ◌-◌, ◌^◌, ◌++◌};
-ghost use Rattle.std.specs.Prelude.{Some, None, [], IfOk, length};
-ghost use Rattle.s360_device.specs.Transfers.{CanEndWith};
+ghost use Rattle.std.specs.Prelude.{Some, None, [], IfOk, OnErr, length};
+ghost use Rattle.s360_device.specs.Transfers.{CanEndWith, IsOutput, MovesBytes};
 ghost use Rattle.s360_device.specs.declared.device.Begin.TheVariants.{Input, Output};
 ghost use Rattle.s360_channel.specs.Execution.{channel_execution, execute_begun};
 ghost use Rattle.s360_channel.specs.Execution.{execute_input, execute_output, input_with};
@@ -10,7 +10,8 @@ ghost use Rattle.s360_channel.specs.Execution.{after_conclusion, after_transfer,
 ghost use Rattle.s360_channel.specs.Execution.{stored_bytes};
 ghost use Rattle.s360_channel.specs.Execution.{execute_without_bytes, ended_unit, refused_unit};
 ghost use Rattle.s360_channel.specs.Steps.{AltersDevice, IsDeviceChange, KeepsDevice};
-ghost use Rattle.s360_channel.specs.Steps.{PlansExecution, change_of_step, state_after_step};
+ghost use Rattle.s360_channel.specs.Programs.{next_ccw};
+ghost use Rattle.s360_channel.specs.Steps.{PlansExecution, WordMovesBytes, change_of_step, state_after_step};
 ghost use Rattle.s360_channel.specs.declared.program.Progress.TheVariants.{InputChained, OutputChained};
 
 use crate::ccw::{Ccw, reads_backward};
@@ -54,6 +55,7 @@ fn change_of<D: Device>(
     requires can { CanEndWith (D.begin_of device.now command) output.now }
     ensures change { IfOk result (λ r. IsDeviceChange (AltersDevice D.can_swap D.after_swap D.change_after_swap D.needs D.bare D.is_after device.now) (KeepsDevice D.is_after device.now) (Some (record { command = command; output = output.now })) r.0) }
     ensures exception { IfOk result (λ r. r.1 ≡ D.exception_of device.now command) }
+    ensures memory { OnErr result (IsOutput (D.begin_of device.now command)) }
 {
     let planned = device.plan(command, output)?;
     let exception = planned.exception;
@@ -93,7 +95,8 @@ fn plan_control<D: Device>(
 ) -> Result<ChannelStep<D::Change>, AllocError>
     requires empty { plan.now ≡ [] }
     requires can { CanEndWith (D.begin_of device.now word.now.command) [] }
-    ensures { IfOk result (PlansExecution storage.now program.now plan.now (execute_without_bytes program.now word.now.at word.now.ccw word.now.command (ended_unit (D.exception_of device.now word.now.command))) (AltersDevice D.can_swap D.after_swap D.change_after_swap D.needs D.bare D.is_after device.now) (KeepsDevice D.is_after device.now)) }
+    ensures memory { OnErr result (IsOutput (D.begin_of device.now word.now.command)) }
+    ensures executes { IfOk result (PlansExecution storage.now program.now plan.now (execute_without_bytes program.now word.now.at word.now.ccw word.now.command (ended_unit (D.exception_of device.now word.now.command))) (AltersDevice D.can_swap D.after_swap D.change_after_swap D.needs D.bare D.is_after device.now) (KeepsDevice D.is_after device.now)) }
 {
     let (change, exception) = change_of(device, word.command, &[])?;
     let unit = ended_unit(exception);
@@ -110,7 +113,8 @@ fn plan_refused<D: Device>(
 ) -> Result<ChannelStep<D::Change>, AllocError>
     requires empty { plan.now ≡ [] }
     requires can { CanEndWith (D.begin_of device.now word.now.command) [] }
-    ensures { IfOk result (PlansExecution storage.now program.now plan.now (execute_without_bytes program.now word.now.at word.now.ccw word.now.command refused_unit) (AltersDevice D.can_swap D.after_swap D.change_after_swap D.needs D.bare D.is_after device.now) (KeepsDevice D.is_after device.now)) }
+    ensures memory { OnErr result (IsOutput (D.begin_of device.now word.now.command)) }
+    ensures executes { IfOk result (PlansExecution storage.now program.now plan.now (execute_without_bytes program.now word.now.at word.now.ccw word.now.command refused_unit) (AltersDevice D.can_swap D.after_swap D.change_after_swap D.needs D.bare D.is_after device.now) (KeepsDevice D.is_after device.now)) }
 {
     let (change, _) = change_of(device, word.command, &[])?;
     let unit = refused_unit();
@@ -324,7 +328,8 @@ fn plan_word<D: Device>(
     word: &Word,
 ) -> Result<ChannelStep<D::Change>, AllocError>
     requires empty { plan.old ≡ [] }
-    ensures { IfOk result (PlansExecution storage.now program.now plan.new (execute_begun (record { begin = D.begin_of device.now; input = D.input_of device.now; exception = D.exception_of device.now }) storage.now program.now word.now.at word.now.ccw word.now.command (D.begin_of device.now word.now.command)) (AltersDevice D.can_swap D.after_swap D.change_after_swap D.needs D.bare D.is_after device.now) (KeepsDevice D.is_after device.now)) }
+    ensures memory { OnErr result (MovesBytes (D.begin_of device.now word.now.command)) }
+    ensures executes { IfOk result (PlansExecution storage.now program.now plan.new (execute_begun (record { begin = D.begin_of device.now; input = D.input_of device.now; exception = D.exception_of device.now }) storage.now program.now word.now.at word.now.ccw word.now.command (D.begin_of device.now word.now.command)) (AltersDevice D.can_swap D.after_swap D.change_after_swap D.needs D.bare D.is_after device.now) (KeepsDevice D.is_after device.now)) }
 {
     let step = match device.begin(word.command) {
         Begin::Input(total) => plan_input(alloc, storage, program, device, plan, word, total)?,
@@ -337,7 +342,8 @@ fn plan_word<D: Device>(
 }
 
 /// Plans one channel event of a unit that executes a program: it puts what is stored into an empty
-/// plan, and answers the step. Storage and device are only read. Where memory is wanting, the plan is
+/// plan, and answers the step. Storage and device are only read. Only a word that moves bytes takes memory: not one that
+/// meets a program check, nor a command that moves none, is refused or cannot begin yet. If memory is wanting, the plan is
 /// to be dropped.
 #[tactic(auto, unfolding(crate::specs::Execution::channel_execution))]
 pub fn channel_plan<D: Device>(
@@ -348,7 +354,8 @@ pub fn channel_plan<D: Device>(
     plan: &mut Plan,
 ) -> Result<ChannelStep<D::Change>, AllocError>
     requires empty { plan.old ≡ [] }
-    ensures { IfOk result (PlansExecution storage.now program.now plan.new (channel_execution (record { begin = D.begin_of device.now; input = D.input_of device.now; exception = D.exception_of device.now }) storage.now program.now) (AltersDevice D.can_swap D.after_swap D.change_after_swap D.needs D.bare D.is_after device.now) (KeepsDevice D.is_after device.now)) }
+    ensures memory { OnErr result (WordMovesBytes (D.begin_of device.now) program.now.progress (next_ccw storage.now program.now)) }
+    ensures executes { IfOk result (PlansExecution storage.now program.now plan.new (channel_execution (record { begin = D.begin_of device.now; input = D.input_of device.now; exception = D.exception_of device.now }) storage.now program.now) (AltersDevice D.can_swap D.after_swap D.change_after_swap D.needs D.bare D.is_after device.now) (KeepsDevice D.is_after device.now)) }
 {
     match next_ccw(storage, program) {
         Fetched::Broken(last) => Ok(program.checked(last, ChannelStatus::program_check())),

@@ -15,6 +15,17 @@ CanEndWith (Output limit) bytes = length bytes ≤ limit
 CanEndWith NotYet bytes = ⊥
 CanEndWith begin bytes = bytes ≡ []
 
+-- a command that begins so is an output
+abbrev pub IsOutput : Begin → Type 0
+IsOutput (Output limit) = Unit {0}
+IsOutput begin = ⊥
+
+-- a command that begins so moves bytes
+abbrev pub MovesBytes : Begin → Type 0
+MovesBytes (Input count) = Unit {0}
+MovesBytes (Output limit) = Unit {0}
+MovesBytes begin = ⊥
+
 -- an output may end with these bytes
 abbrev pub CanWrite : {M : Type 0} → Row M → List ℕ → Type 0
 CanWrite (output limit media exception) bytes = length bytes ≤ limit

@@ -1,5 +1,5 @@
 //! Decks of cards, and the files that they are read from. Source: A21-9033, "2540 Card Read Punch".
-ghost use Rattle.std.specs.Prelude.{◌≡◌, length, slice_get, Err, MatchOption, IfOk, IfSome, IsOkUnless};
+ghost use Rattle.std.specs.Prelude.{◌≡◌, ◌<◌, length, slice_get, Err, MatchOption, IfOk, IfSome, IsOkUnless, OnErr};
 ghost use Rattle.std.specs.Option.{option_copied};
 ghost use Rattle.s360_model.specs.Cards.{columns, IsDeckFile, short_card_of};
 ghost use Rattle.s360_device.specs.declared.fault.DeckFault.TheVariants.{ShortCard, Memory};
@@ -54,15 +54,27 @@ impl Deck {
     }
 }
 
-/// The deck that is in a file: cards of 80 bytes, joined.
+/// Cards copied. Of none it takes no memory.
+fn copied(alloc: Global, cards: &[Card]) -> Result<Vec<Card>, AllocError>
+    ensures cards { IfOk result (λ copied. copied.items ≡ cards.now) }
+    ensures memory { OnErr result (0 < length cards.now) }
+{
+    if cards.is_empty() {
+        return Ok(Vec::new(alloc));
+    }
+    Vec::from_slice(alloc, cards)
+}
+
+/// The deck that is in a file: cards of 80 bytes, joined. An empty file is a deck of no card, and takes no memory.
 pub fn deck_from(alloc: Global, file: &[u8]) -> Result<Deck, DeckFault>
     ensures deck { IfOk result (λ deck. IsDeckFile file.now deck) }
     ensures refused { MatchOption (short_card_of file.now) (IsOkUnless result Memory) (λ start. result ≡ Err (ShortCard start)) }
+    ensures nothing { OnErr result (0 < length file.now) }
 {
     let (cards, short) = file.as_chunks::<COLUMNS>();
     if !short.is_empty() {
         return Err(DeckFault::ShortCard(file.len() - short.len()));
     }
-    let cards = cards.to_vec(alloc)?;
+    let cards = copied(alloc, cards)?;
     Ok(Deck { cards })
 }

@@ -1,9 +1,9 @@
 //! What every device is to a channel. Source: GA22-6821, "Input/Output Operations".
-ghost use Rattle.std.specs.Prelude.{◌≡◌, ◌<◌, ◌≤◌, ◌+◌, ◌^◌, ℕ, Bool, List, length, slice_index, IfOk, OnOk};
+ghost use Rattle.std.specs.Prelude.{◌≡◌, ◌<◌, ◌≤◌, ◌+◌, ◌^◌, ℕ, Bool, List, length, slice_index, IfOk, OnErr, OnOk};
 ghost use Rattle.std.specs.List.{slice_range};
 ghost use Rattle.std.specs.Bool.{MatchBool};
 ghost use Rattle.s360_device.specs.declared.device.Begin.{Begin};
-ghost use Rattle.s360_device.specs.Transfers.{IsInputOf, CanEndWith};
+ghost use Rattle.s360_device.specs.Transfers.{IsInputOf, IsOutput, CanEndWith};
 
 use std::alloc::AllocError;
 
@@ -90,19 +90,22 @@ pub trait Device {
         }
     }
 
-    /// What a command will do that ends with these bytes of output.
+    /// What a command will do that ends with these bytes of output. Only an output takes memory.
     fn plan(&self, command: u8, bytes: &[u8]) -> Result<Planned<Self::Change>, AllocError>
         requires can { CanEndWith (begin_of self.now command) bytes.now }
         ensures can { IfOk result (λ p. can_swap (bare self.now) p.change) }
         ensures row { IfOk result (λ p. is_after self.now command bytes.now (after_swap (bare self.now) p.change)) }
         ensures back { IfOk result (λ p. needs (change_after_swap (bare self.now) p.change) ≡ 0) }
         ensures alters { IfOk result (λ p. MatchBool p.alters (is_after self.now command bytes.now self.now → ⊥) (is_after self.now command bytes.now self.now)) }
-        ensures exception { IfOk result (λ p. p.exception ≡ exception_of self.now command) };
+        ensures exception { IfOk result (λ p. p.exception ≡ exception_of self.now command) }
+        ensures memory { OnErr result (IsOutput (begin_of self.now command)) };
 
-    /// Makes room for a change, after which its exchange takes no memory. The device is as before.
+    /// Makes room for a change, after which its exchange takes no memory. The device is as before. It takes memory only
+    /// if the change needs room.
     fn room(&mut self, change: &Self::Change) -> Result<(), AllocError>
         ensures contents { bare self.new ≡ bare self.old }
-        ensures ok { OnOk result (needs change.now ≤ room_of self.new) };
+        ensures ok { OnOk result (needs change.now ≤ room_of self.new) }
+        ensures memory { OnErr result (0 < needs change.now) };
 
     /// Exchanges the device with a change for which there is room. It takes no memory. Done again, it
     /// restores both; a planned change that was made wants no room to be taken back.

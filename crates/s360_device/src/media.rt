@@ -1,5 +1,5 @@
 //! What is a device's own. Source: GA22-6821, "Input/Output Operations".
-ghost use Rattle.std.specs.Prelude.{◌≡◌, ◌<◌, ◌≤◌, ◌^◌, ℕ, IfOk, OnOk, length};
+ghost use Rattle.std.specs.Prelude.{◌≡◌, ◌<◌, ◌≤◌, ◌^◌, ℕ, IfOk, OnErr, OnOk, length};
 ghost use Rattle.s360_device.specs.DeviceRows.{IsRow, bytes_given};
 ghost use Rattle.s360_device.specs.Kinds.{Kind, MakesMedia, RestoresBoth};
 ghost use Rattle.s360_device.specs.Rows.{media_written, row_input};
@@ -48,10 +48,12 @@ pub trait Media {
         requires fits { CanWrite (kind.table.rows (kind.see (whole self.now)) code) bytes.now }
         ensures { IfOk result (λ x. MakesMedia kind (whole self.now) (media_written (kind.see (whole self.now)) (kind.table.rows (kind.see (whole self.now)) code) bytes.now) x) };
 
-    /// Makes room for a change, after which its exchange takes no memory. The media are as before.
+    /// Makes room for a change, after which its exchange takes no memory. The media are as before. It takes memory only
+    /// if the change needs room.
     fn make_room(&mut self, change: &Self::Change) -> Result<(), AllocError>
         ensures contents { whole self.new ≡ whole self.old }
-        ensures ok { OnOk result (kind.needs change.now ≤ room_of self.new) };
+        ensures ok { OnOk result (kind.needs change.now ≤ room_of self.new) }
+        ensures memory { OnErr result (0 < kind.needs change.now) };
 
     /// Exchanges the media with a change for which there is room. It takes no memory.
     fn exchange(&mut self, change: &mut Self::Change)

@@ -1,6 +1,6 @@
 //! What a command does at the end of a device's list of items, such as the cards that were punched, and
 //! what takes it back.
-ghost use Rattle.std.specs.Prelude.{◌≡◌, ◌≤◌, ◌+◌, vec_len, vec_capacity, OnOk};
+ghost use Rattle.std.specs.Prelude.{◌≡◌, ◌<◌, ◌≤◌, ◌+◌, vec_len, vec_capacity, OnErr, OnOk};
 ghost use Rattle.s360_device.specs.Motions.{CanMove, items_put, after_motion};
 ghost use Rattle.s360_device.specs.Motions.{motion_back};
 
@@ -19,10 +19,11 @@ pub enum Motion<T> {
 }
 
 impl<T: Drop> Motion<T> {
-    /// Makes room for it, after which it takes no memory.
+    /// Makes room for it, after which it takes no memory. Only an item that is put there needs room.
     pub fn make_room(&self, items: &mut Vec<T>) -> Result<(), AllocError>
         ensures items { items.new.items ≡ items.old.items }
         ensures ok { OnOk result (vec_len items.new + items_put self.now ≤ vec_capacity items.new) }
+        ensures memory { OnErr result (0 < items_put self.now) }
     {
         match self {
             Motion::Put(_) => items.reserve(1),

@@ -2,7 +2,7 @@
 //!
 //! They stand as spans, so that a report of many bytes in one run is as short as that of one. Two
 //! spans stand within the value, so that the report of a plain instruction takes no memory.
-ghost use Rattle.std.specs.Prelude.{◌≡◌, ◌↔◌, [], ◌-◌, length, slice_get, IfOk, IfSome, IsTrue};
+ghost use Rattle.std.specs.Prelude.{◌≡◌, ◌≢◌, ◌↔◌, [], ◌-◌, length, slice_get, IfOk, IfSome, IsTrue, OnErr};
 ghost use Rattle.s360_machine.specs.Change.{places_of_change};
 ghost use Rattle.s360_machine.specs.ChangeSpans.{spans_of};
 ghost use Rattle.s360_store.specs.Spans.{AreSpans, places_of_spans};
@@ -88,13 +88,14 @@ impl SpanList {
 }
 
 impl Places {
-    /// The places of the last of the changes, if there is one.
+    /// The places of the last of the changes, if there is one. Where there are none it takes no memory.
     #[inline(always)]
     pub(crate) fn of_last(alloc: Global, changes: &Packed) -> Result<Places, AllocError>
-        ensures { IfOk result (λ places. IfSome (slice_get changes.now (length changes.now - 1)) (λ x. places ≡ places_of_change x)) }
+        ensures places { IfOk result (λ places. IfSome (slice_get changes.now (length changes.now - 1)) (λ x. places ≡ places_of_change x)) }
+        ensures memory { OnErr result (IfSome (slice_get changes.now (length changes.now - 1)) (λ x. places_of_change x ≢ [])) }
     {
         let number = changes.len();
-        if number == 0 {
+        if number == 0 || changes.count(number) == 0 {
             let spans = SpanList::Within(None, None);
             return Ok(Places { spans, count: 0 });
         }

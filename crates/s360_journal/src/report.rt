@@ -1,5 +1,5 @@
 //! What an accepted event altered.
-ghost use Rattle.std.specs.Prelude.{◌≡◌, ◌↔◌, ◌-◌, List, [], length, slice_get, IfOk, IfSome, IsTrue};
+ghost use Rattle.std.specs.Prelude.{◌≡◌, ◌≢◌, ◌↔◌, ◌-◌, List, [], length, slice_get, IfOk, IfSome, IsTrue, OnErr};
 ghost use Rattle.s360_machine.specs.Change.{places_of_change};
 ghost use Rattle.s360_journal.specs.Reports.{IsReport};
 
@@ -25,9 +25,11 @@ pub(crate) fn is_idle(changes: &Packed) -> bool
 }
 
 impl Report {
-    /// The report of the event that made the last of the changes, if there is one.
+    /// The report of the event that made the last of the changes, if there is one. Where nothing was altered it takes no
+    /// memory.
     pub(crate) fn of_last(alloc: Global, changes: &Packed) -> Result<Report, AllocError>
-        ensures { IfOk result (λ report. IfSome (slice_get changes.now (length changes.now - 1)) (λ x. IsReport report (places_of_change x))) }
+        ensures report { IfOk result (λ report. IfSome (slice_get changes.now (length changes.now - 1)) (λ x. IsReport report (places_of_change x))) }
+        ensures memory { OnErr result (IfSome (slice_get changes.now (length changes.now - 1)) (λ x. places_of_change x ≢ [])) }
     {
         let places = Places::of_last(alloc, changes)?;
         if places.is_empty() {

@@ -2,7 +2,7 @@
 -- exchange done again takes the event back. Cells have the places of the core, control cells those
 -- of the control part, and the other changes those of the units, so that a change alone tells which
 -- places it alters.
-use Rattle.std.specs.Prelude.{◌++◌, ◌≤◌, Option, List, IfSome}
+use Rattle.std.specs.Prelude.{◌++◌, ◌<◌, ◌≤◌, Option, List, IfSome, MatchOption}
 use Rattle.s360_model.specs.Exchanges.{CanIfAny, after_if_any, back_if_any}
 use Rattle.s360_store.specs.declared.place.Place.{Place}
 use Rattle.s360_store.specs.declared.place.Cell.{Cell}
@@ -38,6 +38,10 @@ CanSwap w x = AreCellsOf w.core x.cells × HasEachControlOnce x.control × CanIf
 -- the room is enough for the exchange
 abbrev pub HasRoom : Spare → Change → Type 0
 HasRoom s x = IfSome x.media (λ y. media_needs y ≤ room_for s (unit_of_change y))
+
+-- the exchange wants room: that of a device in which an item is put
+abbrev pub NeedsRoom : Change → Type 0
+NeedsRoom x = MatchOption x.media ⊥ (λ y. 0 < media_needs y)
 
 -- the exchange wants no room
 abbrev pub NeedsNoRoom : Change → Type 0

@@ -1,6 +1,6 @@
 //! The machine: its state, and the events that change it.
 ghost use Rattle.std.specs.Prelude.{◌≡◌, ◌≤◌, [], length, slice_index, None, Err, OnOk, IfOk, IfSome, IsOkUnless};
-ghost use Rattle.std.specs.Prelude.{MatchOption};
+ghost use Rattle.std.specs.Prelude.{MatchOption, OnErr};
 ghost use Rattle.std.specs.Option.{option_copied, option_map};
 ghost use Rattle.std.specs.Bool.{MatchBool};
 ghost use Rattle.s360_model.specs.Storage.{is_storage_size};
@@ -8,7 +8,7 @@ ghost use Rattle.s360_store.specs.declared.fault.StoreFault.TheVariants.{Size, M
 ghost use Rattle.s360_machine.specs.Machine.{Machine as SeenMachine, new_machine, room_for, storage_size, seen};
 ghost use Rattle.s360_store.specs.Cells.{AllFit, AreCellsOf};
 ghost use Rattle.s360_machine.specs.Change.{CanSwap, after_swap, change_after_swap};
-ghost use Rattle.s360_machine.specs.Change.{HasRoom, NeedsNoRoom};
+ghost use Rattle.s360_machine.specs.Change.{HasRoom, NeedsNoRoom, NeedsRoom};
 ghost use Rattle.s360_machine.specs.Changes.{AreFit, change_of, change_of_parts};
 ghost use Rattle.s360_machine.specs.IoChanges.{CanSwapMedia, media_needs, unit_of_change};
 ghost use Rattle.s360_machine.specs.Packed.{change_of_row, lists};
@@ -311,11 +311,13 @@ impl Machine {
         self.changes_planned(&plan, self.planned(self.control))
     }
 
-    /// Makes room for a change, after which its exchange takes no memory. The whole is as before.
+    /// Makes room for a change, after which its exchange takes no memory. The whole is as before. It takes memory only if
+    /// the change needs room.
     #[inline(always)]
     pub fn room(&mut self, changes: &Changes) -> Result<(), AllocError>
         ensures whole { self.new.whole ≡ self.old.whole }
         ensures ok { OnOk result (HasRoom self.new.spare changes.now) }
+        ensures memory { OnErr result (NeedsRoom changes.now) }
     {
         let Some(change) = changes.media() else {
             return Ok(());

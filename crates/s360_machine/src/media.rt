@@ -1,6 +1,6 @@
 //! The devices of the machine, and what an event alters of them. Source: GA22-6821, "Input/Output
 //! Operations".
-ghost use Rattle.std.specs.Prelude.{◌≡◌, ◌≤◌, Some, None, IfOk, OnOk, length};
+ghost use Rattle.std.specs.Prelude.{◌≡◌, ◌<◌, ◌≤◌, Some, None, IfOk, OnErr, OnOk, length};
 ghost use Rattle.s360_print.specs.TypedLines.{line_limit};
 ghost use Rattle.s360_machine.specs.IoChanges.{CanSwapMedia, media_after_swap, media_change_after_swap};
 ghost use Rattle.s360_machine.specs.IoChanges.{media_needs, unit_of_change};
@@ -136,10 +136,11 @@ impl Devices {
         Some(MediaChange::Reader(self.reader.plan_end_key()))
     }
 
-    /// Makes room for a change, after which its exchange takes no memory.
+    /// Makes room for a change, after which its exchange takes no memory. It takes memory only if the change needs room.
     pub(crate) fn make_room(&mut self, change: &MediaChange) -> Result<(), AllocError>
         ensures media { media_of self.new ≡ media_of self.old }
         ensures ok { OnOk result (media_needs change.now ≤ room_for (room_of self.new) (unit_of_change change.now)) }
+        ensures memory { OnErr result (0 < media_needs change.now) }
     {
         match change {
             MediaChange::Reader(change) => self.reader.room(change),

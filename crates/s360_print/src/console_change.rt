@@ -1,5 +1,5 @@
 //! What a command or the operator does to the console's media.
-ghost use Rattle.std.specs.Prelude.{◌≡◌, ◌≤◌, ◌+◌, vec_len, vec_capacity, OnOk};
+ghost use Rattle.std.specs.Prelude.{◌≡◌, ◌<◌, ◌≤◌, ◌+◌, vec_len, vec_capacity, OnErr, OnOk};
 ghost use Rattle.s360_print.specs.ConsoleChanges.{CanChangeList, entered_after, items_needed, list_change_back};
 ghost use Rattle.s360_print.specs.ConsoleChanges.{typed_after};
 
@@ -26,7 +26,7 @@ pub(crate) enum ListChange {
 }
 
 impl ListChange {
-    /// Makes room for it, after which it takes no memory.
+    /// Makes room for it, after which it takes no memory. Only an item that is put into a list needs room.
     pub(crate) fn make_room(
         &self,
         typed: &mut Vec<TypedItem>,
@@ -36,6 +36,7 @@ impl ListChange {
         ensures entered { entered.new.items ≡ entered.old.items }
         ensures room_typed { OnOk result (vec_len typed.new + items_needed self.now ≤ vec_capacity typed.new) }
         ensures room_entered { OnOk result (vec_len entered.new + items_needed self.now ≤ vec_capacity entered.new) }
+        ensures memory { OnErr result (0 < items_needed self.now) }
     {
         match self {
             ListChange::Typed(Motion::Put(_)) | ListChange::Entered(Motion::Put(_)) => {

@@ -1,5 +1,5 @@
 //! What a command does to the slots in which a tape's items lie, and what takes it back.
-ghost use Rattle.std.specs.Prelude.{◌≡◌, ◌≤◌, ◌+◌, vec_len, vec_capacity, OnOk};
+ghost use Rattle.std.specs.Prelude.{◌≡◌, ◌<◌, ◌≤◌, ◌+◌, vec_len, vec_capacity, OnErr, OnOk};
 ghost use Rattle.s360_tape.specs.Slots.{CanChangeSlot, slots_put, after_slot, slot_back};
 
 use crate::item::Item;
@@ -17,10 +17,11 @@ pub enum SlotChange {
 }
 
 impl SlotChange {
-    /// Makes room for it, after which it takes no memory.
+    /// Makes room for it, after which it takes no memory. Only a slot that is put at the end needs room.
     pub(crate) fn make_room(&self, slots: &mut Vec<Item>) -> Result<(), AllocError>
         ensures slots { slots.new.items ≡ slots.old.items }
         ensures ok { OnOk result (vec_len slots.new + slots_put self.now ≤ vec_capacity slots.new) }
+        ensures memory { OnErr result (0 < slots_put self.now) }
     {
         match self {
             SlotChange::End(motion) => motion.make_room(slots),

@@ -4,9 +4,9 @@ use Rattle.s360_channel.proofs.engine.plan_word.Goals.{in-Input+in_ok-step-in-In
 
 pub returns : goal.returns
 returns g c = elim c.match-begin.branch [
-  | in-Input+in_ok-step-in-Input w ↦ rw (w.plan-is, w.step-is, ← c.begin.ensures.begun, w.in-Input.is) w.in_ok-step-in-Input.ensures
-  | in-Output+in_ok-step-in-Output w ↦ rw (w.plan-is, w.step-is, ← c.begin.ensures.begun, w.in-Output.is) w.in_ok-step-in-Output.ensures
-  | in-Control+in_ok-step-in-Control w ↦ rw (w.plan-is, w.step-is, ← c.begin.ensures.begun, w.in-Control.is) w.in_ok-step-in-Control.ensures
-  | in-Refused+in_ok-step-in-Refused w ↦ rw (w.plan-is, w.step-is, ← c.begin.ensures.begun, w.in-Refused.is) w.in_ok-step-in-Refused.ensures
+  | in-Input+in_ok-step-in-Input w ↦ rw (w.plan-is, w.step-is, ← c.begin.ensures.begun, w.in-Input.is) record { memory = tt; executes = w.in_ok-step-in-Input.ensures }
+  | in-Output+in_ok-step-in-Output w ↦ rw (w.plan-is, w.step-is, ← c.begin.ensures.begun, w.in-Output.is) record { memory = tt; executes = w.in_ok-step-in-Output.ensures }
+  | in-Control+in_ok-step-in-Control w ↦ rw (w.plan-is, w.step-is, ← c.begin.ensures.begun, w.in-Control.is) record { memory = tt; executes = w.in_ok-step-in-Control.ensures.executes }
+  | in-Refused+in_ok-step-in-Refused w ↦ rw (w.plan-is, w.step-is, ← c.begin.ensures.begun, w.in-Refused.is) record { memory = tt; executes = w.in_ok-step-in-Refused.ensures.executes }
   | in-NotYet w ↦ rw (w.plan-is, w.step-is, ← c.begin.ensures.begun, w.in-NotYet.is) search rules
 ]

@@ -1,5 +1,4 @@
 use Rattle.std.proofs.Common.{◌≡◌, ◌∙◌, ◌/◌, ◌%◌, length, arith}
-use Rattle.std.proofs.lemmas.List.Elements.{same_from_all_zip}
 use Rattle.std.proofs.lemmas.Bool.Decides.{nat_tests}
 use Rattle.std.specs.Simd.{first_chunks}
 use Rattle.s360_model.specs.Cards.{columns, IsDeckFile}
@@ -10,7 +9,7 @@ use Rattle.s360_device.proofs.deck.deck_from.Goals as goal
 are_cards_of_file : (c : goal.In_ok-cards) → IsDeckFile c.args.file.now c.in_ok-cards.cards.items
 are_cards_of_file c =
     let e : c.in_ok-cards.cards.items ≡ first_chunks columns (length c.args.file.now / columns) c.args.file.now
-    = c.in_ok-cards.ensures.items_if_clones_equal (λ x y p. same_from_all_zip _ x y p.whole (λ a b q. q)) ∙ c.as_chunks.ensures.front
+    = c.in_ok-cards.ensures.cards ∙ c.as_chunks.ensures.front
     in let whole : length c.args.file.now % columns ≡ 0 = grind (arith, nat_tests, c.as_chunks.ensures.back_len)
     in IsDeckFile-first_chunks c.args.file.now c.in_ok-cards.cards.items e whole
 

@@ -14,6 +14,6 @@ reported (Ok x) P Q h k = k x h
 reported (Err e) P Q h k = tt
 
 pub returns : goal.returns
-returns c = reported c.of_last.result _ _ c.of_last.ensures (λ r h s e is.
+returns c = reported c.of_last.result _ _ c.of_last.ensures.report (λ r h s e is.
     let last : (x : Change) × (slice_get c.self.inside.changes (length c.self.inside.changes - 1) ≡ Some x) = some-session c.self.inside.machine.whole c.self.inside.events c.self.inside.changes c.self.inside.limit c.args.self.now s e c.self.invariant.0 c.self.view_is is
     in subst (λ (ps : List Place). IsReport r ps) (alteration-session c.self.inside.machine.whole c.self.inside.events c.self.inside.changes last.0 c.self.inside.limit c.args.self.now s e c.self.invariant.0 c.self.view_is last.1 is) (rw last.1 at h))
