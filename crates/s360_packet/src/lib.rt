@@ -1,0 +1,10 @@
+//! The protocol by which gdb drives a target over a pipe: packets, the requests that they carry, and the answers.
+//! Bytes go in and requests come out, answers go in and bytes come out; of a machine nothing is known here.
+//! Source: the gdb manual, "Remote Serial Protocol".
+#![tactic(auto)]
+
+mod framing;
+mod receiver;
+
+pub use framing::frame;
+pub use receiver::{Acknowledging, Received, Receiver, Stage};
