@@ -1,2 +1,3 @@
 pub mod Framing
+pub mod Laws
 pub mod Receiving

@@ -4,7 +4,9 @@
 #![tactic(auto)]
 
 mod framing;
+mod laws;
 mod receiver;
 
 pub use framing::frame;
+pub use laws::packets_are_read_back;
 pub use receiver::{Acknowledging, Received, Receiver, Stage};

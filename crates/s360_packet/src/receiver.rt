@@ -1,6 +1,6 @@
 //! Packets as they are received, a byte at a time. Source: gdb manual, "Remote Serial Protocol", "Overview"
 //! and "Packet Acknowledgment".
-ghost use Rattle.std.specs.Prelude.{◌≡◌, Some, None, IfOk};
+ghost use Rattle.std.specs.Prelude.{◌≡◌, ◌≤◌, Some, None, IfOk, length};
 ghost use Rattle.s360_packet.specs.Receiving.{between_packets, after_byte, received_at};
 ghost use Rattle.s360_packet.specs.Receiving.{begun, ended, with_data, after_data, after_escape, after_first};
 ghost use Rattle.s360_packet.specs.Receiving.{received_in, whole_packet};
@@ -115,7 +115,8 @@ impl Receiver {
 
     /// The data of the packet that came last, or what has come of it so far.
     pub fn data(&self) -> &[u8]
-        ensures { result.now ≡ self.now.bytes }
+        ensures bytes { result.now ≡ self.now.bytes }
+        ensures within { length result.now ≤ self.now.size }
     {
         self.bytes.as_slice()
     }

@@ -1,0 +1,7 @@
+//! Laws of the definitions, each the contract of a call that does nothing.
+ghost use Rattle.s360_packet.specs.Laws.{PacketsAreReadBack};
+
+/// Data that is sent as a packet is received as that data, at the packet's last byte.
+pub fn packets_are_read_back()
+    ensures { PacketsAreReadBack }
+{}
