@@ -1,3 +1,6 @@
+pub mod Answers
 pub mod Framing
+pub mod Hexadecimal
 pub mod Laws
 pub mod Receiving
+pub mod Target

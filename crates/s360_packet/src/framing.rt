@@ -1,8 +1,8 @@
 //! Packets as they are sent. Source: gdb manual, "Remote Serial Protocol", "Overview".
 ghost use Rattle.std.specs.Prelude.{◌≡◌, ◌++◌, ◌∷◌, ◌<◌, ◌+◌, ◌%◌, IfOk, OnOk, sum};
-ghost use Rattle.std.specs.Char.{digit_char};
-ghost use Rattle.s360_packet.specs.Framing.{framed, escaped, escaped_byte, is_special, two_digits};
+ghost use Rattle.s360_packet.specs.Framing.{framed, escaped, escaped_byte, is_special};
 
+use crate::hexadecimal::push_two_digits;
 use std::alloc::AllocError;
 
 /// Adds the packet of some data. `#`, `$`, `*` and `}` are escaped.
@@ -39,25 +39,4 @@ fn is_special(byte: u8) -> bool
     ensures { result ≡ is_special byte }
 {
     matches!(byte, b'#' | b'$' | b'*' | b'}')
-}
-
-/// Adds a byte in two hexadecimal digits.
-pub(crate) fn push_two_digits(out: &mut Vec<u8>, byte: u8) -> Result<(), AllocError>
-    ensures { OnOk result (out.new.items ≡ out.old.items ++ two_digits byte) }
-{
-    out.push(digit_of(byte / 16))?;
-    out.push(digit_of(byte % 16))?;
-    Ok(())
-}
-
-/// The hexadecimal digit of a number below 16.
-fn digit_of(value: u8) -> u8
-    requires { value < 16 }
-    ensures { result ≡ digit_char value }
-{
-    if value < 10 {
-        b'0' + value
-    } else {
-        b'a' + (value - 10)
-    }
 }

@@ -3,10 +3,15 @@
 //! Source: the gdb manual, "Remote Serial Protocol".
 #![tactic(auto)]
 
+mod answer;
 mod framing;
+mod hexadecimal;
 mod laws;
 mod receiver;
+mod target;
 
+pub use answer::{Answer, Stop, write_answer};
 pub use framing::frame;
 pub use laws::packets_are_read_back;
 pub use receiver::{Acknowledging, Received, Receiver, Stage};
+pub use target::{REGISTERS, RegisterValue, description, register_value};
