@@ -1,1 +1,2 @@
 mod PacketLemmas
+mod RegisterLemmas

@@ -1,5 +1,10 @@
 -- What the definitions come to.
 use Rattle.std.specs.Prelude.{◌≡◌, ◌≤◌, ◌-◌, ℕ, Option, Some, None, List, [], ◌∷◌, ◌++◌, length, replicate}
+use Rattle.std.specs.List.{flat_map, range_with_len}
+use Rattle.s360_packet.specs.Answers.{answer_text, registers_text}
+use Rattle.s360_packet.specs.Target.{register_value}
+use Rattle.s360_packet.specs.declared.answer.Answer.TheVariants.{Register}
+use Rattle.s360_packet.specs.declared.target.RegisterValue.{RegisterValue}
 use Rattle.s360_packet.specs.Framing.{framed}
 use Rattle.s360_packet.specs.Receiving.{Receiving, received_along, after_bytes}
 use Rattle.s360_packet.specs.declared.receiver.Stage.TheVariants.{Between}
@@ -19,3 +24,14 @@ pub record IsReadBack (r : Receiving) (bytes : List ℕ) : Type 0 where
 -- whatever the data is, if there is as much of it as was told at most, and whatever has come before
 abbrev pub PacketsAreReadBack : Type 0
 PacketsAreReadBack = (r : Receiving) (bytes : List ℕ) → length bytes ≤ r.size → IsReadBack r bytes
+
+-- what `p` answers of a register that there is
+abbrev pub answer_of_register : Option RegisterValue → List ℕ
+answer_of_register (Some value) = answer_text (Register value)
+answer_of_register None = []
+
+-- `g` answers what `p` answers of each register, one after another
+abbrev pub AllRegistersAreEach : Type 0
+AllRegistersAreEach =
+    (words : List ℕ) → length words ≡ 18
+    → registers_text words ≡ flat_map (λ number. answer_of_register (register_value words number)) (range_with_len 0 51)

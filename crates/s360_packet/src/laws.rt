@@ -1,7 +1,12 @@
 //! Laws of the definitions, each the contract of a call that does nothing.
-ghost use Rattle.s360_packet.specs.Laws.{PacketsAreReadBack};
+ghost use Rattle.s360_packet.specs.Laws.{PacketsAreReadBack, AllRegistersAreEach};
 
 /// Data that is sent as a packet is received as that data, at the packet's last byte.
 pub fn packets_are_read_back()
     ensures { PacketsAreReadBack }
+{}
+
+/// All registers are answered as each is, one after another in the order of their numbers.
+pub fn all_registers_are_each()
+    ensures { AllRegistersAreEach }
 {}

@@ -12,6 +12,6 @@ mod target;
 
 pub use answer::{Answer, Stop, write_answer};
 pub use framing::frame;
-pub use laws::packets_are_read_back;
+pub use laws::{all_registers_are_each, packets_are_read_back};
 pub use receiver::{Acknowledging, Received, Receiver, Stage};
 pub use target::{REGISTERS, RegisterValue, description, register_value};
