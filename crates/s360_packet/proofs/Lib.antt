@@ -1,2 +1,3 @@
 mod PacketLemmas
 mod RegisterLemmas
+mod BytesLemmas

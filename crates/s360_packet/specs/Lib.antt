@@ -3,4 +3,5 @@ pub mod Framing
 pub mod Hexadecimal
 pub mod Laws
 pub mod Receiving
+pub mod Requests
 pub mod Target

@@ -4,14 +4,19 @@
 #![tactic(auto)]
 
 mod answer;
+mod fields;
 mod framing;
 mod hexadecimal;
 mod laws;
 mod receiver;
+mod request;
+mod request_reader;
 mod target;
 
 pub use answer::{Answer, Stop, write_answer};
 pub use framing::frame;
 pub use laws::{all_registers_are_each, packets_are_read_back};
 pub use receiver::{Acknowledging, Received, Receiver, Stage};
+pub use request::{Payload, Point, Request, RequestFault, Thread};
+pub use request_reader::read_request;
 pub use target::{REGISTERS, RegisterValue, description, register_value};
