@@ -1,3 +1,5 @@
 mod PacketLemmas
 mod RegisterLemmas
 mod BytesLemmas
+mod FieldLemmas
+mod RequestLemmas

@@ -1,16 +1,15 @@
 -- A packet that is sent is received.
-use Rattle.std.proofs.Common.{◌≡◌, ◌≢◌, ◌<◌, ◌≤◌, ◌+◌, ◌-◌, ◌*◌, ◌/◌, ◌%◌, ◌++◌, ℕ, zero, suc, Option, Some, None, List, [], ◌∷◌, Bool, true, false, cond, ◌||◌, refl, sym, ap, ◌∙◌, length, nat_lt, nat_eq, replicate, sum, bit_xor, arith, rules, eq-eqb, append_assoc}
+use Rattle.std.proofs.Common.{◌≡◌, ◌<◌, ◌≤◌, ◌+◌, ◌-◌, ◌*◌, ◌/◌, ◌%◌, ◌++◌, ℕ, zero, suc, Some, None, List, [], ◌∷◌, Bool, true, false, cond, ◌||◌, refl, ap, ◌∙◌, length, nat_lt, nat_eq, replicate, sum, bit_xor, arith, rules, eq-eqb, append_assoc}
 use Rattle.std.proofs.lemmas.Bool.{eqb-true, lt-ltb}
 use Rattle.std.proofs.lemmas.Bool.Decides.{nat_tests}
 use Rattle.std.proofs.lemmas.List.{append-nil, length-append, replicate-append-replicate}
 use Rattle.std.proofs.lemmas.List.Sums.{fold-append}
 use Rattle.std.proofs.lemmas.Str.{digit_value-digit_char}
 use Rattle.std.specs.List.{fold}
-use Rattle.std.specs.Char.{digit_value, digit_char, is_digit}
-use Rattle.s360_packet.specs.Framing.{two_digits, is_special, escaped_byte, escaped, framed}
-use Rattle.s360_packet.specs.Receiving.{Receiving, after_byte, received_at, after_bytes, received_along, begun}
-use Rattle.s360_packet.specs.declared.receiver.Stage.TheVariants.{Between, Data, FirstDigit, LastDigit}
-use Rattle.s360_packet.specs.declared.receiver.Received.{Received}
+use Rattle.std.specs.Char.{digit_char, is_digit}
+use Rattle.s360_packet.specs.Framing.{two_digits, escaped_byte, escaped, framed}
+use Rattle.s360_packet.specs.Receiving.{Receiving, after_byte, received_at, after_bytes, received_along}
+use Rattle.s360_packet.specs.declared.receiver.Stage.TheVariants.{Between, Data}
 use Rattle.s360_packet.specs.declared.receiver.Received.TheVariants.{Packet}
 use Rattle.s360_packet.specs.Laws.{IsReadBack}
 

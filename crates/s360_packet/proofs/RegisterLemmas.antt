@@ -1,5 +1,5 @@
 -- The registers of the machine one after another.
-use Rattle.std.proofs.Common.{◌≡◌, ◌++◌, ℕ, List, refl, ap, ◌∙◌, length, get_or, replicate}
+use Rattle.std.proofs.Common.{◌≡◌, ℕ, List, refl, ap, ◌∙◌, length, get_or}
 use Rattle.std.proofs.lemmas.List.FromFn.{fill_by_all}
 use Rattle.std.specs.List.{flat_map, range_with_len}
 use Rattle.s360_packet.specs.Answers.{registers_text}

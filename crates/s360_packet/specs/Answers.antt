@@ -1,5 +1,5 @@
 -- The answers (gdb manual, "Remote Serial Protocol", "Packets", "Stop Reply Packets", "General Query Packets").
-use Rattle.std.specs.Prelude.{ℕ, List, [], ◌∷◌, ◌++◌, codes, replicate}
+use Rattle.std.specs.Prelude.{ℕ, List, [], ◌++◌, codes, replicate}
 use Rattle.std.specs.List.{flat_map}
 use Rattle.s360_packet.specs.Framing.{two_digits}
 use Rattle.s360_packet.specs.Hexadecimal.{bytes_text, word_text, number_text}

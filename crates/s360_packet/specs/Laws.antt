@@ -1,10 +1,14 @@
 -- What the definitions come to.
-use Rattle.std.specs.Prelude.{◌≡◌, ◌≤◌, ◌-◌, ℕ, Option, Some, None, List, [], ◌∷◌, ◌++◌, length, replicate}
+use Rattle.std.specs.Prelude.{◌≡◌, ◌≤◌, ◌-◌, ℕ, Ok, Option, Some, None, List, [], ◌∷◌, ◌++◌, length, replicate}
 use Rattle.std.specs.List.{flat_map, range_with_len}
 use Rattle.s360_packet.specs.Answers.{answer_text, registers_text}
 use Rattle.s360_packet.specs.Target.{register_value}
 use Rattle.s360_packet.specs.declared.answer.Answer.TheVariants.{Register}
 use Rattle.s360_packet.specs.declared.target.RegisterValue.{RegisterValue}
+use Rattle.s360_packet.specs.Requests.{reading_of}
+use Rattle.s360_packet.specs.RequestTexts.{request_text, binary_write_text, IsRequest, IsWord, IsData}
+use Rattle.s360_packet.specs.declared.request.Request.{Request}
+use Rattle.s360_packet.specs.declared.request.Request.TheVariants.{WriteStorage}
 use Rattle.s360_packet.specs.Framing.{framed}
 use Rattle.s360_packet.specs.Receiving.{Receiving, received_along, after_bytes}
 use Rattle.s360_packet.specs.declared.receiver.Stage.TheVariants.{Between}
@@ -35,3 +39,11 @@ abbrev pub AllRegistersAreEach : Type 0
 AllRegistersAreEach =
     (words : List ℕ) → length words ≡ 18
     → registers_text words ≡ flat_map (λ number. answer_of_register (register_value words number)) (range_with_len 0 51)
+
+-- a request that is written is read as that request; so is a write of storage with its bytes as they are
+abbrev pub RequestsAreReadBack : Type 0
+RequestsAreReadBack = (request : Request) → IsRequest request → reading_of (request_text request) ≡ Ok request
+
+abbrev pub BinaryWritesAreReadBack : Type 0
+BinaryWritesAreReadBack =
+    (at : ℕ) (bytes : List ℕ) → IsWord at → IsData bytes → reading_of (binary_write_text at bytes) ≡ Ok (WriteStorage at bytes)

@@ -3,5 +3,6 @@ pub mod Framing
 pub mod Hexadecimal
 pub mod Laws
 pub mod Receiving
+pub mod RequestTexts
 pub mod Requests
 pub mod Target

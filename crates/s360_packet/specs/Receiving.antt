@@ -1,5 +1,5 @@
 -- What a stream of bytes means to who receives it (gdb manual, "Remote Serial Protocol", "Overview").
-use Rattle.std.specs.Prelude.{ℕ, ◌+◌, ◌*◌, ◌%◌, nat_eq, nat_lt, Bool, true, false, not, ◌||◌, if◌then◌else◌, Option, Some, None, List, [], ◌∷◌, ◌++◌, length, bit_xor}
+use Rattle.std.specs.Prelude.{ℕ, ◌+◌, ◌*◌, ◌%◌, nat_eq, nat_lt, Bool, true, false, if◌then◌else◌, Option, Some, None, List, [], ◌∷◌, ◌++◌, length, bit_xor}
 use Rattle.std.specs.Char.{digit_value, is_digit}
 use Rattle.s360_packet.specs.declared.receiver.Stage.{Stage}
 use Rattle.s360_packet.specs.declared.receiver.Stage.TheVariants.{Between, Data, Escape, FirstDigit, LastDigit}

@@ -1,5 +1,5 @@
 -- What gdb is told of the target (gdb manual, "Target Descriptions", "General Query Packets", "Packets").
-use Rattle.std.specs.Prelude.{ℕ, ◌≤◌, nat_lt, nat_le, if◌then◌else◌, Option, Some, None, List, [], ◌∷◌, ◌++◌, codes, drop, take, length, slice_index, replicate}
+use Rattle.std.specs.Prelude.{ℕ, nat_lt, nat_le, if◌then◌else◌, Option, Some, None, List, [], ◌∷◌, ◌++◌, codes, drop, take, length, slice_index, replicate}
 use Rattle.std.specs.List.{flat_map}
 use Rattle.s360_packet.specs.declared.target.RegisterValue.{RegisterValue}
 use Rattle.s360_packet.specs.declared.target.RegisterValue.TheVariants.{Word, NoWord, NoDoubleword}

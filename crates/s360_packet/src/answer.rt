@@ -5,7 +5,7 @@ ghost use Rattle.s360_packet.specs.Answers.{answer_text, stop_text, registers_te
 ghost use Rattle.s360_packet.specs.Hexadecimal.{number_text};
 ghost use Rattle.s360_packet.specs.Target.{register_text};
 
-use crate::hexadecimal::{push_bytes, push_number, push_two_digits, push_word};
+use crate::hexadecimal::{push_bytes, push_number, push_text, push_two_digits, push_word};
 use crate::target::{REGISTERS, RegisterValue, push_description};
 use std::alloc::{AllocError, Global};
 
@@ -108,7 +108,7 @@ fn push_stop(alloc: Global, out: &mut Vec<u8>, stop: Stop) -> Result<(), AllocEr
         Stop::Quiet => push_text(out, "T00"),
         Stop::Watch { at } => {
             push_text(out, "T05watch:")?;
-            push_number(alloc, out, at)?;
+            push_number(alloc, out, u64::from(at))?;
             push_text(out, ";")
         }
         Stop::Breakpoint => push_text(out, "T05swbreak:;"),
@@ -153,14 +153,6 @@ fn push_supported(alloc: Global, out: &mut Vec<u8>, size: u32) -> Result<(), All
     ensures { OnOk result (out.new.items ≡ out.old.items ++ supported_text size) }
 {
     push_text(out, "PacketSize=")?;
-    push_number(alloc, out, size)?;
+    push_number(alloc, out, u64::from(size))?;
     push_text(out, FEATURES)
-}
-
-/// Adds a text.
-fn push_text(out: &mut Vec<u8>, text: &str) -> Result<(), AllocError>
-    ensures { OnOk result (out.new.items ≡ out.old.items ++ text.now) }
-{
-    out.extend_from_slice(text.as_bytes())?;
-    Ok(())
 }

@@ -7,7 +7,7 @@ ghost use Rattle.s360_packet.specs.Hexadecimal.{bytes_text, word_text, number_te
 use std::alloc::{AllocError, Global};
 
 /// Adds a number without leading zeros.
-pub(crate) fn push_number(alloc: Global, out: &mut Vec<u8>, number: u32) -> Result<(), AllocError>
+pub(crate) fn push_number(alloc: Global, out: &mut Vec<u8>, number: u64) -> Result<(), AllocError>
     ensures { OnOk result (out.new.items ≡ out.old.items ++ number_text number) }
 {
     let digits = format!(in alloc; "{number:x}")?;
@@ -51,4 +51,12 @@ fn digit_of(value: u8) -> u8
     } else {
         b'a' + (value - 10)
     }
+}
+
+/// Adds a text.
+pub(crate) fn push_text(out: &mut Vec<u8>, text: &str) -> Result<(), AllocError>
+    ensures { OnOk result (out.new.items ≡ out.old.items ++ text.now) }
+{
+    out.extend_from_slice(text.as_bytes())?;
+    Ok(())
 }

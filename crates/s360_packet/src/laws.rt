@@ -1,5 +1,6 @@
 //! Laws of the definitions, each the contract of a call that does nothing.
 ghost use Rattle.s360_packet.specs.Laws.{PacketsAreReadBack, AllRegistersAreEach};
+ghost use Rattle.s360_packet.specs.Laws.{RequestsAreReadBack, BinaryWritesAreReadBack};
 
 /// Data that is sent as a packet is received as that data, at the packet's last byte.
 pub fn packets_are_read_back()
@@ -9,4 +10,10 @@ pub fn packets_are_read_back()
 /// All registers are answered as each is, one after another in the order of their numbers.
 pub fn all_registers_are_each()
     ensures { AllRegistersAreEach }
+{}
+
+/// A request that is written is read as that request, and so is one of the two forms of a write of storage.
+pub fn requests_are_read_back()
+    ensures each { RequestsAreReadBack }
+    ensures binary { BinaryWritesAreReadBack }
 {}
