@@ -2,4 +2,5 @@ mod PacketLemmas
 mod RegisterLemmas
 mod BytesLemmas
 mod FieldLemmas
+mod KnownPackets
 mod RequestLemmas
