@@ -1,5 +1,5 @@
 -- What the definitions come to.
-use Rattle.std.specs.Prelude.{◌≡◌, ◌≤◌, ◌-◌, ℕ, Ok, Option, Some, None, List, [], ◌∷◌, ◌++◌, length, replicate}
+use Rattle.std.specs.Prelude.{◌≡◌, ◌≤◌, ◌<◌, ◌-◌, ℕ, Ok, Option, Some, None, List, [], ◌∷◌, ◌++◌, length, replicate}
 use Rattle.std.specs.List.{flat_map, range_with_len}
 use Rattle.s360_packet.specs.Answers.{answer_text, registers_text}
 use Rattle.s360_packet.specs.Target.{register_value}
@@ -13,21 +13,26 @@ use Rattle.s360_packet.specs.Framing.{framed}
 use Rattle.s360_packet.specs.Receiving.{Receiving, received_along, after_bytes}
 use Rattle.s360_packet.specs.declared.receiver.Stage.TheVariants.{Between}
 use Rattle.s360_packet.specs.declared.receiver.Received.{Received}
-use Rattle.s360_packet.specs.declared.receiver.Received.TheVariants.{Packet}
+use Rattle.s360_packet.specs.declared.receiver.Received.TheVariants.{Packet, TooLong}
 
--- nothing comes with all bytes but the last, and a packet with that
-abbrev pub at_the_last : ℕ → List (Option Received)
-at_the_last count = replicate (count - 1) None ++ Some Packet ∷ []
+-- nothing comes with all bytes but the last, and this with that
+abbrev pub at_the_last : Received → ℕ → List (Option Received)
+at_the_last came count = replicate (count - 1) None ++ Some came ∷ []
 
 -- some data, sent as a packet, comes as one at its last byte: just that data
 pub record IsReadBack (r : Receiving) (bytes : List ℕ) : Type 0 where
-  pub received : received_along r (framed bytes) ≡ at_the_last (length (framed bytes))
+  pub received : received_along r (framed bytes) ≡ at_the_last Packet (length (framed bytes))
   pub same : (after_bytes r (framed bytes)).bytes ≡ bytes
   pub between : (after_bytes r (framed bytes)).stage ≡ Between
 
 -- whatever the data is, if there is as much of it as was told at most, and whatever has come before
 abbrev pub PacketsAreReadBack : Type 0
 PacketsAreReadBack = (r : Receiving) (bytes : List ℕ) → length bytes ≤ r.size → IsReadBack r bytes
+
+-- and if there is more, that is told at its last byte
+abbrev pub PacketsTooLongAreTold : Type 0
+PacketsTooLongAreTold =
+    (r : Receiving) (bytes : List ℕ) → r.size < length bytes → received_along r (framed bytes) ≡ at_the_last TooLong (length (framed bytes))
 
 -- what `p` answers of a register that there is
 abbrev pub answer_of_register : Option RegisterValue → List ℕ

@@ -5,7 +5,7 @@ ghost use Rattle.s360_packet.specs.Answers.{answer_text, stop_text, registers_te
 ghost use Rattle.s360_packet.specs.Hexadecimal.{number_text};
 ghost use Rattle.s360_packet.specs.Target.{register_text};
 
-use crate::hexadecimal::{push_bytes, push_number, push_text, push_two_digits, push_word};
+use crate::pieces::{push_bytes, push_number, push_text, push_two_digits, push_word};
 use crate::target::{REGISTERS, RegisterValue, push_description};
 use std::alloc::{AllocError, Global};
 

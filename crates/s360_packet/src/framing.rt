@@ -2,7 +2,7 @@
 ghost use Rattle.std.specs.Prelude.{◌≡◌, ◌++◌, ◌∷◌, ◌<◌, ◌+◌, ◌%◌, IfOk, OnOk, sum};
 ghost use Rattle.s360_packet.specs.Framing.{framed, escaped, escaped_byte, is_special};
 
-use crate::hexadecimal::push_two_digits;
+use crate::pieces::push_two_digits;
 use std::alloc::AllocError;
 
 /// Adds the packet of some data. `#`, `$`, `*` and `}` are escaped.

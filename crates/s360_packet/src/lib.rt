@@ -6,8 +6,8 @@
 mod answer;
 mod fields;
 mod framing;
-mod hexadecimal;
 mod laws;
+mod pieces;
 mod receiver;
 mod request;
 mod request_reader;

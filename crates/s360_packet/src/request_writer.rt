@@ -4,7 +4,7 @@ ghost use Rattle.s360_packet.specs.RequestTexts.{request_text, binary_write_text
 ghost use Rattle.s360_packet.specs.RequestTexts.{point_text, thread_text, two_texts};
 ghost use Rattle.s360_packet.specs.Hexadecimal.{number_text};
 
-use crate::hexadecimal::{push_bytes, push_number, push_text, push_word};
+use crate::pieces::{push_bytes, push_number, push_text, push_word};
 use crate::request::{Point, Request, Thread};
 use std::alloc::{AllocError, Global};
 

@@ -1,4 +1,5 @@
-//! Numbers and bytes in hexadecimal, in lower case. Source: gdb manual, "Remote Serial Protocol", "Overview".
+//! What the texts of packets are made of: names, and numbers and bytes in hexadecimal, in lower case. Source: gdb
+//! manual, "Remote Serial Protocol", "Overview".
 ghost use Rattle.std.specs.Prelude.{◌≡◌, ◌++◌, ◌<◌, OnOk};
 ghost use Rattle.std.specs.Char.{digit_char};
 ghost use Rattle.s360_packet.specs.Framing.{two_digits};
