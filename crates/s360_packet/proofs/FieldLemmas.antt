@@ -10,6 +10,7 @@ use Rattle.std.specs.Fmt.{digits, digits_onto}
 use Rattle.std.specs.List.{list_all, prefix_len}
 use Rattle.std.specs.Str.Parse.{digits_value_after}
 use Rattle.s360_packet.specs.Hexadecimal.{number_text, word_text}
+use Rattle.s360_packet.proofs.DigitLemmas.{digit_read, not_true}
 use Rattle.s360_packet.specs.RequestTexts.{two_texts}
 use Rattle.s360_packet.specs.Requests.{Part, is_text, number_in, word_in, parted, two_numbers}
 
@@ -63,9 +64,6 @@ EachDigitPasses p = (d : ℕ) → d < 16 → p (digit_char d) ≡ true
 number_digits : (p : ℕ → Bool) → EachDigitPasses p → (n : ℕ) → n < 2 ^ 32 → AreDigitsOf p n 8 [] (number_text n)
 unfolding digits
 number_digits p each n low = digits_before p each 64 8 n [] low (omega arith) (omega arith)
-
-digit_read : EachDigitPasses (λ c. is_digit c 16)
-digit_read d low = rw (digit_value-digit_char d (omega arith)) (lt-ltb d 16 low)
 
 pub number_read : (n : ℕ) → n < 2 ^ 32 → number_in (number_text n) ≡ Ok n
 number_read n low =
@@ -163,10 +161,6 @@ word_read word low =
 
 no_minus : EachDigitPasses (λ b. not (nat_eq b 0x2D))
 no_minus d low = search (rules, nat_tests)
-
-not_true : (b : Bool) → not b ≡ true → b ≡ false
-not_true true h = cc
-not_true false h = refl
 
 not_none : (text : List ℕ) → list_all (λ b. not (nat_eq b 0x2D)) text ≡ true → is_text text (codes "-1") ≡ false
 not_none [] h = refl

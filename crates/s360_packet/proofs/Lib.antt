@@ -1,6 +1,7 @@
-mod PacketLemmas
-mod RegisterLemmas
 mod BytesLemmas
+mod DigitLemmas
 mod FieldLemmas
 mod KnownPackets
+mod PacketLemmas
+mod RegisterLemmas
 mod RequestLemmas

@@ -1,17 +1,18 @@
 -- A packet that is sent is received.
-use Rattle.std.proofs.Common.{◌≡◌, ◌<◌, ◌≤◌, ◌+◌, ◌-◌, ◌*◌, ◌/◌, ◌%◌, ◌++◌, ℕ, zero, suc, inl, inr, Some, None, List, [], ◌∷◌, Bool, true, false, cond, ◌||◌, refl, ap, ◌∙◌, length, nat_lt, nat_eq, replicate, sum, bit_xor, arith, rules, eq-eqb, append_assoc}
-use Rattle.std.proofs.lemmas.Bool.{cases_lt, eqb-true, le-ltb, lt-ltb}
+use Rattle.std.proofs.Common.{◌≡◌, ◌<◌, ◌≤◌, ◌+◌, ◌-◌, ◌*◌, ◌/◌, ◌%◌, ◌++◌, ℕ, zero, suc, inl, inr, Some, None, List, [], ◌∷◌, Bool, true, false, cond, not, ◌||◌, refl, ap, ◌∙◌, length, nat_lt, nat_eq, replicate, sum, bit_xor, arith, rules, eq-eqb, append_assoc}
+use Rattle.std.proofs.lemmas.Bool.{and_parts, cases_lt, eqb-true, le-ltb, lt-ltb}
 use Rattle.std.proofs.lemmas.Bool.Decides.{nat_tests}
 use Rattle.std.proofs.lemmas.List.{append-nil, length-append, replicate-append-replicate}
 use Rattle.std.proofs.lemmas.List.Sums.{fold-append}
 use Rattle.std.proofs.lemmas.Str.{digit_value-digit_char}
-use Rattle.std.specs.List.{fold}
-use Rattle.std.specs.Char.{digit_char, is_digit}
+use Rattle.std.specs.List.{fold, list_all}
+use Rattle.std.specs.Char.{digit_char}
 use Rattle.s360_packet.specs.Framing.{two_digits, escaped_byte, escaped, framed}
 use Rattle.s360_packet.specs.Receiving.{Receiving, with_data, after_byte, received_at, after_bytes, received_along}
 use Rattle.s360_packet.specs.declared.receiver.Stage.TheVariants.{Between, Data}
 use Rattle.s360_packet.specs.declared.receiver.Received.{Received}
 use Rattle.s360_packet.specs.declared.receiver.Received.TheVariants.{Packet, TooLong}
+use Rattle.s360_packet.proofs.DigitLemmas.{digit_read, not_true}
 use Rattle.s360_packet.specs.Laws.{IsReadBack, at_the_last}
 
 -- some bytes lead from one state to another, and nothing comes of them
@@ -164,9 +165,6 @@ data_over size before (byte ∷ bytes) total low room over =
     ]
 
 -- the end of a packet: what comes with `#` and the two digits, and the state behind them
-digit_read : (d : ℕ) → d < 16 → is_digit (digit_char d) 16 ≡ true
-digit_read d low = rw (digit_value-digit_char d (omega arith)) (lt-ltb d 16 low)
-
 no_dollar : (d : ℕ) → d < 16 → nat_eq (digit_char d) 0x24 ≡ false
 no_dollar d low = search (rules, nat_tests)
 
@@ -237,3 +235,14 @@ pub packet_too_long : (r : Receiving) (bytes : List ℕ) → r.size < length byt
 packet_too_long r bytes over =
     let found = data_over r.size [] bytes 0 (omega arith) (omega arith) (omega arith)
     in packet_comes r bytes found.0 true found.1
+
+pub between_dropped : (r : Receiving) (bytes : List ℕ) → r.stage ≡ Between → list_all (λ byte. not (nat_eq byte 0x24)) bytes ≡ true
+    → (after_bytes r bytes ≡ r) × (received_along r bytes ≡ replicate (length bytes) None)
+between_dropped r [] between none = (refl, refl)
+between_dropped r (byte ∷ bytes) between none =
+    let parts = and_parts (not (nat_eq byte 0x24)) (list_all (λ b. not (nat_eq b 0x24)) bytes) none
+    in let other : nat_eq byte 0x24 ≡ false = not_true (nat_eq byte 0x24) parts.0
+    in let same : after_byte r byte ≡ r = rw (other, between) refl
+    in let nothing : received_at r byte ≡ None = rw (other, between) refl
+    in let rest = between_dropped r bytes between parts.1
+    in (ap (λ q. after_bytes q bytes) same ∙ rest.0, rw (nothing, same, rest.1) refl)

@@ -1,6 +1,6 @@
 -- What the definitions come to.
-use Rattle.std.specs.Prelude.{◌≡◌, ◌≤◌, ◌<◌, ◌-◌, ℕ, Ok, Option, Some, None, List, [], ◌∷◌, ◌++◌, length, replicate}
-use Rattle.std.specs.List.{flat_map, range_with_len}
+use Rattle.std.specs.Prelude.{◌≡◌, ◌≤◌, ◌<◌, ◌-◌, ℕ, true, not, nat_eq, Ok, Option, Some, None, List, [], ◌∷◌, ◌++◌, length, replicate}
+use Rattle.std.specs.List.{flat_map, list_all, range_with_len}
 use Rattle.s360_packet.specs.Answers.{answer_text, registers_text}
 use Rattle.s360_packet.specs.Target.{register_value}
 use Rattle.s360_packet.specs.declared.answer.Answer.TheVariants.{Register}
@@ -33,6 +33,12 @@ PacketsAreReadBack = (r : Receiving) (bytes : List ℕ) → length bytes ≤ r.s
 abbrev pub PacketsTooLongAreTold : Type 0
 PacketsTooLongAreTold =
     (r : Receiving) (bytes : List ℕ) → r.size < length bytes → received_along r (framed bytes) ≡ at_the_last TooLong (length (framed bytes))
+
+-- bytes between packets are dropped
+abbrev pub BytesBetweenAreDropped : Type 0
+BytesBetweenAreDropped =
+    (r : Receiving) (bytes : List ℕ) → r.stage ≡ Between → list_all (λ byte. not (nat_eq byte 0x24)) bytes ≡ true
+    → (after_bytes r bytes ≡ r) × (received_along r bytes ≡ replicate (length bytes) None)
 
 -- what `p` answers of a register that there is
 abbrev pub answer_of_register : Option RegisterValue → List ℕ
