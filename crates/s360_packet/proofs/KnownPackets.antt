@@ -1,0 +1,84 @@
+-- What gdb 13.1 sent and was answered, and packets of the manual, which the definitions have to give.
+use Rattle.std.specs.Prelude.{◌≡◌, refl, codes, Ok, Err, Some, None, [], ◌∷◌}
+use Rattle.std.specs.Fmt.{digits}
+use Rattle.hex.specs.Hex.{decode_pairs}
+use Rattle.s360_packet.specs.Framing.{framed}
+use Rattle.s360_packet.specs.Receiving.{between_packets, received_along}
+use Rattle.s360_packet.specs.declared.receiver.Received.TheVariants.{Packet, TooLong, Damaged}
+use Rattle.s360_packet.specs.Requests.{reading_of}
+use Rattle.s360_packet.specs.declared.request.Point.TheVariants.{Write}
+use Rattle.s360_packet.specs.declared.request.Thread.TheVariants.{Every}
+use Rattle.s360_packet.specs.declared.request.Request.TheVariants.{Storage, WriteStorage, WriteRegister, Insert, Description, Select, Command, Supported}
+use Rattle.s360_packet.specs.declared.request.RequestFault.TheVariants.{Unknown, Malformed}
+use Rattle.s360_packet.specs.Answers.{answer_text}
+use Rattle.s360_packet.specs.declared.answer.Answer.TheVariants.{Error, Supported as told, Stopped}
+use Rattle.s360_packet.specs.declared.answer.Stop.TheVariants.{Watch}
+
+-- packets, the empty one among them; a byte that is escaped, as the manual has it
+pub ok_packet : framed (codes "OK") ≡ codes "$OK#9a"
+ok_packet = refl
+
+pub empty_packet : framed [] ≡ codes "$#00"
+empty_packet = refl
+
+pub escaped_packet : framed (0x7D ∷ []) ≡ codes "$}]#da"
+escaped_packet = refl
+
+-- `$g#67` between other bytes; with a wrong sum; with more data than was told
+pub packet_between : received_along (between_packets 4) (0x03 ∷ codes "+$g#67") ≡ None ∷ None ∷ None ∷ None ∷ None ∷ None ∷ Some Packet ∷ []
+packet_between = refl
+
+pub wrong_sum : received_along (between_packets 4) (codes "$g#68") ≡ None ∷ None ∷ None ∷ None ∷ Some Damaged ∷ []
+wrong_sum = refl
+
+pub too_long : received_along (between_packets 1) (codes "$OK#9a") ≡ None ∷ None ∷ None ∷ None ∷ None ∷ Some TooLong ∷ []
+too_long = refl
+
+-- requests
+pub storage_request : reading_of (codes "m604,4") ≡ Ok (Storage 0x604 4)
+storage_request = refl
+
+pub register_request : reading_of (codes "P0=00003800") ≡ Ok (WriteRegister 0 0x3800)
+register_request = refl
+
+pub watch_request : reading_of (codes "Z2,604,4") ≡ Ok (Insert Write 0x604 4)
+watch_request = refl
+
+pub description_request : reading_of (codes "qXfer:features:read:target.xml:0,1000") ≡ Ok (Description 0 0x1000)
+description_request = refl
+
+pub thread_request : reading_of (codes "Hc-1") ≡ Ok (Select Every)
+thread_request = refl
+
+pub line_request : reading_of (codes "qRcmd,73746570") ≡ Ok (Command (codes "step"))
+unfolding decode_pairs
+line_request = refl
+
+pub probe_request : reading_of (codes "X200,0:") ≡ Ok (WriteStorage 0x200 [])
+probe_request = refl
+
+pub supported_request : reading_of (codes "qSupported:multiprocess+;swbreak+") ≡ Ok Supported
+supported_request = refl
+
+-- requests that are not known, and one that is not whole
+pub must_reply_empty : reading_of (codes "vMustReplyEmpty") ≡ Err Unknown
+must_reply_empty = refl
+
+pub trace_status : reading_of (codes "qTStatus") ≡ Err Unknown
+trace_status = refl
+
+pub no_count : reading_of (codes "m604") ≡ Err Malformed
+no_count = refl
+
+-- answers
+pub watch_answer : answer_text (Stopped (Watch 0x604)) ≡ codes "T05watch:604;"
+unfolding digits
+watch_answer = refl
+
+pub error_answer : answer_text (Error 1) ≡ codes "E01"
+error_answer = refl
+
+pub supported_answer : answer_text (told 0x4000)
+    ≡ codes "PacketSize=4000;qXfer:features:read+;ReverseStep+;ReverseContinue+;swbreak+;QStartNoAckMode+"
+unfolding digits
+supported_answer = refl

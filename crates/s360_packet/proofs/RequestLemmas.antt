@@ -1,0 +1,65 @@
+-- A request that is written is read.
+use Rattle.std.proofs.Common.{◌≡◌, ◌*◌, ℕ, List, Ok, true, false, refl, length, nat_eq, eq-eqb, arith}
+use Rattle.std.proofs.lemmas.Bool.{ne_eqb}
+use Rattle.s360_packet.specs.Hexadecimal.{bytes_text, number_text, word_text}
+use Rattle.s360_packet.specs.Requests.{reading_of, write_reading, thread_in, bytes_in}
+use Rattle.s360_packet.specs.RequestTexts.{request_text, binary_write_text, write_text, two_texts, thread_text, IsRequest, IsThread, IsWord, IsData}
+use Rattle.s360_packet.specs.declared.request.Request.{Request}
+use Rattle.s360_packet.specs.declared.request.Request.TheVariants.{Stopped, Registers, WriteRegisters, Register, WriteRegister, Storage, WriteStorage, Step, Continue, StepBack, ContinueBack, Insert, Remove, Supported, Description, Select, IsAlive, CurrentThread, Attached, FirstThreads, NextThreads, StopAcknowledging, Command, Detach, Kill, KillProcess}
+use Rattle.s360_packet.specs.declared.request.Point.TheVariants.{Software, Hardware, Write}
+use Rattle.s360_packet.specs.declared.request.Thread.{Thread}
+use Rattle.s360_packet.specs.declared.request.Thread.TheVariants.{Every, Any, Numbered}
+use Rattle.s360_packet.proofs.BytesLemmas.{bytes_read, length-bytes_text}
+use Rattle.s360_packet.proofs.FieldLemmas.{number_is_none, number_read, word_read, two_read, two_without_colon, number_without_equals, parted_at}
+
+thread_read : (thread : Thread) → IsThread thread → thread_in (thread_text thread) ≡ Ok thread
+thread_read Every is = refl
+thread_read Any is = refl
+thread_read (Numbered n) is =
+    let some : nat_eq n 0 ≡ false = ne_eqb n 0 is.1
+    in rw (number_is_none n is.0, number_read n is.0, some) refl
+
+write_read : (at : ℕ) (bytes : List ℕ) → IsWord at → IsData bytes → write_reading 2 bytes_in (write_text at bytes) ≡ Ok (WriteStorage at bytes)
+write_read at bytes low is =
+    let count : ℕ = length bytes
+    in let same : nat_eq (length (bytes_text bytes)) (2 * count) ≡ true = eq-eqb (length (bytes_text bytes)) (2 * count) (length-bytes_text bytes is.0)
+    in rw (parted_at 0x3A (two_texts at count) (bytes_text bytes) (two_without_colon at count low is.1), two_read at count low is.1, same, bytes_read bytes is.0) refl
+
+pub binary_read_back : (at : ℕ) (bytes : List ℕ) → IsWord at → IsData bytes → reading_of (binary_write_text at bytes) ≡ Ok (WriteStorage at bytes)
+binary_read_back at bytes low is =
+    let count : ℕ = length bytes
+    in let same : nat_eq (length bytes) (1 * count) ≡ true = eq-eqb (length bytes) (1 * count) (omega arith)
+    in rw (parted_at 0x3A (two_texts at count) bytes (two_without_colon at count low is.1), two_read at count low is.1, same) refl
+
+pub request_read_back : (request : Request) → IsRequest request → reading_of (request_text request) ≡ Ok request
+request_read_back Stopped is = refl
+request_read_back Registers is = refl
+request_read_back (WriteRegisters bytes) is = rw (bytes_read bytes is.0) refl
+request_read_back (Register number) is = rw (number_read number is) refl
+request_read_back (WriteRegister number word) is =
+    rw (parted_at 0x3D (number_text number) (word_text word) (number_without_equals number is.0), number_read number is.0, word_read word is.1) refl
+request_read_back (Storage at count) is = rw (two_read at count is.0 is.1) refl
+request_read_back (WriteStorage at bytes) is = write_read at bytes is.0 is.1
+request_read_back Step is = refl
+request_read_back Continue is = refl
+request_read_back StepBack is = refl
+request_read_back ContinueBack is = refl
+request_read_back (Insert Software at kind) is = rw (two_read at kind is.0 is.1) refl
+request_read_back (Insert Hardware at kind) is = rw (two_read at kind is.0 is.1) refl
+request_read_back (Insert Write at kind) is = rw (two_read at kind is.0 is.1) refl
+request_read_back (Remove Software at kind) is = rw (two_read at kind is.0 is.1) refl
+request_read_back (Remove Hardware at kind) is = rw (two_read at kind is.0 is.1) refl
+request_read_back (Remove Write at kind) is = rw (two_read at kind is.0 is.1) refl
+request_read_back Supported is = refl
+request_read_back (Description offset count) is = rw (two_read offset count is.0 is.1) refl
+request_read_back (Select thread) is = rw (thread_read thread is) refl
+request_read_back (IsAlive thread) is = rw (thread_read thread is) refl
+request_read_back CurrentThread is = refl
+request_read_back Attached is = refl
+request_read_back FirstThreads is = refl
+request_read_back NextThreads is = refl
+request_read_back StopAcknowledging is = refl
+request_read_back (Command bytes) is = rw (bytes_read bytes is.0) refl
+request_read_back Detach is = refl
+request_read_back Kill is = refl
+request_read_back (KillProcess number) is = rw (number_read number is) refl

@@ -1,0 +1,6 @@
+use Rattle.std.proofs.Common.{◌≡◌, ◌++◌, take}
+use Rattle.s360_packet.specs.Hexadecimal.{bytes_text}
+use Rattle.s360_packet.proofs.pieces.push_bytes.Given as goal
+
+abbrev pub invariant-loop-byte : goal.invariant-loop-byte
+invariant-loop-byte l = l.out.items ≡ l.fn.out.items ++ bytes_text (take l.byte-index l.bytes)

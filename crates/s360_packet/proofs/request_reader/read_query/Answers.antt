@@ -1,0 +1,4 @@
+use Rattle.s360_packet.proofs.request_reader.read_query.Goals as goal
+
+pub returns-in-Some-behind : goal.returns-in-Some-behind
+returns-in-Some-behind c = rw (c.in_default.ensures, c.in-Some-behind.ensures) c.read_description.ensures

@@ -1,0 +1,89 @@
+-- Requests as gdb writes them (gdb manual, "Remote Serial Protocol", "Packets" and "General Query Packets").
+use Rattle.std.specs.Prelude.{◌≢◌, ℕ, ◌<◌, ◌^◌, List, ◌++◌, codes, length, ⊤}
+use Rattle.hex.specs.Hex.{IsBytes}
+use Rattle.s360_packet.specs.Hexadecimal.{bytes_text, word_text, number_text}
+use Rattle.s360_packet.specs.declared.request.Point.{Point}
+use Rattle.s360_packet.specs.declared.request.Point.TheVariants.{Software, Hardware, Write}
+use Rattle.s360_packet.specs.declared.request.Thread.{Thread}
+use Rattle.s360_packet.specs.declared.request.Thread.TheVariants.{Every, Any, Numbered}
+use Rattle.s360_packet.specs.declared.request.Request.{Request}
+use Rattle.s360_packet.specs.declared.request.Request.TheVariants.{Stopped, Registers, WriteRegisters, Register, WriteRegister, Storage, WriteStorage, Step, Continue, StepBack, ContinueBack, Insert, Remove, Supported, Description, Select, IsAlive, CurrentThread, Attached, FirstThreads, NextThreads, StopAcknowledging, Command, Detach, Kill, KillProcess}
+
+-- two numbers, parted by `,`
+abbrev pub two_texts : ℕ → ℕ → List ℕ
+two_texts first second = number_text first ++ (codes "," ++ number_text second)
+
+-- what stands behind `Z` or `z`
+abbrev pub point_text : Point → List ℕ
+point_text Software = codes "0,"
+point_text Hardware = codes "1,"
+point_text Write = codes "2,"
+
+abbrev pub thread_text : Thread → List ℕ
+thread_text Every = codes "-1"
+thread_text Any = codes "0"
+thread_text (Numbered n) = number_text n
+
+-- what stands behind `M`
+abbrev pub write_text : ℕ → List ℕ → List ℕ
+write_text at bytes = two_texts at (length bytes) ++ (codes ":" ++ bytes_text bytes)
+
+-- storage from an address on is given bytes, which the packet has as they are
+abbrev pub binary_write_text : ℕ → List ℕ → List ℕ
+binary_write_text at bytes = codes "X" ++ (two_texts at (length bytes) ++ (codes ":" ++ bytes))
+
+abbrev pub request_text : Request → List ℕ
+request_text Stopped = codes "?"
+request_text Registers = codes "g"
+request_text (WriteRegisters bytes) = codes "G" ++ bytes_text bytes
+request_text (Register number) = codes "p" ++ number_text number
+request_text (WriteRegister number word) = codes "P" ++ (number_text number ++ (codes "=" ++ word_text word))
+request_text (Storage at count) = codes "m" ++ two_texts at count
+request_text (WriteStorage at bytes) = codes "M" ++ write_text at bytes
+request_text Step = codes "s"
+request_text Continue = codes "c"
+request_text StepBack = codes "bs"
+request_text ContinueBack = codes "bc"
+request_text (Insert point at kind) = codes "Z" ++ (point_text point ++ two_texts at kind)
+request_text (Remove point at kind) = codes "z" ++ (point_text point ++ two_texts at kind)
+request_text Supported = codes "qSupported"
+request_text (Description offset count) = codes "qXfer:features:read:target.xml:" ++ two_texts offset count
+request_text (Select thread) = codes "Hg" ++ thread_text thread
+request_text (IsAlive thread) = codes "T" ++ thread_text thread
+request_text CurrentThread = codes "qC"
+request_text Attached = codes "qAttached"
+request_text FirstThreads = codes "qfThreadInfo"
+request_text NextThreads = codes "qsThreadInfo"
+request_text StopAcknowledging = codes "QStartNoAckMode"
+request_text (Command bytes) = codes "qRcmd," ++ bytes_text bytes
+request_text Detach = codes "D"
+request_text Kill = codes "k"
+request_text (KillProcess number) = codes "vKill;" ++ number_text number
+
+-- numbers of 32 bits
+abbrev pub IsWord : ℕ → Type 0
+IsWord n = n < 2 ^ 32
+
+-- bytes, not more than such a number counts
+abbrev pub IsData : List ℕ → Type 0
+IsData bytes = IsBytes bytes × IsWord (length bytes)
+
+abbrev pub IsThread : Thread → Type 0
+IsThread (Numbered n) = IsWord n × (n ≢ 0)
+IsThread t = ⊤
+
+-- the fields of a request are what its type has
+abbrev pub IsRequest : Request → Type 0
+IsRequest (WriteRegisters bytes) = IsData bytes
+IsRequest (Register number) = IsWord number
+IsRequest (WriteRegister number word) = IsWord number × IsWord word
+IsRequest (Storage at count) = IsWord at × IsWord count
+IsRequest (WriteStorage at bytes) = IsWord at × IsData bytes
+IsRequest (Insert point at kind) = IsWord at × IsWord kind
+IsRequest (Remove point at kind) = IsWord at × IsWord kind
+IsRequest (Description offset count) = IsWord offset × IsWord count
+IsRequest (Select thread) = IsThread thread
+IsRequest (IsAlive thread) = IsThread thread
+IsRequest (Command bytes) = IsData bytes
+IsRequest (KillProcess number) = IsWord number
+IsRequest r = ⊤
