@@ -1,6 +1,6 @@
 //! Events in a byte each. What some carry stands in lists apart: the units of channel events and of
 //! loads, and whole events that carry more.
-ghost use Rattle.std.specs.Prelude.{◌≡◌, ◌↔◌, ◌++◌, ◌∷◌, [], None, IfOk, IfSome, IsTrue, OnErr, OnOk, Some, length};
+ghost use Rattle.std.specs.Prelude.{◌≡◌, ◌↔◌, ◌++◌, ◌∷◌, [], None, IfOk, IfSome, IsOk, IsTrue, OnErr, OnOk, Some, length};
 ghost use Rattle.std.specs.Option.{option_map};
 ghost use Rattle.s360_machine.specs.EventKinds.{kind_of_event};
 ghost use Rattle.s360_journal.specs.Stacks.{Fits, IsAsLarge};
@@ -90,11 +90,13 @@ impl EventStack {
         })
     }
 
-    /// Puts an event on top. Want of memory leaves the events as they were.
+    /// Puts an event on top. Want of memory, which comes only where none was taken for it, leaves the events as they were.
     #[inline(always)]
-    pub(crate) fn push(&mut self, event: Event) -> Result<(), AllocError>
+    pub fn push(&mut self, event: Event) -> Result<(), AllocError>
         ensures ok { OnOk result (self.new.events ≡ self.old.events ++ event ∷ []) }
         ensures err { OnErr result (self.new.events ≡ self.old.events) }
+        ensures succeeds { Fits (self.old.events ++ event ∷ []) self.old.room → IsOk result }
+        ensures kept { IsAsLarge self.old.room self.new.room }
     {
         self.tags.reserve(1)?;
         let tag = match event {
@@ -134,30 +136,6 @@ impl EventStack {
             }
             Event::Key(_) | Event::Patch(_) => self.others.reserve(others.others.len() + 1),
         }
-    }
-
-    /// Puts an event on top for which there is memory.
-    pub fn push_reserved(&mut self, event: Event)
-        requires { Fits (self.old.events ++ event ∷ []) self.old.room }
-        ensures { self.new ≡ record self.old { events = self.old.events ++ event ∷ [] } }
-    {
-        let tag = match event {
-            Event::Cpu => Tag::Cpu,
-            Event::Tick => Tag::Tick,
-            Event::Channel(unit) => {
-                self.units.push_reserved(unit);
-                Tag::Channel
-            }
-            Event::Key(Key::Load(unit)) => {
-                self.units.push_reserved(unit);
-                Tag::Load
-            }
-            Event::Key(_) | Event::Patch(_) => {
-                self.others.push_reserved(event);
-                Tag::Other
-            }
-        };
-        self.tags.push_reserved(tag);
     }
 
     /// Takes the last event, and keeps the memory for it.

@@ -18,30 +18,6 @@ Fits-fewer es fs room h f = record {
   others = omega (arith, h.counts stands_apart, f.others);
 }
 
-pub Fits-larger : (es : List Event) (old new : Room) → Fits es old → IsAsLarge old new → Fits es new
-Fits-larger es old new f l = record { events = omega (arith, f.events, l.events); units = omega (arith, f.units, l.units); others = omega (arith, f.others, l.others) }
-
--- an event goes from the first list to the end of the other
-pub fewer-moved : (es fs : List Event) (e : Event) → AreFewer ((fs ++ e ∷ []) ++ es) (fs ++ (es ++ e ∷ []))
-fewer-moved es fs e = record {
-  length_of = omega (arith, length-append (fs ++ e ∷ []) es, length-append fs (e ∷ []), length-append fs (es ++ e ∷ []), length-append es (e ∷ []));
-  counts = λ p. omega (arith, count_by-append p (fs ++ e ∷ []) es, count_by-append p fs (e ∷ []), count_by-append p fs (es ++ e ∷ []), count_by-append p es (e ∷ []));
-}
-
--- and back
-pub fewer-moved-back : (es fs : List Event) (e : Event) → AreFewer (fs ++ (es ++ e ∷ [])) ((fs ++ e ∷ []) ++ es)
-fewer-moved-back es fs e = record {
-  length_of = omega (arith, length-append (fs ++ e ∷ []) es, length-append fs (e ∷ []), length-append fs (es ++ e ∷ []), length-append es (e ∷ []));
-  counts = λ p. omega (arith, count_by-append p (fs ++ e ∷ []) es, count_by-append p fs (e ∷ []), count_by-append p fs (es ++ e ∷ []), count_by-append p es (e ∷ []));
-}
-
--- one event of the first list
-pub fewer-one : (es fs : List Event) (e : Event) → AreFewer (fs ++ e ∷ []) (fs ++ (es ++ e ∷ []))
-fewer-one es fs e = record {
-  length_of = omega (arith, length-append fs (e ∷ []), length-append fs (es ++ e ∷ []), length-append es (e ∷ []));
-  counts = λ p. omega (arith, count_by-append p fs (e ∷ []), count_by-append p fs (es ++ e ∷ []), count_by-append p es (e ∷ []));
-}
-
 -- the second of two lists
 pub fewer-second : (es fs : List Event) → AreFewer es (fs ++ es)
 fewer-second es fs = record {
@@ -71,12 +47,3 @@ left-out (suc i) (x ∷ es) =
 pub fewer-withdrawn : (k : ℕ) (es : List Event) → 0 < k → AreFewer (without_event k es) es
 fewer-withdrawn zero es h = absurd (omega (arith, h))
 fewer-withdrawn (suc i) es h = let same : suc i - 1 ≡ i = omega arith in rw same (left-out i es)
-
-left-out-length : (i : ℕ) (es : List Event) → i < length es → length (take i es ++ drop (suc i) es) ≡ length es - 1
-left-out-length i [] h = absurd (omega (arith, h))
-left-out-length zero (x ∷ es) h = omega arith
-left-out-length (suc i) (x ∷ es) h = omega (arith, h, left-out-length i es (omega (arith, h)))
-
-pub length-withdrawn : (k : ℕ) (es : List Event) → 0 < k → k ≤ length es → length (without_event k es) ≡ length es - 1
-length-withdrawn zero es h l = absurd (omega (arith, h))
-length-withdrawn (suc i) es h l = let same : suc i - 1 ≡ i = omega arith in rw same (left-out-length i es (omega (arith, l)))

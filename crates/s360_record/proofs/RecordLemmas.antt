@@ -5,7 +5,7 @@ use Rattle.std.proofs.lemmas.List.{append-nil, reverse-append, reverse-reverse}
 use Rattle.std.specs.List.{slice_get}
 use Rattle.std.proofs.lemmas.Bool.{lt-ltb}
 use Rattle.std.specs.Bool.{MatchBool}
-use Rattle.std.specs.Prelude.{nat_lt, Bool, true, false, Result, Err, MatchOption, IsOkUnless}
+use Rattle.std.specs.Prelude.{nat_lt, Bool, true, false, Result, Err, MatchOption, IsOkUnless, IsOk, OnOk}
 use Rattle.s360_machine.specs.declared.event.Event.{Event}
 use Rattle.s360_machine.specs.declared.refusal.Refusal.{Refusal}
 use Rattle.s360_machine.specs.declared.refusal.Refusal.TheVariants.{Memory}
@@ -13,7 +13,7 @@ use Rattle.s360_machine.specs.Machine.{Machine, seen, storage_size}
 use Rattle.s360_machine.specs.Refusals.{refusal_of}
 use Rattle.s360_machine.specs.Step.{after, step}
 use Rattle.s360_journal.specs.Rerun.{AreAccepted, rerun}
-use Rattle.s360_journal.specs.Stacks.{Fits, Stacked}
+use Rattle.s360_journal.specs.Stacks.{Fits, IsAsLarge, Stacked}
 use Rattle.s360_journal.specs.Standing.{IsAfter, Standing, last_of, machine_of, refusal_in}
 use Rattle.s360_journal.specs.Withdrawals.{is_standing, without_event}
 use Rattle.s360_journal.specs.declared.withdrawing.Withdrawal.{Withdrawal}
@@ -27,7 +27,7 @@ use Rattle.s360_record.specs.Kept.{IsKept}
 use Rattle.s360_record.specs.Forwarding.{IsMet, rest_after, state_after}
 use Rattle.s360_record.specs.declared.forwarding.Forwarded.{Forwarded}
 use Rattle.s360_record.specs.declared.forwarding.Forwarded.TheVariants.{New, Again, Dropped}
-use Rattle.s360_record.proofs.MemoryLemmas.{AreFewer, Fits-fewer, fewer-left-out, fewer-moved, fewer-moved-back, fewer-one, fewer-second, fewer-withdrawn, length-withdrawn}
+use Rattle.s360_record.proofs.MemoryLemmas.{AreFewer, Fits-fewer, fewer-left-out, fewer-second, fewer-withdrawn}
 
 -- what a recording is seen as, by its session and the events that were taken back, the next one last
 abbrev pub recorded_of : Standing → List Event → Recorded
@@ -46,33 +46,7 @@ reversed-more later e = reverse-append later (e ∷ [])
 pub same-events : (es later : List Event) (e : Event) → es ++ reverse (later ++ e ∷ []) ≡ (es ++ e ∷ []) ++ reverse later
 same-events es later e = ap (λ l. es ++ l) (reversed-more later e) ∙ sym (append_assoc es (e ∷ []) (reverse later))
 
--- ---- an event is taken back
-
-pub Kept-back : (s t : Standing) (l : Stacked) (e : Event) → IsKept s l → s ≡ record t { events = t.events ++ e ∷ [] } → IsKept t (record l { events = l.events ++ e ∷ [] })
-Kept-back s t l e h is =
-    let k : IsKept (record t { events = t.events ++ e ∷ [] }) l = subst (λ (x : Standing). IsKept x l) is h
-    in let same : (t.events ++ e ∷ []) ++ reverse l.events ≡ t.events ++ reverse (l.events ++ e ∷ []) = sym (same-events t.events l.events e)
-    in record {
-      accepted = subst (λ es. AreAccepted (seen t.start) es) same k.accepted;
-      few = subst (λ (es : List Event). length es ≤ t.limit) same k.few;
-      limited = k.limited;
-      room = Fits-fewer ((l.events ++ e ∷ []) ++ t.events) (l.events ++ (t.events ++ e ∷ [])) l.room (fewer-moved t.events l.events e) k.room;
-    }
-
-pub Fits-back : (s t : Standing) (l : Stacked) (e : Event) → IsKept s l → s ≡ record t { events = t.events ++ e ∷ [] } → Fits (l.events ++ e ∷ []) l.room
-Fits-back s t l e h is =
-    let k : IsKept (record t { events = t.events ++ e ∷ [] }) l = subst (λ (x : Standing). IsKept x l) is h
-    in Fits-fewer (l.events ++ e ∷ []) (l.events ++ (t.events ++ e ∷ [])) l.room (fewer-one t.events l.events e) k.room
-
-pub recorded-back : (s t : Standing) (later : List Event) (e : Event) → s ≡ record t { events = t.events ++ e ∷ [] }
-    → recorded_of t (later ++ e ∷ []) ≡ with_standing (recorded_of s later) (length s.events - 1)
-recorded-back s t later e is =
-    let one : length t.events ≡ length (t.events ++ e ∷ []) - 1 = omega (arith, length-append t.events (e ∷ []))
-    in ap (λ es. record { start = t.start; events = es; standing = length t.events; limit = t.limit }) (same-events t.events later e)
-    ∙ ap (λ n. record { start = t.start; events = (t.events ++ e ∷ []) ++ reverse later; standing = n; limit = t.limit }) one
-    ∙ ap (λ (x : Standing). with_standing (recorded_of x later) (length x.events - 1)) (sym is)
-
--- ---- and runs again
+-- ---- an event is run again
 
 AreAccepted-next : (m : Machine) (es fs : List Event) (e : Event) → AreAccepted m (es ++ e ∷ fs) → step (rerun m es) e ≡ Ok (after (rerun m es) e)
 AreAccepted-next m [] fs e h = h.0
@@ -96,11 +70,6 @@ Kept-again s t l k e h is top room =
       room = room;
     }
     in subst (λ (x : Standing). IsKept x k) (sym is) i
-
-pub Kept-popped : (s t : Standing) (l k : Stacked) (e : Event) → IsKept s l → IsAfter t s e → l ≡ record k { events = k.events ++ e ∷ [] } → IsKept t k
-Kept-popped s t l k e h is top =
-    let room : Fits ((k.events ++ e ∷ []) ++ s.events) k.room = subst (λ (x : Stacked). Fits (x.events ++ s.events) x.room) top h.room
-    in Kept-again s t l k e h is (ap (λ (x : Stacked). x.events) top) (Fits-fewer (k.events ++ (s.events ++ e ∷ [])) ((k.events ++ e ∷ []) ++ s.events) k.room (fewer-moved-back s.events k.events e) room)
 
 pub recorded-again : (s t : Standing) (later rest : List Event) (e : Event) → IsAfter t s e → later ≡ rest ++ e ∷ []
     → recorded_of t rest ≡ with_standing (recorded_of s later) (length s.events + 1)
@@ -178,16 +147,6 @@ Kept-withdrawn s t l k n h is some accepted cleared =
       room = room;
     }
     in subst (λ (x : Standing). IsKept x k) (sym is) (subst (λ (y : Stacked). IsKept u y) (sym cleared) i)
-
-pub recorded-withdrawn : (s t : Standing) (old new : List Event) (n : ℕ) → t ≡ record s { events = without_event n s.events } → 0 < n → n ≤ length s.events → new ≡ []
-    → recorded_of t new ≡ without_change (recorded_of s old) n
-recorded-withdrawn s t old new n is some inside none =
-    let es : List Event = without_event n s.events
-    in ap (λ (x : Standing). recorded_of x new) is
-    ∙ ap (λ l. record { start = s.start; events = es ++ reverse l; standing = length es; limit = s.limit }) none
-    ∙ ap (λ fs. record { start = s.start; events = fs; standing = length es; limit = s.limit }) (append-nil es)
-    ∙ ap (λ k. record { start = s.start; events = es; standing = k; limit = s.limit }) (length-withdrawn n s.events some inside)
-    ∙ ap (λ fs. record { start = s.start; events = without_event n fs; standing = length s.events - 1; limit = s.limit }) (sym (take-append_seam s.events (reverse old)))
 
 -- ---- the next event
 

@@ -109,7 +109,7 @@ impl Recording {
         self.session.refusal(event)
     }
 
-    /// The event that comes next in the record; at its end the one whose turn it is.
+    /// The event that comes next in the record, for a copy of which memory may be taken; at its end the one whose turn it is.
     pub fn next_event(&self) -> Result<Event, AllocError>
         ensures { IfOk result (λ event. event ≡ unwrap_or (next_recorded self.now) (next_event (machine_of (session_of self.now)))) }
     {
@@ -147,7 +147,8 @@ impl Recording {
         ensures nothing { OnErr result (self.old.standing ≡ 0) }
     {
         let event = self.session.back()?;
-        self.later.push_reserved(event);
+        // Memory for it was taken before it was run.
+        let _pushed = self.later.push(event);
         Ok(())
     }
 
