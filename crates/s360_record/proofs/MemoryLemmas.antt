@@ -2,7 +2,7 @@
 use Rattle.std.proofs.Common.{◌≡◌, ◌≤◌, ◌<◌, ◌-◌, ◌++◌, ℕ, zero, suc, Bool, List, [], ◌∷◌, arith, length, length-append, take, drop}
 use Rattle.std.specs.List.{count_by}
 use Rattle.s360_machine.specs.declared.event.Event.{Event}
-use Rattle.s360_journal.specs.Stacks.{Fits, IsAsLarge, Room, carries_unit, stands_apart}
+use Rattle.s360_journal.specs.Stacks.{Fits, Room, carries_unit, stands_apart}
 use Rattle.s360_journal.specs.Withdrawals.{without_event}
 use Rattle.s360_journal.proofs.StackLemmas.{count_by-append}
 

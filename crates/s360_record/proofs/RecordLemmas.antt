@@ -1,11 +1,11 @@
 -- A record as events go between those that stand and those that were taken back.
-use Rattle.std.proofs.Common.{◌≡◌, ◌≤◌, ◌<◌, ◌+◌, ◌-◌, ◌++◌, ◌∙◌, ℕ, zero, suc, List, [], ◌∷◌, Some, None, Ok, refl, ap, sym, subst, append_assoc, arith, length, length-append, reverse, drop}
+use Rattle.std.proofs.Common.{◌≡◌, ◌≤◌, ◌<◌, ◌+◌, ◌++◌, ◌∙◌, ℕ, zero, suc, List, [], ◌∷◌, Some, None, Ok, refl, ap, sym, subst, append_assoc, arith, length, length-append, reverse, drop}
 use Rattle.std.proofs.Math.Seq.{drop-append_seam, take-append_seam}
 use Rattle.std.proofs.lemmas.List.{append-nil, reverse-append, reverse-reverse}
 use Rattle.std.specs.List.{slice_get}
 use Rattle.std.proofs.lemmas.Bool.{lt-ltb}
 use Rattle.std.specs.Bool.{MatchBool}
-use Rattle.std.specs.Prelude.{nat_lt, Bool, true, false, Result, Err, MatchOption, IsOkUnless, IsOk, OnOk}
+use Rattle.std.specs.Prelude.{nat_lt, Bool, true, false, Result, Err, MatchOption, IsOkUnless}
 use Rattle.s360_machine.specs.declared.event.Event.{Event}
 use Rattle.s360_machine.specs.declared.refusal.Refusal.{Refusal}
 use Rattle.s360_machine.specs.declared.refusal.Refusal.TheVariants.{Memory}
@@ -13,7 +13,7 @@ use Rattle.s360_machine.specs.Machine.{Machine, seen, storage_size}
 use Rattle.s360_machine.specs.Refusals.{refusal_of}
 use Rattle.s360_machine.specs.Step.{after, step}
 use Rattle.s360_journal.specs.Rerun.{AreAccepted, rerun}
-use Rattle.s360_journal.specs.Stacks.{Fits, IsAsLarge, Stacked}
+use Rattle.s360_journal.specs.Stacks.{Fits, Stacked}
 use Rattle.s360_journal.specs.Standing.{IsAfter, Standing, last_of, machine_of, refusal_in}
 use Rattle.s360_journal.specs.Withdrawals.{is_standing, without_event}
 use Rattle.s360_journal.specs.declared.withdrawing.Withdrawal.{Withdrawal}
@@ -22,7 +22,7 @@ use Rattle.s360_journal.proofs.HistoryLemmas.{IsStep, IsStep-from, last-split}
 use Rattle.s360_journal.proofs.ForwardLemmas.{or_full-room}
 use Rattle.s360_journal.proofs.RunningLemmas.{accepted-None}
 use Rattle.s360_journal.proofs.EventLemmas.{last-newest}
-use Rattle.s360_record.specs.Recorded.{Recorded, next_recorded, rest_of, session_of, with_event, with_standing, without_change}
+use Rattle.s360_record.specs.Recorded.{Recorded, next_recorded, rest_of, session_of, with_event, with_standing}
 use Rattle.s360_record.specs.Kept.{IsKept}
 use Rattle.s360_record.specs.Forwarding.{IsMet, rest_after, state_after}
 use Rattle.s360_record.specs.declared.forwarding.Forwarded.{Forwarded}
