@@ -1,11 +1,9 @@
 -- The last event of a list.
 use Rattle.std.proofs.Common.{◌≡◌, ◌-◌, ◌++◌, ◌∙◌, List, [], ◌∷◌, Some, ap, sym, reverse, length, arith}
 use Rattle.std.specs.List.{slice_get}
-use Rattle.std.specs.Option.{option_map}
 use Rattle.std.proofs.lemmas.List.{length-append, reverse-append}
 use Rattle.s360_machine.specs.declared.event.Event.{Event}
-use Rattle.s360_machine.specs.EventKinds.{kind_of_event}
-use Rattle.s360_journal.specs.Standing.{last_kind_of}
+use Rattle.s360_journal.specs.Standing.{last_of}
 use Rattle.s360_journal.proofs.HistoryLemmas.{last-split}
 use Rattle.s360_journal.proofs.SessionLemmas.{last-there}
 
@@ -14,8 +12,8 @@ newest-first xs x h =
     let split : (ys : List _) × (xs ≡ ys ++ x ∷ []) = last-split xs x (sym h)
     in (reverse split.0, ap (λ l. reverse l) split.1 ∙ reverse-append split.0 (x ∷ []))
 
-pub last-kind : (e : Event) (es : List Event) → last_kind_of (reverse (e ∷ es)) ≡ Some (kind_of_event e)
-last-kind e es =
+pub last-newest : (e : Event) (es : List Event) → last_of (reverse (e ∷ es)) ≡ Some e
+last-newest e es =
     let turned : reverse (e ∷ es) ≡ reverse es ++ e ∷ [] = reverse-append (e ∷ []) es
     in let last : length (reverse es ++ e ∷ []) - 1 ≡ length (reverse es) = omega (arith, length-append (reverse es) (e ∷ []))
-    in ap (λ l. last_kind_of l) turned ∙ ap (λ n. option_map kind_of_event (slice_get (reverse es ++ e ∷ []) n)) last ∙ ap (λ o. option_map kind_of_event o) (last-there (reverse es) e)
+    in ap (λ l. last_of l) turned ∙ ap (λ n. slice_get (reverse es ++ e ∷ []) n) last ∙ last-there (reverse es) e

@@ -1,7 +1,8 @@
 pub mod HistoryLemmas
 pub mod SessionLemmas
 pub mod IndexLemmas
-mod EventLemmas
+pub mod StackLemmas
+pub mod EventLemmas
 pub mod BreakpointLemmas
 pub mod StopLemmas
 pub mod WithdrawalLemmas

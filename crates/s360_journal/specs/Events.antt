@@ -1,11 +1,12 @@
 -- Events in a byte each, with what some of them carry in lists apart. In all three lists the newest comes first.
-use Rattle.std.specs.Prelude.{◌≡◌, List, [], ◌∷◌}
+use Rattle.std.specs.Prelude.{◌≡◌, true, List, [], ◌∷◌}
 use Rattle.s360_word.specs.declared.unit.Unit.{Unit as UnitAddress}
 use Rattle.s360_machine.specs.declared.event.Event.{Event}
 use Rattle.s360_machine.specs.declared.event.Event.TheVariants.{Cpu, Channel, Tick, Key}
 use Rattle.s360_machine.specs.declared.operator.Key.TheVariants.{Load}
-use Rattle.s360_journal.specs.declared.events.Tag.{Tag}
-use Rattle.s360_journal.specs.declared.events.Tag.TheVariants.{Cpu as cpu, Channel as channel, Tick as tick, Load as load, Other as other}
+use Rattle.s360_journal.specs.declared.event_stack.Tag.{Tag}
+use Rattle.s360_journal.specs.declared.event_stack.Tag.TheVariants.{Cpu as cpu, Channel as channel, Tick as tick, Load as load, Other as other}
+use Rattle.s360_journal.specs.Stacks.{stands_apart}
 
 -- the events, of which channel events and loads have their units apart, and others stand apart whole
 abbrev pub events_of : List Tag → List UnitAddress → List Event → List Event
@@ -23,5 +24,5 @@ AreEvents (cpu ∷ ts) us es = AreEvents ts us es
 AreEvents (tick ∷ ts) us es = AreEvents ts us es
 AreEvents (channel ∷ ts) (u ∷ us) es = AreEvents ts us es
 AreEvents (load ∷ ts) (u ∷ us) es = AreEvents ts us es
-AreEvents (other ∷ ts) us (e ∷ es) = AreEvents ts us es
+AreEvents (other ∷ ts) us (e ∷ es) = (stands_apart e ≡ true) × AreEvents ts us es
 AreEvents ts us es = ⊥

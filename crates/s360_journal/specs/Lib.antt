@@ -8,6 +8,8 @@ pub mod Laws
 pub mod Standing
 pub mod Offers
 pub mod Running
+pub mod Stacks
+pub mod Tops
 pub mod Events
 pub mod History
 pub mod Indexed

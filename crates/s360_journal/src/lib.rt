@@ -8,23 +8,26 @@
 
 mod breaks;
 mod calls;
+mod event_stack;
 mod events;
 mod indexing;
 mod laws;
 mod places;
 mod report;
 mod running;
+mod same;
 mod session;
 mod withdrawing;
 
 pub use breaks::Breaks;
 pub use calls::{Answer, Call, Outcome, run_calls};
+pub use event_stack::EventStack;
 pub use laws::{
     breakpoints_are_a_set, last_change_is_the_greatest, last_stop_is_the_greatest,
     refusal_depends_on_the_size,
 };
 pub use places::Places;
 pub use report::Report;
-pub use running::RunEnd;
+pub use running::{RunEnd, next_event};
 pub use session::{NothingStands, Session};
 pub use withdrawing::Withdrawal;

@@ -73,7 +73,7 @@ impl Session {
 
 /// The event whose turn it is: the channel event of the lowest active unit, else a CPU event.
 #[tactic(auto, unfolding(crate::specs::Running::next_event))]
-fn next_event(machine: &Machine) -> Event
+pub fn next_event(machine: &Machine) -> Event
     ensures { result ≡ next_event (seen machine.now.whole) }
 {
     match active_unit(machine) {

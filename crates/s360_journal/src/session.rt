@@ -3,6 +3,7 @@ ghost use Rattle.std.specs.Prelude.{◌≡◌, ◌↔◌, ◌++◌, ◌∷◌, �
 ghost use Rattle.std.specs.Prelude.{IsOkUnless, MatchOption, min};
 ghost use Rattle.s360_machine.specs.Machine.{seen, storage_size};
 ghost use Rattle.s360_machine.specs.declared.refusal.Refusal.TheVariants.{Memory};
+ghost use Rattle.s360_journal.specs.Stacks.{Fits, IsAsLarge};
 ghost use Rattle.s360_journal.specs.Reports.{IsReport};
 ghost use Rattle.s360_journal.specs.Rerun.{rerun, AreAccepted, changes_of, last_change_of};
 ghost use Rattle.s360_journal.specs.Stops.{stop_of};
@@ -10,6 +11,7 @@ ghost use Rattle.s360_journal.specs.Standing.{IsAfter, Standing, machine_of, ref
 ghost use Rattle.s360_journal.specs.Withdrawals.{AreAllowed, is_standing};
 
 use crate::breaks::Breaks;
+use crate::event_stack::EventStack;
 use crate::events::Events;
 use crate::indexing::{index_last, unindex_last};
 use crate::report::{Report, is_idle};
@@ -138,6 +140,18 @@ impl Session {
         self.events.last_kind()
     }
 
+    /// Takes memory in a stack for the events that stand and for one more, beside those that are in it. Want of memory
+    /// leaves its events as they were.
+    #[inline(always)]
+    pub fn reserve_in(&self, stack: &mut EventStack, event: &Event) -> Result<(), AllocError>
+        requires { Fits (stack.old.events ++ self.now.events) stack.old.room }
+        ensures events { stack.new.events ≡ stack.old.events }
+        ensures ok { OnOk result (Fits (stack.old.events ++ (self.now.events ++ event.now ∷ [])) stack.new.room) }
+        ensures kept { IsAsLarge stack.old.room stack.new.room }
+    {
+        self.events.reserve_in(stack, event)
+    }
+
     /// What the last change that stands altered.
     fn last_report(&self) -> Result<Report, AllocError>
         ensures { IfOk result (λ r. (s : Standing) (e : Event) → IsAfter self.now s e → IsReport r (alteration s e)) }
@@ -184,7 +198,7 @@ impl Session {
 
     /// Runs an event, which then stands, also where it alters nothing, and reports nothing of it. A refused one changes
     /// nothing.
-    pub(crate) fn advance(&mut self, event: Event) -> Result<(), Refusal>
+    pub fn advance(&mut self, event: Event) -> Result<(), Refusal>
         ensures ok { OnOk result (IsAfter self.new self.old event) }
         ensures err { OnErr result (self.new ≡ self.old) }
         ensures refused { MatchOption (refusal_in self.old event) (IsOkUnless result Memory) (λ r. result ≡ Err r) }

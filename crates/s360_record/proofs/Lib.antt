@@ -1,0 +1,2 @@
+pub mod MemoryLemmas
+pub mod RecordLemmas

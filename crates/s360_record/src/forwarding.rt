@@ -1,0 +1,49 @@
+//! An event that is made now, at the record's end or in the past.
+ghost use Rattle.std.specs.Prelude.{◌≡◌, ◌≤◌, length, reverse};
+ghost use Rattle.s360_record.specs.Forwarding.{IsMet, rest_after};
+
+use s360_journal::EventStack;
+use s360_machine::Event;
+
+/// How an event that was run stands to the record.
+#[derive(Clone, Copy, Debug, PartialEq, Eq)]
+pub enum Forwarded {
+    /// The record was at its end, and has the event now.
+    New,
+    /// The event was the next in the record, which stays as it was.
+    Again,
+    /// Another event was the next. So many that did not stand, at least one, were dropped from the record, which has the
+    /// event in their place.
+    Dropped(u32),
+}
+
+/// How an event stands to the rest of a record, the next event of which is the last in the stack.
+#[inline(always)]
+pub(crate) fn meet(later: &EventStack, event: &Event) -> Forwarded
+    requires { length later.now.events ≤ 10000000 }
+    ensures { IsMet (reverse later.now.events) event.now result }
+{
+    let count = later.len() as u32;
+    if count == 0 {
+        Forwarded::New
+    } else if later.is_last(event) {
+        Forwarded::Again
+    } else {
+        Forwarded::Dropped(count)
+    }
+}
+
+/// Leaves in the stack what is the rest of the record, once an event that stands so to it was run.
+#[inline(always)]
+pub(crate) fn leave(later: &mut EventStack, forwarded: Forwarded)
+    ensures events { reverse later.new.events ≡ rest_after (reverse later.old.events) forwarded }
+    ensures room { later.new.room ≡ later.old.room }
+{
+    match forwarded {
+        Forwarded::New => {}
+        Forwarded::Again => {
+            let _event = later.pop();
+        }
+        Forwarded::Dropped(_) => later.clear(),
+    }
+}
