@@ -11,6 +11,6 @@ mod running;
 
 pub use answering::answer;
 pub use bytes::ScriptFault;
-pub use run::run_script;
+pub use run::{answer_line, run_script};
 pub use s360_language::{Command, LineFault, Shown, read_command};
 pub use s360_text::Text;

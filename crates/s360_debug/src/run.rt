@@ -12,7 +12,7 @@ ghost use Rattle.s360_debug.specs.declared.bytes.ScriptFault.TheVariants.{Write 
 use crate::answering::{answer, text_of_fault};
 use crate::bytes::ScriptFault;
 use crate::lines::{Lines, skips};
-use s360_journal::{Breaks, Session};
+use s360_journal::{Breaks, Reversible, Session};
 use s360_language::read_command;
 use s360_text::{Text, read_whole, write_whole};
 use std::alloc::{AllocError, Global};
@@ -73,16 +73,18 @@ fn answer_script<W: Write>(
     Ok(count)
 }
 
-/// Answers a line that is not skipped.
-fn answer_line(
+/// Answers a line that is not skipped: carries out its command, or tells what is wrong with it. After want of memory some
+/// first ones of the events stand that it would have run.
+pub fn answer_line<S: Reversible>(
     alloc: Global,
-    session: &mut Session,
+    session: &mut S,
     breaks: &mut Breaks,
     line: &[u8],
 ) -> Result<Text, AllocError>
-    ensures text { IfOk result (λ text. text ≡ answer_to_reading (record { session = session.old; breaks = breaks.old }) (reading_of line.now)) }
-    ensures state { OnOk result (record { session = session.new; breaks = breaks.new } ≡ state_after_reading (record { session = session.old; breaks = breaks.old }) (reading_of line.now)) }
-    ensures memory { OnErr result (StandsAfterReading (reading_of line.now) (record { session = session.old; breaks = breaks.old }) session.new) }
+    ensures text { IfOk result (λ text. text ≡ answer_to_reading (record { session = S.standing_of session.old; breaks = breaks.old }) (reading_of line.now)) }
+    ensures state { OnOk result (record { session = S.standing_of session.new; breaks = breaks.new } ≡ state_after_reading (record { session = S.standing_of session.old; breaks = breaks.old }) (reading_of line.now)) }
+    ensures memory { OnErr result (StandsAfterReading (reading_of line.now) (record { session = S.standing_of session.old; breaks = breaks.old }) (S.standing_of session.new)) }
+    ensures memory_breaks { OnErr result (breaks.new ≡ breaks.old) }
 {
     match read_command(alloc, line) {
         Ok(command) => answer(alloc, session, breaks, command),

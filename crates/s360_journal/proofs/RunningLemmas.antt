@@ -1,6 +1,6 @@
 -- A run, turn by turn.
 use Rattle.std.proofs.Common.{◌≡◌, ◌≢◌, ◌+◌, ◌++◌, ◌∷◌, ◌∙◌, [], ℕ, suc, List, Option, Some, None, Bool, true, false, refl, sym, ap, append_assoc, arith, if◌then◌else◌, length, take, Ok, Err, IsOkUnless}
-use Rattle.std.specs.Prelude.{MatchOption, OnErr, Result}
+use Rattle.std.specs.Prelude.{◌↔◌, IsTrue, MatchOption, OnErr, Result}
 use Rattle.std.proofs.lemmas.List.{append-nil}
 use Rattle.std.proofs.Math.Seq.{take-append_seam}
 use Rattle.s360_store.specs.declared.place.Place.{Place}
@@ -22,6 +22,10 @@ pub accepted-None : {X : Type 0} (o : Option Refusal) (x : X) (result : Result X
     → MatchOption o (IsOkUnless result Memory) (λ r. result ≡ Err r) → o ≡ None
 accepted-None None x result e h = refl
 accepted-None (Some r) x result e h = absurd (cc)
+
+-- an event after which the session is not idle altered something
+pub not-idle : (idle : Bool) (ps : List Place) → idle ≡ false → (IsTrue idle ↔ (ps ≡ [])) → ps ≢ []
+not-idle idle ps is h = λ none. let both : false ≡ true = rw is at (h.1 none) in cc
 
 -- what is reported of an accepted event
 pub end-changed : (ps : List Place) (stops : Bool) → ps ≢ [] → end_with None ps stops ≡ (if stops then Some Break else None)

@@ -5,9 +5,6 @@ use Rattle.std.proofs.lemmas.List.{drop_more}
 use Rattle.s360_store.specs.declared.place.Place.{Place}
 use Rattle.s360_store.specs.declared.span.Span.{Span}
 use Rattle.s360_store.specs.Spans.{AreSpans, places_of_span, places_of_spans}
-use Rattle.s360_machine.specs.Change.{Change, places_of_change}
-use Rattle.s360_machine.specs.ChangeSpans.{AreSpansOf}
-use Rattle.s360_journal.specs.Places.{ArePlaces}
 
 -- a place is sought by its index
 slice_get-front : (ps qs : List Place) (i : ℕ) → i < length ps → slice_get (ps ++ qs) i ≡ slice_get ps i

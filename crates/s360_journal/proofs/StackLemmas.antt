@@ -1,5 +1,5 @@
 -- What a stack holds, and what it has memory for.
-use Rattle.std.proofs.Common.{◌≡◌, ◌≤◌, ◌<◌, ◌+◌, ◌++◌, ◌∙◌, ℕ, Bool, true, false, List, [], ◌∷◌, refl, ap, sym, append_assoc, arith, cond, length, length-append, reverse}
+use Rattle.std.proofs.Common.{◌≡◌, ◌≤◌, ◌<◌, ◌+◌, ◌++◌, ◌∙◌, ℕ, Bool, true, false, List, [], ◌∷◌, refl, ap, sym, arith, cond, length, length-append, reverse}
 use Rattle.std.specs.List.{count_by}
 use Rattle.std.specs.Prelude.{OnOk, Result, Ok, Err}
 use Rattle.std.proofs.lemmas.List.{length-reverse, reverse-append}
@@ -7,11 +7,11 @@ use Rattle.std.proofs.lemmas.List.Sums.{sum_by-append}
 use Rattle.s360_word.specs.declared.unit.Unit.{Unit as UnitAddress}
 use Rattle.s360_machine.specs.declared.event.Event.{Event}
 use Rattle.s360_machine.specs.declared.event.Event.TheVariants.{Cpu, Channel, Tick, Key, Patch as patch}
-use Rattle.s360_machine.specs.declared.operator.Key.TheVariants.{Start, Stop, Reset, Interrupt, EndOfFile, Request, Enter, Load}
+use Rattle.s360_machine.specs.declared.operator.Key.TheVariants.{Load}
 use Rattle.s360_journal.specs.declared.event_stack.Tag.{Tag}
 use Rattle.s360_journal.specs.declared.event_stack.Tag.TheVariants.{Cpu as cpu, Channel as channel, Tick as tick, Load as load, Other as other}
 use Rattle.s360_journal.specs.Events.{AreEvents, events_of}
-use Rattle.s360_journal.specs.Stacks.{Fits, IsAsLarge, Room, carries_unit, stands_apart}
+use Rattle.s360_journal.specs.Stacks.{Fits, Room, carries_unit, stands_apart}
 
 -- ---- counts
 

@@ -2,7 +2,7 @@
 use Rattle.std.specs.Prelude.{◌≤◌, ℕ, Bool, true, false, List, length}
 use Rattle.std.specs.List.{count_by}
 use Rattle.s360_machine.specs.declared.event.Event.{Event}
-use Rattle.s360_machine.specs.declared.event.Event.TheVariants.{Cpu, Channel, Tick, Key, Patch as patch}
+use Rattle.s360_machine.specs.declared.event.Event.TheVariants.{Channel, Key, Patch as patch}
 use Rattle.s360_machine.specs.declared.operator.Key.TheVariants.{Load}
 
 -- an event of which the unit stands apart

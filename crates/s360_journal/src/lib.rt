@@ -14,6 +14,7 @@ mod indexing;
 mod laws;
 mod places;
 mod report;
+mod reversible;
 mod running;
 mod same;
 mod session;
@@ -28,6 +29,7 @@ pub use laws::{
 };
 pub use places::Places;
 pub use report::Report;
-pub use running::{RunEnd, next_event};
+pub use reversible::Reversible;
+pub use running::{RunEnd, next_event, run_turns};
 pub use session::{NothingStands, Session};
 pub use withdrawing::Withdrawal;

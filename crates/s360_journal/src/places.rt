@@ -95,12 +95,12 @@ impl Places {
         ensures memory { OnErr result (IfSome (slice_get changes.now (length changes.now - 1)) (λ x. places_of_change x ≢ [])) }
     {
         let number = changes.len();
-        if number == 0 || changes.count(number) == 0 {
+        let count = if number == 0 { 0 } else { changes.count(number) };
+        if count == 0 {
             let spans = SpanList::Within(None, None);
-            return Ok(Places { spans, count: 0 });
+            return Ok(Places { spans, count });
         }
         let spans = SpanList::of(alloc, changes.spans(number))?;
-        let count = changes.count(number);
         Ok(Places { spans, count })
     }
 

@@ -160,7 +160,7 @@ impl Session {
     }
 
     /// Whether the last change that stands altered nothing.
-    pub(crate) fn is_idle(&self) -> bool
+    pub fn is_idle(&self) -> bool
         ensures { (s : Standing) (e : Event) → IsAfter self.now s e → (IsTrue result ↔ (alteration s e ≡ [])) }
     {
         is_idle(&self.changes)

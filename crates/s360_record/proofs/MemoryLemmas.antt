@@ -47,3 +47,12 @@ left-out (suc i) (x ∷ es) =
 pub fewer-withdrawn : (k : ℕ) (es : List Event) → 0 < k → AreFewer (without_event k es) es
 fewer-withdrawn zero es h = absurd (omega (arith, h))
 fewer-withdrawn (suc i) es h = let same : suc i - 1 ≡ i = omega arith in rw same (left-out i es)
+
+left-out-length : (i : ℕ) (es : List Event) → i < length es → length (take i es ++ drop (suc i) es) ≡ length es - 1
+left-out-length i [] h = absurd (omega (arith, h))
+left-out-length zero (x ∷ es) h = omega arith
+left-out-length (suc i) (x ∷ es) h = omega (arith, h, left-out-length i es (omega (arith, h)))
+
+pub length-withdrawn : (k : ℕ) (es : List Event) → 0 < k → k ≤ length es → length (without_event k es) ≡ length es - 1
+length-withdrawn zero es h l = absurd (omega (arith, h))
+length-withdrawn (suc i) es h l = let same : suc i - 1 ≡ i = omega arith in rw same (left-out-length i es (omega (arith, l)))

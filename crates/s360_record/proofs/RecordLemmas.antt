@@ -171,7 +171,7 @@ pub withdrawn-some : (n : ℕ) (es : List Event) (result : Result (Unit {0}) Wit
 withdrawn-some n es result x A done h = standing-some n es (matched-true (is_standing n es) A (result ≡ Err NoSuchChange) h (λ e. cc))
 
 -- an event that was accepted
-pub accepted-room : (s : Standing) (e : Event) (result : Result (Unit {0}) Refusal) (x : Unit {0}) → result ≡ Ok x → MatchOption (refusal_in s e) (IsOkUnless result Memory) (λ r. result ≡ Err r) → length s.events < s.limit
+pub accepted-room : {X : Type 0} (s : Standing) (e : Event) (result : Result X Refusal) (x : X) → result ≡ Ok x → MatchOption (refusal_in s e) (IsOkUnless result Memory) (λ r. result ≡ Err r) → length s.events < s.limit
 accepted-room s e result x done h = or_full-room (refusal_of (storage_size (machine_of s)) e) (length s.events) s.limit (accepted-None (refusal_in s e) x result done h)
 
 -- the next of the record is on top of the stack, so it is not refused

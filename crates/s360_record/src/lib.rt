@@ -7,6 +7,7 @@
 
 mod forwarding;
 mod recording;
+mod reversing;
 
 pub use forwarding::Forwarded;
 pub use recording::Recording;

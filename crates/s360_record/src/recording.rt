@@ -8,15 +8,17 @@ ghost use Rattle.s360_machine.specs.declared.refusal.Refusal.TheVariants.{Memory
 ghost use Rattle.s360_journal.specs.Rerun.{AreAccepted, changes_of, last_change_of, rerun};
 ghost use Rattle.s360_journal.specs.Running.{next_event};
 ghost use Rattle.s360_journal.specs.Stacks.{Fits};
-ghost use Rattle.s360_journal.specs.Standing.{machine_of, refusal_in};
+ghost use Rattle.s360_journal.specs.Reports.{IsReport};
+ghost use Rattle.s360_journal.specs.Stops.{stop_of};
+ghost use Rattle.s360_journal.specs.Standing.{IsAfter, Standing, alteration, last_kind_of, machine_of, refusal_in};
 ghost use Rattle.s360_journal.specs.Withdrawals.{is_standing};
 ghost use Rattle.s360_journal.specs.declared.withdrawing.Withdrawal.TheVariants.{Memory, NoSuchChange};
 ghost use Rattle.s360_record.specs.Forwarding.{IsMet, state_after};
 ghost use Rattle.s360_record.specs.Recorded.{next_recorded, rest_of, session_of, standing_events, with_standing, without_change};
 
 use crate::forwarding::{Forwarded, leave, meet};
-use s360_journal::{EventStack, NothingStands, Session, Withdrawal, next_event};
-use s360_machine::{Event, Machine, Refusal};
+use s360_journal::{Breaks, EventStack, NothingStands, Report, Session, Withdrawal, next_event};
+use s360_machine::{Event, EventKind, Machine, Refusal};
 use s360_store::Place;
 use std::alloc::{AllocError, Global};
 use std::marker::Model;
@@ -102,6 +104,20 @@ impl Recording {
         self.session.changes_of(place)
     }
 
+    /// What the last event is that stands, if one does: the one that `back` would take back.
+    pub fn last_event(&self) -> Option<EventKind>
+        ensures { result ≡ last_kind_of (standing_events self.now) }
+    {
+        self.session.last_event()
+    }
+
+    /// Whether the last change that stands altered nothing.
+    pub fn is_idle(&self) -> bool
+        ensures { (s : Standing) (e : Event) → IsAfter (session_of self.now) s e → (IsTrue result ↔ (alteration s e ≡ [])) }
+    {
+        self.session.is_idle()
+    }
+
     /// Why an event is refused, but for want of memory. It takes no memory.
     pub fn refusal(&self, event: &Event) -> Option<Refusal>
         ensures { result ≡ refusal_in (session_of self.now) event.now }
@@ -139,6 +155,25 @@ impl Recording {
         Ok(forwarded)
     }
 
+    /// As `forward`, and reports what the event altered.
+    pub fn forward_reported(&mut self, event: Event) -> Result<(Report, Forwarded), Refusal>
+        ensures met { IfOk result (λ r. IsMet (rest_of self.old) event r.1) }
+        ensures state { IfOk result (λ r. self.new ≡ state_after self.old event r.1) }
+        ensures report { IfOk result (λ r. IsReport r.0 (alteration (session_of self.old) event)) }
+        ensures err { OnErr result (self.new ≡ self.old) }
+        ensures refused { MatchOption (refusal_in (session_of self.old) event) (IsOkUnless result no_memory) (λ r. result ≡ Err r) }
+    {
+        if self.session.reserve_in(&mut self.later, &event).is_err() {
+            return Err(self.session.refusal(&event).unwrap_or(Refusal::Memory));
+        }
+        let forwarded = meet(&self.later, &event);
+        let report = self.session.forward(event)?;
+        leave(&mut self.later, forwarded);
+        // Looked at, since its clauses have that what stands is accepted.
+        let _machine = self.session.machine();
+        Ok((report, forwarded))
+    }
+
     /// Takes back the last change that stands, whose event stays recorded. It takes no memory.
     pub fn back(&mut self) -> Result<(), NothingStands>
         ensures ok { OnOk result (self.new ≡ with_standing self.old (self.old.standing - 1)) }
@@ -162,6 +197,24 @@ impl Recording {
             let _taken = self.back();
         }
         self.standing()
+    }
+
+    /// Goes back to the last stop: to the greatest number of changes, below that which stand, after which the CPU operates
+    /// at a breakpoint, else to 0. Their events stay recorded. It answers that number. It takes no memory.
+    pub fn back_until(&mut self, breaks: &Breaks) -> u32
+        ensures stop { result ≡ stop_of (seen self.old.start) (standing_events self.old) breaks.now }
+        ensures kept { self.new ≡ with_standing self.old result }
+        ensures within { result ≤ self.old.standing }
+    {
+        let mut standing = self.standing();
+        while standing > 0 {
+            let _taken = self.back();
+            standing -= 1;
+            if breaks.stops(self.machine()) {
+                return standing;
+            }
+        }
+        0
     }
 
     /// Runs the next event of the record again, and answers whether there was one. Want of memory changes nothing.

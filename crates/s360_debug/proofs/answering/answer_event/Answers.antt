@@ -6,8 +6,8 @@ use Rattle.s360_debug.proofs.ReportLemmas.{accepted-text}
 use Rattle.s360_debug.proofs.answering.answer_event.Goals as goal
 
 pub returns-in_ok-text-in-Ok-clause-text : goal.returns-in_ok-text-in-Ok-clause-text
-returns-in_ok-text-in-Ok-clause-text c =
-    let s = c.args.session.now
+returns-in_ok-text-in-Ok-clause-text g c =
+    let s = g.S.Reversible.standing_of c.args.session.now
     in let e = c.args.event
     in let none : refusal_in s e ≡ None = accepted-None (refusal_in s e) c.in-Ok.report c.forward.result c.in-Ok.is c.forward.ensures.refused
     in let count : c.standing.result ≡ length s.events + 1
@@ -15,12 +15,12 @@ returns-in_ok-text-in-Ok-clause-text c =
     in c.in_ok-text-in-Ok.ensures ∙ accepted-text s e c.in-Ok.report c.standing.result none c.in-Ok.ensures.report count
 
 pub returns-in-Err-clause-text : goal.returns-in-Err-clause-text
-returns-in-Err-clause-text c =
-    let s = c.args.session.now
+returns-in-Err-clause-text g c =
+    let s = g.S.Reversible.standing_of c.args.session.now
     in let e = c.args.event
     in let other : c.in-Err.refusal ≢ Memory = λ same. search rules
     in let refused : refusal_in s e ≡ Some c.in-Err.refusal = refused-Some (refusal_in s e) c.forward.result c.in-Err.refusal c.in-Err.is other c.forward.ensures.refused
     in rw refused c.refusal_text.ensures
 
 pub returns-in-Err-clause-state : goal.returns-in-Err-clause-state
-returns-in-Err-clause-state c = search (tests, rules)
+returns-in-Err-clause-state g c = search (tests, rules)

@@ -1,4 +1,4 @@
-use Rattle.std.proofs.Common.{◌≡◌, arith}
+use Rattle.std.proofs.Common.{arith}
 use Rattle.s360_journal.proofs.StackLemmas.{counted-stack}
 use Rattle.s360_journal.proofs.event_stack.EventStack.len.Goals as goal
 

@@ -1,4 +1,4 @@
-use Rattle.std.proofs.Common.{rules, ◌≡◌, ◌+◌, ◌≤◌, true, false, arith, length}
+use Rattle.std.proofs.Common.{rules, ◌≡◌, ◌+◌, ◌≤◌, false, arith, length}
 use Rattle.std.specs.Vec.{vec_capacity}
 use Rattle.s360_journal.specs.Stacks.{carries_unit, stands_apart}
 use Rattle.s360_journal.proofs.StackLemmas.{counted-stack, Fits-reserved, OnOk-then}

@@ -1,9 +1,8 @@
-use Rattle.std.proofs.Common.{◌≡◌, ◌<◌, ◌++◌, ◌∷◌, ◌-◌, ◌∙◌, [], List, sym, ap, length, length-append, reverse, arith}
+use Rattle.std.proofs.Common.{◌≡◌, ◌<◌, ◌++◌, ◌∷◌, ◌∙◌, [], sym, ap, length, length-append, reverse, arith}
 use Rattle.std.proofs.Math.Nat.{pos_of_ne-zero}
 use Rattle.s360_machine.specs.Change.{Change}
 use Rattle.s360_machine.specs.Machine.{Whole}
 use Rattle.s360_journal.specs.History.{AreHistory, entries_of, unwound}
-use Rattle.s360_journal.specs.Standing.{Standing}
 use Rattle.s360_journal.proofs.IndexLemmas.{index-swapped, length-swapped, may-index-last}
 use Rattle.s360_journal.proofs.SessionLemmas.{IsLastChange, gone-back, last-change}
 use Rattle.s360_journal.proofs.session.Session.back.Goals as goal

@@ -1,0 +1,5 @@
+pub mod RegisterLemmas
+pub mod PointLemmas
+pub mod ForwardLemmas
+pub mod BackwardLemmas
+pub mod DrivenLemmas

@@ -1,0 +1,46 @@
+use Rattle.std.proofs.Common.{◌≡◌, ◌≢◌, ◌∙◌, None, Some, ap, rules, subst, sym}
+use Rattle.s360_machine.specs.declared.event.Event.{Event}
+use Rattle.s360_machine.specs.declared.refusal.Refusal.TheVariants.{Memory}
+use Rattle.s360_journal.specs.Standing.{refusal_in}
+use Rattle.s360_journal.proofs.RunningLemmas.{accepted-None, refused-Some}
+use Rattle.s360_record.specs.Forwarding.{IsMet, state_after}
+use Rattle.s360_record.specs.Recorded.{Recorded, rest_of, session_of}
+use Rattle.s360_remote.specs.Forward.{IsTurn, event_of_turn, pause_of_turn, state_of_turn}
+use Rattle.s360_remote.specs.declared.pause.Pause.TheVariants.{Refused}
+use Rattle.s360_remote.proofs.ForwardLemmas.{turn-accepted, turn-refused}
+use Rattle.s360_remote.proofs.target.Target.take_turn.Goals as goal
+
+pub returns-in-Ok : goal.returns-in-Ok
+returns-in-Ok c =
+    let r : Recorded = c.self.inside.recording
+    in let p = c.self.inside.points
+    in let now : Recorded = c.forward.new.self
+    in let is : c.in_ok-event.event ≡ event_of_turn r = c.in_ok-event.ensures
+    in let turn : IsTurn r now c.in-Ok.forwarded = record {
+      met = subst (λ (e : Event). IsMet (rest_of r) e c.in-Ok.forwarded) is c.in-Ok.ensures.met;
+      state = c.in-Ok.ensures.state ∙ ap (λ (e : Event). state_after r e c.in-Ok.forwarded) is;
+    }
+    in let none : refusal_in (session_of r) (event_of_turn r) ≡ None
+    = ap (λ (e : Event). refusal_in (session_of r) e) (sym is) ∙ accepted-None (refusal_in (session_of r) c.in_ok-event.event) c.in-Ok.forwarded c.forward.result c.in-Ok.is c.forward.ensures.refused
+    in let both : (c.pause_after.result ≡ pause_of_turn p c.args.reach r) × (now ≡ state_of_turn r)
+    = turn-accepted p c.args.reach r now c.in-Ok.forwarded c.pause_after.result none turn (c.pause_after.ensures r turn)
+    in record {
+      pause = rw (← c.self.view_is) both.0;
+      state = rw (← c.self.view_is) (ap (λ s. record { recorded = s; points = p; own = c.self.inside.own_breaks; dropped = c.self.inside.dropped }) both.1);
+      memory = tt;
+    }
+
+pub returns-in-Err : goal.returns-in-Err
+returns-in-Err c =
+    let r : Recorded = c.self.inside.recording
+    in let p = c.self.inside.points
+    in let is : c.in_ok-event.event ≡ event_of_turn r = c.in_ok-event.ensures
+    in let other : c.in-Err.refusal ≢ Memory = λ same. search rules
+    in let some : refusal_in (session_of r) (event_of_turn r) ≡ Some c.in-Err.refusal
+    = ap (λ (e : Event). refusal_in (session_of r) e) (sym is) ∙ refused-Some (refusal_in (session_of r) c.in_ok-event.event) c.forward.result c.in-Err.refusal c.in-Err.is other c.forward.ensures.refused
+    in let both : (Some (Refused c.in-Err.refusal) ≡ pause_of_turn p c.args.reach r) × (r ≡ state_of_turn r) = turn-refused p c.args.reach r c.in-Err.refusal some
+    in record {
+      pause = rw (← c.self.view_is) both.0;
+      state = rw (← c.self.view_is) (ap (λ s. record { recorded = s; points = p; own = c.self.inside.own_breaks; dropped = c.self.inside.dropped }) (c.in-Err.ensures.err ∙ both.1));
+      memory = tt;
+    }

@@ -1,0 +1,11 @@
+-- The numbers by which errors are told (the C library of a Unix, errno).
+use Rattle.s360_packet.specs.declared.answer.Answer.{Answer}
+use Rattle.s360_packet.specs.declared.answer.Answer.TheVariants.{Error}
+use Rattle.s360_remote.specs.declared.error_number.ErrorNumber.{ErrorNumber}
+use Rattle.s360_remote.specs.declared.error_number.ErrorNumber.TheVariants.{Memory, Address, Malformed, Full}
+
+abbrev pub error_of : ErrorNumber → Answer
+error_of Memory = Error 12
+error_of Address = Error 14
+error_of Malformed = Error 22
+error_of Full = Error 28

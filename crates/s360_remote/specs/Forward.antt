@@ -1,0 +1,105 @@
+-- How the machine goes on, for gdb's `s` and `c` (gdb manual, "Packets", "Reverse Execution").
+use Rattle.std.specs.Prelude.{◌≡◌, ℕ, zero, suc, ◌+◌, Bool, true, false, nat_eq, List, [], ◌∷◌, Option, Some, None, length}
+use Rattle.std.specs.Option.{unwrap_or}
+use Rattle.s360_store.specs.declared.place.Place.{Place}
+use Rattle.s360_machine.specs.declared.event.Event.{Event}
+use Rattle.s360_machine.specs.declared.event.Event.TheVariants.{Cpu}
+use Rattle.s360_machine.specs.declared.refusal.Refusal.{Refusal}
+use Rattle.s360_journal.specs.Breakpoints.{is_at_breakpoint}
+use Rattle.s360_journal.specs.Running.{next_event}
+use Rattle.s360_journal.specs.Standing.{alteration, machine_of, refusal_in}
+use Rattle.s360_record.specs.Forwarding.{IsMet, state_after}
+use Rattle.s360_record.specs.Recorded.{Recorded, next_recorded, rest_of, session_of, with_event, with_standing}
+use Rattle.s360_record.specs.declared.forwarding.Forwarded.{Forwarded}
+use Rattle.s360_remote.specs.Points.{Points, byte_altered_by, watched_bytes}
+use Rattle.s360_remote.specs.declared.pause.Pause.{Pause}
+use Rattle.s360_remote.specs.declared.pause.Pause.TheVariants.{Refused, Watch, Idle, Break, Stepped, RecordEnd}
+use Rattle.s360_remote.specs.declared.pause.Reach.{Reach}
+use Rattle.s360_remote.specs.declared.pause.Reach.TheVariants.{Step, Stop}
+
+-- where the machine pauses, and why
+pub record Paused : Type 0 where
+  pub state : Recorded
+  pub why : Pause
+
+-- the event that is next in the record; at its end the one whose turn it is
+abbrev pub event_of_turn : Recorded → Event
+event_of_turn r = unwrap_or (next_recorded r) (next_event (machine_of (session_of r)))
+
+-- the record, once that event was run
+abbrev pub after_event_of : Option Event → Recorded → Recorded
+after_event_of (Some e) r = with_standing r (r.standing + 1)
+after_event_of None r = with_event r (event_of_turn r)
+
+abbrev pub after_turn : Recorded → Recorded
+after_turn r = after_event_of (next_recorded r) r
+
+-- the event whose turn it is in one state was run, and the other is the state then
+pub record IsTurn (before now : Recorded) (forwarded : Forwarded) : Type 0 where
+  pub met : IsMet (rest_of before) (event_of_turn before) forwarded
+  pub state : now ≡ state_after before (event_of_turn before) forwarded
+
+-- the last of the record was run again
+abbrev pub is_end_of : Option Event → Recorded → Bool
+is_end_of (Some e) after = nat_eq after.standing (length after.events)
+is_end_of None after = false
+
+abbrev pub is_cpu : Event → Bool
+is_cpu Cpu = true
+is_cpu e = false
+
+-- the event is as far as was asked: an event of the CPU, or one after which the CPU operates at a breakpoint
+abbrev pub is_reached : Reach → List ℕ → Recorded → Event → Bool
+is_reached Step breaks after e = is_cpu e
+is_reached Stop breaks after e = is_at_breakpoint (machine_of (session_of after)) breaks
+
+abbrev pub pause_of : Reach → Pause
+pause_of Step = Stepped
+pause_of Stop = Break
+
+-- why the machine pauses after an event that altered these places, the first of the reasons that hold: a watched byte was
+-- altered, nothing was, the event was as far as was asked, the record ended
+abbrev pub pause_with : Option ℕ → List Place → Bool → Bool → Reach → Option Pause
+pause_with (Some at) places reached ended reach = Some (Watch at)
+pause_with None [] reached ended reach = Some Idle
+pause_with None (p ∷ ps) true ended reach = Some (pause_of reach)
+pause_with None (p ∷ ps) false true reach = Some RecordEnd
+pause_with None (p ∷ ps) false false reach = None
+
+-- why it pauses after the event whose turn it is was accepted, if it does
+unfoldable pub pause_after : Points → Reach → Recorded → Option Pause
+pause_after p reach r =
+    let after = after_turn r
+    in let e = event_of_turn r
+    in pause_with (byte_altered_by after (watched_bytes p.watches) after.standing) (alteration (session_of r) e) (is_reached reach p.breaks after e) (is_end_of (next_recorded r) after) reach
+
+-- why it pauses with an event that may be refused
+abbrev pub refused_or : Option Refusal → Option Pause → Option Pause
+refused_or (Some refusal) pause = Some (Refused refusal)
+refused_or None pause = pause
+
+-- a refused event changes nothing
+abbrev pub unless_refused : Option Refusal → Recorded → Recorded → Recorded
+unless_refused (Some refusal) r after = r
+unless_refused None r after = after
+
+-- the turn of the next event: why the machine pauses with it, if it does, and the state then
+unfoldable pub pause_of_turn : Points → Reach → Recorded → Option Pause
+pause_of_turn p reach r = refused_or (refusal_in (session_of r) (event_of_turn r)) (pause_after p reach r)
+
+unfoldable pub state_of_turn : Recorded → Recorded
+state_of_turn r = unless_refused (refusal_in (session_of r) (event_of_turn r)) r (after_turn r)
+
+-- a turn after which the machine pauses, or else others follow
+abbrev pub paused_by : Option Pause → Recorded → Paused → Paused
+paused_by (Some why) state others = record { state = state; why = why }
+paused_by None state others = others
+
+-- the machine goes on for at most so many turns
+unfoldable pub resumed : Points → Reach → Recorded → ℕ → Paused
+resumed p reach r zero = record { state = r; why = Idle }
+resumed p reach r (suc n) = paused_by (pause_of_turn p reach r) (state_of_turn r) (resumed p reach (state_of_turn r) n)
+
+-- more turns than events can be recorded, so that the machine pauses within them
+abbrev pub most_turns : ℕ
+most_turns = 10000001

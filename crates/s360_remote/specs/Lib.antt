@@ -1,0 +1,9 @@
+pub mod Registers
+pub mod Points
+pub mod Forward
+pub mod Backward
+pub mod Driven
+pub mod Replies
+pub mod ErrorNumbers
+pub mod Writing
+pub mod Monitor

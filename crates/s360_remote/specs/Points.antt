@@ -1,0 +1,63 @@
+-- Where gdb asks the machine to stop: breakpoints, and bytes of storage that are watched (gdb manual, "Packets", `Z0` to
+-- `Z2`).
+use Rattle.std.specs.Prelude.{ℕ, Bool, not, ◌&&◌, ◌||◌, nat_eq, nat_le, if◌then◌else◌, max, List, [], ◌∷◌, ◌++◌, length, Option}
+use Rattle.std.specs.List.{filter, find, flat_map, list_any, range_with_len}
+use Rattle.std.specs.Option.{unwrap_or}
+use Rattle.s360_store.specs.declared.place.Place.TheVariants.{Byte}
+use Rattle.s360_machine.specs.Machine.{seen}
+use Rattle.s360_journal.specs.Rerun.{last_change_of}
+use Rattle.s360_record.specs.Recorded.{Recorded, standing_events}
+
+-- so many bytes from an address on
+pub record Watched : Type 0 where
+  pub at : ℕ
+  pub count : ℕ
+
+-- the breakpoints and the watched bytes
+pub record Points : Type 0 where
+  pub breaks : List ℕ
+  pub watches : List Watched
+
+-- the addresses of the watched bytes, in the order in which they were set
+abbrev pub watched_bytes : List Watched → List ℕ
+watched_bytes watches = flat_map (λ w. range_with_len w.at w.count) watches
+
+-- the last standing change of a byte, 0 if there is none
+abbrev pub last_change_at : Recorded → ℕ → ℕ
+last_change_at r at = unwrap_or (last_change_of (seen r.start) (standing_events r) (Byte at)) 0
+
+-- the first watched byte that the change of this number was the last to alter
+abbrev pub byte_altered_by : Recorded → List ℕ → ℕ → Option ℕ
+byte_altered_by r bytes number = find (λ at. nat_eq (last_change_at r at) number) bytes
+
+-- the last change of any of them, 0 if there is none
+abbrev pub last_change_among : Recorded → List ℕ → ℕ
+last_change_among r [] = 0
+last_change_among r (at ∷ bytes) = max (last_change_at r at) (last_change_among r bytes)
+
+-- so many runs of bytes can be watched
+abbrev pub most_watches : ℕ
+most_watches = 64
+
+abbrev pub are_same_bytes : Watched → Watched → Bool
+are_same_bytes v w = nat_eq v.at w.at && nat_eq v.count w.count
+
+-- these bytes are watched
+abbrev pub has_watch : List Watched → Watched → Bool
+has_watch watches w = list_any (λ v. are_same_bytes v w) watches
+
+-- no more can be watched
+abbrev pub is_full : List Watched → Bool
+is_full watches = nat_le most_watches (length watches)
+
+-- these bytes can be watched: they are, or more can be
+abbrev pub has_room_for_watch : List Watched → Watched → Bool
+has_room_for_watch watches w = has_watch watches w || not (is_full watches)
+
+-- with these bytes as the last; they stay as they are if they are watched or no more can be
+abbrev pub with_watch : List Watched → Watched → List Watched
+with_watch watches w = if has_watch watches w || is_full watches then watches else watches ++ w ∷ []
+
+-- without these bytes, the others in their order
+abbrev pub without_watch : List Watched → Watched → List Watched
+without_watch watches w = filter (λ v. not (are_same_bytes v w)) watches

@@ -1,0 +1,76 @@
+-- The packets that are sent to gdb (gdb manual, "Packets", "Stop Reply Packets").
+use Rattle.std.specs.Prelude.{ℕ, ◌+◌, Bool, true, false, nat_eq, nat_lt, if◌then◌else◌, List, [], ◌∷◌, ◌++◌, codes, length, slice_range, Option, Some, None}
+use Rattle.s360_machine.specs.declared.event_kind.EventKind.{EventKind}
+use Rattle.s360_machine.specs.declared.event_kind.EventKind.TheVariants.{Cpu, Channel}
+use Rattle.s360_machine.specs.declared.refusal.Refusal.{Refusal}
+use Rattle.s360_machine.specs.declared.refusal.Refusal.TheVariants.{Memory, OutsideStorage, NoSuchUnit, LineTooLong, PatchTooLong, JournalFull}
+use Rattle.s360_machine.specs.Machine.{Machine}
+use Rattle.s360_machine.specs.RunStates.{is_operating}
+use Rattle.s360_model.specs.Psw.{wait_of}
+use Rattle.s360_packet.specs.Answers.{answer_text, stop_text}
+use Rattle.s360_packet.specs.Framing.{framed, two_digits}
+use Rattle.s360_packet.specs.Hexadecimal.{bytes_text}
+use Rattle.s360_packet.specs.Target.{register_text, register_value}
+use Rattle.s360_packet.specs.declared.answer.Stop.{Stop}
+use Rattle.s360_packet.specs.declared.answer.Stop.TheVariants.{Trap, Watch as watch, Breakpoint, HistoryBegin, HistoryEnd}
+use Rattle.s360_packet.specs.declared.target.RegisterValue.{RegisterValue}
+use Rattle.s360_remote.specs.Registers.{words_of}
+use Rattle.s360_remote.specs.declared.pause.Pause.{Pause}
+use Rattle.s360_remote.specs.declared.pause.Pause.TheVariants.{Refused, Watch, Idle, Break, Stepped, RecordEnd, RecordStart}
+
+-- an error, by the number that the C library of a Unix gives it: ENOMEM, EFAULT, EINVAL, ENOSPC
+abbrev pub error_text : ℕ → List ℕ
+error_text number = codes "E" ++ two_digits number
+
+-- bytes of storage: an error where there are none, or one is outside
+abbrev pub storage_text : Machine → ℕ → ℕ → List ℕ
+storage_text m at count =
+    if nat_eq count 0 then error_text 22
+    else (if nat_lt (length m.core.storage.bytes) (at + count) then error_text 14
+    else bytes_text (slice_range m.core.storage.bytes at (at + count)))
+
+-- one register: an error where there is none of this number
+abbrev pub register_or_error : Option RegisterValue → List ℕ
+register_or_error (Some value) = register_text value
+register_or_error None = error_text 22
+
+abbrev pub register_of_number : Machine → ℕ → List ℕ
+register_of_number m number = register_or_error (register_value (words_of m) number)
+
+-- why an event was refused, for a person
+abbrev pub refusal_words : Refusal → List ℕ
+refusal_words Memory = codes "out of memory"
+refusal_words OutsideStorage = codes "outside storage"
+refusal_words NoSuchUnit = codes "no such unit"
+refusal_words LineTooLong = codes "line too long"
+refusal_words PatchTooLong = codes "patch too long"
+refusal_words JournalFull = codes "no more changes can stand"
+
+-- a text for gdb's user, which comes before the stop
+abbrev pub console_packet : List ℕ → List ℕ
+console_packet text = framed (codes "O" ++ bytes_text text)
+
+abbrev pub stop_packet : Stop → List ℕ
+stop_packet stop = framed (stop_text stop)
+
+-- why nothing is left to do
+abbrev pub idle_words_of : Bool → Option EventKind → Bool → List ℕ
+idle_words_of false last waits = codes "idle: the CPU is stopped\n"
+idle_words_of true (Some (Channel unit)) waits = codes "idle: the console waits for a line\n"
+idle_words_of true (Some Cpu) true = codes "idle: the CPU waits\n"
+idle_words_of true (Some Cpu) false = codes "idle: the instruction altered nothing\n"
+idle_words_of true other waits = codes "idle: the event altered nothing\n"
+
+abbrev pub idle_words : Machine → Option EventKind → List ℕ
+idle_words m last = idle_words_of (is_operating m.control.run_state) last (wait_of m.core.psw)
+
+-- what tells why the machine pauses: where nothing is left to do, or an event is refused, a text and the stop that stands for
+-- it; m is the machine then, and the last event is that which stands last
+abbrev pub pause_packets : Stop → Machine → Option EventKind → Pause → List ℕ
+pause_packets quiet m last (Refused refusal) = console_packet (codes "refused: " ++ refusal_words refusal ++ codes "\n") ++ stop_packet quiet
+pause_packets quiet m last Idle = console_packet (idle_words m last) ++ stop_packet quiet
+pause_packets quiet m last (Watch at) = stop_packet (watch at)
+pause_packets quiet m last Break = stop_packet Breakpoint
+pause_packets quiet m last Stepped = stop_packet Trap
+pause_packets quiet m last RecordEnd = stop_packet HistoryEnd
+pause_packets quiet m last RecordStart = stop_packet HistoryBegin

@@ -1,0 +1,27 @@
+//! The target that gdb drives: a session beside what was recorded, of which gdb asks and which it alters.
+#![tactic(auto)]
+
+mod connection;
+mod error_number;
+mod laws;
+mod monitor;
+mod pause;
+mod points;
+mod registers;
+mod replies;
+mod serving;
+mod target;
+mod writing;
+
+pub use connection::Connection;
+pub use laws::both_words_are_the_psw;
+pub use pause::{Pause, Reach};
+pub use points::{Points, Watch};
+pub use registers::{patch_of_psw, patch_of_word, words_of};
+pub use replies::Replies;
+pub use serving::Then;
+pub use target::Target;
+pub use writing::WriteFault;
+
+/// So many bytes of data has a packet at most.
+pub const PACKET_SIZE: u32 = 16_384;

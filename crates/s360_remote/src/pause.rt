@@ -1,0 +1,45 @@
+//! Where the machine pauses. Source: gdb manual, "Stop Reply Packets" and "Reverse Execution".
+ghost use Rattle.std.specs.Prelude.{◌≡◌};
+ghost use Rattle.s360_remote.specs.Forward.{pause_of};
+
+use s360_machine::Refusal;
+
+/// How far the machine goes on.
+#[derive(Clone, Copy, Debug, PartialEq, Eq)]
+pub enum Reach {
+    /// Over one event of the CPU.
+    Step,
+    /// To the next stop.
+    Stop,
+}
+
+impl Reach {
+    /// Why the machine pauses where it is reached.
+    pub(crate) fn pause(self) -> Pause
+        ensures { result ≡ pause_of self }
+    {
+        match self {
+            Reach::Step => Pause::Stepped,
+            Reach::Stop => Pause::Break,
+        }
+    }
+}
+
+/// Why the machine pauses.
+#[derive(Clone, Copy, Debug, PartialEq, Eq)]
+pub enum Pause {
+    /// The next event was refused.
+    Refused(Refusal),
+    /// The watched byte at this address was altered, or is altered by the change that comes next if the machine went back.
+    Watch(u32),
+    /// The last event altered nothing.
+    Idle,
+    /// The CPU operates at a breakpoint.
+    Break,
+    /// An event of the CPU was run, or taken back.
+    Stepped,
+    /// All that was recorded stands.
+    RecordEnd,
+    /// Nothing stands.
+    RecordStart,
+}

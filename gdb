@@ -1,0 +1,29 @@
+#!/usr/bin/env bash
+# Starts gdb over a machine:
+#
+#   ./gdb [WORD ..]
+#
+# The words are those of s360gdb's command line, which are those of s360dbg. A script is carried out before gdb asks anything.
+# The program is proved and built where it is not built or has changed. gdb-multiarch has to be installed.
+set -euo pipefail
+top="$(cd "$(dirname "${BASH_SOURCE[0]}")" && pwd)"
+program="$top/crates/s360gdb/out/s360gdb"
+
+for needed in rt gdb-multiarch python3; do
+    if ! command -v "$needed" >/dev/null; then
+        echo "no '$needed' on the PATH: README.md says what is needed" >&2
+        exit 1
+    fi
+done
+
+sources=("$top/crates.txt" "$top"/crates/*/src "$top"/crates/*/specs "$top"/crates/*/proofs)
+if [[ ! -x $program || -n $(find "${sources[@]}" -newer "$program" -print -quit 2>/dev/null) ]]; then
+    echo "gdb: proving and building the program, which can take twenty minutes" >&2
+    "$top/build" s360gdb
+fi
+
+folder="$(mktemp -d)"
+trap 'rm -rf "$folder"' EXIT
+python3 "$top/tools/gdb/make_elf.py" "$folder/s360.elf"
+printf -v command '%q ' "$program" "$@"
+gdb-multiarch -q -x "$top/tools/gdb/s360.gdb" -ex "file $folder/s360.elf" -ex "target remote | $command"
