@@ -12,7 +12,7 @@ ghost use Rattle.s360_debug.specs.declared.bytes.ScriptFault.TheVariants.{Write 
 use crate::answering::{answer, text_of_fault};
 use crate::bytes::ScriptFault;
 use crate::lines::{Lines, skips};
-use s360_journal::{Breaks, Reversible, Session};
+use s360_journal::{Breaks, Reversible};
 use s360_language::read_command;
 use s360_text::{Text, read_whole, write_whole};
 use std::alloc::{AllocError, Global};
@@ -24,39 +24,39 @@ const LONGEST_SCRIPT: usize = 1_048_576;
 /// Carries out the script that a reader has left, writes the answers, and answers the number of its
 /// command lines, faulty ones included. The script is read whole before its first line is carried out.
 /// No breakpoint is set before that line.
-pub fn run_script<R: Read, W: Write>(
+pub fn run_script<S: Reversible, R: Read, W: Write>(
     alloc: Global,
-    session: &mut Session,
+    session: &mut S,
     reader: &mut R,
     writer: &mut W,
 ) -> Result<u32, ScriptFault>
     ensures length { IfOk result (λ n. IfSome (R.remaining reader.old) (λ text. length text ≤ 1048576)) }
-    ensures answers { IfOk result (λ n. IfSome (R.remaining reader.old) (λ text. Appends (W.contents writer.old) (W.contents writer.new) (answers_of session.old text))) }
+    ensures answers { IfOk result (λ n. IfSome (R.remaining reader.old) (λ text. Appends (W.contents writer.old) (W.contents writer.new) (answers_of (S.standing_of session.old) text))) }
     ensures lines { IfOk result (λ n. IfSome (R.remaining reader.old) (λ text. n ≡ lines_of_script text)) }
-    ensures state { IfOk result (λ n. IfSome (R.remaining reader.old) (λ text. session.new ≡ (state_after_lines (new_debugger session.old) (lines_of text)).session)) }
+    ensures state { IfOk result (λ n. IfSome (R.remaining reader.old) (λ text. S.standing_of session.new ≡ (state_after_lines (new_debugger (S.standing_of session.old)) (lines_of text)).session)) }
     ensures unread_session { (result ≡ Err read_failed) ⊎ (result ≡ Err TooLong) → session.new ≡ session.old }
     ensures unread_writer { (result ≡ Err read_failed) ⊎ (result ≡ Err TooLong) → writer.new ≡ writer.old }
     ensures too_long { result ≡ Err TooLong → IfSome (R.remaining reader.old) (λ text. 1048576 < length text) }
-    ensures memory { result ≡ Err Memory → IfSome (R.remaining reader.old) (λ text. IsStopped (W.contents writer.old) (W.contents writer.new) (new_debugger session.old) session.new (lines_of text)) }
-    ensures write { result ≡ Err write_failed → IfSome (R.remaining reader.old) (λ text. IsCut (W.contents writer.old) (W.contents writer.new) (new_debugger session.old) session.new (lines_of text)) }
+    ensures memory { result ≡ Err Memory → IfSome (R.remaining reader.old) (λ text. IsStopped (W.contents writer.old) (W.contents writer.new) (new_debugger (S.standing_of session.old)) (S.standing_of session.new) (lines_of text)) }
+    ensures write { result ≡ Err write_failed → IfSome (R.remaining reader.old) (λ text. IsCut (W.contents writer.old) (W.contents writer.new) (new_debugger (S.standing_of session.old)) (S.standing_of session.new) (lines_of text)) }
 {
     let script = read_whole(alloc, reader, LONGEST_SCRIPT)?;
     answer_script(alloc, session, &script, writer)
 }
 
 /// Answers the lines of a script in turn, and counts those that are not skipped.
-fn answer_script<W: Write>(
+fn answer_script<S: Reversible, W: Write>(
     alloc: Global,
-    session: &mut Session,
+    session: &mut S,
     script: &[u8],
     writer: &mut W,
 ) -> Result<u32, ScriptFault>
     requires { length script.now ≤ 1048576 }
-    ensures answers { OnOk result (Appends (W.contents writer.old) (W.contents writer.new) (answers_of session.old script.now)) }
+    ensures answers { OnOk result (Appends (W.contents writer.old) (W.contents writer.new) (answers_of (S.standing_of session.old) script.now)) }
     ensures lines { IfOk result (λ n. n ≡ lines_of_script script.now) }
-    ensures state { OnOk result (session.new ≡ (state_after_lines (new_debugger session.old) (lines_of script.now)).session) }
-    ensures memory { result ≡ Err Memory → IsStopped (W.contents writer.old) (W.contents writer.new) (new_debugger session.old) session.new (lines_of script.now) }
-    ensures write { result ≡ Err write_failed → IsCut (W.contents writer.old) (W.contents writer.new) (new_debugger session.old) session.new (lines_of script.now) }
+    ensures state { OnOk result (S.standing_of session.new ≡ (state_after_lines (new_debugger (S.standing_of session.old)) (lines_of script.now)).session) }
+    ensures memory { result ≡ Err Memory → IsStopped (W.contents writer.old) (W.contents writer.new) (new_debugger (S.standing_of session.old)) (S.standing_of session.new) (lines_of script.now) }
+    ensures write { result ≡ Err write_failed → IsCut (W.contents writer.old) (W.contents writer.new) (new_debugger (S.standing_of session.old)) (S.standing_of session.new) (lines_of script.now) }
     ensures read { result ≢ Err read_failed }
     ensures too_long { result ≢ Err TooLong }
 {
