@@ -96,10 +96,11 @@ impl Session {
         self.alloc
     }
 
-    /// The machine: the start with the standing events run again, none of which is refused.
+    /// The machine: the start with the standing events run again, none of which is refused, or alters the size of storage.
     pub fn machine(&self) -> &Machine
         ensures rerun { seen result.now.whole ≡ rerun (seen self.now.start) self.now.events }
         ensures accepted { AreAccepted (seen self.now.start) self.now.events }
+        ensures size { storage_size (machine_of self.now) ≡ storage_size (seen self.now.start) }
     {
         &self.machine
     }

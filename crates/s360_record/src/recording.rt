@@ -3,7 +3,7 @@ ghost use Rattle.std.specs.Prelude.{◌≡◌, ◌↔◌, ◌-◌, ◌+◌, ◌<
 ghost use Rattle.std.specs.Prelude.{MatchOption, OnErr, OnOk};
 ghost use Rattle.std.specs.Bool.{MatchBool};
 ghost use Rattle.std.specs.Option.{unwrap_or};
-ghost use Rattle.s360_machine.specs.Machine.{seen};
+ghost use Rattle.s360_machine.specs.Machine.{seen, storage_size};
 ghost use Rattle.s360_machine.specs.declared.refusal.Refusal.TheVariants.{Memory as no_memory};
 ghost use Rattle.s360_journal.specs.Rerun.{AreAccepted, changes_of, last_change_of, rerun};
 ghost use Rattle.s360_journal.specs.Running.{next_event};
@@ -62,6 +62,7 @@ impl Recording {
         ensures rerun { seen result.now.whole ≡ rerun (seen self.now.start) (standing_events self.now) }
         ensures accepted { AreAccepted (seen self.now.start) self.now.events }
         ensures few { length self.now.events ≤ self.now.limit }
+        ensures size { storage_size (machine_of (session_of self.now)) ≡ storage_size (seen self.now.start) }
     {
         self.session.machine()
     }

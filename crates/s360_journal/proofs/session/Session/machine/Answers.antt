@@ -1,5 +1,6 @@
-use Rattle.std.proofs.Common.{sym}
+use Rattle.std.proofs.Common.{refl, sym}
 use Rattle.s360_journal.proofs.SessionLemmas.{AreAccepted-session, rerun-session}
+use Rattle.s360_journal.proofs.WithdrawalLemmas.{size-session}
 use Rattle.s360_journal.proofs.session.Session.machine.Goals as goal
 
 pub returns-clause-rerun : goal.returns-clause-rerun
@@ -7,3 +8,7 @@ returns-clause-rerun c = rw (← c.self.view_is) (sym (rerun-session c.self.insi
 
 pub returns-clause-accepted : goal.returns-clause-accepted
 returns-clause-accepted c = rw (← c.self.view_is) (AreAccepted-session c.self.inside.machine.whole c.self.inside.events c.self.inside.changes c.self.invariant.0)
+
+pub returns-clause-size : goal.returns-clause-size
+returns-clause-size c =
+    rw (← c.self.view_is) (size-session c.self.inside.machine.whole c.self.inside.events c.self.inside.changes c.self.inside.limit _ c.self.invariant.0 refl)
