@@ -1,5 +1,6 @@
 //! What the program does once its command line is read. Faults are found in the order of the steps.
 use s360_machine::Machine;
+use s360_record::Recording;
 use s360_remote::{Connection, Replies, Target};
 use s360_setup::{Failure, Fault, Options, Part, set_up};
 use std::alloc::Global;
@@ -19,7 +20,8 @@ pub(crate) fn run(rt: &HostRuntime, options: Options<'_>) -> Result<(), Failure>
 
 fn serve(rt: &HostRuntime, machine: Machine) -> Result<(), Failure> {
     let alloc = rt.alloc();
-    let mut target = Target::new(alloc, machine, LIMIT);
+    let recording = Recording::new(alloc, machine, LIMIT);
+    let mut target = Target::new(alloc, recording, LIMIT);
     let served = serve_target(rt, alloc, &mut target);
     target.end();
     served
