@@ -16,7 +16,7 @@ mod writing;
 
 pub use connection::Connection;
 pub use error_number::ErrorNumber;
-pub use laws::both_words_are_the_psw;
+pub use laws::{both_words_are_the_psw, turn_runs_again};
 pub use pause::{Pause, Reach};
 pub use points::{Points, Watch};
 pub use registers::{patch_of_psw, patch_of_word, words_of};

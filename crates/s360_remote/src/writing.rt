@@ -1,12 +1,11 @@
 //! What gdb writes into the machine, each an event of its own, which stands and can be taken back. Source: gdb manual,
 //! "Packets", `M`, `X`, `P` and `G`.
-ghost use Rattle.std.specs.Prelude.{◌≡◌, ◌+◌, ◌≤◌, length, None, IfErr, OnErr, OnOk};
-ghost use Rattle.std.specs.Nat.{nat_le};
+ghost use Rattle.std.specs.Prelude.{◌≡◌, ◌+◌, ◌<◌, ◌≤◌, length, nat_le, None, IfErr, OnErr, OnOk};
 ghost use Rattle.s360_machine.specs.Machine.{seen, storage_size};
+ghost use Rattle.s360_machine.specs.Refusals.{refusal_of_patch};
 ghost use Rattle.s360_machine.specs.declared.event.Event.TheVariants.{Patch as patched};
-ghost use Rattle.s360_journal.specs.Standing.{refusal_in};
 ghost use Rattle.s360_record.specs.Forwarding.{IsMet};
-ghost use Rattle.s360_record.specs.Recorded.{rest_of, session_of};
+ghost use Rattle.s360_record.specs.Recorded.{rest_of};
 ghost use Rattle.s360_record.specs.declared.forwarding.Forwarded.{Forwarded};
 ghost use Rattle.s360_remote.specs.Writing.{IsMadeOrBegun, IsWriteEnd, after_patch, patch_count, patches_of_bytes};
 ghost use Rattle.s360_remote.specs.Writing.{register_write, registers_write, storage_write};
@@ -95,8 +94,6 @@ impl Target {
         if bytes.is_empty() {
             return Ok(());
         }
-        // Looked at, since its clauses have that storage is as large as at the start.
-        let _machine = self.machine();
         let (part, rest) = bytes.split_at(bytes.len().min(PATCH));
         let patch = Patch::Bytes {
             at,
@@ -106,12 +103,15 @@ impl Target {
         self.write_parts(at + part.len() as u32, rest)
     }
 
-    /// Makes a patch. Want of memory changes nothing.
+    /// Makes a patch. Want of memory changes nothing, nor does a refusal.
     fn patch(&mut self, patch: Patch) -> Result<(), ErrorNumber>
         ensures made { OnOk result ((f : Forwarded) × IsMet (rest_of self.old.recorded) (patched patch) f × (self.new ≡ after_patch self.old patch f)) }
         ensures err { OnErr result (self.new ≡ self.old) }
-        ensures memory { refusal_in (session_of self.old.recorded) (patched patch) ≡ None → IfErr result (λ e. e ≡ Memory) }
+        ensures memory { refusal_of_patch (storage_size (seen self.old.recorded.start)) patch ≡ None → self.old.recorded.standing < self.old.recorded.limit → IfErr result (λ e. e ≡ Memory) }
     {
+        // Both are looked at, since their clauses have that storage is as large as at the start, and that what stands is recorded.
+        let _machine = self.machine();
+        let _standing = self.standing();
         let forwarded = self.counting.recording.forward(Event::Patch(patch))?;
         self.counting.dropped = dropped_by(forwarded, self.counting.dropped);
         Ok(())
