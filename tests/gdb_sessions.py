@@ -1,61 +1,84 @@
 #!/usr/bin/env python3
 """Lets a real gdb drive s360gdb, and compares what gdb prints with what it has to print.
 
-    tests/gdb_sessions.py [--program FILE] [NAME ..]
+    tests/gdb_sessions.py [--program FILE] [--print] [NAME ..]
 
-A session is two files of tests/gdb: NAME.gdb has gdb's commands, and NAME.transcript what it prints. The first line
-of the commands is `# s360gdb WORD ..`: the words of the program's command line, with files named from the top. The status is 0 if each
-session prints what it has to.
+A session is two files of tests/gdb: NAME.gdb has gdb's commands, and NAME.transcript what a terminal shows of them: each
+command behind gdb's prompt, and what gdb prints then. The first line of the commands is `# s360gdb WORD ..`: the words of
+the program's command line, with files named from the top. What comes before the first prompt is not compared. The screen
+of gdb in README.md has to be the session `cards` to the line. `--print` prints sessions and compares nothing. The status
+is 0 if each session prints what it has to.
 """
 import argparse
 import difflib
+import os
 import pathlib
 import shlex
 import subprocess
 import sys
 import tempfile
+from concurrent.futures import ThreadPoolExecutor
 
 TOP = pathlib.Path(__file__).resolve().parent.parent
 SESSIONS = TOP / "tests/gdb"
+PROMPT = "(gdb) "
 SECONDS = 120
+# Nothing is asked, no page is waited for, and no line is cut.
+QUIET = ["set confirm off", "set pagination off", "set width 0"]
 
 
-def printed(session, program, folder):
-    """What gdb prints in a session, with what the program says on standard error."""
-    elf = folder / "s360.elf"
-    subprocess.run([TOP / "tools/gdb/make_elf.py", elf], check=True)
-    first = session.read_text().splitlines()[0]
-    words = shlex.split(first, comments=False)
+def commands_of(session):
+    """The words of a session's command line, and its commands without comments."""
+    first, *lines = session.read_text().splitlines()
+    words = shlex.split(first)
     if words[:2] != ["#", "s360gdb"]:
         raise ValueError(f"{session}: its first line is not '# s360gdb WORD ..'")
-    target = shlex.join([str(program), *words[2:]])
-    command = ["gdb-multiarch", "-q", "-batch", "-nx", "-x", TOP / "tools/gdb/s360.gdb"]
-    command += ["-ex", f"file {elf}", "-ex", f"target remote | {target}", "-x", session]
-    how = {"stdin": subprocess.DEVNULL, "stdout": subprocess.PIPE, "stderr": subprocess.STDOUT}
-    done = subprocess.run(command, cwd=TOP, timeout=SECONDS, text=True, errors="replace", **how)
-    return done.stdout
+    return words[2:], [line for line in lines if line and not line.startswith("#")]
+
+
+def shown(session, program, elf):
+    """What a terminal shows of a session: gdb prints the prompts alone where it reads no terminal."""
+    words, commands = commands_of(session)
+    target = shlex.join([str(program), *words])
+    setup = [*QUIET, f"file {elf}", f"target remote | {target}"]
+    gdb = ["gdb-multiarch", "-q", "-nx", "-x", TOP / "tools/gdb/s360.gdb"]
+    gdb += [word for line in setup for word in ("-ex", line)]
+    how = {"stdout": subprocess.PIPE, "stderr": subprocess.STDOUT, "timeout": SECONDS, "text": True}
+    how |= {"cwd": TOP, "errors": "replace", "env": {**os.environ, "TERM": "dumb"}}
+    printed = subprocess.run(gdb, input="\n".join([*commands, ""]), **how).stdout
+    said = printed.replace(f"{elf.parent}/", "").split(PROMPT)[1:]
+    echoed = [f"{PROMPT}{command}\n{answer}" for command, answer in zip(commands, said)]
+    return "".join(echoed + said[len(commands) :]).splitlines()
+
+
+def differences(session, program, elf):
+    """The lines that differ from what a session has to show."""
+    wanted = session.with_suffix(".transcript").read_text().splitlines()
+    got = shown(session, program, elf)
+    return list(difflib.unified_diff(wanted, got, "wanted", "shown", lineterm=""))
 
 
 def main():
     parser = argparse.ArgumentParser(description=__doc__)
     parser.add_argument("--program", type=pathlib.Path, default=TOP / "crates/s360gdb/out/s360gdb")
+    parser.add_argument("--print", action="store_true")
     parser.add_argument("names", nargs="*", metavar="NAME")
     options = parser.parse_args()
-    sessions = sorted(SESSIONS.glob("*.gdb"))
-    if options.names:
-        sessions = [SESSIONS / f"{name}.gdb" for name in options.names]
-    passed = failed = 0
-    with tempfile.TemporaryDirectory() as folder:
-        for session in sessions:
-            wanted = session.with_suffix(".transcript").read_text().splitlines()
-            got = printed(session, options.program, pathlib.Path(folder)).splitlines()
-            if got == wanted:
-                passed += 1
-                continue
-            failed += 1
-            print(f"{session.stem}: gdb prints something else")
-            print("\n".join(difflib.unified_diff(wanted, got, "wanted", "printed", lineterm="")))
-    print(f"{passed} passed, {failed} failed")
+    sessions = [SESSIONS / f"{name}.gdb" for name in options.names] or sorted(SESSIONS.glob("*.gdb"))
+    program = options.program.resolve()
+    with tempfile.TemporaryDirectory() as folder, ThreadPoolExecutor(2) as pool:
+        elf = pathlib.Path(folder, "s360.elf")
+        subprocess.run([TOP / "tools/gdb/make_elf.py", elf], check=True)
+        if options.print:
+            for session in sessions:
+                print("\n".join(shown(session, program, elf)))
+            return 0
+        found = list(pool.map(lambda session: differences(session, program, elf), sessions))
+    for session, lines in zip(sessions, found):
+        if lines:
+            print("\n".join([f"{session.stem}: gdb shows something else", *lines]))
+    failed = sum(bool(lines) for lines in found)
+    print(f"{len(found) - failed} passed, {failed} failed")
     return 1 if failed else 0
 
 
