@@ -6,11 +6,12 @@
 A session is two files of tests/gdb: NAME.gdb has gdb's commands, and NAME.transcript what a terminal shows of them: each
 command behind gdb's prompt, and what gdb prints then. The first line of the commands is `# s360gdb WORD ..`: the words of
 the program's command line, with files named from the top. What comes before the first prompt is not compared. The screen
-of gdb in README.md has to be the session `cards` to the line. `--print` prints sessions and compares nothing. The status
-is 0 if each session prints what it has to.
+of gdb in README.md has to be the transcript of `tour`. `--print` prints sessions and compares nothing. The status is 0 if
+each session prints what it has to.
 """
 import argparse
 import difflib
+import itertools
 import os
 import pathlib
 import shlex
@@ -22,6 +23,8 @@ from concurrent.futures import ThreadPoolExecutor
 TOP = pathlib.Path(__file__).resolve().parent.parent
 SESSIONS = TOP / "tests/gdb"
 PROMPT = "(gdb) "
+# The line above the screen of README.md, which is the one that begins a session there.
+SCREEN = "    ./gdb --reader examples/cards.deck"
 SECONDS = 120
 # Nothing is asked, no page is waited for, and no line is cut.
 QUIET = ["set confirm off", "set pagination off", "set width 0"]
@@ -58,6 +61,20 @@ def differences(session, program, elf):
     return list(difflib.unified_diff(wanted, got, "wanted", "shown", lineterm=""))
 
 
+def screen():
+    """The screen of gdb in README.md: the lines below the one that starts it, up to the next text."""
+    lines = (TOP / "README.md").read_text().splitlines()
+    below = lines[lines.index(SCREEN) + 1 :]
+    shown = list(itertools.takewhile(lambda line: line.startswith("    ") or not line, below))
+    return "\n".join(line[4:] for line in shown).strip("\n").splitlines()
+
+
+def differences_of_screen():
+    """The lines in which the screen of README.md differs from the session that it shows."""
+    wanted = (SESSIONS / "tour.transcript").read_text().expandtabs().splitlines()
+    return list(difflib.unified_diff(wanted, screen(), "tour.transcript", "README.md", lineterm=""))
+
+
 def main():
     parser = argparse.ArgumentParser(description=__doc__)
     parser.add_argument("--program", type=pathlib.Path, default=TOP / "crates/s360gdb/out/s360gdb")
@@ -74,9 +91,12 @@ def main():
                 print("\n".join(shown(session, program, elf)))
             return 0
         found = list(pool.map(lambda session: differences(session, program, elf), sessions))
-    for session, lines in zip(sessions, found):
+    names = [session.stem for session in sessions]
+    if not options.names:
+        names, found = [*names, "README.md"], [*found, differences_of_screen()]
+    for name, lines in zip(names, found):
         if lines:
-            print("\n".join([f"{session.stem}: gdb shows something else", *lines]))
+            print("\n".join([f"{name}: gdb shows something else", *lines]))
     failed = sum(bool(lines) for lines in found)
     print(f"{len(found) - failed} passed, {failed} failed")
     return 1 if failed else 0
