@@ -3,11 +3,12 @@
 
     tests/gdb_sessions.py [--program FILE] [--print] [NAME ..]
 
-A session is two files of tests/gdb: NAME.gdb has gdb's commands, and NAME.transcript what a terminal shows of them: each
-command behind gdb's prompt, and what gdb prints then. The first line of the commands is `# s360gdb WORD ..`: the words of
-the program's command line, with files named from the top. What comes before the first prompt is not compared. The screen
-of gdb in README.md has to be the transcript of `tour`. `--print` prints sessions and compares nothing. The status is 0 if
-each session prints what it has to.
+A session is two files of tests/gdb: NAME.gdb has gdb's commands, and NAME.transcript what a
+terminal shows of them: each command behind gdb's prompt, and what gdb prints then. The first line of
+the commands is `# s360gdb WORD ..`: the words of the program's command line, with files named from
+the top. What comes before the first prompt is not compared. The screen of gdb in README.md has to be
+the transcript of `tour`. `--print` prints sessions and compares nothing. The status is 0 if each
+session prints what it has to.
 """
 import argparse
 import difflib
@@ -40,14 +41,14 @@ def commands_of(session):
 
 
 def shown(session, program, elf):
-    """What a terminal shows of a session: gdb prints the prompts alone where it reads no terminal."""
+    """What a terminal shows of a session: if gdb reads no terminal, it prints the prompts alone."""
     words, commands = commands_of(session)
     target = shlex.join([str(program), *words])
     setup = [*QUIET, f"file {elf}", f"target remote | {target}"]
     gdb = ["gdb-multiarch", "-q", "-nx", "-x", TOP / "tools/gdb/s360.gdb"]
     gdb += [word for line in setup for word in ("-ex", line)]
-    how = {"stdout": subprocess.PIPE, "stderr": subprocess.STDOUT, "timeout": SECONDS, "text": True}
-    how |= {"cwd": TOP, "errors": "replace", "env": {**os.environ, "TERM": "dumb"}}
+    how = {"stdout": subprocess.PIPE, "stderr": subprocess.STDOUT, "timeout": SECONDS, "cwd": TOP}
+    how |= {"text": True, "errors": "replace", "env": {**os.environ, "TERM": "dumb"}}
     printed = subprocess.run(gdb, input="\n".join([*commands, ""]), **how).stdout
     said = printed.replace(f"{elf.parent}/", "").split(PROMPT)[1:]
     echoed = [f"{PROMPT}{command}\n{answer}" for command, answer in zip(commands, said)]
@@ -62,7 +63,7 @@ def differences(session, program, elf):
 
 
 def screen():
-    """The screen of gdb in README.md: the lines below the one that starts it, up to the next text."""
+    """The screen of gdb in README.md: the lines below the one that starts it, up to a text."""
     lines = (TOP / "README.md").read_text().splitlines()
     below = lines[lines.index(SCREEN) + 1 :]
     shown = list(itertools.takewhile(lambda line: line.startswith("    ") or not line, below))
@@ -76,12 +77,13 @@ def differences_of_screen():
 
 
 def main():
-    parser = argparse.ArgumentParser(description=__doc__)
+    parser = argparse.ArgumentParser(description=__doc__.partition("\n")[0])
     parser.add_argument("--program", type=pathlib.Path, default=TOP / "crates/s360gdb/out/s360gdb")
     parser.add_argument("--print", action="store_true")
     parser.add_argument("names", nargs="*", metavar="NAME")
     options = parser.parse_args()
-    sessions = [SESSIONS / f"{name}.gdb" for name in options.names] or sorted(SESSIONS.glob("*.gdb"))
+    named = [SESSIONS / f"{name}.gdb" for name in options.names]
+    sessions = named or sorted(SESSIONS.glob("*.gdb"))
     program = options.program.resolve()
     with tempfile.TemporaryDirectory() as folder, ThreadPoolExecutor(2) as pool:
         elf = pathlib.Path(folder, "s360.elf")

@@ -5,17 +5,19 @@
 
 A row is a file of tests/packets. Its lines are in the order of what is sent and has to come back:
 
-    > DATA     a packet with this data is sent. It has to be acknowledged by `+`, if packets still are
+    > DATA     a packet with this data is sent. It has to be acknowledged by `+`, if packets are
     < DATA     a packet with this data has to come
     = BYTES    bytes are sent as they are
     ~ BYTES    bytes have to come that are in no packet, as those that acknowledge what `=` sends
     ! TEXT     a line that has to come on standard error
 
-A byte that is no sign stands as `\\xHH`, as in Python; `{TEXT*N}` stands for N times TEXT, and `{"TEXT"}` for the hexadecimal
-digits of its bytes. `#` begins a comment, and `# s360gdb WORD ..` in the first line gives the words of the command line. The
-status is 0 if each row holds: what comes is that and nothing else, and the program ends with status 0.
+A byte that is no sign stands as `\\xHH`, as in Python; `{TEXT*N}` stands for N times TEXT, and
+`{"TEXT"}` for the hexadecimal digits of its bytes. `#` begins a comment, and `# s360gdb WORD ..` in
+the first line gives the words of the command line. The status is 0 if each row holds: what comes is
+that and nothing else, and the program ends with status 0.
 """
 import argparse
+import itertools
 import pathlib
 import re
 import shlex
@@ -35,7 +37,7 @@ SHOWN = 300
 class Row(NamedTuple):
     words: list[str]
     sent: bytes
-    wanted: list[tuple[str, bytes]]  # packets and bytes outside of them, as `items_of` has them
+    wanted: list[tuple[str, bytes]]  # as `items_of` has them
     told: list[str]
 
 
@@ -51,7 +53,8 @@ def bytes_of(text):
 
 def escaped(data, special=b"#$*}"):
     """Data as it stands in a packet (gdb manual, "Remote Serial Protocol", "Overview")."""
-    return b"".join(bytes([0x7D, byte ^ 0x20]) if byte in special else bytes([byte]) for byte in data)
+    sent = (bytes([0x7D, byte ^ 0x20]) if byte in special else bytes([byte]) for byte in data)
+    return b"".join(sent)
 
 
 def plain(text):
@@ -66,7 +69,7 @@ def framed(data):
 
 
 def items_of(said):
-    """The data of each packet, whose sum has to be right, and each byte between them, in their order."""
+    """The data of each packet, whose sum has to be right, and each byte between them, in order."""
     items, at = [], 0
     while at < len(said):
         packet = PACKET.match(said, at)
@@ -114,18 +117,22 @@ def faults_of(file, program):
     told = done.stderr.decode(errors="replace").splitlines()
     if told != row.told:
         faults.append(f"it has to say {row.told}, and says {told}")
-    got = items_of(done.stdout)
-    for number in range(max(len(got), len(row.wanted))):
-        wanted, came = (items[number] if number < len(items) else None for items in (row.wanted, got))
-        if wanted != came:
-            packets = sum(kind == "packet" for kind, _ in row.wanted[:number])
-            shown = [f"{item[0]} {item[1][:SHOWN]}" if item else "nothing" for item in (wanted, came)]
-            return [*faults, f"after {packets} answers {shown[0]} has to come, and {shown[1]} comes"]
-    return faults
+    fault = first_difference(row.wanted, items_of(done.stdout))
+    return faults if fault is None else [*faults, fault]
+
+
+def first_difference(wanted, got):
+    """The first item that is not as it has to be."""
+    for number, (want, came) in enumerate(itertools.zip_longest(wanted, got)):
+        if want != came:
+            answers = sum(kind == "packet" for kind, _ in wanted[:number])
+            shown = [f"{item[0]} {item[1][:SHOWN]}" if item else "nothing" for item in (want, came)]
+            return f"after {answers} answers {shown[0]} has to come, and {shown[1]} comes"
+    return None
 
 
 def main():
-    parser = argparse.ArgumentParser(description=__doc__, formatter_class=argparse.RawTextHelpFormatter)
+    parser = argparse.ArgumentParser(description=__doc__.partition("\n")[0])
     parser.add_argument("--program", type=pathlib.Path, default=TOP / "crates/s360gdb/out/s360gdb")
     parser.add_argument("names", nargs="*", metavar="NAME")
     options = parser.parse_args()

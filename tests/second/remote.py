@@ -38,7 +38,8 @@ HELP = [
     "break A: sets a breakpoint of `run` and `until`",
     "clear A: takes one away",
     "standing: counts the changes that stand",
-    "last s A, last r R, last k A, last p, last run, last ext, last u U, last d U: the last change of a place",
+    "last s A, last r R, last k A, last p, last run, last ext, last u U, last d U: the last change"
+    " of a place",
     "show regs: the general registers",
     "show psw: the PSW and the run state",
     "show s A N: bytes of storage",
@@ -65,10 +66,11 @@ def sixteen(name, *described):
 
 def description():
     psw = [register(name, "uint32", "psw") for name in ("pswm", "pswa")]
+    fpc = register("fpc", "uint32", "float")
     features = [
         feature("core", psw + sixteen("r", "uint32", "general")),
         feature("acr", sixteen("acr", "uint32", "access")),
-        feature("fpr", [register("fpc", "uint32", "float"), *sixteen("f", "ieee_double", "float", 64)]),
+        feature("fpr", [fpc, *sixteen("f", "ieee_double", "float", 64)]),
     ]
     head = "<?xml version='1.0'?><!DOCTYPE target SYSTEM 'gdb-target.dtd'><target>"
     return f"{head}<architecture>s390:31-bit</architecture>{''.join(features)}</target>".encode()
@@ -105,7 +107,8 @@ class Recording(Debugger):
     def answer_patch(self, kind, *words):
         digits = words[-1].lower()
         value = digits if kind == "s" else int(digits, 16)
-        return self.with_fields((*(int(word, 16) for word in words[:-1]), value), super().answer_patch, kind, *words)
+        fields = *(int(word, 16) for word in words[:-1]), value
+        return self.with_fields(fields, super().answer_patch, kind, *words)
 
     def answer_enter(self, text):
         return self.with_fields((text,), super().answer_enter, text)
@@ -375,11 +378,12 @@ def is_cpu(change):
     return change.event[0] == "cpu"
 
 
-SUPPORTED = b"PacketSize=4000;qXfer:features:read+;ReverseStep+;ReverseContinue+;swbreak+;QStartNoAckMode+"
-PLAIN = {b"?": TRAP, b"qSupported": SUPPORTED, b"qC": b"QC1", b"qAttached": b"1", b"qfThreadInfo": b"m1"}
-PLAIN |= {b"qsThreadInfo": b"l", b"QStartNoAckMode": OK}
-NAMED = {b"g": Target.all_registers, b"s": Target.step, b"c": Target.resume, b"bs": Target.step_back}
-NAMED |= {b"bc": Target.resume_back, b"D": Target.leave, b"k": Target.kill}
+SUPPORTED = b"PacketSize=4000;qXfer:features:read+;ReverseStep+;ReverseContinue+;swbreak+"
+SUPPORTED += b";QStartNoAckMode+"
+PLAIN = {b"?": TRAP, b"qSupported": SUPPORTED, b"qC": b"QC1", b"qAttached": b"1"}
+PLAIN |= {b"qfThreadInfo": b"m1", b"qsThreadInfo": b"l", b"QStartNoAckMode": OK}
+NAMED = {b"g": Target.all_registers, b"s": Target.step, b"c": Target.resume, b"k": Target.kill}
+NAMED |= {b"bs": Target.step_back, b"bc": Target.resume_back, b"D": Target.leave}
 # The name of a request, what follows it, and what answers it.
 FORMS = [
     (b"m", TWO, Target.storage),
