@@ -7,8 +7,8 @@ A session is two files of tests/gdb: NAME.gdb has gdb's commands, and NAME.trans
 terminal shows of them: each command behind gdb's prompt, and what gdb prints then. The first line
 of the commands is `# s360gdb WORD ..`: the words of the program's command line, with files named
 from the top. What comes before the first prompt is not compared. The screen of gdb in README.md has
-to be the transcript of `tour`. `--print` prints sessions and compares nothing. The status is 0 if each
-session prints what it has to.
+to be the transcript of `tour`. `--print` prints sessions and compares nothing. The status is 0 if
+each session prints what it has to.
 """
 import argparse
 import difflib
