@@ -54,13 +54,6 @@ impl Replies {
         self.bytes.truncate(len);
     }
 
-    /// Drops them all. It takes no memory.
-    pub fn clear(&mut self)
-        ensures { self.new ≡ [] }
-    {
-        self.bytes.clear();
-    }
-
     /// Adds a byte that stands in no packet.
     pub fn push_byte(&mut self, byte: u8) -> Result<(), AllocError>
         ensures { OnOk result (self.new ≡ self.old ++ byte ∷ []) }
