@@ -1,61 +1,106 @@
 #!/usr/bin/env python3
 """Lets a real gdb drive s360gdb, and compares what gdb prints with what it has to print.
 
-    tests/gdb_sessions.py [--program FILE] [NAME ..]
+    tests/gdb_sessions.py [--program FILE] [--print] [NAME ..]
 
-A session is two files of tests/gdb: NAME.gdb has gdb's commands, and NAME.transcript what it prints. The first line
-of the commands is `# s360gdb WORD ..`: the words of the program's command line, with files named from the top. The status is 0 if each
-session prints what it has to.
+A session is two files of tests/gdb: NAME.gdb has gdb's commands, and NAME.transcript what a
+terminal shows of them: each command behind gdb's prompt, and what gdb prints then. The first line
+of the commands is `# s360gdb WORD ..`: the words of the program's command line, with files named
+from the top. What comes before the first prompt is not compared. The screen of gdb in README.md has
+to be the transcript of `tour`. `--print` prints sessions and compares nothing. The status is 0 if
+each session prints what it has to.
 """
 import argparse
 import difflib
+import itertools
+import os
 import pathlib
 import shlex
 import subprocess
 import sys
 import tempfile
+from concurrent.futures import ThreadPoolExecutor
 
 TOP = pathlib.Path(__file__).resolve().parent.parent
 SESSIONS = TOP / "tests/gdb"
+PROMPT = "(gdb) "
+# The line above the screen of README.md, which is the one that begins a session there.
+SCREEN = "    ./gdb --reader examples/cards.deck"
 SECONDS = 120
+# Nothing is asked, no page is waited for, and no line is cut.
+QUIET = ["set confirm off", "set pagination off", "set width 0"]
 
 
-def printed(session, program, folder):
-    """What gdb prints in a session, with what the program says on standard error."""
-    elf = folder / "s360.elf"
-    subprocess.run([TOP / "tools/gdb/make_elf.py", elf], check=True)
-    first = session.read_text().splitlines()[0]
-    words = shlex.split(first, comments=False)
+def commands_of(session):
+    """The words of a session's command line, and its commands without comments."""
+    first, *lines = session.read_text().splitlines()
+    words = shlex.split(first)
     if words[:2] != ["#", "s360gdb"]:
         raise ValueError(f"{session}: its first line is not '# s360gdb WORD ..'")
-    target = shlex.join([str(program), *words[2:]])
-    command = ["gdb-multiarch", "-q", "-batch", "-nx", "-x", TOP / "tools/gdb/s360.gdb"]
-    command += ["-ex", f"file {elf}", "-ex", f"target remote | {target}", "-x", session]
-    how = {"stdin": subprocess.DEVNULL, "stdout": subprocess.PIPE, "stderr": subprocess.STDOUT}
-    done = subprocess.run(command, cwd=TOP, timeout=SECONDS, text=True, errors="replace", **how)
-    return done.stdout
+    return words[2:], [line for line in lines if line and not line.startswith("#")]
+
+
+def shown(session, program, elf):
+    """What a terminal shows of a session: if gdb reads no terminal, it prints the prompts alone."""
+    words, commands = commands_of(session)
+    target = shlex.join([str(program), *words])
+    setup = [*QUIET, f"file {elf}", f"target remote | {target}"]
+    gdb = ["gdb-multiarch", "-q", "-nx", "-x", TOP / "tools/gdb/s360.gdb"]
+    gdb += [word for line in setup for word in ("-ex", line)]
+    how = {"stdout": subprocess.PIPE, "stderr": subprocess.STDOUT, "timeout": SECONDS, "cwd": TOP}
+    how |= {"text": True, "errors": "replace", "env": {**os.environ, "TERM": "dumb"}}
+    printed = subprocess.run(gdb, input="\n".join([*commands, ""]), **how).stdout
+    said = printed.replace(f"{elf.parent}/", "").split(PROMPT)[1:]
+    echoed = [f"{PROMPT}{command}\n{answer}" for command, answer in zip(commands, said)]
+    return "".join(echoed + said[len(commands) :]).splitlines()
+
+
+def differences(session, program, elf):
+    """The lines that differ from what a session has to show."""
+    wanted = session.with_suffix(".transcript").read_text().splitlines()
+    got = shown(session, program, elf)
+    return list(difflib.unified_diff(wanted, got, "wanted", "shown", lineterm=""))
+
+
+def screen():
+    """The screen of gdb in README.md: the lines below the one that starts it, up to a text."""
+    lines = (TOP / "README.md").read_text().splitlines()
+    below = lines[lines.index(SCREEN) + 1 :]
+    shown = list(itertools.takewhile(lambda line: line.startswith("    ") or not line, below))
+    return "\n".join(line[4:] for line in shown).strip("\n").splitlines()
+
+
+def differences_of_screen():
+    """The lines in which the screen of README.md differs from the session that it shows."""
+    wanted = (SESSIONS / "tour.transcript").read_text().expandtabs().splitlines()
+    return list(difflib.unified_diff(wanted, screen(), "tour.transcript", "README.md", lineterm=""))
 
 
 def main():
-    parser = argparse.ArgumentParser(description=__doc__)
+    parser = argparse.ArgumentParser(description=__doc__.partition("\n")[0])
     parser.add_argument("--program", type=pathlib.Path, default=TOP / "crates/s360gdb/out/s360gdb")
+    parser.add_argument("--print", action="store_true")
     parser.add_argument("names", nargs="*", metavar="NAME")
     options = parser.parse_args()
-    sessions = sorted(SESSIONS.glob("*.gdb"))
-    if options.names:
-        sessions = [SESSIONS / f"{name}.gdb" for name in options.names]
-    passed = failed = 0
-    with tempfile.TemporaryDirectory() as folder:
-        for session in sessions:
-            wanted = session.with_suffix(".transcript").read_text().splitlines()
-            got = printed(session, options.program, pathlib.Path(folder)).splitlines()
-            if got == wanted:
-                passed += 1
-                continue
-            failed += 1
-            print(f"{session.stem}: gdb prints something else")
-            print("\n".join(difflib.unified_diff(wanted, got, "wanted", "printed", lineterm="")))
-    print(f"{passed} passed, {failed} failed")
+    named = [SESSIONS / f"{name}.gdb" for name in options.names]
+    sessions = named or sorted(SESSIONS.glob("*.gdb"))
+    program = options.program.resolve()
+    with tempfile.TemporaryDirectory() as folder, ThreadPoolExecutor(2) as pool:
+        elf = pathlib.Path(folder, "s360.elf")
+        subprocess.run([TOP / "tools/gdb/make_elf.py", elf], check=True)
+        if options.print:
+            for session in sessions:
+                print("\n".join(shown(session, program, elf)))
+            return 0
+        found = list(pool.map(lambda session: differences(session, program, elf), sessions))
+    names = [session.stem for session in sessions]
+    if not options.names:
+        names, found = [*names, "README.md"], [*found, differences_of_screen()]
+    for name, lines in zip(names, found):
+        if lines:
+            print("\n".join([f"{name}: gdb shows something else", *lines]))
+    failed = sum(bool(lines) for lines in found)
+    print(f"{len(found) - failed} passed, {failed} failed")
     return 1 if failed else 0
 
 

@@ -3,85 +3,148 @@
 
     tests/packet_rows.py [--program FILE] [NAME ..]
 
-A row is a file of tests/packets. Its lines are the data of packets, `> DATA` of one that is sent and `< DATA` of one that has to
-come back, in their order; a byte of data that is no sign stands as `\\xHH`, as in Python. A line `= BYTES` sends bytes as they
-are. `#` begins a comment, and `# s360gdb WORD ..` in the first line gives the words of the command line. The status is 0 if each row
-holds.
+A row is a file of tests/packets. Its lines are in the order of what is sent and has to come back:
+
+    > DATA     a packet with this data is sent. It has to be acknowledged by `+`, if packets are
+    < DATA     a packet with this data has to come
+    = BYTES    bytes are sent as they are
+    ~ BYTES    bytes have to come that are in no packet, as those that acknowledge what `=` sends
+    ! TEXT     a line that has to come on standard error
+
+A byte that is no sign stands as `\\xHH`, as in Python; `{TEXT*N}` stands for N times TEXT, and
+`{"TEXT"}` for the hexadecimal digits of its bytes. `#` begins a comment, and `# s360gdb WORD ..` in
+the first line gives the words of the command line. The status is 0 if each row holds: what comes is
+that and nothing else, and the program ends with status 0.
 """
 import argparse
+import itertools
 import pathlib
 import re
 import shlex
 import subprocess
 import sys
+from concurrent.futures import ThreadPoolExecutor
+from typing import NamedTuple
 
 TOP = pathlib.Path(__file__).resolve().parent.parent
 ROWS = TOP / "tests/packets"
 SECONDS = 60
 PACKET = re.compile(rb"\$((?:[^#}]|}.)*)#([0-9a-f]{2})", re.DOTALL)
+STOP_ACKNOWLEDGING = b"QStartNoAckMode"
+SHOWN = 300
 
 
-def bytes_of(text):
+class Row(NamedTuple):
+    words: list[str]
+    sent: bytes
+    wanted: list[tuple[str, bytes]]  # as `items_of` has them
+    told: list[str]
+
+
+def unescaped(text):
     return text.encode("latin-1").decode("unicode_escape").encode("latin-1")
 
 
+def bytes_of(text):
+    """The bytes that a line stands for."""
+    text = re.sub(r'\{"(.*?)"\}', lambda m: unescaped(m[1]).hex(), text)
+    return unescaped(re.sub(r"\{([^{}]*)\*(\d+)\}", lambda m: m[1] * int(m[2]), text))
+
+
+def escaped(data, special=b"#$*}"):
+    """Data as it stands in a packet (gdb manual, "Remote Serial Protocol", "Overview")."""
+    sent = (bytes([0x7D, byte ^ 0x20]) if byte in special else bytes([byte]) for byte in data)
+    return b"".join(sent)
+
+
+def plain(text):
+    """The data that stands in a packet as this text."""
+    return re.sub(rb"}(.)", lambda m: bytes([m[1][0] ^ 0x20]), text, flags=re.DOTALL)
+
+
 def framed(data):
-    """The packet of some data (gdb manual, "Remote Serial Protocol")."""
-    escaped = b"".join(
-        bytes([0x7D, byte ^ 0x20]) if byte in b"#$*}" else bytes([byte]) for byte in data
-    )
-    return b"$%s#%02x" % (escaped, sum(escaped) % 256)
+    """The packet of some data."""
+    text = escaped(data)
+    return b"$%s#%02x" % (text, sum(text) % 256)
 
 
-def data_of(said):
-    """The data of the packets in what was said, each of whose sums has to be right."""
-    answers = []
-    for escaped, total in PACKET.findall(said):
-        if sum(escaped) % 256 != int(total, 16):
-            raise ValueError(f"the sum of {escaped} is not {total}")
-        answers.append(re.sub(rb"}(.)", lambda m: bytes([m[1][0] ^ 0x20]), escaped, flags=re.DOTALL))
-    return answers
+def items_of(said):
+    """The data of each packet, whose sum has to be right, and each byte between them, in order."""
+    items, at = [], 0
+    while at < len(said):
+        packet = PACKET.match(said, at)
+        if packet is None:
+            items.append(("byte", said[at : at + 1]))
+            at += 1
+            continue
+        if sum(packet[1]) % 256 != int(packet[2], 16):
+            raise ValueError(f"the sum of {packet[1]} is not {packet[2]}")
+        items.append(("packet", plain(packet[1])))
+        at = packet.end()
+    return items
 
 
 def row_of(file):
-    """The words of a row's command line, the bytes that are sent, and the answers that have to come."""
-    words, sent, wanted = [], b"", []
+    """What a row sends and wants."""
+    row, acknowledges = Row([], b"", [], []), True
     for number, line in enumerate(file.read_text().splitlines()):
+        kind, data = line[:2].rstrip(), bytes_of(line[2:])
         if number == 0 and line.startswith("# s360gdb"):
-            words = shlex.split(line[len("# s360gdb") :])
-        elif line.startswith("> "):
-            sent += framed(bytes_of(line[2:]))
-        elif line.startswith("= "):
-            sent += bytes_of(line[2:])
-        elif line == "<" or line.startswith("< "):
-            wanted.append(bytes_of(line[2:]))
+            row = row._replace(words=shlex.split(line[len("# s360gdb") :]))
+        elif kind == ">":
+            row = row._replace(sent=row.sent + framed(data))
+            row.wanted.extend([("byte", b"+")] if acknowledges else [])
+            acknowledges = acknowledges and data != STOP_ACKNOWLEDGING
+        elif kind == "=":
+            row = row._replace(sent=row.sent + data)
+        elif kind == "<":
+            row.wanted.append(("packet", data))
+        elif kind == "~":
+            row.wanted.extend(("byte", bytes([byte])) for byte in data)
+        elif kind == "!":
+            row.told.append(line[2:])
         elif line and not line.startswith("#"):
             raise ValueError(f"{file}: line {number + 1}")
-    return words, sent, wanted
+    return row
+
+
+def faults_of(file, program):
+    """What is wrong with what a row is answered."""
+    row = row_of(file)
+    command = [program, *row.words]
+    done = subprocess.run(command, cwd=TOP, input=row.sent, capture_output=True, timeout=SECONDS)
+    faults = [] if done.returncode == 0 else [f"status {done.returncode}"]
+    told = done.stderr.decode(errors="replace").splitlines()
+    if told != row.told:
+        faults.append(f"it has to say {row.told}, and says {told}")
+    fault = first_difference(row.wanted, items_of(done.stdout))
+    return faults if fault is None else [*faults, fault]
+
+
+def first_difference(wanted, got):
+    """The first item that is not as it has to be."""
+    for number, (want, came) in enumerate(itertools.zip_longest(wanted, got)):
+        if want != came:
+            answers = sum(kind == "packet" for kind, _ in wanted[:number])
+            shown = [f"{item[0]} {item[1][:SHOWN]}" if item else "nothing" for item in (want, came)]
+            return f"after {answers} answers {shown[0]} has to come, and {shown[1]} comes"
+    return None
 
 
 def main():
-    parser = argparse.ArgumentParser(description=__doc__)
+    parser = argparse.ArgumentParser(description=__doc__.partition("\n")[0])
     parser.add_argument("--program", type=pathlib.Path, default=TOP / "crates/s360gdb/out/s360gdb")
     parser.add_argument("names", nargs="*", metavar="NAME")
     options = parser.parse_args()
-    names = options.names or sorted(file.name for file in ROWS.iterdir())
-    passed = failed = 0
-    for name in names:
-        words, sent, wanted = row_of(ROWS / name)
-        command = [options.program.resolve(), *words]
-        done = subprocess.run(command, cwd=TOP, input=sent, capture_output=True, timeout=SECONDS)
-        got = data_of(done.stdout)
-        if got == wanted and done.returncode == 0:
-            passed += 1
-            continue
-        failed += 1
-        print(f"{name}: status {done.returncode} {done.stderr.decode(errors='replace')}".rstrip())
-        for number in range(max(len(got), len(wanted))):
-            pair = [answers[number] if number < len(answers) else None for answers in (wanted, got)]
-            if pair[0] != pair[1]:
-                print(f"  answer {number + 1} has to be {pair[0]}, and is {pair[1]}")
-    print(f"{passed} passed, {failed} failed")
+    rows = [ROWS / name for name in options.names] or sorted(ROWS.iterdir())
+    program = options.program.resolve()
+    with ThreadPoolExecutor(2) as pool:
+        found = list(pool.map(lambda row: faults_of(row, program), rows))
+    for row, faults in zip(rows, found):
+        for fault in faults:
+            print(f"{row.name}: {fault}")
+    failed = sum(bool(faults) for faults in found)
+    print(f"{len(found) - failed} passed, {failed} failed")
     return 1 if failed else 0
 
 

@@ -1,8 +1,6 @@
 # s360gdb
 # Steps forward and back over a program of three instructions, each with what it makes of a register and of the
 # condition code; and the ends of what was recorded.
-set pagination off
-set confirm off
 set var *(int*)0x200 = 0x1A121B21
 set var *(int*)0x204 = 0x47F00200
 set var $r1 = 5
@@ -15,7 +13,7 @@ print $r1
 print $cc
 # SR: 7 - 12 is -5, which is negative
 stepi
-print $r2
+print/x $r2
 print $cc
 # BC: any condition
 stepi
@@ -27,13 +25,15 @@ print $cc
 reverse-stepi
 print $r1
 print $cc
-# Before it the patches are taken back, to the start
+# Before it the five patches are taken back, to the start
 reverse-continue
 print $r1
 x/2xw 0x200
 # and run again, with the three instructions, to the end of the record
 continue
 print $r1
-print $r2
+print/x $r2
 print $pc
+# The eight events stand, and no more were recorded
+monitor standing
 kill

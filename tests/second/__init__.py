@@ -6,5 +6,5 @@ the first machine, so it finds slips and not a rule that was misread.
 `core` has the places, `machine` the events and most instructions, `logical` those on bytes in
 storage, `channels` the channels with theirs, `devices` and `tapes` the units, `lines` how a script
 is read, `debugger` the answers to its lines, `programs` random media and channel programs, and
-`scripts` random scripts.
+`scripts` random scripts. `remote` answers gdb's packets, and `packet_fuzz.py` compares with that.
 """

@@ -1,0 +1,158 @@
+"""Random packets of gdb: requests that are right or nearly so, and packets that are damaged."""
+import random
+
+from packet_rows import escaped
+
+STORAGE = 65536
+HEX = b"0123456789abcdefABCDEF"
+# Where programs are written, and what they address.
+CODE, DATA = 0x200, 0x300
+ADD_LOAD_SUBTRACT, BRANCHES, SINGLE_WORDS = (0x18, 0x1A, 0x1B, 0x1E), (0x06, 0x07), (0x50, 0x58)
+BYTES_AND_SUMS, START_AND_TEST = (0x42, 0x43, 0x46, 0x5A), (0x9C, 0x9D)
+READER, PRINTER, CONSOLE = 0x0C, 0x0E, 0x1F
+# LA 1,3(1) and ST 1,304; and BCT 3,200
+COUNTS, AGAIN = bytes.fromhex("4110100350100304"), bytes.fromhex("46300200")
+KNOWN = b"? g qSupported qSupported:a+ qC qAttached qfThreadInfo qsThreadInfo Hg0 Hc-1 T1".split()
+WRONG = [b"vCont?", b"qTStatus", b"H", b"Hgx", b"T", b"s200", b"c200", b""]
+LINES = ["step", "tick", "back", "back", "until", "standing", "help", "x y", "", "* no comment"]
+LINES += [f"key {key}" for key in ("start", "stop", "reset", "interrupt", "eof", "request")]
+LINES += [f"channel {unit}" for unit in ("00C", "00E", "01F", "999")]
+LINES += ["load 00C", "run 5", "enter", "enter AB", f"enter {'A' * 257}", "enter ~"]
+LINES += ["last p", "last u 00C", "show psw", "show regs", "show u 00C", "show d 00C"]
+LINES += ["show m 00E 1", "show ext", "show k 200", "show image 180"]
+LINES = [line.encode() for line in LINES]
+# How often a kind of request is made.
+KINDS = {"forward": 20, "backward": 12, "write": 8, "loop": 2, "point": 8, "register": 10}
+KINDS |= {"all_registers": 2, "line": 12, "storage": 8, "read_register": 4, "description": 2}
+KINDS |= {"plain": 12}
+
+
+class Requests(random.Random):
+    """Random requests, and packets that carry them."""
+
+    def digits(self, count):
+        return bytes(self.choice(HEX) for _ in range(count))
+
+    def code(self):
+        """The address of an instruction, or of the middle of one."""
+        return CODE + 2 * self.randrange(24)
+
+    def address(self):
+        near = [self.code(), DATA + self.randrange(64), 8 * self.randrange(16)]
+        far = [STORAGE - self.randrange(8), STORAGE, self.randrange(STORAGE), 2**32 - 1]
+        return self.choice(near * 4 + far)
+
+    def count(self):
+        return self.choice([0, 1, 2, 4, 4, 8, 16, 64, self.randrange(600), 2**32 - 1])
+
+    def instruction(self):
+        """One that can be executed, over a few registers and addresses; at times any two bytes."""
+        register, pair = self.randrange(4) << 4, self.randrange(4) << 4 | self.randrange(4)
+        at = self.choice([DATA + 4 * self.randrange(8), self.code()]).to_bytes(2, "big")
+        return self.choice(
+            [
+                bytes([self.choice(ADD_LOAD_SUBTRACT), pair]),
+                bytes([self.choice(BRANCHES), self.randrange(16) << 4 | self.randrange(4)]),
+                bytes([self.choice([0x41, *SINGLE_WORDS, *BYTES_AND_SUMS]), register, *at]),
+                bytes([0x47, self.randrange(16) << 4, *at]),
+                bytes([0x92, self.randrange(256), *at]),
+                bytes([0xD2, self.randrange(8), *at, DATA >> 8, self.randrange(64)]),
+                bytes([0x0A, self.randrange(256)]),
+                bytes([self.choice(START_AND_TEST), 0, 0, self.choice([READER, PRINTER, CONSOLE])]),
+                self.randbytes(2),
+            ]
+        )
+
+    def run_of_bytes(self):
+        if self.random() < 0.5:
+            return b"".join(self.instruction() for _ in range(self.randrange(1, 8)))
+        count = self.choices([self.randrange(12), self.randrange(200, 600)], [9, 1])[0]
+        return self.choice([self.randbytes(count), bytes(count), b"#$*}"[: count % 5]])
+
+    # Requests of each kind.
+
+    def forward(self):
+        return self.choice([b"s", b"c"])
+
+    def backward(self):
+        return self.choice([b"bs", b"bc"])
+
+    def write(self):
+        at, run = self.address(), self.run_of_bytes()
+        digits = b"M%x,%x:%s" % (at, len(run), run.hex().encode())
+        return self.choice([digits, b"X%x,%x:%s" % (at, len(run), run)])
+
+    def loop(self):
+        """Some instructions, then a store, and back to the first while register 3 counts."""
+        body = b"".join(self.instruction() for _ in range(self.randrange(3)))
+        run = body + COUNTS + AGAIN
+        return b"X%x,%x:%s" % (CODE, len(run), run)
+
+    def point(self):
+        """A breakpoint, or bytes that are watched, mostly where the machine gets to."""
+        near = self.choice([self.code(), DATA + self.randrange(8)])
+        at = near if self.random() < 0.8 else self.address()
+        name, kind = self.choice([b"Z", b"Z", b"z"]), self.choice([0, 0, 1, 2, 2, 3])
+        return b"%s%d,%x,%x" % (name, kind, at, self.choice([1, 2, 4, 4, self.count()]))
+
+    def register(self):
+        number = self.choice([1, 1, 3, 4, 5, self.randrange(20)])
+        words = [CODE, CODE, self.code(), DATA, self.randrange(8), self.getrandbits(32)]
+        return b"P%x=%08x" % (number, self.choice(words))
+
+    def all_registers(self):
+        words = self.choice([bytes(72), self.randbytes(4) + CODE.to_bytes(4, "big") + bytes(64)])
+        return b"G" + words.hex().encode() + self.digits(self.choice([392, 392, 392, 390]))
+
+    def line(self):
+        at, number = self.address() % (1 << 24), self.randrange(1, 30)
+        others = [
+            *[b"run %d" % number, b"withdraw %d" % number, b"break %X" % at, b"clear %X" % at],
+            *[b"patch s %X %s" % (at, self.randbytes(number).hex().encode()), b"patch k %X 5" % at],
+            *[b"patch r 1 %X" % number, b"patch p 00%d2000000000%06X" % (number % 2, CODE)],
+            *[b"last s %X" % at, b"last r %d" % (number % 4), b"show s %X 20" % at],
+        ]
+        return b"qRcmd," + self.choice([*LINES, *others]).hex().encode()
+
+    def storage(self):
+        return b"m%x,%x" % (self.address(), self.count())
+
+    def read_register(self):
+        return b"p%x" % self.choice([self.randrange(60), 2**32 - 1])
+
+    def description(self):
+        name = b"qXfer:features:read:target.xml:"
+        return b"%s%x,%x" % (name, self.randrange(4000), self.count())
+
+    def plain(self):
+        """A request of no consequence, one that is malformed, or one that isn't known."""
+        return self.choice([*KNOWN, *WRONG, self.randbytes(5)])
+
+    def request(self):
+        """A request that is right, or nearly so."""
+        kind = self.choices(list(KINDS), KINDS.values())[0]
+        data = getattr(self, kind)()
+        return self.spoilt(data) if self.random() < 0.08 else data
+
+    def spoilt(self, data):
+        spoilt = bytearray(data)
+        for _ in range(self.randrange(1, 3) if spoilt else 0):
+            byte = self.choice([self.randrange(256), self.choice(HEX)])
+            spoilt[self.randrange(len(spoilt))] = byte
+        return bytes(spoilt)
+
+    def packet(self, data):
+        """A packet of the data, or one that is cut, or spoilt, or stands behind other bytes."""
+        special = self.choice([b"#$}", b"#$*}", bytes([*b"#$}", *self.randbytes(9)])])
+        text = escaped(data, special)
+        packet = b"$%s#%s" % (text, self.choice([b"%02x", b"%02X"]) % (sum(text) % 256))
+        kind = self.random()
+        if kind < 0.05:
+            return packet[: self.randrange(len(packet))]
+        if kind < 0.1:
+            return self.randbytes(self.randrange(20)) + packet
+        if kind < 0.13:
+            return packet[:-1] + bytes([self.choice(HEX + b"g#$}")])
+        if kind < 0.16:
+            return self.choice([b"\x03", b"+", b"-"]) + packet
+        return packet

@@ -1,0 +1,16 @@
+# s360gdb --storage 8192
+# What the machine has not: gdb says so, and the session goes on
+x/xb 0x1fff
+x/xb 0x2000
+# Reads aren't watched, which gdb finds when the machine is to go on
+rwatch *(char*)0x300
+awatch *(char*)0x301
+continue
+delete
+# One thread, to which gdb is attached
+info threads
+# No symbols
+step
+finish
+# 64 breakpoints are the most: `tests/packets/points` has that. Then gdb leaves
+detach

@@ -1,0 +1,411 @@
+"""The target of gdb over the second machine: what is answered to the data of a packet.
+
+Sources: gdb manual, "Remote Serial Protocol" and "Reverse Execution"; docs/GDB.md.
+"""
+import re
+
+from .channels import UNITS, Program
+from .core import WORD
+from .debugger import MOST_PATCHED, Debugger
+from .lines import fault_of
+from .machine import OPERATING
+
+MEMORY, ADDRESS, MALFORMED, FULL = b"E0c", b"E0e", b"E16", b"E1c"
+OK, TRAP = b"OK", b"T05"
+MOST_POINTS = 64
+WORDS, LACKING = 18, 17 * 8 + 16 * 16
+NUMBER = rb"([0-9a-fA-F]{1,8})"
+TWO = NUMBER + rb"," + NUMBER
+PAIRS = rb"((?:[0-9a-fA-F]{2})*)"
+THREAD = rb"(?:-1|[0-9a-fA-F]{1,8})"
+# A pause is looked for within so many events.
+MOST_EVENTS = 3000
+HELP = [
+    "step: a CPU event",
+    "channel U: a channel event of a unit",
+    "tick: a tick of the timer",
+    "key K: the operator presses start, stop, reset, interrupt, eof or request",
+    "enter TEXT: the operator enters a line at the console",
+    "load U: the operator presses the load key",
+    "patch s A BYTES: puts bytes into storage",
+    "patch r R W: puts a word into a register",
+    "patch k A K: gives the block of A a storage key",
+    "patch p Q: puts a doubleword into the PSW",
+    "run N: runs at most N events",
+    "back: takes back the last change",
+    "until: takes changes back to a breakpoint of `break`",
+    "withdraw N: withdraws the change of this number",
+    "break A: sets a breakpoint of `run` and `until`",
+    "clear A: takes one away",
+    "standing: counts the changes that stand",
+    "last s A, last r R, last k A, last p, last run, last ext, last u U, last d U: the last change"
+    " of a place",
+    "show regs: the general registers",
+    "show psw: the PSW and the run state",
+    "show s A N: bytes of storage",
+    "show k A: a storage key",
+    "show ext: the pending external conditions",
+    "show u U: what the channel does for a unit",
+    "show d U: the sense bytes and the media of a unit",
+    "show m U N: an item of a unit's media",
+    "show image U: the file of a tape",
+]
+
+
+def feature(name, registers):
+    return f"<feature name='org.gnu.gdb.s390.{name}'>{''.join(registers)}</feature>"
+
+
+def register(name, kind, group, bits=32):
+    return f"<reg name='{name}' bitsize='{bits}' type='{kind}' group='{group}'/>"
+
+
+def sixteen(name, *described):
+    return [register(f"{name}{number}", *described) for number in range(16)]
+
+
+def description():
+    psw = [register(name, "uint32", "psw") for name in ("pswm", "pswa")]
+    fpc = register("fpc", "uint32", "float")
+    features = [
+        feature("core", psw + sixteen("r", "uint32", "general")),
+        feature("acr", sixteen("acr", "uint32", "access")),
+        feature("fpr", [fpc, *sixteen("f", "ieee_double", "float", 64)]),
+    ]
+    head = "<?xml version='1.0'?><!DOCTYPE target SYSTEM 'gdb-target.dtd'><target>"
+    return f"{head}<architecture>s390:31-bit</architecture>{''.join(features)}</target>".encode()
+
+
+class Endless(Exception):
+    """The machine does not pause within so many events."""
+
+
+class Recording(Debugger):
+    """A debugger whose events stay recorded once they are taken back.
+
+    An event of a change is its name and its fields, since two patches of one kind may differ."""
+
+    def __init__(self, *media):
+        super().__init__(*media)
+        self.later = []  # changes that were taken back, the next one last
+        self.fields = ()
+        self.dropped = 0
+
+    def happen(self, event, act):
+        event = event if isinstance(event, tuple) else (event, self.fields)
+        if self.later and self.later[-1].event == event:
+            self.later.pop()
+        else:
+            self.dropped += len(self.later)
+            self.later.clear()
+        super().happen(event, act)
+
+    def take_back(self):
+        self.later.append(self.changes[-1])
+        return super().take_back()[0]
+
+    def answer_patch(self, kind, *words):
+        digits = words[-1].lower()
+        value = digits if kind == "s" else int(digits, 16)
+        fields = *(int(word, 16) for word in words[:-1]), value
+        return self.with_fields(fields, super().answer_patch, kind, *words)
+
+    def answer_enter(self, text):
+        return self.with_fields((text,), super().answer_enter, text)
+
+    def with_fields(self, fields, answer, *words):
+        """Answers a line whose event, if it isn't refused, has these fields."""
+        self.fields = fields
+        answers = answer(*words)
+        self.fields = ()
+        return answers
+
+    def answer_withdraw(self, count):
+        rest, self.later = self.later, []
+        answer = super().answer_withdraw(count)
+        is_withdrawn = answer != ["no such change"]
+        self.later = [] if is_withdrawn else rest
+        self.dropped = len(rest) if is_withdrawn else 0
+        return answer
+
+
+class Target:
+    """Answers the data of packets, each by those of some packets; `ended` once gdb has left."""
+
+    def __init__(self, *media):
+        self.recording = Recording(*media)
+        self.breaks, self.watches = set(), []
+        self.ended = False
+        self.told = []  # what is said on standard error
+        self.description = description()
+
+    @property
+    def machine(self):
+        return self.recording.machine
+
+    def answer(self, data):
+        if data in PLAIN:
+            return [PLAIN[data]]
+        if data in NAMED:
+            return NAMED[data](self)
+        for name, fields, answer in FORMS:
+            if data.startswith(name):
+                found = re.fullmatch(fields, data[len(name) :], re.DOTALL)
+                return answer(self, *found.groups()) if found else [MALFORMED]
+        return [b""]
+
+    # Registers.
+
+    def words(self):
+        psw = self.machine.value("p")
+        mask = psw >> 48 << 16 | (psw >> 24 & 0x3F) << 8
+        return [mask, psw & 0xFFFFFF, *(self.machine.register(number) for number in range(16))]
+
+    def all_registers(self):
+        return [b"".join(b"%08x" % word for word in self.words()) + b"x" * LACKING]
+
+    def register(self, number):
+        number = int(number, 16)
+        if number < WORDS:
+            return [b"%08x" % self.words()[number]]
+        return [b"x" * 8 if number < 35 else b"x" * 16] if number < 51 else [MALFORMED]
+
+    def write_psw(self, mask, address):
+        """Both words are a doubleword without the bits that the PSW does not have."""
+        value = mask >> 16 << 48 | (mask >> 8 & 0x3F) << 24 | address & 0xFFFFFF
+        self.recording.answer_patch("p", f"{value:016X}")
+
+    def write_word(self, number, word):
+        if number == 0:
+            self.write_psw(word, self.words()[1])
+        elif number == 1:
+            self.write_psw(self.words()[0], word)
+        else:
+            self.recording.answer_patch("r", f"{number - 2:X}", f"{word:08X}")
+
+    def write_register(self, number, word):
+        number = int(number, 16)
+        if number >= WORDS:
+            return [MALFORMED]
+        return self.written(lambda: self.write_word(number, int(word, 16)))
+
+    def write_registers(self, digits):
+        if len(digits) != 8 * WORDS + LACKING:
+            return [MALFORMED]
+        words = [int(digits[at : at + 8], 16) for at in range(0, 8 * WORDS, 8)]
+        return self.written(lambda: self.write_words(words))
+
+    def write_words(self, words):
+        before = self.words()
+        if before[:2] != words[:2]:
+            self.write_psw(*words[:2])
+        for number in range(2, WORDS):
+            if before[number] != words[number]:
+                self.write_word(number, words[number])
+
+    def written(self, write):
+        """What is dropped by a write is told on standard error."""
+        self.recording.dropped = 0
+        write()
+        if self.recording.dropped:
+            self.told.append(f"s360gdb: dropped {self.recording.dropped} recorded changes")
+        return [OK]
+
+    # Storage.
+
+    def storage(self, at, count):
+        at, count = int(at, 16), int(count, 16)
+        if count == 0:
+            return [MALFORMED]
+        if at + count > self.machine.size:
+            return [ADDRESS]
+        return [self.machine.run_of_bytes(at, count).hex().encode()]
+
+    def write_digits(self, at, count, digits):
+        return self.write_storage(at, count, bytes.fromhex(digits.decode()))
+
+    def write_storage(self, at, count, run):
+        at = int(at, 16)
+        if len(run) != int(count, 16):
+            return [MALFORMED]
+        if at + len(run) > self.machine.size:
+            return [ADDRESS]
+        return self.written(lambda: self.write_run(at, run))
+
+    def write_run(self, at, run):
+        for first in range(0, len(run), MOST_PATCHED):
+            part = run[first : first + MOST_PATCHED]
+            self.recording.answer_patch("s", f"{at + first:X}", part.hex())
+
+    # Points.
+
+    def insert_break(self, at, _kind):
+        at = int(at, 16)
+        if at not in self.breaks and len(self.breaks) == MOST_POINTS:
+            return [FULL]
+        self.breaks.add(at)
+        return [OK]
+
+    def remove_break(self, at, _kind):
+        self.breaks.discard(int(at, 16))
+        return [OK]
+
+    def insert_watch(self, at, count):
+        watch = int(at, 16), int(count, 16)
+        if sum(watch) > self.machine.size:
+            return [ADDRESS]
+        if watch not in self.watches:
+            if len(self.watches) == MOST_POINTS:
+                return [FULL]
+            self.watches.append(watch)
+        return [OK]
+
+    def remove_watch(self, at, count):
+        self.watches = [watch for watch in self.watches if watch != (int(at, 16), int(count, 16))]
+        return [OK]
+
+    def is_at_breakpoint(self):
+        own, self.recording.breakpoints = self.recording.breakpoints, self.breaks
+        answer = self.recording.is_at_breakpoint()
+        self.recording.breakpoints = own
+        return answer
+
+    def altered(self, change):
+        """The address of the first watched byte that a change altered."""
+        places = set(change.places)
+        watched = (byte for at, count in self.watches for byte in range(at, at + count))
+        return next((byte for byte in watched if f"s{byte:06X}" in places), None)
+
+    # Forward.
+
+    def step(self):
+        return self.go_on(lambda change: TRAP if is_cpu(change) else None, TRAP)
+
+    def resume(self):
+        stop = b"T05swbreak:;"
+        return self.go_on(lambda _change: stop if self.is_at_breakpoint() else None, b"T00")
+
+    def go_on(self, reached, quiet):
+        """Runs events to a pause. If there is none within so many, all is as it was."""
+        recording = self.recording
+        standing, later = len(recording.changes), list(recording.later)
+        for _ in range(MOST_EVENTS):
+            if (answer := self.turn(reached, quiet)) is not None:
+                return answer
+        while len(recording.changes) > standing:
+            recording.take_back()
+        recording.later = later
+        raise Endless
+
+    def turn(self, reached, quiet):
+        """Runs the event whose turn it is, and answers why the machine pauses then, if it does."""
+        recording = self.recording
+        is_recorded = bool(recording.later)
+        if is_recorded:
+            recording.happen(recording.later[-1].event, recording.later[-1].act)
+        else:
+            recording.happen(*recording.offered())
+        change = recording.changes[-1]
+        if (at := self.altered(change)) is not None:
+            return [b"T05watch:%x;" % at]
+        if not change.places:
+            return [b"O" + self.why_idle(change).encode().hex().encode(), quiet]
+        if (stop := reached(change)) is not None:
+            return [stop]
+        return [b"T05replaylog:end;"] if is_recorded and not recording.later else None
+
+    def why_idle(self, change):
+        machine, name = self.machine, change.event[0]
+        if machine.value("run") != OPERATING:
+            return "idle: the CPU is stopped\n"
+        if name.startswith("channel"):
+            return "idle: the console waits for a line\n"
+        if name != "cpu":
+            return "idle: the event altered nothing\n"
+        waits = machine.psw_field(49, 1)
+        return f"idle: the {'CPU waits' if waits else 'instruction altered nothing'}\n"
+
+    # Backward.
+
+    def step_back(self):
+        return self.go_back(lambda change: TRAP if is_cpu(change) else None)
+
+    def resume_back(self):
+        return self.go_back(lambda _change: b"T05swbreak:;" if self.is_at_breakpoint() else None)
+
+    def go_back(self, reached):
+        while self.recording.changes:
+            change = self.recording.changes[-1]
+            self.recording.take_back()
+            if (at := self.altered(change)) is not None:
+                return [b"T05watch:%x;" % at]
+            if (stop := reached(change)) is not None:
+                return [stop]
+        return [b"T05replaylog:begin;"]
+
+    # The rest.
+
+    def part_of_description(self, offset, count):
+        rest, count = self.description[int(offset, 16) :], int(count, 16)
+        return [b"l" + rest if len(rest) <= count else b"m" + rest[:count]]
+
+    def line(self, digits):
+        """A line of the script language."""
+        line = bytes.fromhex(digits.decode())
+        self.recording.dropped = 0
+        answers = HELP if line == b"help" else self.answers_to(line)
+        if self.recording.dropped:
+            answers = [*answers, f"dropped {self.recording.dropped} recorded changes"]
+        return ["".join(f"{answer}\n" for answer in answers).encode().hex().encode()]
+
+    def answers_to(self, line):
+        # A script has no blank line to answer, and no comment.
+        if not line.strip(b" "):
+            return ["? unknown"]
+        fault = fault_of(line)
+        return [fault] if fault else self.recording.answer(line.decode())
+
+    def leave(self, *_process):
+        self.ended = True
+        return [OK]
+
+    def kill(self):
+        self.ended = True
+        return []
+
+
+def is_cpu(change):
+    return change.event[0] == "cpu"
+
+
+SUPPORTED = b"PacketSize=4000;qXfer:features:read+;ReverseStep+;ReverseContinue+;swbreak+"
+SUPPORTED += b";QStartNoAckMode+"
+PLAIN = {b"?": TRAP, b"qSupported": SUPPORTED, b"qC": b"QC1", b"qAttached": b"1"}
+PLAIN |= {b"qfThreadInfo": b"m1", b"qsThreadInfo": b"l", b"QStartNoAckMode": OK}
+NAMED = {b"g": Target.all_registers, b"s": Target.step, b"c": Target.resume, b"k": Target.kill}
+NAMED |= {b"bs": Target.step_back, b"bc": Target.resume_back, b"D": Target.leave}
+# The name of a request, what follows it, and what answers it.
+FORMS = [
+    (b"m", TWO, Target.storage),
+    (b"M", TWO + b":" + PAIRS, Target.write_digits),
+    (b"X", TWO + b":(.*)", Target.write_storage),
+    (b"p", NUMBER, Target.register),
+    (b"P", NUMBER + rb"=([0-9a-fA-F]{8})", Target.write_register),
+    (b"G", PAIRS, Target.write_registers),
+    (b"qRcmd,", PAIRS, Target.line),
+    # The address that they may have in the manual isn't taken.
+    (b"s", b"(?!)", None),
+    (b"c", b"(?!)", None),
+    (b"Hg", THREAD, lambda target: [OK]),
+    (b"Hc", THREAD, lambda target: [OK]),
+    (b"T", THREAD, lambda target: [OK]),
+    (b"qSupported:", b".*", lambda target: [SUPPORTED]),
+    (b"qXfer:features:read:", rb"target\.xml:" + TWO, Target.part_of_description),
+    (b"vKill;", NUMBER, Target.leave),
+    (b"Z0,", TWO, Target.insert_break),
+    (b"Z1,", TWO, Target.insert_break),
+    (b"Z2,", TWO, Target.insert_watch),
+    (b"z0,", TWO, Target.remove_break),
+    (b"z1,", TWO, Target.remove_break),
+    (b"z2,", TWO, Target.remove_watch),
+]
