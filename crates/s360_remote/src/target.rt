@@ -19,6 +19,7 @@ use s360_machine::{EventKind, Machine, Refusal};
 use s360_record::{Forwarded, Recording};
 use std::alloc::{AllocError, Global};
 use std::marker::Model;
+use std::mem;
 
 /// More events than can be recorded.
 const TURNS: u32 = 10_000_001;
@@ -70,6 +71,14 @@ impl Target {
         ensures { seen result.now.whole ≡ machine_of (session_of self.now.recorded) }
     {
         self.recording.machine()
+    }
+
+    /// How many recorded changes the last write or line dropped that was not told of. It is told once.
+    pub fn take_dropped(&mut self) -> u32
+        ensures dropped { result ≡ self.old.dropped }
+        ensures told { self.new ≡ record self.old { dropped = 0 } }
+    {
+        mem::take(&mut self.dropped)
     }
 
     /// Lets it go, with all that it holds.

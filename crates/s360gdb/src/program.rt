@@ -1,53 +1,120 @@
 //! What the program does once its command line is read. Faults are found in the order of the steps.
-use s360_machine::Machine;
+ghost use Rattle.std.specs.Prelude.{◌≡◌, ◌≢◌, true, false, IfErr, OnOk, Err};
+ghost use Rattle.s360_model.specs.Storage.{is_storage_size};
+ghost use Rattle.s360_setup.specs.Failures.{IsAnsweringFailure};
+ghost use Rattle.s360gdb.specs.Failures.{IsServingFailure, IsRunFailure};
+ghost use Rattle.s360_setup.specs.declared.failure.Failure.TheVariants.{StorageSize};
+
+use itoa::Buffer;
 use s360_remote::{Connection, Replies, Target};
-use s360_setup::{Failure, Fault, Options, Part, set_up};
+use s360_setup::{Failure, Fault, LIMIT, Options, Part, Program, carry_out, open, set_up, tell};
+use s360_text::write_whole;
 use std::alloc::Global;
-use std::io::{Read, Write};
+use std::io::{Input, Read, Write};
 
-/// So many changes can stand.
-const LIMIT: u32 = 10_000_000;
+/// A read is of at most so many bytes.
+const CHUNK: usize = 4_096;
 
-/// So many bytes are read at once at most.
-const CHUNK: usize = 4096;
-
-/// Sets a machine up, and serves gdb over it.
-pub(crate) fn run(rt: &HostRuntime, options: Options<'_>) -> Result<(), Failure> {
+/// Sets a machine up, carries out the script that is named over it, and serves gdb.
+pub(crate) fn run(rt: &HostRuntime, options: Options<'_>) -> Result<(), Failure>
+    ensures size { OnOk result (is_storage_size options.entry.storage ≡ true) }
+    ensures no_size { result ≡ Err StorageSize → is_storage_size options.entry.storage ≡ false }
+    ensures failure { IfErr result IsRunFailure }
+{
     let machine = set_up(rt, rt.alloc(), options)?;
-    serve(rt, machine)
-}
-
-fn serve(rt: &HostRuntime, machine: Machine) -> Result<(), Failure> {
-    let alloc = rt.alloc();
-    let mut target = Target::new(alloc, machine, LIMIT);
-    let served = serve_target(rt, alloc, &mut target);
+    let mut target = Target::new(rt.alloc(), machine, LIMIT);
+    let served = serve_after(rt, &mut target, options.script);
     target.end();
     served
 }
 
-fn serve_target(rt: &HostRuntime, alloc: Global, target: &mut Target) -> Result<(), Failure> {
-    let Ok(mut connection) = Connection::new(alloc) else {
-        return Err(Failure::Memory);
-    };
+/// Carries out the script in a file, if one is named, and serves gdb on standard input and output.
+fn serve_after(rt: &HostRuntime, target: &mut Target, name: Option<&str>) -> Result<(), Failure>
+    ensures no_size { result ≢ Err StorageSize }
+    ensures failure { IfErr result (λ failure. IsAnsweringFailure failure ⊎ IsServingFailure failure) }
+{
+    if let Some(name) = name {
+        answer_on_errors(rt, target, name)?;
+    }
+    serve(
+        rt.alloc(),
+        target,
+        &mut rt.reader(),
+        &mut rt.stdout(),
+        &mut rt.stderr(),
+    )
+}
+
+/// Carries out the script in a file, and writes its answers to standard error: standard output is gdb's.
+fn answer_on_errors(rt: &HostRuntime, target: &mut Target, name: &str) -> Result<(), Failure>
+    ensures failure { IfErr result IsAnsweringFailure }
+{
+    let mut script = open(rt, Part::Script, name)?;
+    let _writer = carry_out(rt.alloc(), target, &mut script, rt.stderr())?;
+    // What a script drops is told by none of its answers.
+    let _dropped = target.take_dropped();
+    Ok(())
+}
+
+/// Serves gdb until it leaves, or until what it sends has ended. `notes` are told how many recorded changes it drops.
+fn serve<R: Read, W: Write, N: Write>(
+    alloc: Global,
+    target: &mut Target,
+    reader: &mut R,
+    writer: &mut W,
+    notes: &mut N,
+) -> Result<(), Failure>
+    ensures failure { IfErr result IsServingFailure }
+{
+    let mut connection = Connection::new(alloc)?;
     let mut replies = Replies::new(alloc);
-    let mut reader = rt.reader();
-    let mut chunk = [0u8; CHUNK];
-    while !connection.has_ended() {
+    let mut chunk = [0; CHUNK];
+    // Each read but the last gives a byte at least.
+    for _read in 0..u64::MAX {
+        if connection.has_ended() {
+            break;
+        }
         let Ok(count) = reader.read(&mut chunk) else {
-            return Err(Failure::Part(Part::Script, Fault::ReadFailed));
+            return Err(Failure::Part(Part::Connection, Fault::ReadFailed));
         };
         if count == 0 {
-            return Ok(());
+            break;
         }
-        for byte in &chunk[..count] {
-            if connection.take(*byte, target, &mut replies).is_err() {
-                return Err(Failure::Memory);
-            }
+        take_all(&mut connection, target, &mut replies, &chunk[..count], notes)?;
+        if write_whole(writer, replies.as_bytes()).is_err() {
+            return Err(Failure::Part(Part::Connection, Fault::WriteFailed));
         }
-        if rt.stdout().write_all(replies.as_bytes()).is_err() {
-            return Err(Failure::Part(Part::Script, Fault::WriteFailed));
-        }
-        replies.clear();
+        replies.truncate(0);
     }
     Ok(())
+}
+
+/// Takes bytes that gdb sent, and adds what is answered. Those behind its leave are dropped.
+fn take_all<N: Write>(
+    connection: &mut Connection,
+    target: &mut Target,
+    replies: &mut Replies,
+    bytes: &[u8],
+    notes: &mut N,
+) -> Result<(), Failure>
+    ensures failure { IfErr result (λ failure. failure ≡ Memory) }
+{
+    for byte in bytes {
+        connection.take(*byte, target, replies)?;
+        tell_dropped(target.take_dropped(), notes);
+    }
+    Ok(())
+}
+
+/// Tells how many recorded changes were dropped, if any.
+fn tell_dropped<N: Write>(count: u32, notes: &mut N) {
+    if count > 0 {
+        let mut digits = Buffer::new();
+        // gdb is served all the same where this is not taken.
+        let _ = tell(
+            Program::Server,
+            &["dropped ", digits.format(count), " recorded changes"],
+            notes,
+        );
+    }
 }
