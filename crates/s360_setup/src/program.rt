@@ -31,7 +31,7 @@ const DEBUGGER_NOTES: &str =
     memory, and 2 for a fault of the command line or of the storage size.";
 
 const SERVER_NOTES: &str =
-    "Example:\n  gdb-multiarch -ex 'target remote | s360gdb --reader cards.deck session.s360'\n\n\
+    "Example:\n  gdb-multiarch -x s360.gdb -ex 'file s360.elf' -ex 'target remote | s360gdb session.s360'\n\n\
     Status: 0 where gdb has left or its input has ended, 1 for a fault of a file, a stream or\n\
     memory, and 2 for a fault of the command line or of the storage size.";
 
