@@ -24,11 +24,7 @@ pub fn ending<W: Write>(program: Program, failure: &Failure, writer: &mut W) -> 
 }
 
 /// Tells of a failure in a line.
-fn tell_failure<W: Write>(
-    program: Program,
-    failure: Failure,
-    writer: &mut W,
-) -> Result<(), Untaken>
+fn tell_failure<W: Write>(program: Program, failure: Failure, writer: &mut W) -> Result<(), Untaken>
     ensures ok { OnOk result (Appends (W.contents writer.old) (W.contents writer.new) (told_by program (failure_text failure))) }
     ensures stopped { IsBegun (W.contents writer.old) (W.contents writer.new) (told_by program (failure_text failure)) }
 {
@@ -41,11 +37,7 @@ fn tell_failure<W: Write>(
         Failure::Part(part, fault) => {
             let mut digits = Buffer::new();
             let offset = fault.offset(&mut digits);
-            tell(
-                program,
-                &[part.name(), ": ", fault.name(), offset],
-                writer,
-            )
+            tell(program, &[part.name(), ": ", fault.name(), offset], writer)
         }
         Failure::StorageSize => tell(
             program,

@@ -80,7 +80,13 @@ fn serve<R: Read, W: Write, N: Write>(
         if count == 0 {
             break;
         }
-        take_all(&mut connection, target, &mut replies, &chunk[..count], notes)?;
+        take_all(
+            &mut connection,
+            target,
+            &mut replies,
+            &chunk[..count],
+            notes,
+        )?;
         if write_whole(writer, replies.as_bytes()).is_err() {
             return Err(Failure::Part(Part::Connection, Fault::WriteFailed));
         }
