@@ -1,14 +1,17 @@
 //! What the program does once its command line is read. Faults are found in the order of the steps.
-ghost use Rattle.std.specs.Prelude.{◌≡◌, ◌≢◌, true, false, IfErr, OnOk, Err};
+ghost use Rattle.std.specs.Prelude.{◌≡◌, ◌≢◌, ◌⊎◌, true, false, IfErr, OnOk, Err};
+ghost use Rattle.std.specs.Io.KnownBytes.{Appends};
 ghost use Rattle.s360_model.specs.Storage.{is_storage_size};
 ghost use Rattle.s360_setup.specs.Failures.{IsAnsweringFailure};
+ghost use Rattle.s360_setup.specs.Partial.{IsBegun};
 ghost use Rattle.s360gdb.specs.Failures.{IsServingFailure, IsRunFailure};
-ghost use Rattle.s360_setup.specs.declared.failure.Failure.TheVariants.{StorageSize};
+ghost use Rattle.s360gdb.specs.Notes.{note_of_dropped};
+ghost use Rattle.s360_setup.specs.declared.failure.Failure.TheVariants.{Memory, StorageSize};
 
 use itoa::Buffer;
 use s360_remote::{Connection, Replies, Target};
 use s360_setup::{Failure, Fault, LIMIT, Options, Part, Program, carry_out, open, set_up, tell};
-use s360_text::write_whole;
+use s360_text::{Untaken, write_whole};
 use std::alloc::Global;
 use std::io::{Input, Read, Write};
 
@@ -74,20 +77,17 @@ fn serve<R: Read, W: Write, N: Write>(
         if connection.has_ended() {
             break;
         }
-        let Ok(count) = reader.read(&mut chunk) else {
+        let Ok(len) = reader.read(&mut chunk) else {
             return Err(Failure::Part(Part::Connection, Fault::ReadFailed));
         };
-        if count == 0 {
+        if len == 0 {
             break;
         }
-        take_all(
-            &mut connection,
-            target,
-            &mut replies,
-            &chunk[..count],
-            notes,
-        )?;
-        if write_whole(writer, replies.as_bytes()).is_err() {
+        let taken = take_all(&mut connection, target, &mut replies, &chunk[..len], notes);
+        // What was answered before memory was wanted is written too.
+        let written = write_whole(writer, replies.as_bytes());
+        taken?;
+        if written.is_err() {
             return Err(Failure::Part(Part::Connection, Fault::WriteFailed));
         }
         replies.truncate(0);
@@ -107,20 +107,24 @@ fn take_all<N: Write>(
 {
     for byte in bytes {
         connection.take(*byte, target, replies)?;
-        tell_dropped(target.take_dropped(), notes);
+        // gdb is served all the same where this is not taken.
+        let _ = tell_dropped(target.take_dropped(), notes);
     }
     Ok(())
 }
 
-/// Tells how many recorded changes were dropped, if any.
-fn tell_dropped<N: Write>(count: u32, notes: &mut N) {
-    if count > 0 {
-        let mut digits = Buffer::new();
-        // gdb is served all the same where this is not taken.
-        let _ = tell(
-            Program::Server,
-            &["dropped ", digits.format(count), " recorded changes"],
-            notes,
-        );
+/// Tells how many recorded changes were dropped, if any. It takes no memory.
+fn tell_dropped<N: Write>(count: u32, notes: &mut N) -> Result<(), Untaken>
+    ensures ok { OnOk result (Appends (N.contents notes.old) (N.contents notes.new) (note_of_dropped count)) }
+    ensures stopped { IsBegun (N.contents notes.old) (N.contents notes.new) (note_of_dropped count) }
+{
+    if count == 0 {
+        return Ok(());
     }
+    let mut digits = Buffer::new();
+    tell(
+        Program::Server,
+        &["dropped ", digits.format(count), " recorded changes"],
+        notes,
+    )
 }
