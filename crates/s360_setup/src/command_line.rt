@@ -67,9 +67,10 @@ pub fn options<'a, S: AsStr>(
 fn command_line<'a>(alloc: Global, program: Program) -> Result<Command<'a>, AllocError>
     ensures { IfOk result (λ command. app_of command ≡ command_line program) }
 {
-    Command::new(alloc, program.name())
+    let name: &'a str = program.name();
+    Command::new(alloc, name)
         .version("0.1.0")
-        .about(program.about())
+        .about(program.purpose())
         .after_help(program.notes())
         .arg(option(alloc, "storage", "BYTES", STORAGE_HELP))?
         .arg(option(alloc, "reader", "FILE", READER_HELP))?

@@ -9,7 +9,7 @@ mod failure;
 mod images;
 mod program;
 mod script;
-mod start;
+mod starting;
 mod telling;
 
 pub use arguments::{Options, TapeOptions};
@@ -19,7 +19,7 @@ pub use failure::{Failure, Fault, Part};
 pub use images::open;
 pub use program::Program;
 pub use script::carry_out;
-pub use start::start;
+pub use starting::start;
 pub use telling::{ending, tell};
 
 /// So many changes can stand in a program.

@@ -47,7 +47,7 @@ impl Program {
     }
 
     /// What it does, in the words of its help.
-    pub(crate) fn about(self) -> &'static str {
+    pub(crate) fn purpose<'a>(self) -> &'a str {
         match self {
             Program::Debugger => DEBUGGER_ABOUT,
             Program::Server => SERVER_ABOUT,
@@ -55,7 +55,7 @@ impl Program {
     }
 
     /// What its operand is, in the words of its help.
-    pub(crate) fn script(self) -> &'static str {
+    pub(crate) fn script<'a>(self) -> &'a str {
         match self {
             Program::Debugger => DEBUGGER_SCRIPT,
             Program::Server => SERVER_SCRIPT,
@@ -63,7 +63,7 @@ impl Program {
     }
 
     /// An example and the statuses, with which its help ends.
-    pub(crate) fn notes(self) -> &'static str {
+    pub(crate) fn notes<'a>(self) -> &'a str {
         match self {
             Program::Debugger => DEBUGGER_NOTES,
             Program::Server => SERVER_NOTES,
