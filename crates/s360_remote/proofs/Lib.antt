@@ -3,3 +3,5 @@ pub mod PointLemmas
 pub mod ForwardLemmas
 pub mod BackwardLemmas
 pub mod DrivenLemmas
+pub mod WritingLemmas
+pub mod AgainLemmas

@@ -1,11 +1,13 @@
 -- How the machine goes on, for gdb's `s` and `c` (gdb manual, "Packets", "Reverse Execution").
-use Rattle.std.specs.Prelude.{◌≡◌, ℕ, zero, suc, ◌+◌, Bool, true, false, nat_eq, List, [], ◌∷◌, Option, Some, None, length}
+use Rattle.std.specs.Prelude.{◌≡◌, ◌<◌, ◌≤◌, ℕ, zero, suc, ◌+◌, ◌-◌, Bool, true, false, nat_eq, List, [], ◌∷◌, Option, Some, None, length}
 use Rattle.std.specs.Option.{unwrap_or}
 use Rattle.s360_store.specs.declared.place.Place.{Place}
 use Rattle.s360_machine.specs.declared.event.Event.{Event}
 use Rattle.s360_machine.specs.declared.event.Event.TheVariants.{Cpu}
 use Rattle.s360_machine.specs.declared.refusal.Refusal.{Refusal}
 use Rattle.s360_journal.specs.Breakpoints.{is_at_breakpoint}
+use Rattle.s360_machine.specs.Machine.{seen}
+use Rattle.s360_journal.specs.Rerun.{AreAccepted}
 use Rattle.s360_journal.specs.Running.{next_event}
 use Rattle.s360_journal.specs.Standing.{alteration, machine_of, refusal_in}
 use Rattle.s360_record.specs.Forwarding.{IsMet, state_after}
@@ -103,3 +105,8 @@ resumed p reach r (suc n) = paused_by (pause_of_turn p reach r) (state_of_turn r
 -- more turns than events can be recorded, so that the machine pauses within them
 abbrev pub most_turns : ℕ
 most_turns = 10000001
+
+-- of an accepted record: what was taken back is run again by the next turn, which leads to the very state that was
+abbrev pub TurnRunsAgain : Type 0
+TurnRunsAgain = (r : Recorded) → AreAccepted (seen r.start) r.events → length r.events ≤ r.limit → 0 < r.standing → r.standing ≤ length r.events
+    → state_of_turn (with_standing r (r.standing - 1)) ≡ r

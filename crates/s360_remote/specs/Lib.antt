@@ -7,3 +7,5 @@ pub mod Replies
 pub mod ErrorNumbers
 pub mod Writing
 pub mod Monitor
+pub mod Serving
+pub mod Connecting

@@ -1,27 +1,101 @@
 -- What gdb writes into the machine: patches, each an event of its own, which stands and can be taken back (gdb manual,
 -- "Packets", `M`, `X`, `P` and `G`).
-use Rattle.std.specs.Prelude.{◌≡◌, ℕ, ◌+◌, ◌-◌, Bool, nat_eq, nat_lt, nat_le, ◌/◌, if◌then◌else◌, List, [], ◌∷◌, ◌++◌, length, Option, Some, None}
-use Rattle.s360_machine.specs.declared.event.Event.{Event}
+use Rattle.std.specs.Prelude.{◌≡◌, ⊤, tt, ℕ, zero, suc, ◌+◌, ◌/◌, ◌||◌, ◌&&◌, Bool, nat_eq, nat_lt, if◌then◌else◌, List, [], ◌∷◌, ◌++◌, length, take, drop, slice_index, Result, Ok, Err}
+use Rattle.std.specs.Int.{from_be_bytes}
+use Rattle.std.specs.List.{flat_map, range_with_len}
+use Rattle.s360_machine.specs.Machine.{Machine, storage_size}
 use Rattle.s360_machine.specs.declared.event.Event.TheVariants.{Patch as patch}
 use Rattle.s360_machine.specs.declared.event.Patch.{Patch}
-use Rattle.s360_machine.specs.declared.event.Patch.TheVariants.{Bytes}
+use Rattle.s360_machine.specs.declared.event.Patch.TheVariants.{Bytes, Register}
+use Rattle.s360_journal.specs.Standing.{machine_of}
 use Rattle.s360_record.specs.Forwarding.{IsMet, state_after}
-use Rattle.s360_record.specs.Recorded.{Recorded, rest_of}
+use Rattle.s360_record.specs.Recorded.{rest_of, session_of}
 use Rattle.s360_record.specs.declared.forwarding.Forwarded.{Forwarded}
 use Rattle.s360_record.specs.declared.forwarding.Forwarded.TheVariants.{New, Again, Dropped}
+use Rattle.s360_remote.specs.Driven.{Driven}
+use Rattle.s360_remote.specs.Registers.{patch_of_psw, patch_of_word, words_of}
+use Rattle.s360_remote.specs.declared.error_number.ErrorNumber.{ErrorNumber}
+use Rattle.s360_remote.specs.declared.error_number.ErrorNumber.TheVariants.{Memory, Address, Malformed, Full}
 
--- so many recorded events are dropped
-abbrev pub dropped_by : Forwarded → ℕ
-dropped_by (Dropped n) = n
-dropped_by other = 0
+-- how many recorded events were dropped last
+abbrev pub dropped_after : Forwarded → ℕ → ℕ
+dropped_after New before = before
+dropped_after Again before = before
+dropped_after (Dropped n) before = n
 
--- patches are made, one after another, which drop so many recorded events and lead from one recording to another
-abbrev pub AreMade : Recorded → List Patch → ℕ → Recorded → Type 0
-AreMade r [] n t = (n ≡ 0) × (t ≡ r)
-AreMade r (p ∷ ps) n t =
-    (f : Forwarded) × (m : ℕ) × IsMet (rest_of r) (patch p) f × AreMade (state_after r (patch p) f) ps m t × (n ≡ dropped_by f + m)
+-- a patch was made, which stands so to the record
+abbrev pub after_patch : Driven → Patch → Forwarded → Driven
+after_patch d p f = record d { recorded = state_after d.recorded (patch p) f; dropped = dropped_after f d.dropped }
 
--- bytes from an address on, in parts
-abbrev pub patches_of_parts : ℕ → List (List ℕ) → List Patch
-patches_of_parts at [] = []
-patches_of_parts at (part ∷ parts) = Bytes at part ∷ patches_of_parts (at + length part) parts
+-- patches are made one after another, and lead from one target to another
+abbrev pub AreMade : Driven → List Patch → Driven → Type 0
+AreMade d [] t = t ≡ d
+AreMade d (p ∷ ps) t = (f : Forwarded) × IsMet (rest_of d.recorded) (patch p) f × AreMade (after_patch d p f) ps t
+
+-- some first ones of them are
+abbrev pub AreBegun : Driven → List Patch → Driven → Type 0
+AreBegun d ps t = (n : ℕ) × AreMade d (take n ps) t
+
+-- a write is the patches that it makes, or why it makes none
+abbrev pub Write : Type 0
+Write = Result (List Patch) ErrorNumber
+
+-- where the record has room for so many events more
+abbrev pub with_room : Driven → ℕ → List Patch → Write
+with_room d count ps = if nat_lt d.recorded.limit (d.recorded.standing + count) then Err Full else Ok ps
+
+-- a patch has at most 256 bytes
+abbrev pub most_patched : ℕ
+most_patched = 256
+
+abbrev pub patch_count : ℕ → ℕ
+patch_count n = (n + 255) / 256
+
+-- so many patches of bytes from an address on
+abbrev pub patches_from : ℕ → ℕ → List ℕ → List Patch
+patches_from zero at bytes = []
+patches_from (suc n) at bytes =
+    Bytes at (take most_patched bytes) ∷ patches_from n (at + length (take most_patched bytes)) (drop most_patched bytes)
+
+abbrev pub patches_of_bytes : ℕ → List ℕ → List Patch
+patches_of_bytes at bytes = patches_from (patch_count (length bytes)) at bytes
+
+-- `M` and `X`: all bytes have to be in storage
+abbrev pub storage_write : Driven → ℕ → List ℕ → Write
+storage_write d at bytes =
+    if nat_lt (storage_size (machine_of (session_of d.recorded))) (at + length bytes) then Err Address
+    else with_room d (patch_count (length bytes)) (patches_of_bytes at bytes)
+
+-- `P`: the machine has 18 registers of those that gdb knows
+abbrev pub register_write : Driven → ℕ → ℕ → Write
+register_write d number word =
+    if nat_lt number 18 then with_room d 1 (patch_of_word (machine_of (session_of d.recorded)) number word ∷ []) else Err Malformed
+
+-- what gives the PSW and the registers other words: one patch for both words of the PSW, and one for each register
+abbrev pub is_other : List ℕ → List ℕ → ℕ → Bool
+is_other before words n = if nat_eq (slice_index before n) (slice_index words n) then false else true
+
+abbrev pub psw_patches : List ℕ → List ℕ → List Patch
+psw_patches before words =
+    if is_other before words 0 || is_other before words 1 then patch_of_psw (slice_index words 0) (slice_index words 1) ∷ [] else []
+
+abbrev pub register_patches : List ℕ → List ℕ → ℕ → List Patch
+register_patches before words r =
+    if is_other before words (r + 2) then Register r (slice_index words (r + 2)) ∷ [] else []
+
+abbrev pub patches_of_words : List ℕ → List ℕ → List Patch
+patches_of_words before words = psw_patches before words ++ flat_map (λ r. register_patches before words r) (range_with_len 0 16)
+
+-- `G`: the record has to have room for all of them
+abbrev pub registers_write : Driven → List ℕ → Write
+registers_write d words = with_room d 18 (patches_of_words (words_of (machine_of (session_of d.recorded))) words)
+
+-- how a write that makes these patches ends: after want of memory some first ones are made
+abbrev pub IsMadeOrBegun : Driven → List Patch → Driven → Result ⊤ ErrorNumber → Type 0
+IsMadeOrBegun d ps t (Ok tt) = AreMade d ps t
+IsMadeOrBegun d ps t (Err fault) = (fault ≡ Memory) × AreBegun d ps t
+
+-- how a write ends
+abbrev pub IsWriteEnd : Write → Driven → Driven → Result ⊤ ErrorNumber → Type 0
+IsWriteEnd (Err fault) d t result = (t ≡ d) × (result ≡ Err fault)
+IsWriteEnd (Ok ps) d t result = IsMadeOrBegun (record d { dropped = 0 }) ps t result

@@ -2,6 +2,7 @@
 #![tactic(auto)]
 
 mod connection;
+mod counting;
 mod error_number;
 mod laws;
 mod monitor;
@@ -14,14 +15,14 @@ mod target;
 mod writing;
 
 pub use connection::Connection;
-pub use laws::both_words_are_the_psw;
+pub use error_number::ErrorNumber;
+pub use laws::{both_words_are_the_psw, turn_runs_again};
 pub use pause::{Pause, Reach};
 pub use points::{Points, Watch};
 pub use registers::{patch_of_psw, patch_of_word, words_of};
 pub use replies::Replies;
 pub use serving::Then;
 pub use target::Target;
-pub use writing::WriteFault;
 
 /// So many bytes of data has a packet at most.
 pub const PACKET_SIZE: u32 = 16_384;

@@ -1,20 +1,14 @@
 //! Lines of gdb's user for the target: `monitor LINE`. Each is a line of the script language, and has the answer that it has
 //! in a script. What it takes back stays recorded.
-ghost use Rattle.std.specs.Prelude.{◌≡◌, ◌≢◌, ◌⊎◌, ◌++◌, codes, IfOk, OnErr, OnOk};
+ghost use Rattle.std.specs.Prelude.{◌≡◌, ◌⊎◌, ◌++◌, IfOk, OnErr, OnOk};
 ghost use Rattle.s360_language.specs.Reading.{reading_of};
 ghost use Rattle.s360_debug.specs.Script.{StandsAfterReading, state_after_reading};
-ghost use Rattle.s360_record.specs.Recorded.{session_of};
-ghost use Rattle.s360_remote.specs.Monitor.{debugger_of, dropped_text, monitor_text};
+ghost use Rattle.s360_remote.specs.Monitor.{IsCarriedOut, IsLineBegun, debugger_of, dropped_text, monitor_text};
 
 use crate::target::Target;
 use s360_debug::answer_line;
-use s360_journal::{Breaks, NothingStands, Report, Reversible, Withdrawal};
-use s360_machine::{Event, EventKind, Machine, Refusal};
-use s360_record::{Forwarded, Recording};
-use s360_store::Place;
 use s360_text::Text;
 use std::alloc::{AllocError, Global};
-use std::mem;
 
 /// The lines of the language, with what each does.
 const HELP: &str = "\
@@ -50,10 +44,8 @@ show image U: the file of a tape
 /// Carries a line out, and answers its text. Breakpoints that a line sets are the language's own, beside those of gdb. After
 /// want of memory some first ones of the events stand that it would have run, or it was carried out and its text is lost.
 pub(crate) fn monitor(target: &mut Target, line: &[u8]) -> Result<Text, AllocError>
-    ensures text { line.now ≢ codes "help" → IfOk result (λ text. text ≡ monitor_text (debugger_of target.old) line.now target.new.dropped) }
-    ensures state { line.now ≢ codes "help" → OnOk result (debugger_of target.new ≡ state_after_reading (debugger_of target.old) (reading_of line.now)) }
-    ensures memory { line.now ≢ codes "help" → OnErr result (StandsAfterReading (reading_of line.now) (debugger_of target.old) (debugger_of target.new).session ⊎ (debugger_of target.new ≡ state_after_reading (debugger_of target.old) (reading_of line.now))) }
-    ensures help { line.now ≡ codes "help" → target.new ≡ target.old }
+    ensures carried_out { IfOk result (λ text. IsCarriedOut line.now target.old target.new text) }
+    ensures begun { OnErr result (IsLineBegun line.now target.old target.new) }
 {
     match line {
         b"help" => text_of(target.alloc, HELP),
@@ -74,15 +66,13 @@ fn text_of(alloc: Global, words: &str) -> Result<Text, AllocError>
 fn carry_out(target: &mut Target, line: &[u8]) -> Result<Text, AllocError>
     ensures text { IfOk result (λ text. text ≡ monitor_text (debugger_of target.old) line.now target.new.dropped) }
     ensures state { OnOk result (debugger_of target.new ≡ state_after_reading (debugger_of target.old) (reading_of line.now)) }
+    ensures points { target.new.points ≡ target.old.points }
     ensures memory { OnErr result (StandsAfterReading (reading_of line.now) (debugger_of target.old) (debugger_of target.new).session ⊎ (debugger_of target.new ≡ state_after_reading (debugger_of target.old) (reading_of line.now))) }
 {
-    target.dropped = 0;
-    // They are taken out, since the target is lent as a whole.
-    let mut breaks = mem::replace(&mut target.own_breaks, Breaks::new());
-    let answer = answer_line(target.alloc, target, &mut breaks, line);
-    target.own_breaks = breaks;
-    let mut text = answer?;
-    push_dropped(&mut text, target.dropped)?;
+    target.counting.dropped = 0;
+    let alloc = target.alloc;
+    let mut text = answer_line(alloc, &mut target.counting, &mut target.own_breaks, line)?;
+    push_dropped(&mut text, target.counting.dropped)?;
     Ok(text)
 }
 
@@ -96,66 +86,4 @@ fn push_dropped(text: &mut Text, count: u32) -> Result<(), AllocError>
     text.push_text("dropped ")?;
     text.push_decimal(u64::from(count))?;
     text.push_text(" recorded changes\n")
-}
-
-// The target is driven as its recording is. It keeps how many recorded changes an event or a withdrawal dropped.
-impl Reversible for Target {
-    ghost standing_of = { λ d. session_of d.recorded };
-
-    fn machine(&self) -> &Machine {
-        Reversible::machine(&self.recording)
-    }
-
-    fn standing(&self) -> u32 {
-        Reversible::standing(&self.recording)
-    }
-
-    fn last_event(&self) -> Option<EventKind> {
-        Reversible::last_event(&self.recording)
-    }
-
-    fn last_change(&self, place: Place) -> Option<u32> {
-        Reversible::last_change(&self.recording, place)
-    }
-
-    fn is_idle(&self) -> bool {
-        Reversible::is_idle(&self.recording)
-    }
-
-    fn advance(&mut self, event: Event) -> Result<(), Refusal> {
-        let _standing = self.recording.standing();
-        let forwarded = Recording::forward(&mut self.recording, event)?;
-        self.dropped = dropped_by(forwarded, self.dropped);
-        Ok(())
-    }
-
-    fn forward(&mut self, event: Event) -> Result<Report, Refusal> {
-        let _standing = self.recording.standing();
-        let (report, forwarded) = self.recording.forward_reported(event)?;
-        self.dropped = dropped_by(forwarded, self.dropped);
-        Ok(report)
-    }
-
-    fn back(&mut self) -> Result<(), NothingStands> {
-        Reversible::back(&mut self.recording)
-    }
-
-    fn back_until(&mut self, breaks: &Breaks) -> u32 {
-        Reversible::back_until(&mut self.recording, breaks)
-    }
-
-    fn withdraw(&mut self, number: u32) -> Result<(), Withdrawal> {
-        let rest = self.recording.recorded() - self.recording.standing();
-        Reversible::withdraw(&mut self.recording, number)?;
-        self.dropped = rest;
-        Ok(())
-    }
-}
-
-/// How many recorded changes were dropped last: by an event that was run so, or before it.
-fn dropped_by(forwarded: Forwarded, before: u32) -> u32 {
-    match forwarded {
-        Forwarded::New | Forwarded::Again => before,
-        Forwarded::Dropped(count) => count,
-    }
 }

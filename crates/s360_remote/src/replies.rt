@@ -1,5 +1,5 @@
 //! The packets that are sent to gdb. Source: gdb manual, "Remote Serial Protocol", "Overview".
-ghost use Rattle.std.specs.Prelude.{◌≡◌, ◌≤◌, ◌++◌, ◌∷◌, [], length, take, OnOk};
+ghost use Rattle.std.specs.Prelude.{◌≡◌, ◌++◌, ◌∷◌, [], OnOk};
 ghost use Rattle.s360_packet.specs.Answers.{answer_text};
 ghost use Rattle.s360_packet.specs.Framing.{framed};
 
@@ -40,18 +40,11 @@ impl Replies {
         self.bytes.as_slice()
     }
 
-    /// How many bytes they have.
-    pub fn len(&self) -> usize
-        ensures { result ≡ length self.now }
+    /// Drops all, and keeps the memory. It takes none.
+    pub fn clear(&mut self)
+        ensures { self.new ≡ [] }
     {
-        self.bytes.len()
-    }
-
-    /// Drops all but so many first bytes. It takes no memory.
-    pub fn truncate(&mut self, len: usize)
-        ensures { self.new ≡ take len self.old }
-    {
-        self.bytes.truncate(len);
+        self.bytes.clear();
     }
 
     /// Adds a byte that stands in no packet.
@@ -69,5 +62,12 @@ impl Replies {
         let mut data = Vec::new(self.alloc);
         write_answer(self.alloc, &mut data, answer)?;
         frame(&mut self.bytes, data.as_slice())
+    }
+
+    /// Adds others.
+    pub fn push_all(&mut self, others: &Replies) -> Result<(), AllocError>
+        ensures { OnOk result (self.new ≡ self.old ++ others.now) }
+    {
+        self.bytes.extend_from_slice(others.as_bytes())
     }
 }

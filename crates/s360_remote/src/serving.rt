@@ -1,12 +1,21 @@
 //! What gdb asks, and what is answered. Source: gdb manual, "Packets", "Stop Reply Packets", "General Query Packets".
-ghost use Rattle.std.specs.Prelude.{◌≡◌, ◌++◌, codes, IfOk, OnOk};
-ghost use Rattle.s360_journal.specs.Standing.{last_kind_of, machine_of};
+ghost use Rattle.std.specs.Prelude.{◌≡◌, ◌≢◌, ◌≤◌, ◌+◌, ◌++◌, ℕ, List, Err, codes, IfOk, OnErr, OnOk, SomeIff};
+ghost use Rattle.s360_journal.specs.Standing.{last_kind_of};
+ghost use Rattle.s360_machine.specs.Machine.{storage_size};
 ghost use Rattle.s360_packet.specs.Answers.{registers_text};
 ghost use Rattle.s360_packet.specs.Framing.{framed};
-ghost use Rattle.s360_record.specs.Recorded.{session_of, standing_events};
+ghost use Rattle.s360_packet.specs.declared.answer.Answer.TheVariants.{Done};
+ghost use Rattle.s360_record.specs.Recorded.{standing_events};
+ghost use Rattle.s360_remote.specs.Driven.{moved_to};
+ghost use Rattle.s360_remote.specs.Forward.{most_turns, resumed};
+ghost use Rattle.s360_remote.specs.Monitor.{IsCarriedOut, IsLineBegun};
+ghost use Rattle.s360_remote.specs.Registers.{words_of};
 ghost use Rattle.s360_remote.specs.Replies.{console_packet, idle_words, idle_words_of, pause_packets};
 ghost use Rattle.s360_remote.specs.Replies.{refusal_words, register_of_number, storage_text};
-ghost use Rattle.s360_remote.specs.Registers.{words_of};
+ghost use Rattle.s360_remote.specs.Serving.{AreAllBegun, AreAllWritten, IsBegun, IsPaused, IsServed, IsTold};
+ghost use Rattle.s360_remote.specs.Serving.{after_write, insert_answer, line_text, machine_now, packet_of, points_with, points_without};
+ghost use Rattle.s360_remote.specs.declared.error_number.ErrorNumber.TheVariants.{Memory};
+ghost use Rattle.s360_remote.specs.declared.serving.Then.TheVariants.{GoOn};
 
 use crate::error_number::ErrorNumber;
 use crate::monitor::monitor;
@@ -15,7 +24,6 @@ use crate::points::Watch;
 use crate::registers::words_of;
 use crate::replies::Replies;
 use crate::target::Target;
-use crate::writing::WriteFault;
 use byteorder::{BigEndian, ByteOrder};
 use s360_machine::{EventKind, Refusal};
 use s360_packet::{Answer, Payload, Point, REGISTERS, Request, Stop, register_value};
@@ -27,7 +35,9 @@ use std::alloc::{AllocError, Global};
 pub enum Then {
     /// With the next request.
     GoOn,
-    /// Likewise, and packets are acknowledged no longer.
+    /// Likewise. A write dropped so many recorded changes, at least one, which its answer cannot tell.
+    Dropped(u32),
+    /// With the next request, and packets are acknowledged no longer.
     StopAcknowledging,
     /// Not at all.
     End,
@@ -39,26 +49,10 @@ const ALL_REGISTERS: usize = 268;
 impl Target {
     /// Carries a request out, and adds what is answered. After want of memory some first events of the request may stand,
     /// and some first bytes of the answer may be there.
-    pub fn serve(&mut self, request: Request, replies: &mut Replies) -> Result<Then, AllocError> {
-        match request {
-            Request::Detach | Request::KillProcess(_) => {
-                replies.push(Answer::Done)?;
-                Ok(Then::End)
-            }
-            Request::Kill => Ok(Then::End),
-            Request::StopAcknowledging => {
-                replies.push(Answer::Done)?;
-                Ok(Then::StopAcknowledging)
-            }
-            other => {
-                self.serve_on(other, replies)?;
-                Ok(Then::GoOn)
-            }
-        }
-    }
-
-    /// Carries out a request after which serving goes on as before.
-    fn serve_on(&mut self, request: Request, replies: &mut Replies) -> Result<(), AllocError> {
+    pub fn serve(&mut self, request: Request, replies: &mut Replies) -> Result<Then, AllocError>
+        ensures served { IfOk result (λ next. (packets : List ℕ) × IsServed request self.old self.new next packets × (replies.new ≡ replies.old ++ packets)) }
+        ensures begun { OnErr result (IsBegun request self.old self.new) }
+    {
         match request {
             Request::Step => self.go_on(Reach::Step, Stop::Trap, replies),
             Request::Continue => self.go_on(Reach::Stop, Stop::Quiet, replies),
@@ -82,41 +76,51 @@ impl Target {
             Request::Insert { point, at, kind } => self.insert(point, at, kind, replies),
             Request::Remove { point, at, kind } => self.remove(point, at, kind, replies),
             Request::Command(line) => self.answer_line(&line, replies),
+            Request::Kill => Ok(Then::End),
             other => self.tell(other, replies),
         }
     }
 
     /// Answers a request that changes nothing.
-    fn tell(&self, request: Request, replies: &mut Replies) -> Result<(), AllocError> {
+    fn tell(&self, request: Request, replies: &mut Replies) -> Result<Then, AllocError> {
         match request {
-            Request::Registers => self.tell_registers(replies),
-            Request::Register(number) => self.tell_register(number, replies),
-            Request::Storage { at, count } => self.tell_storage(at, count, replies),
+            Request::Registers => self.tell_registers(replies)?,
+            Request::Register(number) => self.tell_register(number, replies)?,
+            Request::Storage { at, count } => self.tell_storage(at, count, replies)?,
             Request::Supported => replies.push(Answer::Supported {
                 size: crate::PACKET_SIZE,
-            }),
+            })?,
             Request::Description { offset, count } => {
-                replies.push(Answer::Description { offset, count })
+                replies.push(Answer::Description { offset, count })?;
             }
-            Request::CurrentThread => replies.push(Answer::Thread),
-            Request::Attached => replies.push(Answer::Attached),
-            Request::FirstThreads => replies.push(Answer::FirstThreads),
-            Request::NextThreads => replies.push(Answer::NoMoreThreads),
-            Request::Stopped => replies.push(Answer::Stopped(Stop::Trap)),
-            _ => replies.push(Answer::Done),
+            Request::CurrentThread => replies.push(Answer::Thread)?,
+            Request::Attached => replies.push(Answer::Attached)?,
+            Request::FirstThreads => replies.push(Answer::FirstThreads)?,
+            Request::NextThreads => replies.push(Answer::NoMoreThreads)?,
+            Request::Stopped => replies.push(Answer::Stopped(Stop::Trap))?,
+            Request::StopAcknowledging => {
+                replies.push(Answer::Done)?;
+                return Ok(Then::StopAcknowledging);
+            }
+            Request::Detach | Request::KillProcess(_) => {
+                replies.push(Answer::Done)?;
+                return Ok(Then::End);
+            }
+            _ => replies.push(Answer::Done)?,
         }
+        Ok(Then::GoOn)
     }
 
     /// Tells all registers.
     fn tell_registers(&self, replies: &mut Replies) -> Result<(), AllocError>
-        ensures { OnOk result (replies.new ≡ replies.old ++ framed (registers_text (words_of (machine_of (session_of self.now.recorded))))) }
+        ensures { OnOk result (replies.new ≡ replies.old ++ framed (registers_text (words_of (machine_now self.now)))) }
     {
         replies.push(Answer::Registers(&words_of(self.machine())))
     }
 
     /// Tells one register.
     fn tell_register(&self, number: u32, replies: &mut Replies) -> Result<(), AllocError>
-        ensures { OnOk result (replies.new ≡ replies.old ++ framed (register_of_number (machine_of (session_of self.now.recorded)) number)) }
+        ensures { OnOk result (replies.new ≡ replies.old ++ framed (register_of_number (machine_now self.now) number)) }
     {
         match register_value(&words_of(self.machine()), number) {
             Some(value) => replies.push(Answer::Register(value)),
@@ -126,7 +130,7 @@ impl Target {
 
     /// Tells bytes of storage.
     fn tell_storage(&self, at: u32, count: u32, replies: &mut Replies) -> Result<(), AllocError>
-        ensures { OnOk result (replies.new ≡ replies.old ++ framed (storage_text (machine_of (session_of self.now.recorded)) at count)) }
+        ensures { OnOk result (replies.new ≡ replies.old ++ framed (storage_text (machine_now self.now) at count)) }
     {
         let storage = self.machine().storage();
         if count == 0 {
@@ -144,7 +148,10 @@ impl Target {
         reach: Reach,
         quiet: Stop,
         replies: &mut Replies,
-    ) -> Result<(), AllocError> {
+    ) -> Result<Then, AllocError>
+        ensures served { IfOk result (λ next. (packets : List ℕ) × IsPaused quiet (resumed self.old.points reach self.old.recorded most_turns) self.old self.new next packets × (replies.new ≡ replies.old ++ packets)) }
+        ensures begun { OnErr result ((n : ℕ) × (self.new ≡ moved_to self.old (resumed self.old.points reach self.old.recorded n))) }
+    {
         let pause = self.forward(reach)?;
         self.tell_pause(pause, quiet, replies)
     }
@@ -154,14 +161,16 @@ impl Target {
         &mut self,
         bytes: &[u8],
         replies: &mut Replies,
-    ) -> Result<(), AllocError> {
+    ) -> Result<Then, AllocError>
+        ensures served { IfOk result (λ next. (packets : List ℕ) × AreAllWritten bytes.now self.old self.new next packets × (replies.new ≡ replies.old ++ packets)) }
+        ensures begun { OnErr result (AreAllBegun bytes.now self.old self.new) }
+    {
         if bytes.len() != ALL_REGISTERS {
-            return replies.push(ErrorNumber::Malformed.answer());
+            replies.push(ErrorNumber::Malformed.answer())?;
+            return Ok(Then::GoOn);
         }
         let mut words = [0; REGISTERS];
-        for (word, bytes) in words.iter_mut().zip(bytes.chunks_exact(4)) {
-            *word = BigEndian::read_u32(bytes);
-        }
+        BigEndian::read_u32_into(&bytes[..4 * REGISTERS], &mut words);
         let written = self.write_registers(&words);
         self.tell_written(written, replies)
     }
@@ -173,19 +182,22 @@ impl Target {
         at: u32,
         kind: u32,
         replies: &mut Replies,
-    ) -> Result<(), AllocError> {
+    ) -> Result<Then, AllocError>
+        ensures points { self.new ≡ record self.old { points = points_with point at kind self.old } }
+        ensures answer { IfOk result (λ next. (next ≡ GoOn) × (replies.new ≡ replies.old ++ packet_of (insert_answer point at kind self.old))) }
+    {
         let is_set = match point {
             Point::Software | Point::Hardware => self.points.add_break(at),
             Point::Write => match self.watch_in_storage(at, kind) {
                 Some(watch) => self.points.add_watch(watch),
-                None => return replies.push(ErrorNumber::Address.answer()),
+                None => {
+                    replies.push(ErrorNumber::Address.answer())?;
+                    return Ok(Then::GoOn);
+                }
             },
         };
-        if is_set {
-            replies.push(Answer::Done)
-        } else {
-            replies.push(ErrorNumber::Full.answer())
-        }
+        replies.push(if is_set { Answer::Done } else { ErrorNumber::Full.answer() })?;
+        Ok(Then::GoOn)
     }
 
     /// Takes a point out, if it is set.
@@ -195,7 +207,10 @@ impl Target {
         at: u32,
         kind: u32,
         replies: &mut Replies,
-    ) -> Result<(), AllocError> {
+    ) -> Result<Then, AllocError>
+        ensures points { self.new ≡ record self.old { points = points_without point at kind self.old } }
+        ensures answer { IfOk result (λ next. (next ≡ GoOn) × (replies.new ≡ replies.old ++ packet_of Done)) }
+    {
         match point {
             Point::Software | Point::Hardware => self.points.remove_break(at),
             Point::Write => {
@@ -204,45 +219,74 @@ impl Target {
                 }
             }
         }
-        replies.push(Answer::Done)
+        replies.push(Answer::Done)?;
+        Ok(Then::GoOn)
     }
 
     /// So many bytes from an address on, if they are in storage.
-    fn watch_in_storage(&self, at: u32, count: u32) -> Option<Watch> {
-        let watch = Watch::new(at, count)?;
-        let is_inside = u64::from(at) + u64::from(count)
-            <= u64::from(self.machine().storage().size());
-        if is_inside { Some(watch) } else { None }
+    fn watch_in_storage(&self, at: u32, count: u32) -> Option<Watch>
+        ensures { SomeIff result (at + count ≤ storage_size (machine_now self.now)) (record { at = at; count = count }) }
+    {
+        let size = u64::from(self.machine().storage().size());
+        if u64::from(at) + u64::from(count) > size {
+            return None;
+        }
+        Watch::new(at, count)
     }
 
     /// Carries a line of gdb's user out, and tells its answer. A line without one is done.
-    fn answer_line(&mut self, line: &Payload, replies: &mut Replies) -> Result<(), AllocError> {
+    fn answer_line(&mut self, line: &Payload, replies: &mut Replies) -> Result<Then, AllocError>
+        ensures served { IfOk result (λ next. (next ≡ GoOn) × ((text : List ℕ) × IsCarriedOut line.now self.old self.new text × (replies.new ≡ replies.old ++ framed (line_text text)))) }
+        ensures begun { OnErr result (IsLineBegun line.now self.old self.new) }
+    {
         let text = monitor(self, line.as_slice())?;
         if text.as_bytes().is_empty() {
-            replies.push(Answer::Done)
+            replies.push(Answer::Done)?;
         } else {
-            replies.push(Answer::Bytes(text.as_bytes()))
+            replies.push(Answer::Bytes(text.as_bytes()))?;
         }
+        Ok(Then::GoOn)
     }
 
     /// Tells how a write ended.
     fn tell_written(
         &self,
-        written: Result<(), WriteFault>,
+        written: Result<(), ErrorNumber>,
         replies: &mut Replies,
-    ) -> Result<(), AllocError> {
+    ) -> Result<Then, AllocError>
+        ensures told { IfOk result (λ next. (packets : List ℕ) × IsTold written self.now.dropped next packets × (replies.new ≡ replies.old ++ packets)) }
+        ensures memory { OnOk result (written ≢ Err Memory) }
+    {
         match written {
-            Ok(()) => replies.push(Answer::Done),
-            Err(WriteFault::Outside) => replies.push(ErrorNumber::Address.answer()),
-            Err(WriteFault::NoRegister) => replies.push(ErrorNumber::Malformed.answer()),
-            Err(WriteFault::Full) => replies.push(ErrorNumber::Full.answer()),
-            Err(WriteFault::Memory) => Err(AllocError),
+            Ok(()) => {
+                replies.push(Answer::Done)?;
+                Ok(after_write(self.counting.dropped))
+            }
+            Err(ErrorNumber::Memory) => Err(AllocError),
+            Err(fault) => {
+                replies.push(fault.answer())?;
+                Ok(Then::GoOn)
+            }
         }
     }
 
     /// Tells why the machine pauses. If nothing is left to do, or an event was refused, a text says so before the stop.
-    fn tell_pause(&self, pause: Pause, quiet: Stop, replies: &mut Replies) -> Result<(), AllocError>
-        ensures { OnOk result (replies.new ≡ replies.old ++ pause_packets quiet (machine_of (session_of self.now.recorded)) (last_kind_of (standing_events self.now.recorded)) pause) }
+    fn tell_pause(
+        &self,
+        pause: Pause,
+        quiet: Stop,
+        replies: &mut Replies,
+    ) -> Result<Then, AllocError>
+        ensures next { IfOk result (λ next. next ≡ GoOn) }
+        ensures packets { OnOk result (replies.new ≡ replies.old ++ pause_packets quiet (machine_now self.now) (last_kind_of (standing_events self.now.recorded)) pause) }
+    {
+        self.push_pause(pause, quiet, replies)?;
+        Ok(Then::GoOn)
+    }
+
+    /// Adds what tells why the machine pauses.
+    fn push_pause(&self, pause: Pause, quiet: Stop, replies: &mut Replies) -> Result<(), AllocError>
+        ensures { OnOk result (replies.new ≡ replies.old ++ pause_packets quiet (machine_now self.now) (last_kind_of (standing_events self.now.recorded)) pause) }
     {
         match pause {
             Pause::Refused(refusal) => {
@@ -271,15 +315,25 @@ impl Target {
 
     /// Tells gdb's user why nothing is left to do.
     fn tell_idle(&self, replies: &mut Replies) -> Result<(), AllocError>
-        ensures { OnOk result (replies.new ≡ replies.old ++ console_packet (idle_words (machine_of (session_of self.now.recorded)) (last_kind_of (standing_events self.now.recorded)))) }
+        ensures { OnOk result (replies.new ≡ replies.old ++ console_packet (idle_words (machine_now self.now) (last_kind_of (standing_events self.now.recorded)))) }
     {
         let machine = self.machine();
         let words = idle_words(
             machine.run().is_operating(),
-            self.recording.last_event(),
+            self.counting.recording.last_event(),
             machine.psw().wait(),
         );
         replies.push(Answer::Console(words.as_bytes()))
+    }
+}
+
+/// How serving goes on after a write that dropped so many recorded changes.
+fn after_write(dropped: u32) -> Then
+    ensures { result ≡ after_write dropped }
+{
+    match dropped {
+        0 => Then::GoOn,
+        count => Then::Dropped(count),
     }
 }
 

@@ -1,9 +1,10 @@
 //! The target: a machine whose events are recorded, with the points at which gdb asks it to stop. Source: gdb manual,
 //! "Reverse Execution".
 ghost use Rattle.std.specs.Prelude.{◌≡◌, ◌↔◌, ◌-◌, ◌<◌, ◌≤◌, ℕ, [], length, IfOk, IsTrue, OnErr, OnOk};
-ghost use Rattle.s360_machine.specs.Machine.{seen};
+ghost use Rattle.s360_machine.specs.Machine.{seen, storage_size};
 ghost use Rattle.s360_machine.specs.declared.event.Event.{Event as Happening};
 ghost use Rattle.s360_journal.specs.Breakpoints.{is_at_breakpoint};
+ghost use Rattle.s360_journal.specs.Rerun.{AreAccepted};
 ghost use Rattle.s360_journal.specs.Standing.{IsAfter, Standing, alteration, machine_of};
 ghost use Rattle.s360_record.specs.Recorded.{Recorded, next_recorded, session_of, standing_events, with_standing};
 ghost use Rattle.s360_remote.specs.Backward.{back_to_stop, is_cpu_last, stepped_back};
@@ -12,6 +13,7 @@ ghost use Rattle.s360_remote.specs.Forward.{IsTurn, is_end_of, is_reached, most_
 ghost use Rattle.s360_remote.specs.Forward.{pause_of_turn, resumed, state_of_turn};
 ghost use Rattle.s360_remote.specs.Points.{byte_altered_by, last_change_among, watched_bytes};
 
+use crate::counting::Counting;
 use crate::pause::{Pause, Reach};
 use crate::points::Points;
 use s360_journal::Breaks;
@@ -19,7 +21,6 @@ use s360_machine::{EventKind, Machine, Refusal};
 use s360_record::{Forwarded, Recording};
 use std::alloc::{AllocError, Global};
 use std::marker::Model;
-use std::mem;
 
 /// More events than can be recorded.
 const TURNS: u32 = 10_000_001;
@@ -27,12 +28,11 @@ const TURNS: u32 = 10_000_001;
 /// A recording and the points at which it stops.
 #[derive(Drop)]
 pub struct Target {
-    pub(crate) recording: Recording,
+    pub(crate) counting: Counting,
     pub(crate) points: Points,
     /// The breakpoints of the script language, which `monitor` sets.
     pub(crate) own_breaks: Breaks,
     pub(crate) limit: u32,
-    pub(crate) dropped: u32,
     pub(crate) alloc: Global,
 }
 
@@ -42,48 +42,42 @@ impl Model for Target {
 
     ghost Value = { Driven };
 
-    ghost view = { λ t. record { recorded = t.recording; points = t.points; own = t.own_breaks; dropped = t.dropped } };
+    ghost view = { λ t. record { recorded = t.counting.recording; points = t.points; own = t.own_breaks; dropped = t.counting.dropped } };
 
-    ghost invariant = { λ t. t.limit ≡ t.recording.limit };
+    ghost invariant = { λ t. t.limit ≡ t.counting.recording.limit };
 }
 
 impl Target {
-    /// A target that starts at the machine, with no points.
-    pub fn new(alloc: Global, machine: Machine, limit: u32) -> Target
-        requires { limit ≤ 10000000 }
-        ensures recorded { result.recorded ≡ record { start = machine.whole; events = []; standing = 0; limit = limit } }
-        ensures points { result.points ≡ record { breaks = []; watches = [] } }
-        ensures own { result.own ≡ [] }
-        ensures dropped { result.dropped ≡ 0 }
+    /// A target over a recording, of which at most `limit` events may be recorded, with no points.
+    pub fn new(alloc: Global, recording: Recording, limit: u32) -> Target
+        requires { limit ≡ recording.limit }
+        ensures { result ≡ record { recorded = recording; points = record { breaks = []; watches = [] }; own = []; dropped = 0 } }
     {
         Target {
-            recording: Recording::new(alloc, machine, limit),
+            counting: Counting {
+                recording,
+                dropped: 0,
+            },
             points: Points::new(),
             own_breaks: Breaks::new(),
             limit,
-            dropped: 0,
             alloc,
         }
     }
 
-    /// The machine: the start with the standing events run again.
+    /// The machine: the start with the standing events run again. None of the record is refused from the start on, or alters the
+    /// size of storage.
     pub fn machine(&self) -> &Machine
-        ensures { seen result.now.whole ≡ machine_of (session_of self.now.recorded) }
+        ensures rerun { seen result.now.whole ≡ machine_of (session_of self.now.recorded) }
+        ensures accepted { AreAccepted (seen self.now.recorded.start) self.now.recorded.events }
+        ensures size { storage_size (machine_of (session_of self.now.recorded)) ≡ storage_size (seen self.now.recorded.start) }
     {
-        self.recording.machine()
-    }
-
-    /// How many recorded changes the last write or line dropped that was not told of. It is told once.
-    pub fn take_dropped(&mut self) -> u32
-        ensures dropped { result ≡ self.old.dropped }
-        ensures told { self.new ≡ record self.old { dropped = 0 } }
-    {
-        mem::take(&mut self.dropped)
+        self.counting.recording.machine()
     }
 
     /// Lets it go, with all that it holds.
     pub fn end(self) {
-        self.recording.end();
+        self.counting.recording.end();
     }
 
     /// Goes on, and answers why the machine pauses. After want of memory some first ones of the events stand.
@@ -144,8 +138,8 @@ impl Target {
         ensures state { OnOk result (self.new ≡ record self.old { recorded = state_of_turn self.old.recorded }) }
         ensures memory { OnErr result (self.new ≡ self.old) }
     {
-        let event = self.recording.next_event()?;
-        match self.recording.forward(event) {
+        let event = self.counting.recording.next_event()?;
+        match self.counting.recording.forward(event) {
             Ok(forwarded) => Ok(self.pause_after(reach, forwarded)),
             Err(Refusal::Memory) => Err(AllocError),
             Err(refusal) => Ok(Some(Pause::Refused(refusal))),
@@ -175,7 +169,7 @@ impl Target {
     fn is_idle(&self) -> bool
         ensures { (s : Standing) (e : Happening) → IsAfter (session_of self.now.recorded) s e → (IsTrue result ↔ (alteration s e ≡ [])) }
     {
-        self.recording.is_idle()
+        self.counting.recording.is_idle()
     }
 
     /// Whether the last event is as far as was asked.
@@ -193,7 +187,7 @@ impl Target {
         ensures { (before : Recorded) → IsTurn before self.now.recorded forwarded → result ≡ is_end_of (next_recorded before) self.now.recorded }
     {
         match forwarded {
-            Forwarded::Again => self.standing() == self.recording.recorded(),
+            Forwarded::Again => self.standing() == self.counting.recording.recorded(),
             Forwarded::New | Forwarded::Dropped(_) => false,
         }
     }
@@ -202,36 +196,36 @@ impl Target {
     fn is_cpu_last(&self) -> bool
         ensures { result ≡ is_cpu_last (standing_events self.now.recorded) }
     {
-        matches!(self.recording.last_event(), Some(EventKind::Cpu))
+        matches!(self.counting.recording.last_event(), Some(EventKind::Cpu))
     }
 
     /// Whether the CPU operates at a breakpoint.
     fn is_at_breakpoint(&self) -> bool
         ensures { result ≡ is_at_breakpoint (machine_of (session_of self.now.recorded)) self.now.points.breaks }
     {
-        self.points.stops(self.recording.machine())
+        self.points.stops(self.counting.recording.machine())
     }
 
     /// The number of changes that stand.
-    fn standing(&self) -> u32
+    pub(crate) fn standing(&self) -> u32
         ensures standing { result ≡ self.now.recorded.standing }
         ensures within { result ≤ length self.now.recorded.events }
     {
-        self.recording.standing()
+        self.counting.recording.standing()
     }
 
     /// The first watched byte that the change of this number was the last to alter.
     fn byte_altered_by(&self, number: u32) -> Option<u32>
         ensures { result ≡ byte_altered_by self.now.recorded (watched_bytes self.now.points.watches) number }
     {
-        self.points.byte_altered_by(&self.recording, number)
+        self.points.byte_altered_by(&self.counting.recording, number)
     }
 
     /// The number of the last change of a watched byte, 0 if there is none.
     fn last_change(&self) -> u32
         ensures { result ≡ last_change_among self.now.recorded (watched_bytes self.now.points.watches) }
     {
-        self.points.last_change(&self.recording)
+        self.points.last_change(&self.counting.recording)
     }
 
     /// Takes back the last change that stands.
@@ -239,6 +233,6 @@ impl Target {
         requires { 0 < self.old.recorded.standing }
         ensures { self.new ≡ record self.old { recorded = with_standing self.old.recorded (self.old.recorded.standing - 1) } }
     {
-        let _taken = self.recording.back();
+        let _taken = self.counting.recording.back();
     }
 }

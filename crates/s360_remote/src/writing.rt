@@ -1,109 +1,119 @@
 //! What gdb writes into the machine, each an event of its own, which stands and can be taken back. Source: gdb manual,
 //! "Packets", `M`, `X`, `P` and `G`.
-ghost use Rattle.std.specs.Prelude.{◌≡◌};
-ghost use Rattle.s360_remote.specs.declared.writing.WriteFault.TheVariants.{Memory};
+ghost use Rattle.std.specs.Prelude.{◌≡◌, ◌+◌, ◌<◌, ◌≤◌, length, nat_le, None, IfErr, OnErr, OnOk};
+ghost use Rattle.s360_machine.specs.Machine.{seen, storage_size};
+ghost use Rattle.s360_machine.specs.Refusals.{refusal_of_patch};
+ghost use Rattle.s360_machine.specs.declared.event.Event.TheVariants.{Patch as patched};
+ghost use Rattle.s360_record.specs.Forwarding.{IsMet};
+ghost use Rattle.s360_record.specs.Recorded.{rest_of};
+ghost use Rattle.s360_record.specs.declared.forwarding.Forwarded.{Forwarded};
+ghost use Rattle.s360_remote.specs.Writing.{IsMadeOrBegun, IsWriteEnd, after_patch, patch_count, patches_of_bytes};
+ghost use Rattle.s360_remote.specs.Writing.{register_write, registers_write, storage_write};
+ghost use Rattle.s360_remote.specs.declared.error_number.ErrorNumber.TheVariants.{Memory};
 
+use crate::counting::dropped_by;
+use crate::error_number::ErrorNumber;
 use crate::registers::{patch_of_psw, patch_of_word, words_of};
 use crate::target::Target;
-use s360_journal::Reversible;
-use s360_machine::{Event, Patch, Refusal};
+use s360_machine::{Event, Patch};
 use s360_packet::REGISTERS;
 use s360_store::Bytes;
-use std::alloc::AllocError;
+use s360_word::RegisterNumber;
 
 /// So many bytes has a patch at most.
 const PATCH: usize = 256;
 
-/// Why nothing was written, or not all.
-#[derive(Clone, Copy, Debug, PartialEq, Eq)]
-pub enum WriteFault {
-    /// Not all of the bytes are in storage.
-    Outside,
-    /// The machine lacks the register.
-    NoRegister,
-    /// The record has no room for so many events more.
-    Full,
-    /// A growth was refused. Some first ones of the events stand.
-    Memory,
-}
-
-impl From<AllocError> for WriteFault {
-    ghost from_gives = { λ _ e. e ≡ Memory };
-
-    fn from(_e: AllocError) -> WriteFault {
-        WriteFault::Memory
-    }
-}
-
 impl Target {
-    /// Whether so many events more can be recorded after those that stand.
-    fn has_room_for(&self, events: usize) -> bool {
-        events.saturating_add(self.standing() as usize) <= self.limit as usize
-    }
-
-    /// Gives storage from an address on these bytes, by patches of at most 256 of them.
-    pub fn write_storage(&mut self, at: u32, bytes: &[u8]) -> Result<(), WriteFault> {
-        let size = self.machine().storage().size();
-        if at > size || bytes.len() > (size - at) as usize {
-            return Err(WriteFault::Outside);
+    /// Gives storage from an address on these bytes, by patches of at most 256 of them. After want of memory some first ones
+    /// of the patches stand.
+    pub fn write_storage(&mut self, at: u32, bytes: &[u8]) -> Result<(), ErrorNumber>
+        ensures { IsWriteEnd (storage_write self.old at bytes.now) self.old self.new result }
+    {
+        let size = self.machine().storage().size() as usize;
+        if at as usize > size || bytes.len() > size - at as usize {
+            return Err(ErrorNumber::Address);
         }
         if !self.has_room_for(bytes.len().div_ceil(PATCH)) {
-            return Err(WriteFault::Full);
+            return Err(ErrorNumber::Full);
         }
-        self.dropped = 0;
-        let (mut at, mut rest) = (at, bytes);
-        while !rest.is_empty() {
-            let (part, others) = rest.split_at(rest.len().min(PATCH));
-            self.patch_bytes(at, part)?;
-            at += part.len() as u32;
-            rest = others;
-        }
-        Ok(())
+        self.counting.dropped = 0;
+        self.write_parts(at, bytes)
     }
 
     /// Gives the register of this number a word.
-    pub fn write_register(&mut self, number: u32, word: u32) -> Result<(), WriteFault> {
+    pub fn write_register(&mut self, number: u32, word: u32) -> Result<(), ErrorNumber>
+        ensures { IsWriteEnd (register_write self.old number word) self.old self.new result }
+    {
         if number as usize >= REGISTERS {
-            return Err(WriteFault::NoRegister);
+            return Err(ErrorNumber::Malformed);
         }
-        self.dropped = 0;
+        if !self.has_room_for(1) {
+            return Err(ErrorNumber::Full);
+        }
+        self.counting.dropped = 0;
         let patch = patch_of_word(self.machine(), number as u8, word);
         self.patch(patch)
     }
 
-    /// Gives all registers these words, by a patch for the PSW and one for each other that differs.
-    pub fn write_registers(&mut self, words: &[u32; REGISTERS]) -> Result<(), WriteFault> {
+    /// Gives all registers these words, by a patch for the PSW and one for each other that differs. After want of memory
+    /// some first ones of the patches stand.
+    pub fn write_registers(&mut self, words: &[u32; REGISTERS]) -> Result<(), ErrorNumber>
+        ensures { IsWriteEnd (registers_write self.old words.now) self.old self.new result }
+    {
         if !self.has_room_for(REGISTERS) {
-            return Err(WriteFault::Full);
+            return Err(ErrorNumber::Full);
         }
-        self.dropped = 0;
+        self.counting.dropped = 0;
         let before = words_of(self.machine());
         if before[0] != words[0] || before[1] != words[1] {
             self.patch(patch_of_psw(words[0], words[1]))?;
         }
-        for number in 2..18u8 {
-            let word = words[usize::from(number)];
-            if before[usize::from(number)] != word {
-                let patch = patch_of_word(self.machine(), number, word);
+        for register in 0..16u8 {
+            let number = usize::from(register) + 2;
+            if before[number] != words[number] {
+                let patch = Patch::Register(RegisterNumber::new(register), words[number]);
                 self.patch(patch)?;
             }
         }
         Ok(())
     }
 
-    /// Makes a patch of at most 256 bytes.
-    fn patch_bytes(&mut self, at: u32, bytes: &[u8]) -> Result<(), WriteFault> {
-        let bytes = Bytes::new(bytes.to_vec(self.alloc)?);
-        self.patch(Patch::Bytes { at, bytes })
+    /// Whether so many events more can be recorded after those that stand.
+    fn has_room_for(&self, events: usize) -> bool
+        ensures { result ≡ nat_le (self.now.recorded.standing + events) self.now.recorded.limit }
+    {
+        self.standing() as usize + events <= self.limit as usize
     }
 
-    /// Makes a patch.
-    fn patch(&mut self, patch: Patch) -> Result<(), WriteFault> {
-        match Reversible::advance(self, Event::Patch(patch)) {
-            Ok(()) => Ok(()),
-            Err(Refusal::Memory) => Err(WriteFault::Memory),
-            Err(Refusal::OutsideStorage) => Err(WriteFault::Outside),
-            Err(_) => Err(WriteFault::Full),
+    /// Gives storage from an address on these bytes, all of which are in storage. The record has room for the patches.
+    fn write_parts(&mut self, at: u32, bytes: &[u8]) -> Result<(), ErrorNumber>
+        requires inside { at + length bytes.now ≤ storage_size (seen self.old.recorded.start) }
+        requires room { self.old.recorded.standing + patch_count (length bytes.now) ≤ self.old.recorded.limit }
+        ensures { IsMadeOrBegun self.old (patches_of_bytes at bytes.now) self.new result }
+    {
+        if bytes.is_empty() {
+            return Ok(());
         }
+        let (part, rest) = bytes.split_at(bytes.len().min(PATCH));
+        let patch = Patch::Bytes {
+            at,
+            bytes: Bytes::new(part.to_vec(self.alloc)?),
+        };
+        self.patch(patch)?;
+        self.write_parts(at + part.len() as u32, rest)
+    }
+
+    /// Makes a patch. Want of memory changes nothing, nor does a refusal.
+    fn patch(&mut self, patch: Patch) -> Result<(), ErrorNumber>
+        ensures made { OnOk result ((f : Forwarded) × IsMet (rest_of self.old.recorded) (patched patch) f × (self.new ≡ after_patch self.old patch f)) }
+        ensures err { OnErr result (self.new ≡ self.old) }
+        ensures memory { refusal_of_patch (storage_size (seen self.old.recorded.start)) patch ≡ None → self.old.recorded.standing < self.old.recorded.limit → IfErr result (λ e. e ≡ Memory) }
+    {
+        // Both are looked at, since their clauses have that storage is as large as at the start, and that what stands is recorded.
+        let _machine = self.machine();
+        let _standing = self.standing();
+        let forwarded = self.counting.recording.forward(Event::Patch(patch))?;
+        self.counting.dropped = dropped_by(forwarded, self.counting.dropped);
+        Ok(())
     }
 }

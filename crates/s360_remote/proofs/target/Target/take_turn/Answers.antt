@@ -12,7 +12,7 @@ use Rattle.s360_remote.proofs.target.Target.take_turn.Goals as goal
 
 pub returns-in-Ok : goal.returns-in-Ok
 returns-in-Ok c =
-    let r : Recorded = c.self.inside.recording
+    let r : Recorded = c.self.inside.counting.recording
     in let p = c.self.inside.points
     in let now : Recorded = c.forward.new.self
     in let is : c.in_ok-event.event ≡ event_of_turn r = c.in_ok-event.ensures
@@ -26,13 +26,13 @@ returns-in-Ok c =
     = turn-accepted p c.args.reach r now c.in-Ok.forwarded c.pause_after.result none turn (c.pause_after.ensures r turn)
     in record {
       pause = rw (← c.self.view_is) both.0;
-      state = rw (← c.self.view_is) (ap (λ s. record { recorded = s; points = p; own = c.self.inside.own_breaks; dropped = c.self.inside.dropped }) both.1);
+      state = rw (← c.self.view_is) (ap (λ s. record { recorded = s; points = p; own = c.self.inside.own_breaks; dropped = c.self.inside.counting.dropped }) both.1);
       memory = tt;
     }
 
 pub returns-in-Err : goal.returns-in-Err
 returns-in-Err c =
-    let r : Recorded = c.self.inside.recording
+    let r : Recorded = c.self.inside.counting.recording
     in let p = c.self.inside.points
     in let is : c.in_ok-event.event ≡ event_of_turn r = c.in_ok-event.ensures
     in let other : c.in-Err.refusal ≢ Memory = λ same. search rules
@@ -41,6 +41,6 @@ returns-in-Err c =
     in let both : (Some (Refused c.in-Err.refusal) ≡ pause_of_turn p c.args.reach r) × (r ≡ state_of_turn r) = turn-refused p c.args.reach r c.in-Err.refusal some
     in record {
       pause = rw (← c.self.view_is) both.0;
-      state = rw (← c.self.view_is) (ap (λ s. record { recorded = s; points = p; own = c.self.inside.own_breaks; dropped = c.self.inside.dropped }) (c.in-Err.ensures.err ∙ both.1));
+      state = rw (← c.self.view_is) (ap (λ s. record { recorded = s; points = p; own = c.self.inside.own_breaks; dropped = c.self.inside.counting.dropped }) (c.in-Err.ensures.err ∙ both.1));
       memory = tt;
     }

@@ -1,0 +1,163 @@
+-- What a request makes of the target, and what it is answered (gdb manual, "Packets", "Stop Reply Packets", "General Query
+-- Packets").
+use Rattle.std.specs.Prelude.{◌≡◌, ◌≢◌, ◌⊎◌, ⊤, tt, ℕ, zero, suc, ◌+◌, ◌^◌, Bool, true, false, nat_lt, if◌then◌else◌, List, [], ◌∷◌, length, take, Result, Ok, Err}
+use Rattle.byteorder.specs.Endian.{IsRead, big_number}
+use Rattle.s360_machine.specs.Machine.{Machine, storage_size}
+use Rattle.s360_journal.specs.Breakpoints.{has_room_for, with_address, without_address}
+use Rattle.s360_journal.specs.Standing.{last_kind_of, machine_of}
+use Rattle.s360_packet.specs.Answers.{answer_text, registers_text}
+use Rattle.s360_packet.specs.Framing.{framed}
+use Rattle.s360_packet.specs.Hexadecimal.{bytes_text}
+use Rattle.s360_packet.specs.declared.answer.Answer.{Answer}
+use Rattle.s360_packet.specs.declared.answer.Answer.TheVariants as answer
+use Rattle.s360_packet.specs.declared.answer.Stop.{Stop}
+use Rattle.s360_packet.specs.declared.answer.Stop.TheVariants.{Trap, Quiet}
+use Rattle.s360_packet.specs.declared.request.Point.{Point}
+use Rattle.s360_packet.specs.declared.request.Point.TheVariants.{Software, Hardware, Write as write}
+use Rattle.s360_packet.specs.declared.request.Request.{Request}
+use Rattle.s360_packet.specs.declared.request.Request.TheVariants.{Stopped, Registers, WriteRegisters, Register, WriteRegister, Storage, WriteStorage, Step, Continue, StepBack, ContinueBack, Insert, Remove, Supported, Description, Select, IsAlive, CurrentThread, Attached, FirstThreads, NextThreads, StopAcknowledging, Command, Detach, Kill, KillProcess}
+use Rattle.s360_record.specs.Recorded.{session_of, standing_events}
+use Rattle.s360_remote.specs.Backward.{back_to_stop, stepped_back}
+use Rattle.s360_remote.specs.Driven.{Driven, moved_to}
+use Rattle.s360_remote.specs.ErrorNumbers.{error_of}
+use Rattle.s360_remote.specs.Forward.{Paused, most_turns, resumed}
+use Rattle.s360_remote.specs.Monitor.{IsCarriedOut, IsLineBegun}
+use Rattle.s360_remote.specs.Points.{Points, Watched, has_room_for_watch, watched_bytes, with_watch, without_watch}
+use Rattle.s360_remote.specs.Registers.{words_of}
+use Rattle.s360_remote.specs.Replies.{pause_packets, register_of_number, storage_text}
+use Rattle.s360_remote.specs.Writing.{IsWriteEnd, Write, register_write, registers_write, storage_write}
+use Rattle.s360_remote.specs.declared.error_number.ErrorNumber.{ErrorNumber}
+use Rattle.s360_remote.specs.declared.error_number.ErrorNumber.TheVariants.{Address, Full, Malformed, Memory}
+use Rattle.s360_remote.specs.declared.pause.Reach.TheVariants as reach
+use Rattle.s360_remote.specs.declared.serving.Then.{Then}
+use Rattle.s360_remote.specs.declared.serving.Then.TheVariants as then
+
+abbrev pub packet_of : Answer → List ℕ
+packet_of a = framed (answer_text a)
+
+abbrev pub machine_now : Driven → Machine
+machine_now d = machine_of (session_of d.recorded)
+
+-- ---- requests that go on or back
+
+-- the machine paused: the target is as it was but for the machine, and gdb is told why
+abbrev pub IsPaused : Stop → Paused → Driven → Driven → Then → List ℕ → Type 0
+IsPaused quiet paused d t next packets =
+    (t ≡ moved_to d paused) × (next ≡ then.GoOn) × (packets ≡ pause_packets quiet (machine_now t) (last_kind_of (standing_events t.recorded)) paused.why)
+
+-- ---- requests that write
+
+-- recorded changes were dropped, which the answer cannot tell
+abbrev pub after_write : ℕ → Then
+after_write zero = then.GoOn
+after_write (suc n) = then.Dropped (suc n)
+
+-- how a write ended is told
+abbrev pub IsTold : Result ⊤ ErrorNumber → ℕ → Then → List ℕ → Type 0
+IsTold (Ok tt) dropped next packets = (next ≡ after_write dropped) × (packets ≡ packet_of answer.Done)
+IsTold (Err fault) dropped next packets = (next ≡ then.GoOn) × (packets ≡ packet_of (error_of fault))
+
+-- a write ended, and not for want of memory, which is told
+abbrev pub IsWritten : Write → Driven → Driven → Then → List ℕ → Type 0
+IsWritten w d t next packets = (end : Result ⊤ ErrorNumber) × IsWriteEnd w d t end × (end ≢ Err Memory) × IsTold end t.dropped next packets
+
+-- a write ended, for want of memory or untold
+abbrev pub IsWriteBegun : Write → Driven → Driven → Type 0
+IsWriteBegun w d t = (end : Result ⊤ ErrorNumber) × IsWriteEnd w d t end
+
+-- the words of the machine's registers, each with its high byte first
+pub record AreWordsOf (bytes words : List ℕ) : Type 0 where
+  pub count : length words ≡ 18
+  pub read : IsRead big_number 4 (take 72 bytes) words
+
+-- `G` has the machine's words, and what it lacks: 17 words and 16 doublewords
+abbrev pub all_bytes : ℕ
+all_bytes = 268
+
+abbrev pub AreAllWritten : List ℕ → Driven → Driven → Then → List ℕ → Type 0
+AreAllWritten bytes d t next packets =
+    ((length bytes ≢ all_bytes) × IsWritten (Err Malformed) d t next packets)
+    ⊎ ((length bytes ≡ all_bytes) × ((words : List ℕ) × AreWordsOf bytes words × IsWritten (registers_write d words) d t next packets))
+
+abbrev pub AreAllBegun : List ℕ → Driven → Driven → Type 0
+AreAllBegun bytes d t = (t ≡ d) ⊎ ((words : List ℕ) × AreWordsOf bytes words × IsWriteBegun (registers_write d words) d t)
+
+-- ---- requests that set points
+
+-- bytes can be watched if all of them are in storage
+abbrev pub is_in_storage : Driven → ℕ → ℕ → Bool
+is_in_storage d at count = if nat_lt (storage_size (machine_now d)) (at + count) then false else true
+
+abbrev pub set_if : Bool → Answer
+set_if true = answer.Done
+set_if false = error_of Full
+
+abbrev pub insert_answer : Point → ℕ → ℕ → Driven → Answer
+insert_answer write at count d = if is_in_storage d at count then set_if (has_room_for_watch d.points.watches (record { at = at; count = count })) else error_of Address
+insert_answer other at count d = set_if (has_room_for d.points.breaks at)
+
+abbrev pub points_with : Point → ℕ → ℕ → Driven → Points
+points_with write at count d = if is_in_storage d at count then record d.points { watches = with_watch d.points.watches (record { at = at; count = count }) } else d.points
+points_with other at count d = record d.points { breaks = with_address d.points.breaks at }
+
+-- no bytes beyond 2^32 are watched
+abbrev pub points_without : Point → ℕ → ℕ → Driven → Points
+points_without write at count d = if nat_lt (at + count) (2 ^ 32) then record d.points { watches = without_watch d.points.watches (record { at = at; count = count }) } else d.points
+points_without other at count d = record d.points { breaks = without_address d.points.breaks at }
+
+-- ---- requests that change nothing
+
+abbrev pub told : Request → Machine → List ℕ
+told Registers m = registers_text (words_of m)
+told (Register number) m = register_of_number m number
+told (Storage at count) m = storage_text m at count
+told Supported m = answer_text (answer.Supported 16384)
+told (Description offset count) m = answer_text (answer.Description offset count)
+told CurrentThread m = answer_text answer.Thread
+told Attached m = answer_text answer.Attached
+told FirstThreads m = answer_text answer.FirstThreads
+told NextThreads m = answer_text answer.NoMoreThreads
+told Stopped m = answer_text (answer.Stopped Trap)
+told other m = answer_text answer.Done
+
+-- a line without an answer is done
+abbrev pub line_text : List ℕ → List ℕ
+line_text [] = answer_text answer.Done
+line_text (b ∷ bs) = bytes_text (b ∷ bs)
+
+-- ---- all requests
+
+-- how serving goes on after a request that changes nothing
+abbrev pub then_after : Request → Then
+then_after Detach = then.End
+then_after (KillProcess n) = then.End
+then_after StopAcknowledging = then.StopAcknowledging
+then_after other = then.GoOn
+
+abbrev pub IsServed : Request → Driven → Driven → Then → List ℕ → Type 0
+IsServed Step d t next packets = IsPaused Trap (resumed d.points reach.Step d.recorded most_turns) d t next packets
+IsServed Continue d t next packets = IsPaused Quiet (resumed d.points reach.Stop d.recorded most_turns) d t next packets
+IsServed StepBack d t next packets = IsPaused Trap (stepped_back (watched_bytes d.points.watches) d.recorded d.recorded.standing) d t next packets
+IsServed ContinueBack d t next packets = IsPaused Quiet (back_to_stop d.points d.recorded) d t next packets
+IsServed (WriteStorage at bytes) d t next packets = IsWritten (storage_write d at bytes) d t next packets
+IsServed (WriteRegister number word) d t next packets = IsWritten (register_write d number word) d t next packets
+IsServed (WriteRegisters bytes) d t next packets = AreAllWritten bytes d t next packets
+IsServed (Insert point at kind) d t next packets = (t ≡ record d { points = points_with point at kind d }) × (next ≡ then.GoOn) × (packets ≡ packet_of (insert_answer point at kind d))
+IsServed (Remove point at kind) d t next packets = (t ≡ record d { points = points_without point at kind d }) × (next ≡ then.GoOn) × (packets ≡ packet_of answer.Done)
+IsServed (Command line) d t next packets = (next ≡ then.GoOn) × ((text : List ℕ) × IsCarriedOut line d t text × (packets ≡ framed (line_text text)))
+IsServed Kill d t next packets = (t ≡ d) × (next ≡ then.End) × (packets ≡ [])
+IsServed other d t next packets = (t ≡ d) × (next ≡ then_after other) × (packets ≡ framed (told other (machine_now d)))
+
+-- after want of memory: some first ones of its events stand, or all that it makes is there and its answer is lost
+abbrev pub IsBegun : Request → Driven → Driven → Type 0
+IsBegun Step d t = (n : ℕ) × (t ≡ moved_to d (resumed d.points reach.Step d.recorded n))
+IsBegun Continue d t = (n : ℕ) × (t ≡ moved_to d (resumed d.points reach.Stop d.recorded n))
+IsBegun StepBack d t = t ≡ moved_to d (stepped_back (watched_bytes d.points.watches) d.recorded d.recorded.standing)
+IsBegun ContinueBack d t = t ≡ moved_to d (back_to_stop d.points d.recorded)
+IsBegun (WriteStorage at bytes) d t = IsWriteBegun (storage_write d at bytes) d t
+IsBegun (WriteRegister number word) d t = IsWriteBegun (register_write d number word) d t
+IsBegun (WriteRegisters bytes) d t = AreAllBegun bytes d t
+IsBegun (Insert point at kind) d t = t ≡ record d { points = points_with point at kind d }
+IsBegun (Remove point at kind) d t = t ≡ record d { points = points_without point at kind d }
+IsBegun (Command line) d t = IsLineBegun line d t
+IsBegun other d t = t ≡ d
