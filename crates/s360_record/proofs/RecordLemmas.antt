@@ -48,7 +48,7 @@ same-events es later e = ap (λ l. es ++ l) (reversed-more later e) ∙ sym (app
 
 -- ---- an event is run again
 
-AreAccepted-next : (m : Machine) (es fs : List Event) (e : Event) → AreAccepted m (es ++ e ∷ fs) → step (rerun m es) e ≡ Ok (after (rerun m es) e)
+pub AreAccepted-next : (m : Machine) (es fs : List Event) (e : Event) → AreAccepted m (es ++ e ∷ fs) → step (rerun m es) e ≡ Ok (after (rerun m es) e)
 AreAccepted-next m [] fs e h = h.0
 AreAccepted-next m (x ∷ es) fs e h = AreAccepted-next (after m x) es fs e h.1
 

@@ -9,6 +9,7 @@ ghost use Rattle.s360gdb.specs.Notes.{note_of_dropped};
 ghost use Rattle.s360_setup.specs.declared.failure.Failure.TheVariants.{Memory, StorageSize};
 
 use itoa::Buffer;
+use s360_record::Recording;
 use s360_remote::{Connection, Replies, Target};
 use s360_setup::{Failure, Fault, LIMIT, Options, Part, Program, carry_out, open, set_up, tell};
 use s360_text::{Untaken, write_whole};
@@ -25,38 +26,47 @@ pub(crate) fn run(rt: &HostRuntime, options: Options<'_>) -> Result<(), Failure>
     ensures failure { IfErr result IsRunFailure }
 {
     let machine = set_up(rt, rt.alloc(), options)?;
-    let mut target = Target::new(rt.alloc(), machine, LIMIT);
-    let served = serve_after(rt, &mut target, options.script);
-    target.end();
-    served
+    let mut recording = Recording::new(rt.alloc(), machine, LIMIT);
+    match answer_script(rt, &mut recording, options.script) {
+        Ok(()) => serve_on_output(rt, recording),
+        Err(failure) => {
+            recording.end();
+            Err(failure)
+        }
+    }
 }
 
-/// Carries out the script in a file, if one is named, and serves gdb on standard input and output.
-fn serve_after(rt: &HostRuntime, target: &mut Target, name: Option<&str>) -> Result<(), Failure>
-    ensures no_size { result ≢ Err StorageSize }
-    ensures failure { IfErr result (λ failure. IsAnsweringFailure failure ⊎ IsServingFailure failure) }
+/// Carries out the script in a file, if one is named, and writes its answers to standard error: standard output is gdb's.
+fn answer_script(
+    rt: &HostRuntime,
+    recording: &mut Recording,
+    name: Option<&str>,
+) -> Result<(), Failure>
+    ensures limit { OnOk result (recording.new.limit ≡ recording.old.limit) }
+    ensures failure { IfErr result IsAnsweringFailure }
 {
     if let Some(name) = name {
-        answer_on_errors(rt, target, name)?;
+        let mut script = open(rt, Part::Script, name)?;
+        let _writer = carry_out(rt.alloc(), recording, &mut script, rt.stderr())?;
     }
-    serve(
+    Ok(())
+}
+
+/// Serves gdb over a recording, on standard input and output.
+fn serve_on_output(rt: &HostRuntime, recording: Recording) -> Result<(), Failure>
+    requires { recording.limit ≡ 10000000 }
+    ensures failure { IfErr result IsServingFailure }
+{
+    let mut target = Target::new(rt.alloc(), recording, LIMIT);
+    let served = serve(
         rt.alloc(),
-        target,
+        &mut target,
         &mut rt.reader(),
         &mut rt.stdout(),
         &mut rt.stderr(),
-    )
-}
-
-/// Carries out the script in a file, and writes its answers to standard error: standard output is gdb's.
-fn answer_on_errors(rt: &HostRuntime, target: &mut Target, name: &str) -> Result<(), Failure>
-    ensures failure { IfErr result IsAnsweringFailure }
-{
-    let mut script = open(rt, Part::Script, name)?;
-    let _writer = carry_out(rt.alloc(), target, &mut script, rt.stderr())?;
-    // What a script drops is told by none of its answers.
-    let _dropped = target.take_dropped();
-    Ok(())
+    );
+    target.end();
+    served
 }
 
 /// Serves gdb until it leaves, or until what it sends has ended. `notes` are told how many recorded changes it drops.
@@ -90,7 +100,7 @@ fn serve<R: Read, W: Write, N: Write>(
         if written.is_err() {
             return Err(Failure::Part(Part::Connection, Fault::WriteFailed));
         }
-        replies.truncate(0);
+        replies.clear();
     }
     Ok(())
 }
@@ -106,9 +116,9 @@ fn take_all<N: Write>(
     ensures failure { IfErr result (λ failure. failure ≡ Memory) }
 {
     for byte in bytes {
-        connection.take(*byte, target, replies)?;
+        let dropped = connection.take(*byte, target, replies)?;
         // gdb is served all the same where this is not taken.
-        let _ = tell_dropped(target.take_dropped(), notes);
+        let _ = tell_dropped(dropped, notes);
     }
     Ok(())
 }
