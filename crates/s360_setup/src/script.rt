@@ -24,6 +24,7 @@ pub fn carry_out<S: Reversible, R: Read, W: Write + Drop>(
     ensures length { OnOk result (IfSome (R.remaining reader.old) (λ text. length text ≤ 1048576)) }
     ensures answers { IfOk result (λ w. IfSome (R.remaining reader.old) (λ text. Appends (W.contents writer) (W.contents w) (answers_of (S.standing_of session.old) text))) }
     ensures state { OnOk result (IfSome (R.remaining reader.old) (λ text. S.standing_of session.new ≡ (state_after_lines (new_debugger (S.standing_of session.old)) (lines_of text)).session)) }
+    ensures limit { OnOk result ((S.standing_of session.new).limit ≡ (S.standing_of session.old).limit) }
     ensures failure { IfErr result IsScriptFailure }
 {
     let Ok(mut buffered) = BufWriter::new(alloc, writer) else {
