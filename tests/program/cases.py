@@ -1,11 +1,11 @@
 #!/usr/bin/env python3
-"""Runs the program where no script can say what has to hold: a status, standard error, a stream
+"""Runs both programs where no script can say what has to hold: a status, standard error, a stream
 that fails, files that are named on the command line, a terminal, a script of the greatest length.
 
 The first faults of tape files are those that the second machine finds, which is written apart from
 the program.
 
-It needs the program as `rt ci` or `./run` has built it, a C compiler, and Python's standard library
+It needs the programs as `rt ci` or `./build s360dbg s360gdb` has built them, a C compiler, and Python's standard library
 alone.
 """
 import itertools
@@ -21,11 +21,13 @@ from typing import NamedTuple
 
 TOP = pathlib.Path(__file__).resolve().parent.parent.parent
 sys.path.insert(0, str(TOP / "tests"))
+from packet_rows import framed
 from second.debugger import Debugger
 from second.tapes import FIRST, LAST, LONGEST_BLOCK, MARK, TAPE_MARK, TapeFault
 from second.tapes import header, image_of, items_of, shown_image, shown_item
 
-PROGRAM = TOP / "crates/s360dbg/out/s360dbg"
+DEBUGGER = "s360dbg"
+SERVER = "s360gdb"
 SECONDS = 120
 LONGEST_SCRIPT = 1_048_576
 LONGEST_FILE = 67_108_864
@@ -34,6 +36,21 @@ END_OF_FILE = b"\x04"
 # A script of so many lines has answers that take some writes.
 MANY_LINES = 10_000
 SOME_WRITES = 3
+
+
+# The sum of 5 and 7 in register 1, and what a script is answered of it.
+ADDITION = b"""patch s 200 1A12
+patch p 0000000000000200
+patch r 1 5
+patch r 2 7
+step
+"""
+ADDED = b"""1 changed 2 s000200 s000201
+2 changed 1 p
+3 changed 1 r1
+4 changed 1 r2
+5 changed 2 p r1
+"""
 
 
 class Repeated(NamedTuple):
@@ -49,9 +66,11 @@ BLOCK_IN_PARTS = header(2, 0, FIRST) + b"\xc1\xc2" + header(1, 2, LAST) + b"\xc3
 LONGEST = image_of((bytes(LONGEST_BLOCK),))
 LONGEST_FIRST = header(LONGEST_BLOCK, 0, FIRST) + bytes(LONGEST_BLOCK)
 
-# What lies where the program is run: contents, or a length of zeros.
+# What lies where a program is run: contents, or a length of zeros.
 FILES = {
     "standing.s360": b"standing\n",
+    "longer.s360": LONGEST_SCRIPT + 1,
+    "addition.s360": ADDITION,
     "two.deck": b"\xc1" * (2 * CARD),
     "short.deck": b"\xc1" * (2 * CARD + 1),
     "empty.deck": b"",
@@ -89,23 +108,29 @@ class Case(NamedTuple):
     status: int = 0
     output: bytes | Has | None = b""  # None: the stream is a device that takes nothing
     errors: bytes | Has | None = b""
+    program: str = DEBUGGER
 
 
-def usage(*parts):
-    return Has((b"error: ", b"Usage: s360dbg ", *parts))
+def built(program):
+    return TOP / "crates" / program / "out" / program
 
 
-def told(text):
-    return b"s360dbg: " + text + b"\n"
+def usage(*parts, program=DEBUGGER):
+    return Has((b"error: ", b"Usage: %s " % program.encode(), *parts))
+
+
+def told(text, program=DEBUGGER):
+    return b"%s: %s\n" % (program.encode(), text)
 
 
 STANDING = b"standing 0\n"
 NO_DECK = b"00C sense 00 next 0 of 0 eof off\n"
 TWO_CARDS = b"00C sense 00 next 0 of 2 eof off\n"
-SIZE = told(b"storage size must be a multiple of 2048 bytes from 8192 to 1048576")
-HELP = Has((b"Usage: s360dbg [OPTIONS] [SCRIPT]\n", b"--storage <BYTES>", b"65536",
-            b"--reader <FILE>", b"80 bytes", b"--tape0 <FILE>", b"--tape1 <FILE>", b"--protect0",
-            b"--protect1", b"[SCRIPT]", b"standard input", b"Example:\n"))
+NO_SIZE = b"storage size must be a multiple of 2048 bytes from 8192 to 1048576"
+SIZE = told(NO_SIZE)
+OPTIONS = (b"--storage <BYTES>", b"65536", b"--reader <FILE>", b"80 bytes", b"--tape0 <FILE>",
+           b"--tape1 <FILE>", b"--protect0", b"--protect1", b"[SCRIPT]")
+HELP = Has((b"Usage: s360dbg [OPTIONS] [SCRIPT]\n", *OPTIONS, b"standard input", b"Example:\n"))
 NUMBER = b"no decimal number below 4294967296\n"
 
 SCRIPTS = [
@@ -384,8 +409,84 @@ COMMAND_LINES = [
     Case("a word that is no UTF-8", [b"\xff"], b"", 2, b"",
          told(b"a word of the command line is not UTF-8")),
 ]
-CASES = [*SCRIPTS, *STORAGE, *DECKS, *TAPES, *ORDER, *COMMAND_LINES]
+
+
+def served(what, args=(), sent=b"", status=0, output=b"", errors=b""):
+    return Case(what, list(args), sent, status, output, errors, SERVER)
+
+
+def server_told(text):
+    return told(text, SERVER)
+
+
+def sent(*requests):
+    return b"".join(map(framed, requests))
+
+
+def answered(*answers):
+    """The answers to requests, each behind the byte that says that the packet came."""
+    return b"".join(b"+" + framed(answer) for answer in answers)
+
+
+SERVER_HELP = Has((b"Usage: s360gdb [OPTIONS] [SCRIPT]\n", *OPTIONS, b"gdb's remote protocol",
+                   b"standard input and output", b"carried out first", b"standard error",
+                   b"Example:\n"))
+# 5 goes to register 1, 3 in gdb's count, and the instruction at 200 is run and taken back.
+STEPPED_BACK = (b"M200,2:1a12", b"P1=00000200", b"P3=00000005", b"P4=00000007", b"s", b"bs")
+STEPS_BACK = (b"OK", b"OK", b"OK", b"OK", b"T05", b"T05")
+SERVING = [
+    served("gdb: help", ["--help"], b"", 0, SERVER_HELP),
+    served("gdb: the version", ["--version"], sent(b"?"), 0, b"s360gdb 0.1.0\n"),
+    served("gdb: an unknown option", ["--quick"], b"", 2, b"", usage(b"'--quick'", program=SERVER)),
+    served("gdb: two scripts", ["standing.s360", "standing.s360"], b"", 2, b"",
+           usage(b"unexpected argument 'standing.s360'", program=SERVER)),
+    served("gdb: no number", ["--storage", "abc"], b"", 2, b"",
+           usage(b"'abc'", NUMBER, program=SERVER)),
+    served("gdb: a word that is no UTF-8", [b"\xff"], b"", 2, b"",
+           server_told(b"a word of the command line is not UTF-8")),
+    served("gdb: no size of storage", ["--storage", "9000"], b"", 2, b"", server_told(NO_SIZE)),
+    served("gdb: a deck that does not open", ["--reader", "absent.deck"], b"", 1, b"",
+           server_told(b"reader: cannot read")),
+    served("gdb: a deck before the script", ["--reader", "short.deck", "absent.s360"], b"", 1, b"",
+           server_told(b"reader: short card at 160")),
+    served("gdb: a script that does not open", ["absent.s360"], sent(b"?"), 1, b"",
+           server_told(b"script: cannot read")),
+    served("gdb: a folder in place of a script", [FOLDER], b"", 1, b"",
+           server_told(b"script: read failed")),
+    served("gdb: a script of a byte too many", ["longer.s360"], sent(b"?"), 1, b"",
+           server_told(b"script: script too long")),
+    served("gdb: a script's answers on standard error", ["standing.s360"], b"", 0, b"", STANDING),
+    served("gdb: answers that standard error does not take", ["standing.s360"], sent(b"?"), 1, b"",
+           None),
+    served("gdb: a script's events are gdb's to take back", ["addition.s360"],
+           sent(b"p3", b"bs", b"p3", b"bs", b"p3"), 0,
+           answered(b"0000000c", b"T05", b"00000005", b"T05replaylog:begin;", b"00000000"), ADDED),
+    served("gdb: no script is read from standard input", [], b"standing\n", 0),
+    served("gdb: no packet"),
+    served("gdb: no packet, and no answer that is written", [], b"", 0, None),
+    served("gdb: standard input that cannot be read", [], None, 1, b"",
+           server_told(b"gdb: read failed")),
+    served("gdb: answers that cannot be written", [], sent(b"?"), 1, None,
+           server_told(b"gdb: write failed")),
+    served("gdb: the input ends in a packet", [], sent(b"?") + b"$p3", 0, answered(b"T05")),
+    served("gdb: what comes behind its leave is dropped", [], sent(b"D", b"?"), 0, answered(b"OK")),
+    served("gdb: a write drops what was recorded", [], sent(*STEPPED_BACK, b"P3=00000009", b"p3"), 0,
+           answered(*STEPS_BACK, b"OK", b"00000009"), server_told(b"dropped 1 recorded changes")),
+    served("gdb: a write that was recorded drops nothing", [],
+           sent(b"P3=00000005", b"bs", b"P3=00000005", b"p3"), 0,
+           answered(b"OK", b"T05replaylog:begin;", b"OK", b"00000005")),
+    served("gdb: each drop is told once", [],
+           sent(*STEPPED_BACK, b"P3=00000009", b"s", b"bs", b"P4=00000002", b"s"), 0,
+           answered(*STEPS_BACK, b"OK", b"T05", b"T05", b"OK", b"T05"),
+           server_told(b"dropped 1 recorded changes") * 2),
+    served("gdb: a drop that standard error cannot tell of", [],
+           sent(*STEPPED_BACK, b"P3=00000009", b"p3"), 0,
+           answered(*STEPS_BACK, b"OK", b"00000009"), None),
+]
+CASES = [*SCRIPTS, *STORAGE, *DECKS, *TAPES, *ORDER, *COMMAND_LINES, *SERVING]
 CASES += [case for _, case in TAPE_FILES]
+
+
 class Writing(NamedTuple):
     """Channel programs that write a tape, and what is on it then."""
 
@@ -442,7 +543,7 @@ def fault_of(case, folder):
     try:
         how = {"stdin": stdin} if stdin is not None else {"input": case.script}
         done = subprocess.run(
-            [PROGRAM, *case.args],
+            [built(case.program), *case.args],
             stdout=full if case.output is None else subprocess.PIPE,
             stderr=full if case.errors is None else subprocess.PIPE,
             timeout=SECONDS,
@@ -464,13 +565,13 @@ def fault_of_read_back(writing, folder):
     numbers = range(1, len(writing.items) + 2)
     showing = "".join(["show image 180\n", *(f"show m 180 {n}\n" for n in numbers)]).encode()
     how = {"capture_output": True, "timeout": SECONDS, "cwd": folder}
-    writes = [PROGRAM, "--storage", "131072"]
+    writes = [built(DEBUGGER), "--storage", "131072"]
     done = subprocess.run(writes, input=writing.script + showing, **how)
     _, _, shown = done.stdout.partition(writing.answers)
     if shown == wanted:
         digits = shown.decode().splitlines()[1 : len(shown_image(writing.items))]
         (folder / "written.tape").write_bytes(bytes.fromhex("".join(digits)))
-        reads = [PROGRAM, "--tape0", "written.tape"]
+        reads = [built(DEBUGGER), "--tape0", "written.tape"]
         done = subprocess.run(reads, input=showing, **how)
         shown = done.stdout
     right = shown == wanted and done.returncode == 0
@@ -478,13 +579,13 @@ def fault_of_read_back(writing, folder):
 
 
 def bounded(kind, most, folder, script, args=()):
-    """A run of the program under a bound of its memory."""
+    """A run of the debugger under a bound of its memory."""
 
     def bound():
         resource.setrlimit(kind, (most, most))
 
     how = {"capture_output": True, "timeout": SECONDS, "cwd": folder, "preexec_fn": bound}
-    return subprocess.run([PROGRAM, *args], input=script, **how)
+    return subprocess.run([built(DEBUGGER), *args], input=script, **how)
 
 
 def fault_of_chain(folder):
@@ -537,7 +638,7 @@ def fault_at_a_terminal(folder):
         termios.tcsetattr(typed, termios.TCSANOW, modes)
         os.write(terminal, b"standing\n" + END_OF_FILE)
         done = subprocess.run(
-            [PROGRAM], stdin=typed, capture_output=True, timeout=SECONDS, cwd=folder
+            [built(DEBUGGER)], stdin=typed, capture_output=True, timeout=SECONDS, cwd=folder
         )
     finally:
         os.close(terminal)
@@ -545,6 +646,22 @@ def fault_at_a_terminal(folder):
     lines = done.stderr.count(b"\n")
     right = done.returncode == 0 and done.stdout == STANDING and lines == 1 and b"Ctrl-D" in done.stderr
     return None if right else (done.returncode, done.stdout, done.stderr)
+
+
+def fault_of_a_leave(folder):
+    """What is wrong where gdb leaves and its pipe stays open: the server ends, and waits for nothing more."""
+    pipes = {"stdin": subprocess.PIPE, "stdout": subprocess.PIPE, "stderr": subprocess.PIPE}
+    with subprocess.Popen([built(SERVER)], cwd=folder, **pipes) as server:
+        try:
+            server.stdin.write(sent(b"?", b"D"))
+            server.stdin.flush()
+            status = server.wait(timeout=SECONDS)
+            shown = server.stdout.read(), server.stderr.read()
+        except subprocess.TimeoutExpired:
+            server.kill()
+            return "it waits for more"
+    right = status == 0 and shown == (answered(b"T05", b"OK"), b"")
+    return None if right else (status, *shown)
 
 
 def fault_of_failed_writes(folder, **variables):
@@ -557,7 +674,7 @@ def fault_of_failed_writes(folder, **variables):
     for nth in itertools.count(1):
         environment = dict(os.environ, LD_PRELOAD=str(shim), FAIL_NTH=str(nth), **variables)
         how = {"capture_output": True, "timeout": SECONDS, "cwd": folder, "env": environment}
-        done = subprocess.run([PROGRAM], input=script, **how)
+        done = subprocess.run([built(DEBUGGER)], input=script, **how)
         if done.returncode == 0:
             right = done.stdout == whole and nth > SOME_WRITES
             return None if right else f"{nth - 1} writes, and {len(done.stdout)} bytes written"
@@ -581,6 +698,7 @@ def main():
         fault = fault_of_a_tape_under_a_bound(folder)
         faults.append(("a tape in an address space that it does not fit", fault))
         faults.append(("a script that is typed at a terminal", fault_at_a_terminal(folder)))
+        faults.append(("gdb: the program ends when gdb leaves", fault_of_a_leave(folder)))
         faults.append(("a write that fails once", fault_of_failed_writes(folder)))
         fault = fault_of_failed_writes(folder, TAKE_NOTHING="1")
         faults.append(("a write that takes no byte once", fault))

@@ -5,3 +5,4 @@ pub mod StandingLemmas
 pub mod ReportLemmas
 pub mod Readings
 pub mod Runs
+mod Limits

@@ -34,6 +34,7 @@ pub fn run_script<S: Reversible, R: Read, W: Write>(
     ensures answers { IfOk result (λ n. IfSome (R.remaining reader.old) (λ text. Appends (W.contents writer.old) (W.contents writer.new) (answers_of (S.standing_of session.old) text))) }
     ensures lines { IfOk result (λ n. IfSome (R.remaining reader.old) (λ text. n ≡ lines_of_script text)) }
     ensures state { IfOk result (λ n. IfSome (R.remaining reader.old) (λ text. S.standing_of session.new ≡ (state_after_lines (new_debugger (S.standing_of session.old)) (lines_of text)).session)) }
+    ensures limit { OnOk result ((S.standing_of session.new).limit ≡ (S.standing_of session.old).limit) }
     ensures unread_session { (result ≡ Err read_failed) ⊎ (result ≡ Err TooLong) → session.new ≡ session.old }
     ensures unread_writer { (result ≡ Err read_failed) ⊎ (result ≡ Err TooLong) → writer.new ≡ writer.old }
     ensures too_long { result ≡ Err TooLong → IfSome (R.remaining reader.old) (λ text. 1048576 < length text) }

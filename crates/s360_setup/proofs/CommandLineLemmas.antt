@@ -1,4 +1,4 @@
--- What the parser of command lines says of this one.
+-- What the parser of command lines says of those of the programs.
 use Rattle.std.proofs.Common.{◌≡◌, ◌∙◌, ap, refl, sym, subst, Bool, true, false, Some, None, codes}
 use Rattle.std.specs.List.{list_all}
 use Rattle.clap.specs.Built.{AddsArg}
@@ -18,6 +18,8 @@ use Rattle.clap.specs.declared.error.kind.ErrorKind.TheVariants.{OutOfMemory}
 use Rattle.std.specs.Prelude.{List, [], Result, Ok, Err, IfErr}
 use Rattle.std.specs.Result.{IsErrAnd}
 use Rattle.s360_setup.specs.CommandLine.{command_line, given, has_flag}
+use Rattle.s360_setup.specs.declared.program.Program.{Program}
+use Rattle.s360_setup.specs.declared.program.Program.TheVariants.{Debugger, Server}
 use Rattle.s360_setup.proofs.FlagLemmas.{flag-after}
 use Rattle.s360_setup.proofs.FlagRows.{fits_flag}
 
@@ -26,56 +28,60 @@ pub app_of-added : (app : App) (row : Rule) (old new : Command) (a : Arg) → ap
     → AddsArg old a new → app_of new ≡ with_rule app row
 app_of-added app row old new a is rule own adds = adds.shape own ∙ (ap (λ x. with_rule x (rule_of a)) is ∙ ap (with_rule app) rule)
 
-command_line-is_simple : is_simple command_line ≡ true
+command_line-is_simple : (p : Program) → is_simple (command_line p) ≡ true
 unfolding command_line clap_on_literals
-command_line-is_simple = refl
+command_line-is_simple Debugger = refl
+command_line-is_simple Server = refl
 
 -- the value that matches hold of a row is the one that the words give
-pub first_value-given : (command : Command) (words : List Text) (m : ArgMatches) (name : Text) → app_of command ≡ command_line
-    → HasMatchesOf (app_of command) words m → first_value (found_of m) name ≡ given name words
+pub first_value-given : (p : Program) (command : Command) (words : List Text) (m : ArgMatches) (name : Text) → app_of command ≡ command_line p
+    → HasMatchesOf (app_of command) words m → first_value (found_of m) name ≡ given p name words
 unfolding given
-first_value-given command words m name is has =
+first_value-given p command words m name is has =
     first_value-rows (found_of m) name
-    ∙ ap (first_of name) ((has (ap is_simple is ∙ command_line-is_simple)).0 ∙ ap (λ a. matches_of a words) is)
+    ∙ ap (first_of name) ((has (ap is_simple is ∙ command_line-is_simple p)).0 ∙ ap (λ a. matches_of a words) is)
 
-command_line-is_free : is_simple_and_free command_line ≡ true
+command_line-is_free : (p : Program) → is_simple_and_free (command_line p) ≡ true
 unfolding command_line clap_on_literals
-command_line-is_free = refl
+command_line-is_free Debugger = refl
+command_line-is_free Server = refl
 
 -- a parse that gives matches met no fault
-pub no_fault-given : (command : Command) (words : List Text) → app_of command ≡ command_line
-    → (is_simple_and_free (app_of command) ≡ true → fault_of (app_of command) words ≡ []) → fault_of command_line words ≡ []
-no_fault-given command words is none =
-    ap (λ a. fault_of a words) (sym is) ∙ none (ap is_simple_and_free is ∙ command_line-is_free)
+pub no_fault-given : (p : Program) (command : Command) (words : List Text) → app_of command ≡ command_line p
+    → (is_simple_and_free (app_of command) ≡ true → fault_of (app_of command) words ≡ []) → fault_of (command_line p) words ≡ []
+no_fault-given p command words is none =
+    ap (λ a. fault_of a words) (sym is) ∙ none (ap is_simple_and_free is ∙ command_line-is_free p)
 
 -- where the parse takes the words it fails for want of memory alone
-pub passes-given : (command : Command) (words : List Text) (e : Error) → app_of command ≡ command_line
-    → (takes (app_of command) words ≡ true → kind_of e ≡ OutOfMemory) → takes command_line words ≡ true → kind_of e ≡ OutOfMemory
-passes-given command words e is passes taken = passes (ap (λ a. takes a words) is ∙ taken)
+pub passes-given : (p : Program) (command : Command) (words : List Text) (e : Error) → app_of command ≡ command_line p
+    → (takes (app_of command) words ≡ true → kind_of e ≡ OutOfMemory) → takes (command_line p) words ≡ true → kind_of e ≡ OutOfMemory
+passes-given p command words e is passes taken = passes (ap (λ a. takes a words) is ∙ taken)
 
 -- a `?` that passes an error on as it is
 pub IfErr-passed_on : {T E : Type 0} (r : Result T E) (x : E) (P : E → Type 0) → IsErrAnd r (λ e. e ≡ x) → P x → IfErr r P
 IfErr-passed_on (Ok v) x P h p = absurd h
 IfErr-passed_on (Err e) x P h p = subst P (sym h) p
 
-abbrev pub fits_flags : Text → Type 0
-fits_flags flag = list_all (fits_flag flag) (built command_line).top.rules ≡ true
+abbrev pub fits_flags : Program → Text → Type 0
+fits_flags p flag = list_all (fits_flag flag) (built (command_line p)).top.rules ≡ true
 
-pub fits_flags-protect0 : fits_flags (codes "protect0")
+pub fits_flags-protect0 : (p : Program) → fits_flags p (codes "protect0")
 unfolding command_line clap_on_literals
-fits_flags-protect0 = refl
+fits_flags-protect0 Debugger = refl
+fits_flags-protect0 Server = refl
 
-pub fits_flags-protect1 : fits_flags (codes "protect1")
+pub fits_flags-protect1 : (p : Program) → fits_flags p (codes "protect1")
 unfolding command_line clap_on_literals
-fits_flags-protect1 = refl
+fits_flags-protect1 Debugger = refl
+fits_flags-protect1 Server = refl
 
 -- what is read of a flag is whether the words give it
-pub flag-given : (command : Command) (words : List Text) (m : ArgMatches) (flag : Text) (b : Bool) → app_of command ≡ command_line
-    → HasMatchesOf (app_of command) words m → fits_flags flag → (one_text (found_of m) flag ≡ None → b ≡ false)
-    → (one_text (found_of m) flag ≡ Some (codes "true") → b ≡ true) → (one_text (found_of m) flag ≡ Some (codes "false") → b ≡ false) → b ≡ has_flag flag words
+pub flag-given : (p : Program) (command : Command) (words : List Text) (m : ArgMatches) (flag : Text) (b : Bool) → app_of command ≡ command_line p
+    → HasMatchesOf (app_of command) words m → fits_flags p flag → (one_text (found_of m) flag ≡ None → b ≡ false)
+    → (one_text (found_of m) flag ≡ Some (codes "true") → b ≡ true) → (one_text (found_of m) flag ≡ Some (codes "false") → b ≡ false) → b ≡ has_flag p flag words
 unfolding has_flag
-flag-given command words m flag b is has fits none set unset =
-    let rows : rows_of (found_of m) ≡ matches_of command_line words = (has (ap is_simple is ∙ command_line-is_simple)).0 ∙ ap (λ a. matches_of a words) is in
-    let text : one_text (found_of m) flag ≡ one_of flag (matches_of command_line words) = one_text-rows (found_of m) flag ∙ ap (one_of flag) rows in
-    flag-after flag (built command_line).top.rules (names_of (built command_line)) (argument_words command_line words) b fits
+flag-given p command words m flag b is has fits none set unset =
+    let rows : rows_of (found_of m) ≡ matches_of (command_line p) words = (has (ap is_simple is ∙ command_line-is_simple p)).0 ∙ ap (λ a. matches_of a words) is in
+    let text : one_text (found_of m) flag ≡ one_of flag (matches_of (command_line p) words) = one_text-rows (found_of m) flag ∙ ap (one_of flag) rows in
+    flag-after flag (built (command_line p)).top.rules (names_of (built (command_line p))) (argument_words (command_line p) words) b fits
     (λ e. none (text ∙ e)) (λ e. set (text ∙ e)) (λ e. unset (text ∙ e))

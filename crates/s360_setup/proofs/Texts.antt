@@ -1,5 +1,5 @@
 -- Texts that are written one after another.
-use Rattle.std.proofs.Common.{◌≡◌, ◌∙◌, ◌<◌, ℕ, zero, suc, map, List, [], ◌∷◌, ◌++◌, take, drop, length, get_or, Option, ap, sym, refl, arith, ◌+◌, add-one, append_assoc}
+use Rattle.std.proofs.Common.{◌≡◌, ◌∙◌, ◌<◌, ℕ, zero, suc, map, List, [], ◌∷◌, ◌++◌, take, drop, length, get_or, Option, ap, sym, subst, refl, arith, ◌+◌, add-one, append_assoc}
 use Rattle.std.proofs.lemmas.List.{append-nil, take-append-drop}
 use Rattle.std.specs.List.{concat}
 use Rattle.std.specs.Io.KnownBytes.{Appends}
@@ -29,7 +29,7 @@ IsBegun-at old new text n h =
     record { done = take n text; left = drop n text; split = sym (take-append-drop n text); written = h }
 
 -- a text of which a first part was written after others
-IsBegun-later : (old mid new : Option (List ℕ)) (before text after : List ℕ) → Appends old mid before
+pub IsBegun-later : (old mid new : Option (List ℕ)) (before text after : List ℕ) → Appends old mid before
     → IsBegun mid new text → IsBegun old new (before ++ (text ++ after))
 IsBegun-later old mid new before text after h k = record {
   done = before ++ k.done;
@@ -37,6 +37,35 @@ IsBegun-later old mid new before text after h k = record {
   split = ap (λ t. before ++ (t ++ after)) k.split ∙ ap (λ t. before ++ t) (append_assoc k.done k.left after) ∙ sym (append_assoc before k.done (k.left ++ after));
   written = Appends-join old mid new before k.done h k.written;
 }
+
+pub IsBegun-more : (old new : Option (List ℕ)) (text after : List ℕ) → IsBegun old new text → IsBegun old new (text ++ after)
+IsBegun-more old new text after k = record {
+  done = k.done;
+  left = k.left ++ after;
+  split = ap (λ t. t ++ after) k.split ∙ append_assoc k.done k.left after;
+  written = k.written;
+}
+
+-- what is written in three parts: a name with what separates it, a text, and its end
+begun_with : (name separator after : List ℕ) → (name ++ (separator ++ [])) ++ after ≡ name ++ (separator ++ after)
+begun_with name separator after =
+    append_assoc name (separator ++ []) after ∙ ap (λ s. name ++ (s ++ after)) (append-nil separator)
+
+pub IsBegun-name : (old new : Option (List ℕ)) (name separator after : List ℕ) → IsBegun old new (name ++ (separator ++ []))
+    → IsBegun old new (name ++ (separator ++ after))
+IsBegun-name old new name separator after k =
+    rw (← begun_with name separator after) (IsBegun-more old new (name ++ (separator ++ [])) after k)
+
+pub IsBegun-named : (old mid new : Option (List ℕ)) (name separator text after : List ℕ) → Appends old mid (name ++ (separator ++ []))
+    → IsBegun mid new text → IsBegun old new (name ++ (separator ++ (text ++ after)))
+IsBegun-named old mid new name separator text after h k =
+    rw (← begun_with name separator (text ++ after)) (IsBegun-later old mid new (name ++ (separator ++ [])) text after h k)
+
+pub IsBegun-ended : (old mid last new : Option (List ℕ)) (name separator text after : List ℕ) → Appends old mid (name ++ (separator ++ []))
+    → Appends mid last text → IsBegun last new after → IsBegun old new (name ++ (separator ++ (text ++ after)))
+IsBegun-ended old mid last new name separator text after h j k =
+    let whole : IsBegun mid new (text ++ after) = subst (λ t. IsBegun mid new (text ++ t)) (append-nil after) (IsBegun-later mid last new text after [] j k) in
+    subst (λ t. IsBegun old new (name ++ (separator ++ t))) (append-nil (text ++ after)) (IsBegun-named old mid new name separator (text ++ after) [] h whole)
 
 -- the texts of the first items are written, and then that of the next, or a first part of it
 pub Appends-next : {X : Type 0} (f : X → List ℕ) (xs : List X) (i : ℕ) (d : X) (old mid new : Option (List ℕ)) (text : List ℕ) → i < length xs

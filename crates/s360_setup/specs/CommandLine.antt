@@ -5,7 +5,9 @@ use Rattle.clap.specs.Walk.{Rule, Text, first_of}
 use Rattle.clap.specs.Simple.{App, new_rule, new_shape, matches_of}
 use Rattle.clap.specs.Takes.{is_given}
 use Rattle.clap.specs.declared.builder.action.ArgAction.TheVariants.{Set, SetTrue}
+use Rattle.s360_setup.specs.Programs.{program_name}
 use Rattle.s360_setup.specs.declared.arguments.TapeOptions.{TapeOptions}
+use Rattle.s360_setup.specs.declared.program.Program.{Program}
 
 -- a word that stands for itself
 abbrev pub operand_row : Text → Rule
@@ -31,25 +33,25 @@ command_rows =
     ∷ operand_row (codes "script")
     ∷ []
 
--- the program, which has a version
-unfoldable pub command_line : App
-command_line = record {
-  top = record (new_shape (codes "s360dbg")) { rules = command_rows; has_version = true };
+-- a program, which has a version
+unfoldable pub command_line : Program → App
+command_line program = record {
+  top = record (new_shape (program_name program)) { rules = command_rows; has_version = true };
   subs = [];
 }
 
 -- what the words of a command line give for a row, if they give it
-unfoldable pub given : Text → List Text → Option Text
-given name words = first_of name (matches_of command_line words)
+unfoldable pub given : Program → Text → List Text → Option Text
+given program name words = first_of name (matches_of (command_line program) words)
 
 -- whether they give a flag
-unfoldable pub has_flag : Text → List Text → Bool
-has_flag name words = is_given name (matches_of command_line words)
+unfoldable pub has_flag : Program → Text → List Text → Bool
+has_flag program name words = is_given name (matches_of (command_line program) words)
 
 -- the tape whose file one option names, and that one flag protects
-pub record IsTape (option flag : Text) (words : List Text) (tape : TapeOptions) : Type 0 where
-  pub file : option_map (λ name. name.now) tape.file ≡ given option words
-  pub protected : tape.protected ≡ has_flag flag words
+pub record IsTape (program : Program) (option flag : Text) (words : List Text) (tape : TapeOptions) : Type 0 where
+  pub file : option_map (λ name. name.now) tape.file ≡ given program option words
+  pub protected : tape.protected ≡ has_flag program flag words
 
 -- decimal digits alone, of a number below 2^32
 abbrev pub IsDecimalNumber : Text → Type 0

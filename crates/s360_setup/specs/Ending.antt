@@ -1,7 +1,7 @@
--- How the program ends for a failure (own profile): the line that tells of it, and the status.
+-- How a program ends for a failure (own profile): what it tells of it in a line, and the status.
 use Rattle.std.specs.Prelude.{ℕ, List, [], ◌++◌, codes, decimal}
 use Rattle.s360_setup.specs.declared.failure.Part.{Part}
-use Rattle.s360_setup.specs.declared.failure.Part.TheVariants.{Reader, Tape0, Tape1, Script}
+use Rattle.s360_setup.specs.declared.failure.Part.TheVariants.{Reader, Tape0, Tape1, Script, Connection}
 use Rattle.s360_setup.specs.declared.failure.Fault.{Fault}
 use Rattle.s360_setup.specs.declared.failure.Fault.TheVariants.{CannotRead, FileTooLong, ShortCard, ShortHeader, BadFlags, PartOutOfPlace, ShortBlock, BlockTooLong, ReadFailed, ScriptTooLong, WriteFailed}
 use Rattle.s360_setup.specs.declared.failure.Failure.{Failure}
@@ -12,6 +12,7 @@ part_name Reader = codes "reader"
 part_name Tape0 = codes "tape0"
 part_name Tape1 = codes "tape1"
 part_name Script = codes "script"
+part_name Connection = codes "gdb"
 
 abbrev pub fault_name : Fault → List ℕ
 fault_name CannotRead = codes "cannot read"
@@ -36,14 +37,12 @@ offset_digits (ShortBlock at) = decimal at
 offset_digits (BlockTooLong at) = decimal at
 offset_digits fault = []
 
--- the line, with its line feed
-abbrev pub ending_text : Failure → List ℕ
-ending_text failure.Word = codes "s360dbg: a word of the command line is not UTF-8\n"
-ending_text (failure.Part part fault) =
-    codes "s360dbg: " ++ (part_name part ++ (codes ": " ++ (fault_name fault ++ (offset_digits fault ++ codes "\n"))))
-ending_text failure.StorageSize =
-    codes "s360dbg: storage size must be a multiple of 2048 bytes from 8192 to 1048576\n"
-ending_text failure.Memory = codes "s360dbg: memory: out of memory\n"
+-- what is told of it
+abbrev pub failure_text : Failure → List ℕ
+failure_text failure.Word = codes "a word of the command line is not UTF-8"
+failure_text (failure.Part part fault) = part_name part ++ (codes ": " ++ (fault_name fault ++ offset_digits fault))
+failure_text failure.StorageSize = codes "storage size must be a multiple of 2048 bytes from 8192 to 1048576"
+failure_text failure.Memory = codes "memory: out of memory"
 
 -- the status: 2 for the command line and the storage size
 abbrev pub ending_status : Failure → ℕ

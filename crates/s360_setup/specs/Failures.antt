@@ -1,5 +1,7 @@
--- What the faults of the crates below are to the program (own profile). Want of memory is of no part.
+-- What the faults of the crates below are to a program (own profile). Want of memory is of no part.
 use Rattle.std.specs.Prelude.{◌≡◌, ◌⊎◌}
+use Rattle.s360_debug.specs.declared.bytes.ScriptFault.{ScriptFault}
+use Rattle.s360_debug.specs.declared.bytes.ScriptFault.TheVariants as script
 use Rattle.s360_device.specs.declared.fault.DeckFault.{DeckFault}
 use Rattle.s360_device.specs.declared.fault.DeckFault.TheVariants as deck
 use Rattle.s360_store.specs.declared.fault.StoreFault.{StoreFault}
@@ -9,8 +11,8 @@ use Rattle.s360_tape.specs.declared.fault.TapeFault.TheVariants as tape
 use Rattle.s360_text.specs.declared.reading.ReadFault.{ReadFault}
 use Rattle.s360_text.specs.declared.reading.ReadFault.TheVariants as read
 use Rattle.s360_setup.specs.declared.failure.Part as part
-use Rattle.s360_setup.specs.declared.failure.Part.TheVariants.{Reader, Tape0, Tape1}
-use Rattle.s360_setup.specs.declared.failure.Fault.TheVariants.{CannotRead, FileTooLong, ShortCard, ShortHeader, BadFlags, PartOutOfPlace, ShortBlock, BlockTooLong}
+use Rattle.s360_setup.specs.declared.failure.Part.TheVariants.{Reader, Tape0, Tape1, Script}
+use Rattle.s360_setup.specs.declared.failure.Fault.TheVariants.{CannotRead, FileTooLong, ShortCard, ShortHeader, BadFlags, PartOutOfPlace, ShortBlock, BlockTooLong, ReadFailed, ScriptTooLong, WriteFailed}
 use Rattle.s360_setup.specs.declared.failure.Failure.{Failure}
 use Rattle.s360_setup.specs.declared.failure.Failure.TheVariants.{StorageSize, Memory, Part}
 
@@ -37,6 +39,13 @@ abbrev pub failure_of_storage : StoreFault → Failure
 failure_of_storage storage.Size = StorageSize
 failure_of_storage storage.Memory = Memory
 
+-- of carrying a script out
+abbrev pub failure_of_script : ScriptFault → Failure
+failure_of_script script.Read = Part Script ReadFailed
+failure_of_script script.TooLong = Part Script ScriptTooLong
+failure_of_script script.Write = Part Script WriteFailed
+failure_of_script script.Memory = Memory
+
 -- the failures that reading the file of a part, the reader's deck and a tape end with
 abbrev pub IsFailureOf : part.Part → Failure → Type 0
 IsFailureOf p failure = (fault : ReadFault) × (failure ≡ failure_of_read p fault)
@@ -53,3 +62,11 @@ IsStorageFailure failure = (fault : StoreFault) × (failure ≡ failure_of_stora
 -- the failures that setting the machine up ends with
 abbrev pub IsSetUpFailure : Failure → Type 0
 IsSetUpFailure failure = IsDeckFailure failure ⊎ (IsTapeFailure Tape0 failure ⊎ (IsTapeFailure Tape1 failure ⊎ IsStorageFailure failure))
+
+-- those that carrying out a script ends with
+abbrev pub IsScriptFailure : Failure → Type 0
+IsScriptFailure failure = (fault : ScriptFault) × (failure ≡ failure_of_script fault)
+
+-- those that carrying out the script in a file that is named ends with
+abbrev pub IsAnsweringFailure : Failure → Type 0
+IsAnsweringFailure failure = (failure ≡ Part Script CannotRead) ⊎ IsScriptFailure failure

@@ -3,3 +3,4 @@ pub mod CommandLine
 pub mod Ending
 pub mod Failures
 pub mod Partial
+pub mod Programs

@@ -1,4 +1,4 @@
-//! The command line: `s360dbg [--storage BYTES] [--reader FILE] [--tape0 FILE] [--tape1 FILE]
+//! The command line: `PROGRAM [--storage BYTES] [--reader FILE] [--tape0 FILE] [--tape1 FILE]
 //! [--protect0] [--protect1] [SCRIPT]`.
 ghost use Rattle.std.specs.Prelude.{◌≡◌, [], true, false, map, option_map, codes, IfOk, IfErr, OnOk};
 ghost use Rattle.std.specs.Option.{SomeIff};
@@ -8,6 +8,7 @@ ghost use Rattle.s360_setup.specs.CommandLine.{command_line, operand_row, option
 ghost use Rattle.s360_setup.specs.CommandLine.{IsDecimalNumber, IsStorage, FitsStorage, IsTape};
 
 use crate::arguments::{Options, TapeOptions};
+use crate::program::Program;
 use clap::error::ErrorKind;
 use clap::{Arg, ArgAction, Command, Error};
 use std::alloc::{AllocError, Global};
@@ -15,10 +16,6 @@ use std::convert::AsStr;
 
 /// The size of storage where the command line gives none, in bytes.
 const STORAGE: u32 = 65_536;
-
-const ABOUT: &str = "Debugs programs of a simulated IBM System/360, forward and backward.\n\n\
-    A script has a command a line. It is read whole, then carried out, and the answers are\n\
-    written to standard output.";
 
 const STORAGE_HELP: &str =
     "Bytes of storage, in decimal: a multiple of 2048 from 8192 to 1048576 [default: 65536]";
@@ -34,27 +31,24 @@ const PROTECT0_HELP: &str = "Protects the tape of unit 180 against writing";
 
 const PROTECT1_HELP: &str = "Protects the tape of unit 181 against writing";
 
-const SCRIPT_HELP: &str = "Script of at most 1048576 bytes [default: standard input]";
-
-const NOTES: &str =
-    "Example:\n  s360dbg --reader cards.deck --tape0 master.tape --protect0 session.s360\n\n\
-    Status: 0 where the script was carried out to its end, 1 for a fault of a file, a stream or\n\
-    memory, and 2 for a fault of the command line or of the storage size.";
-
 /// The options that a command line gives. Its first word is the name of the program. An `Err` is a
 /// fault of the command line, what `--help` or `--version` asks for, or want of memory.
-pub fn options<'a, S: AsStr>(alloc: Global, words: &'a [S]) -> Result<Options<'a>, Error>
-    ensures storage { IfOk result (λ o. IsStorage (given (codes "storage") (map S.text words.entry.now)) o.storage) }
-    ensures reader { IfOk result (λ o. option_map (λ name. name.now) o.reader ≡ given (codes "reader") (map S.text words.entry.now)) }
-    ensures tape0 { IfOk result (λ o. IsTape (codes "tape0") (codes "protect0") (map S.text words.entry.now) o.tape0) }
-    ensures tape1 { IfOk result (λ o. IsTape (codes "tape1") (codes "protect1") (map S.text words.entry.now) o.tape1) }
-    ensures script { IfOk result (λ o. option_map (λ name. name.now) o.script ≡ given (codes "script") (map S.text words.entry.now)) }
-    ensures accepted { OnOk result (fault_of command_line (map S.text words.entry.now) ≡ []) }
-    ensures passes { IfErr result (λ e. takes command_line (map S.text words.entry.now) ≡ true → FitsStorage (given (codes "storage") (map S.text words.entry.now)) → kind_of e ≡ ErrorKind.OutOfMemory) }
+pub fn options<'a, S: AsStr>(
+    alloc: Global,
+    program: Program,
+    words: &'a [S],
+) -> Result<Options<'a>, Error>
+    ensures storage { IfOk result (λ o. IsStorage (given program (codes "storage") (map S.text words.entry.now)) o.storage) }
+    ensures reader { IfOk result (λ o. option_map (λ name. name.now) o.reader ≡ given program (codes "reader") (map S.text words.entry.now)) }
+    ensures tape0 { IfOk result (λ o. IsTape program (codes "tape0") (codes "protect0") (map S.text words.entry.now) o.tape0) }
+    ensures tape1 { IfOk result (λ o. IsTape program (codes "tape1") (codes "protect1") (map S.text words.entry.now) o.tape1) }
+    ensures script { IfOk result (λ o. option_map (λ name. name.now) o.script ≡ given program (codes "script") (map S.text words.entry.now)) }
+    ensures accepted { OnOk result (fault_of (command_line program) (map S.text words.entry.now) ≡ []) }
+    ensures passes { IfErr result (λ e. takes (command_line program) (map S.text words.entry.now) ≡ true → FitsStorage (given program (codes "storage") (map S.text words.entry.now)) → kind_of e ≡ ErrorKind.OutOfMemory) }
 {
-    let matches = command_line(alloc)?.try_get_matches_from(words)?;
+    let matches = command_line(alloc, program)?.try_get_matches_from(words)?;
     Ok(Options {
-        storage: storage_size(alloc, matches.get_str("storage"))?,
+        storage: storage_size(alloc, program, matches.get_str("storage"))?,
         reader: matches.get_str("reader"),
         tape0: TapeOptions {
             file: matches.get_str("tape0"),
@@ -70,20 +64,21 @@ pub fn options<'a, S: AsStr>(alloc: Global, words: &'a [S]) -> Result<Options<'a
 
 /// The options and the operand, a row each.
 #[tactic(auto, unfolding(crate::specs::CommandLine::command_line))]
-fn command_line<'a>(alloc: Global) -> Result<Command<'a>, AllocError>
-    ensures { IfOk result (λ command. app_of command ≡ command_line) }
+fn command_line<'a>(alloc: Global, program: Program) -> Result<Command<'a>, AllocError>
+    ensures { IfOk result (λ command. app_of command ≡ command_line program) }
 {
-    Command::new(alloc, "s360dbg")
+    let name: &'a str = program.name();
+    Command::new(alloc, name)
         .version("0.1.0")
-        .about(ABOUT)
-        .after_help(NOTES)
+        .about(program.purpose())
+        .after_help(program.notes())
         .arg(option(alloc, "storage", "BYTES", STORAGE_HELP))?
         .arg(option(alloc, "reader", "FILE", READER_HELP))?
         .arg(option(alloc, "tape0", "FILE", TAPE0_HELP))?
         .arg(option(alloc, "tape1", "FILE", TAPE1_HELP))?
         .arg(flag(alloc, "protect0", PROTECT0_HELP))?
         .arg(flag(alloc, "protect1", PROTECT1_HELP))?
-        .arg(operand(alloc, "script", "SCRIPT", SCRIPT_HELP))
+        .arg(operand(alloc, "script", "SCRIPT", program.script()))
 }
 
 /// An option that takes a value.
@@ -117,7 +112,7 @@ fn operand<'a>(alloc: Global, name: &'a str, value: &'a str, help: &'a str) -> A
 }
 
 /// The size of storage that a word gives, in bytes, or that is taken where none is given.
-fn storage_size(alloc: Global, word: Option<&str>) -> Result<u32, Error>
+fn storage_size(alloc: Global, program: Program, word: Option<&str>) -> Result<u32, Error>
     ensures size { IfOk result (IsStorage (option_map (λ word. word.now) word.entry)) }
     ensures passes { IfErr result (λ e. FitsStorage (option_map (λ word. word.now) word.entry) → kind_of e ≡ ErrorKind.OutOfMemory) }
 {
@@ -130,7 +125,7 @@ fn storage_size(alloc: Global, word: Option<&str>) -> Result<u32, Error>
             let message = format!(in alloc;
                 "invalid value '{word}' for '--storage <BYTES>': no decimal number below 4294967296"
             )?;
-            let mut command = command_line(alloc)?;
+            let mut command = command_line(alloc, program)?;
             Err(command.error(ErrorKind::ValueValidation, message.as_str())?)
         }
     }

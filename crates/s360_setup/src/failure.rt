@@ -1,11 +1,12 @@
-//! Why the program did not do all that it was asked for.
+//! Why a program did not do all that it was asked for.
 ghost use Rattle.std.specs.Prelude.{◌≡◌};
 ghost use Rattle.s360_setup.specs.Ending.{part_name, fault_name, offset_digits, ending_status};
 ghost use Rattle.s360_setup.specs.Failures.{failure_of_storage, failure_of_deck, failure_of_tape};
-ghost use Rattle.s360_setup.specs.Failures.{failure_of_read};
+ghost use Rattle.s360_setup.specs.Failures.{failure_of_read, failure_of_script};
 ghost use Rattle.s360_setup.specs.declared.failure.Failure.TheVariants.{Memory};
 
 use itoa::Buffer;
+use s360_debug::ScriptFault;
 use s360_device::DeckFault;
 use s360_store::StoreFault;
 use s360_tape::TapeFault;
@@ -23,6 +24,8 @@ pub enum Part {
     Tape1,
     /// The script and its answers.
     Script,
+    /// What gdb sends, and its answers.
+    Connection,
 }
 
 /// What went wrong with a part. Offsets are bytes from the start of the file; those of a tape's file
@@ -46,7 +49,7 @@ pub enum Fault {
     ShortBlock(usize),
     /// The block has more than 65,535 bytes with this part.
     BlockTooLong(usize),
-    /// A read of the script failed after it was opened.
+    /// A read failed of the script, after it was opened, or of what gdb sends.
     ReadFailed,
     /// The script has more than 1,048,576 bytes.
     ScriptTooLong,
@@ -54,7 +57,7 @@ pub enum Fault {
     WriteFailed,
 }
 
-/// Why the program did not do all that it was asked for, in the order in which it is found. Want of
+/// Why a program did not do all that it was asked for, in the order in which it is found. Want of
 /// memory can come at any time.
 #[derive(Clone, Copy, Debug, PartialEq, Eq)]
 pub enum Failure {
@@ -78,6 +81,7 @@ impl Part {
             Part::Tape0 => "tape0",
             Part::Tape1 => "tape1",
             Part::Script => "script",
+            Part::Connection => "gdb",
         }
     }
 
@@ -181,6 +185,19 @@ impl From<DeckFault> for Failure {
         match fault {
             DeckFault::ShortCard(at) => Failure::Part(Part::Reader, Fault::ShortCard(at)),
             DeckFault::Memory => Failure::Memory,
+        }
+    }
+}
+
+impl From<ScriptFault> for Failure {
+    ghost from_gives = { λ fault failure. failure ≡ failure_of_script fault };
+
+    fn from(fault: ScriptFault) -> Failure {
+        match fault {
+            ScriptFault::Read => Failure::Part(Part::Script, Fault::ReadFailed),
+            ScriptFault::TooLong => Failure::Part(Part::Script, Fault::ScriptTooLong),
+            ScriptFault::Write => Failure::Part(Part::Script, Fault::WriteFailed),
+            ScriptFault::Memory => Failure::Memory,
         }
     }
 }

@@ -1,5 +1,5 @@
-//! What a program over the machine begins with: its command line, the machine that it asks for with a deck and
-//! tapes from files, and what is told where one of them is at fault.
+//! What a program over the machine starts and ends with: its command line, the machine that it asks for with a deck and
+//! tapes from files, a script that is carried out over it, and what is told where one of them is at fault.
 #![tactic(auto)]
 
 mod arguments;
@@ -7,6 +7,9 @@ mod beginning;
 mod command_line;
 mod failure;
 mod images;
+mod program;
+mod script;
+mod starting;
 mod telling;
 
 pub use arguments::{Options, TapeOptions};
@@ -14,4 +17,10 @@ pub use beginning::set_up;
 pub use command_line::options;
 pub use failure::{Failure, Fault, Part};
 pub use images::open;
-pub use telling::ending;
+pub use program::Program;
+pub use script::carry_out;
+pub use starting::start;
+pub use telling::{ending, tell};
+
+/// So many changes can stand in a program.
+pub const LIMIT: u32 = 10_000_000;

@@ -1,55 +1,140 @@
 //! What the program does once its command line is read. Faults are found in the order of the steps.
-use s360_machine::Machine;
+ghost use Rattle.std.specs.Prelude.{◌≡◌, ◌≢◌, ◌⊎◌, true, false, IfErr, OnOk, Err};
+ghost use Rattle.std.specs.Io.KnownBytes.{Appends};
+ghost use Rattle.s360_model.specs.Storage.{is_storage_size};
+ghost use Rattle.s360_setup.specs.Failures.{IsAnsweringFailure};
+ghost use Rattle.s360_setup.specs.Partial.{IsBegun};
+ghost use Rattle.s360gdb.specs.Failures.{IsServingFailure, IsRunFailure};
+ghost use Rattle.s360gdb.specs.Notes.{note_of_dropped};
+ghost use Rattle.s360_setup.specs.declared.failure.Failure.TheVariants.{Memory, StorageSize};
+
+use itoa::Buffer;
 use s360_record::Recording;
 use s360_remote::{Connection, Replies, Target};
-use s360_setup::{Failure, Fault, Options, Part, set_up};
+use s360_setup::{Failure, Fault, LIMIT, Options, Part, Program, carry_out, open, set_up, tell};
+use s360_text::{Untaken, write_whole};
 use std::alloc::Global;
-use std::io::{Read, Write};
+use std::io::{Input, Read, Write};
 
-/// So many changes can stand.
-const LIMIT: u32 = 10_000_000;
+/// A read is of at most so many bytes.
+const CHUNK: usize = 4_096;
 
-/// So many bytes are read at once at most.
-const CHUNK: usize = 4096;
-
-/// Sets a machine up, and serves gdb over it.
-pub(crate) fn run(rt: &HostRuntime, options: Options<'_>) -> Result<(), Failure> {
+/// Sets a machine up, carries out the script that is named over it, and serves gdb.
+pub(crate) fn run(rt: &HostRuntime, options: Options<'_>) -> Result<(), Failure>
+    ensures size { OnOk result (is_storage_size options.entry.storage ≡ true) }
+    ensures no_size { result ≡ Err StorageSize → is_storage_size options.entry.storage ≡ false }
+    ensures failure { IfErr result IsRunFailure }
+{
     let machine = set_up(rt, rt.alloc(), options)?;
-    serve(rt, machine)
+    let mut recording = Recording::new(rt.alloc(), machine, LIMIT);
+    match answer_script(rt, &mut recording, options.script) {
+        Ok(()) => serve_on_output(rt, recording),
+        Err(failure) => {
+            recording.end();
+            Err(failure)
+        }
+    }
 }
 
-fn serve(rt: &HostRuntime, machine: Machine) -> Result<(), Failure> {
-    let alloc = rt.alloc();
-    let recording = Recording::new(alloc, machine, LIMIT);
-    let mut target = Target::new(alloc, recording, LIMIT);
-    let served = serve_target(rt, alloc, &mut target);
+/// Carries out the script in a file, if one is named, and writes its answers to standard error: standard output is gdb's.
+fn answer_script(
+    rt: &HostRuntime,
+    recording: &mut Recording,
+    name: Option<&str>,
+) -> Result<(), Failure>
+    ensures limit { OnOk result (recording.new.limit ≡ recording.old.limit) }
+    ensures failure { IfErr result IsAnsweringFailure }
+{
+    if let Some(name) = name {
+        let mut script = open(rt, Part::Script, name)?;
+        let _writer = carry_out(rt.alloc(), recording, &mut script, rt.stderr())?;
+    }
+    Ok(())
+}
+
+/// Serves gdb over a recording, on standard input and output.
+fn serve_on_output(rt: &HostRuntime, recording: Recording) -> Result<(), Failure>
+    requires { recording.limit ≡ 10000000 }
+    ensures failure { IfErr result IsServingFailure }
+{
+    let mut target = Target::new(rt.alloc(), recording, LIMIT);
+    let served = serve(
+        rt.alloc(),
+        &mut target,
+        &mut rt.reader(),
+        &mut rt.stdout(),
+        &mut rt.stderr(),
+    );
     target.end();
     served
 }
 
-fn serve_target(rt: &HostRuntime, alloc: Global, target: &mut Target) -> Result<(), Failure> {
-    let Ok(mut connection) = Connection::new(alloc) else {
-        return Err(Failure::Memory);
-    };
+/// Serves gdb until it leaves, or until what it sends has ended. `notes` are told how many recorded changes it drops.
+fn serve<R: Read, W: Write, N: Write>(
+    alloc: Global,
+    target: &mut Target,
+    reader: &mut R,
+    writer: &mut W,
+    notes: &mut N,
+) -> Result<(), Failure>
+    ensures failure { IfErr result IsServingFailure }
+{
+    let mut connection = Connection::new(alloc)?;
     let mut replies = Replies::new(alloc);
-    let mut reader = rt.reader();
-    let mut chunk = [0u8; CHUNK];
-    while !connection.has_ended() {
-        let Ok(count) = reader.read(&mut chunk) else {
-            return Err(Failure::Part(Part::Script, Fault::ReadFailed));
+    let mut chunk = [0; CHUNK];
+    // Each read but the last gives a byte at least.
+    for _read in 0..u64::MAX {
+        if connection.has_ended() {
+            break;
+        }
+        let Ok(len) = reader.read(&mut chunk) else {
+            return Err(Failure::Part(Part::Connection, Fault::ReadFailed));
         };
-        if count == 0 {
-            return Ok(());
+        if len == 0 {
+            break;
         }
-        for byte in &chunk[..count] {
-            if connection.take(*byte, target, &mut replies).is_err() {
-                return Err(Failure::Memory);
-            }
-        }
-        if rt.stdout().write_all(replies.as_bytes()).is_err() {
-            return Err(Failure::Part(Part::Script, Fault::WriteFailed));
+        let taken = take_all(&mut connection, target, &mut replies, &chunk[..len], notes);
+        // What was answered before memory was wanted is written too.
+        let written = write_whole(writer, replies.as_bytes());
+        taken?;
+        if written.is_err() {
+            return Err(Failure::Part(Part::Connection, Fault::WriteFailed));
         }
         replies.clear();
     }
     Ok(())
+}
+
+/// Takes bytes that gdb sent, and adds what is answered. Those behind its leave are dropped.
+fn take_all<N: Write>(
+    connection: &mut Connection,
+    target: &mut Target,
+    replies: &mut Replies,
+    bytes: &[u8],
+    notes: &mut N,
+) -> Result<(), Failure>
+    ensures failure { IfErr result (λ failure. failure ≡ Memory) }
+{
+    for byte in bytes {
+        let dropped = connection.take(*byte, target, replies)?;
+        // gdb is served all the same where this is not taken.
+        let _ = tell_dropped(dropped, notes);
+    }
+    Ok(())
+}
+
+/// Tells how many recorded changes were dropped, if any. It takes no memory.
+fn tell_dropped<N: Write>(count: u32, notes: &mut N) -> Result<(), Untaken>
+    ensures ok { OnOk result (Appends (N.contents notes.old) (N.contents notes.new) (note_of_dropped count)) }
+    ensures stopped { IsBegun (N.contents notes.old) (N.contents notes.new) (note_of_dropped count) }
+{
+    if count == 0 {
+        return Ok(());
+    }
+    let mut digits = Buffer::new();
+    tell(
+        Program::Server,
+        &["dropped ", digits.format(count), " recorded changes"],
+        notes,
+    )
 }

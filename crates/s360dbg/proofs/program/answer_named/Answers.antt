@@ -1,6 +1,6 @@
 use Rattle.std.proofs.Common.{inr}
 use Rattle.std.proofs.lemmas.Result.{IfErr-weaker}
-use Rattle.s360dbg.specs.Failures.{IsScriptFailure, IsAnsweringFailure}
+use Rattle.s360_setup.specs.Failures.{IsScriptFailure, IsAnsweringFailure}
 use Rattle.s360dbg.proofs.program.answer_named.Goals as goal
 
 pub returns-in_ok-file-in-Some-clause-failure : goal.returns-in_ok-file-in-Some-clause-failure

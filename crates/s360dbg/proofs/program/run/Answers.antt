@@ -1,7 +1,8 @@
 use Rattle.std.proofs.Common.{inl, inr}
 use Rattle.std.proofs.lemmas.Result.{IfErr-weaker}
 use Rattle.s360_setup.proofs.CommandLineLemmas.{IfErr-passed_on}
-use Rattle.s360dbg.specs.Failures.{IsAnsweringFailure, IsRunFailure}
+use Rattle.s360_setup.specs.Failures.{IsAnsweringFailure}
+use Rattle.s360dbg.specs.Failures.{IsRunFailure}
 use Rattle.s360dbg.proofs.program.run.Goals as goal
 
 pub returns-in_err-machine-clause-failure : goal.returns-in_err-machine-clause-failure

@@ -1,0 +1,15 @@
+-- The failures that the program ends with once its command line is read (own profile).
+use Rattle.std.specs.Prelude.{◌≡◌, ◌⊎◌}
+use Rattle.s360_setup.specs.declared.failure.Part.TheVariants.{Connection}
+use Rattle.s360_setup.specs.declared.failure.Fault.TheVariants.{ReadFailed, WriteFailed}
+use Rattle.s360_setup.specs.declared.failure.Failure.{Failure}
+use Rattle.s360_setup.specs.declared.failure.Failure.TheVariants.{Memory, Part}
+use Rattle.s360_setup.specs.Failures.{IsSetUpFailure, IsAnsweringFailure}
+
+-- those that serving gdb ends with
+abbrev pub IsServingFailure : Failure → Type 0
+IsServingFailure failure = (failure ≡ Part Connection ReadFailed) ⊎ ((failure ≡ Part Connection WriteFailed) ⊎ (failure ≡ Memory))
+
+-- those of the whole program
+abbrev pub IsRunFailure : Failure → Type 0
+IsRunFailure failure = IsSetUpFailure failure ⊎ (IsAnsweringFailure failure ⊎ IsServingFailure failure)
