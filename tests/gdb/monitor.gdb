@@ -72,9 +72,10 @@ print $r7
 monitor withdraw 38
 monitor standing
 print $r7
-# What is wrong with a line is told as in a script, and nothing happens; of 43 changes the next is 44
+# What a script skips has no answer
 monitor
-monitor * no comment
+monitor * a comment
+# What is wrong with a line is told as in a script, and nothing happens; of 43 changes the next is 44
 monitor stepp
 monitor key
 monitor patch s FFFF 0102

@@ -17,7 +17,7 @@ WORDS, LACKING = 18, 17 * 8 + 16 * 16
 NUMBER = rb"([0-9a-fA-F]{1,8})"
 TWO = NUMBER + rb"," + NUMBER
 PAIRS = rb"((?:[0-9a-fA-F]{2})*)"
-THREAD = rb"(?:-1|[0-9a-fA-F]{1,8})"
+THREAD = rb"(-1|[0-9a-fA-F]{1,8})"
 # A pause is looked for within so many events.
 MOST_EVENTS = 3000
 HELP = [
@@ -356,14 +356,20 @@ class Target:
         answers = HELP if line == b"help" else self.answers_to(line)
         if self.recording.dropped:
             answers = [*answers, f"dropped {self.recording.dropped} recorded changes"]
+        if not answers:
+            return [OK]
         return ["".join(f"{answer}\n" for answer in answers).encode().hex().encode()]
 
     def answers_to(self, line):
-        # A script has no blank line to answer, and no comment.
-        if not line.strip(b" "):
-            return ["? unknown"]
+        # What a script skips has no answer.
+        if line.startswith(b"*") or not line.strip(b" "):
+            return []
         fault = fault_of(line)
         return [fault] if fault else self.recording.answer(line.decode())
+
+    def thread(self, number):
+        """There is one thread, whose number is 1; 0 is any, and -1 all of them."""
+        return [OK if number == b"-1" or int(number, 16) <= 1 else b"E03"]
 
     def leave(self, *_process):
         self.ended = True
@@ -396,9 +402,9 @@ FORMS = [
     # The address that they may have in the manual isn't taken.
     (b"s", b"(?!)", None),
     (b"c", b"(?!)", None),
-    (b"Hg", THREAD, lambda target: [OK]),
-    (b"Hc", THREAD, lambda target: [OK]),
-    (b"T", THREAD, lambda target: [OK]),
+    (b"Hg", THREAD, Target.thread),
+    (b"Hc", THREAD, Target.thread),
+    (b"T", THREAD, Target.thread),
     (b"qSupported:", b".*", lambda target: [SUPPORTED]),
     (b"qXfer:features:read:", rb"target\.xml:" + TWO, Target.part_of_description),
     (b"vKill;", NUMBER, Target.leave),
