@@ -75,14 +75,14 @@ pub part-of : (bytes : List ℕ) → take (min (length bytes) 256) bytes ≡ tak
 part-of bytes = elim (cases_lt 256 (length bytes)) as (λ _. take (min (length bytes) 256) bytes ≡ take 256 bytes) [
   | inl h ↦ let least : min (length bytes) 256 ≡ 256 = omega (arith, h) in ap (λ k. take k bytes) least
   | inr h ↦ let least : min (length bytes) 256 ≡ length bytes = omega (arith, h)
-    in ap (λ k. take k bytes) least ∙ take_all (length bytes) bytes (omega arith) ∙ sym (take_all 256 bytes h)
+      in ap (λ k. take k bytes) least ∙ take_all (length bytes) bytes (omega arith) ∙ sym (take_all 256 bytes h)
 ]
 
 pub rest-of : (bytes : List ℕ) → drop (min (length bytes) 256) bytes ≡ drop 256 bytes
 rest-of bytes = elim (cases_lt 256 (length bytes)) as (λ _. drop (min (length bytes) 256) bytes ≡ drop 256 bytes) [
   | inl h ↦ let least : min (length bytes) 256 ≡ 256 = omega (arith, h) in ap (λ k. drop k bytes) least
   | inr h ↦ let least : min (length bytes) 256 ≡ length bytes = omega (arith, h)
-    in ap (λ k. drop k bytes) least ∙ drop_all (length bytes) bytes (omega arith) ∙ sym (drop_all 256 bytes h)
+      in ap (λ k. drop k bytes) least ∙ drop_all (length bytes) bytes (omega arith) ∙ sym (drop_all 256 bytes h)
 ]
 
 pub patches-none : (at : ℕ) (bytes : List ℕ) → length bytes ≡ 0 → patches_of_bytes at bytes ≡ []
