@@ -1,5 +1,5 @@
 -- Writes: patches are made one after another.
-use Rattle.std.proofs.Common.{◌≡◌, ◌<◌, ◌≤◌, ◌+◌, ◌-◌, ◌/◌, ◌++◌, ◌∙◌, inl, inr, ℕ, zero, suc, Bool, true, false, List, [], ◌∷◌, Option, Some, None, Result, Ok, Err, refl, ap, sym, subst, arith, rules, drop, length, min, take}
+use Rattle.std.proofs.Common.{◌≡◌, ◌<◌, ◌≤◌, ◌+◌, ◌-◌, ◌++◌, ◌∙◌, inl, inr, ℕ, zero, suc, true, List, [], ◌∷◌, Option, Some, None, Result, Ok, Err, refl, ap, sym, subst, arith, rules, drop, length, min, take}
 use Rattle.std.specs.Prelude.{⊤, nat_lt, if◌then◌else◌}
 use Rattle.std.specs.List.{flat_map, range_with_len}
 use Rattle.std.proofs.lemmas.Bool.{cases_lt}
@@ -9,11 +9,10 @@ use Rattle.s360_machine.specs.Refusals.{refusal_of_patch}
 use Rattle.s360_machine.specs.declared.event.Event.TheVariants.{Patch as patch}
 use Rattle.s360_machine.specs.declared.event.Patch.{Patch}
 use Rattle.s360_machine.specs.declared.event.Patch.TheVariants.{Bytes}
-use Rattle.s360_record.specs.Forwarding.{IsMet}
 use Rattle.s360_machine.specs.declared.refusal.Refusal.{Refusal}
 use Rattle.s360_machine.specs.declared.refusal.Refusal.TheVariants.{JournalFull}
 use Rattle.s360_journal.specs.Standing.{machine_of, or_full, refusal_in}
-use Rattle.s360_record.specs.Recorded.{Recorded, rest_of, session_of, standing_events}
+use Rattle.s360_record.specs.Recorded.{Recorded, session_of, standing_events}
 use Rattle.s360_record.specs.declared.forwarding.Forwarded.{Forwarded}
 use Rattle.s360_record.specs.declared.forwarding.Forwarded.TheVariants.{New, Again, Dropped}
 use Rattle.s360_remote.specs.Driven.{Driven}
