@@ -1,14 +1,14 @@
 -- What was taken back is run again.
-use Rattle.std.proofs.Common.{◌≡◌, ◌<◌, ◌≤◌, ◌+◌, ◌-◌, ◌++◌, ◌∙◌, ℕ, zero, suc, List, [], ◌∷◌, Option, Some, None, Ok, refl, ap, sym, subst, arith, length, take, drop, true}
+use Rattle.std.proofs.Common.{◌≡◌, ◌<◌, ◌≤◌, ◌+◌, ◌-◌, ◌++◌, ◌∙◌, ℕ, zero, suc, List, [], ◌∷◌, Some, None, refl, ap, subst, arith, length, take, drop, true}
 use Rattle.std.proofs.lemmas.Bool.{lt-ltb}
 use Rattle.std.proofs.lemmas.List.{length-take-le}
 use Rattle.std.specs.List.{slice_get}
 use Rattle.std.specs.Option.{unwrap_or}
 use Rattle.std.specs.Prelude.{nat_lt}
-use Rattle.s360_machine.specs.Machine.{Machine, seen, storage_size}
+use Rattle.s360_machine.specs.Machine.{seen}
 use Rattle.s360_machine.specs.declared.event.Event.{Event}
 use Rattle.s360_machine.specs.Step.{after}
-use Rattle.s360_journal.specs.Rerun.{AreAccepted, rerun}
+use Rattle.s360_journal.specs.Rerun.{AreAccepted}
 use Rattle.s360_journal.specs.Running.{next_event}
 use Rattle.s360_journal.specs.Standing.{machine_of, refusal_in}
 use Rattle.s360_journal.proofs.HistoryLemmas.{IsStep, IsStep-from}

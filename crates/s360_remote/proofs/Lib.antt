@@ -6,3 +6,4 @@ pub mod DrivenLemmas
 pub mod WritingLemmas
 pub mod AgainLemmas
 pub mod MonitorLemmas
+pub mod ServingLemmas

@@ -1,10 +1,10 @@
 -- Lines alter no limit.
-use Rattle.std.proofs.Common.{◌≡◌, ◌≢◌, ◌⊎◌, ◌++◌, inr, ℕ, true, false, List, [], codes, Ok, Err, refl, ap, sym, ◌∙◌}
+use Rattle.std.proofs.Common.{◌≡◌, ◌≢◌, ◌++◌, inr, ℕ, true, false, List, [], codes, Ok, Err, refl, ap, sym, ◌∙◌}
 use Rattle.s360_journal.specs.Standing.{Standing}
 use Rattle.s360_language.specs.Reading.{Reading}
 use Rattle.s360_language.specs.declared.command.Command.{Command}
 use Rattle.s360_language.specs.declared.command.Command.TheVariants.{Step, Channel, Tick, Key, Patch, Back, Standing as standing, Last, Show, Break, Clear, Until, Withdraw, Run}
-use Rattle.s360_debug.specs.Answers.{StandsPartly, state_after}
+use Rattle.s360_debug.specs.Answers.{state_after}
 use Rattle.s360_debug.specs.Debugger.{Debugger}
 use Rattle.s360_language.specs.Reading.{reading_of}
 use Rattle.s360_debug.specs.Lines.{is_skipped}

@@ -1,5 +1,5 @@
 -- Writes: patches are made one after another.
-use Rattle.std.proofs.Common.{◌≡◌, ◌<◌, ◌≤◌, ◌+◌, ◌-◌, ◌/◌, ◌++◌, ◌∙◌, inl, inr, ℕ, zero, suc, Bool, true, false, List, [], ◌∷◌, Option, Some, None, Result, Ok, Err, refl, ap, sym, subst, arith, rules, drop, length, min, take}
+use Rattle.std.proofs.Common.{◌≡◌, ◌<◌, ◌≤◌, ◌+◌, ◌-◌, ◌++◌, ◌∙◌, inl, inr, ℕ, zero, suc, true, List, [], ◌∷◌, Option, Some, None, Result, Ok, Err, refl, ap, sym, subst, arith, rules, drop, length, min, take}
 use Rattle.std.specs.Prelude.{⊤, nat_lt, if◌then◌else◌}
 use Rattle.std.specs.List.{flat_map, range_with_len}
 use Rattle.std.proofs.lemmas.Bool.{cases_lt}
@@ -9,11 +9,10 @@ use Rattle.s360_machine.specs.Refusals.{refusal_of_patch}
 use Rattle.s360_machine.specs.declared.event.Event.TheVariants.{Patch as patch}
 use Rattle.s360_machine.specs.declared.event.Patch.{Patch}
 use Rattle.s360_machine.specs.declared.event.Patch.TheVariants.{Bytes}
-use Rattle.s360_record.specs.Forwarding.{IsMet}
 use Rattle.s360_machine.specs.declared.refusal.Refusal.{Refusal}
 use Rattle.s360_machine.specs.declared.refusal.Refusal.TheVariants.{JournalFull}
 use Rattle.s360_journal.specs.Standing.{machine_of, or_full, refusal_in}
-use Rattle.s360_record.specs.Recorded.{Recorded, rest_of, session_of, standing_events}
+use Rattle.s360_record.specs.Recorded.{Recorded, session_of, standing_events}
 use Rattle.s360_record.specs.declared.forwarding.Forwarded.{Forwarded}
 use Rattle.s360_record.specs.declared.forwarding.Forwarded.TheVariants.{New, Again, Dropped}
 use Rattle.s360_remote.specs.Driven.{Driven}
@@ -75,14 +74,14 @@ pub part-of : (bytes : List ℕ) → take (min (length bytes) 256) bytes ≡ tak
 part-of bytes = elim (cases_lt 256 (length bytes)) as (λ _. take (min (length bytes) 256) bytes ≡ take 256 bytes) [
   | inl h ↦ let least : min (length bytes) 256 ≡ 256 = omega (arith, h) in ap (λ k. take k bytes) least
   | inr h ↦ let least : min (length bytes) 256 ≡ length bytes = omega (arith, h)
-    in ap (λ k. take k bytes) least ∙ take_all (length bytes) bytes (omega arith) ∙ sym (take_all 256 bytes h)
+      in ap (λ k. take k bytes) least ∙ take_all (length bytes) bytes (omega arith) ∙ sym (take_all 256 bytes h)
 ]
 
 pub rest-of : (bytes : List ℕ) → drop (min (length bytes) 256) bytes ≡ drop 256 bytes
 rest-of bytes = elim (cases_lt 256 (length bytes)) as (λ _. drop (min (length bytes) 256) bytes ≡ drop 256 bytes) [
   | inl h ↦ let least : min (length bytes) 256 ≡ 256 = omega (arith, h) in ap (λ k. drop k bytes) least
   | inr h ↦ let least : min (length bytes) 256 ≡ length bytes = omega (arith, h)
-    in ap (λ k. drop k bytes) least ∙ drop_all (length bytes) bytes (omega arith) ∙ sym (drop_all 256 bytes h)
+      in ap (λ k. drop k bytes) least ∙ drop_all (length bytes) bytes (omega arith) ∙ sym (drop_all 256 bytes h)
 ]
 
 pub patches-none : (at : ℕ) (bytes : List ℕ) → length bytes ≡ 0 → patches_of_bytes at bytes ≡ []

@@ -30,6 +30,6 @@ pub record IsCarriedOut (line : List ℕ) (d t : Driven) (said : List ℕ) : Typ
 -- after want of memory: some first ones of the events stand that it would have run, or it was carried out and its text is lost
 pub record IsLineBegun (line : List ℕ) (d t : Driven) : Type 0 where
   pub stands : line ≢ codes "help" → StandsAfterReading (reading_of line) (debugger_of d) (debugger_of t).session
-    ⊎ (debugger_of t ≡ state_after_line (debugger_of d) line)
+      ⊎ (debugger_of t ≡ state_after_line (debugger_of d) line)
   pub points : t.points ≡ d.points
   pub help : line ≡ codes "help" → t ≡ d

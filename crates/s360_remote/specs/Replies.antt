@@ -1,5 +1,5 @@
 -- The packets that are sent to gdb (gdb manual, "Packets", "Stop Reply Packets").
-use Rattle.std.specs.Prelude.{ℕ, ◌+◌, Bool, true, false, nat_eq, nat_lt, if◌then◌else◌, List, [], ◌∷◌, ◌++◌, codes, length, slice_range, Option, Some, None}
+use Rattle.std.specs.Prelude.{ℕ, ◌+◌, Bool, true, false, nat_eq, nat_lt, if◌then◌else◌, List, ◌++◌, codes, length, slice_range, Option, Some, None}
 use Rattle.s360_machine.specs.declared.event_kind.EventKind.{EventKind}
 use Rattle.s360_machine.specs.declared.event_kind.EventKind.TheVariants.{Cpu, Channel}
 use Rattle.s360_machine.specs.declared.refusal.Refusal.{Refusal}
@@ -7,7 +7,7 @@ use Rattle.s360_machine.specs.declared.refusal.Refusal.TheVariants.{Memory, Outs
 use Rattle.s360_machine.specs.Machine.{Machine}
 use Rattle.s360_machine.specs.RunStates.{is_operating}
 use Rattle.s360_model.specs.Psw.{wait_of}
-use Rattle.s360_packet.specs.Answers.{answer_text, stop_text}
+use Rattle.s360_packet.specs.Answers.{stop_text}
 use Rattle.s360_packet.specs.Framing.{framed, two_digits}
 use Rattle.s360_packet.specs.Hexadecimal.{bytes_text}
 use Rattle.s360_packet.specs.Target.{register_text, register_value}

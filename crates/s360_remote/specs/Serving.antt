@@ -13,7 +13,7 @@ use Rattle.s360_packet.specs.declared.answer.Answer.TheVariants as answer
 use Rattle.s360_packet.specs.declared.answer.Stop.{Stop}
 use Rattle.s360_packet.specs.declared.answer.Stop.TheVariants.{Trap, Quiet}
 use Rattle.s360_packet.specs.declared.request.Point.{Point}
-use Rattle.s360_packet.specs.declared.request.Point.TheVariants.{Software, Hardware, Write as write}
+use Rattle.s360_packet.specs.declared.request.Point.TheVariants.{Write as write}
 use Rattle.s360_packet.specs.declared.request.Thread.{Thread}
 use Rattle.s360_packet.specs.declared.request.Thread.TheVariants.{Numbered}
 use Rattle.s360_packet.specs.declared.request.Request.{Request}
@@ -24,7 +24,7 @@ use Rattle.s360_remote.specs.Driven.{Driven, moved_to}
 use Rattle.s360_remote.specs.ErrorNumbers.{error_of}
 use Rattle.s360_remote.specs.Forward.{Paused, most_turns, resumed}
 use Rattle.s360_remote.specs.Monitor.{IsCarriedOut, IsLineBegun}
-use Rattle.s360_remote.specs.Points.{Points, Watched, has_room_for_watch, watched_bytes, with_watch, without_watch}
+use Rattle.s360_remote.specs.Points.{Points, has_room_for_watch, watched_bytes, with_watch, without_watch}
 use Rattle.s360_remote.specs.Registers.{words_of}
 use Rattle.s360_remote.specs.Replies.{pause_packets, register_of_number, storage_text}
 use Rattle.s360_remote.specs.Writing.{IsWriteEnd, Write, register_write, registers_write, storage_write}

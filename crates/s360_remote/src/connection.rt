@@ -1,9 +1,10 @@
 //! A connection with gdb: bytes come in and go out. Source: gdb manual, "Remote Serial Protocol", "Packet Acknowledgment".
-ghost use Rattle.std.specs.Prelude.{◌≡◌, ◌++◌, ℕ, List, false, IfOk};
-ghost use Rattle.s360_packet.specs.Receiving.{between_packets};
+ghost use Rattle.std.specs.Prelude.{◌≡◌, ◌++◌, ℕ, List, false, IfOk, OnOk};
+ghost use Rattle.std.specs.Option.{option_to_list};
+ghost use Rattle.s360_packet.specs.Receiving.{acknowledgement_of, between_packets};
 ghost use Rattle.s360_packet.specs.Requests.{reading_of};
 ghost use Rattle.s360_packet.specs.declared.receiver.Acknowledging.TheVariants.{On};
-ghost use Rattle.s360_remote.specs.Connecting.{IsAnswered, IsTaken, answer_to_fault, dropped_by, going};
+ghost use Rattle.s360_remote.specs.Connecting.{IsAnswered, IsReceived, IsTaken, answer_to_fault, dropped_by, going};
 
 use crate::error_number::ErrorNumber;
 use crate::replies::Replies;
@@ -67,9 +68,29 @@ impl Connection {
         let Some(received) = self.receiver.take(byte) else {
             return Ok(0);
         };
-        if let Some(byte) = received.acknowledgement(self.acknowledging) {
-            replies.push_byte(byte)?;
+        self.acknowledge(received, replies)?;
+        self.complete(received, target, replies)
+    }
+
+    /// Adds the byte that acknowledges what came, if one is sent.
+    fn acknowledge(&self, received: Received, replies: &mut Replies) -> Result<(), AllocError>
+        ensures { OnOk result (replies.new ≡ replies.old ++ option_to_list (acknowledgement_of self.now.acknowledging received)) }
+    {
+        match received.acknowledgement(self.acknowledging) {
+            Some(byte) => replies.push_byte(byte),
+            None => Ok(()),
         }
+    }
+
+    /// Adds what answers what came.
+    fn complete(
+        &mut self,
+        received: Received,
+        target: &mut Target,
+        replies: &mut Replies,
+    ) -> Result<u32, AllocError>
+        ensures { IfOk result (λ dropped. (packets : List ℕ) × IsReceived received self.old target.old self.new target.new dropped packets × (replies.new ≡ replies.old ++ packets)) }
+    {
         match received {
             Received::Packet => self.answer(target, replies),
             Received::TooLong => {

@@ -48,12 +48,12 @@ pub(crate) fn monitor(target: &mut Target, line: &[u8]) -> Result<Text, AllocErr
     ensures carried_out { IfOk result (λ text. IsCarriedOut line.now target.old target.new text) }
     ensures begun { OnErr result (IsLineBegun line.now target.old target.new) }
 {
+    if skips(line) {
+        target.counting.dropped = 0;
+        return Ok(Text::new(target.alloc));
+    }
     match line {
         b"help" => text_of(target.alloc, HELP),
-        line if skips(line) => {
-            target.counting.dropped = 0;
-            Ok(Text::new(target.alloc))
-        }
         line => carry_out(target, line),
     }
 }

@@ -77,43 +77,42 @@ impl Target {
             Request::Remove { point, at, kind } => self.remove(point, at, kind, replies),
             Request::Command(line) => self.answer_line(&line, replies),
             Request::Kill => Ok(Then::End),
-            other => self.tell(other, replies),
+            other => self.tell(&other, replies),
         }
     }
 
     /// Answers a request that changes nothing.
-    fn tell(&self, request: Request, replies: &mut Replies) -> Result<Then, AllocError>
-        ensures { IfOk result (λ next. (next ≡ then_after request) × (replies.new ≡ replies.old ++ framed (told request (machine_now self.now)))) }
+    fn tell(&self, request: &Request, replies: &mut Replies) -> Result<Then, AllocError>
+        ensures { IfOk result (λ next. (next ≡ then_after request.now) × (replies.new ≡ replies.old ++ framed (told request.now (machine_now self.now)))) }
     {
-        match request {
-            Request::Registers => self.tell_registers(replies)?,
-            Request::Register(number) => self.tell_register(number, replies)?,
-            Request::Storage { at, count } => self.tell_storage(at, count, replies)?,
+        self.push_told(request, replies)?;
+        Ok(then_after(request))
+    }
+
+    /// Adds what answers a request that changes nothing.
+    fn push_told(&self, request: &Request, replies: &mut Replies) -> Result<(), AllocError>
+        ensures { OnOk result (replies.new ≡ replies.old ++ framed (told request.now (machine_now self.now))) }
+    {
+        match *request {
+            Request::Registers => self.tell_registers(replies),
+            Request::Register(number) => self.tell_register(number, replies),
+            Request::Storage { at, count } => self.tell_storage(at, count, replies),
             Request::Supported => replies.push(Answer::Supported {
                 size: crate::PACKET_SIZE,
-            })?,
+            }),
             Request::Description { offset, count } => {
-                replies.push(Answer::Description { offset, count })?;
+                replies.push(Answer::Description { offset, count })
             }
             Request::Select(thread) | Request::IsAlive(thread) => {
-                replies.push(thread_answer(thread))?;
+                replies.push(thread_answer(thread))
             }
-            Request::CurrentThread => replies.push(Answer::Thread)?,
-            Request::Attached => replies.push(Answer::Attached)?,
-            Request::FirstThreads => replies.push(Answer::FirstThreads)?,
-            Request::NextThreads => replies.push(Answer::NoMoreThreads)?,
-            Request::Stopped => replies.push(Answer::Stopped(Stop::Trap))?,
-            Request::StopAcknowledging => {
-                replies.push(Answer::Done)?;
-                return Ok(Then::StopAcknowledging);
-            }
-            Request::Detach | Request::KillProcess(_) => {
-                replies.push(Answer::Done)?;
-                return Ok(Then::End);
-            }
-            _ => replies.push(Answer::Done)?,
+            Request::CurrentThread => replies.push(Answer::Thread),
+            Request::Attached => replies.push(Answer::Attached),
+            Request::FirstThreads => replies.push(Answer::FirstThreads),
+            Request::NextThreads => replies.push(Answer::NoMoreThreads),
+            Request::Stopped => replies.push(Answer::Stopped(Stop::Trap)),
+            _ => replies.push(Answer::Done),
         }
-        Ok(Then::GoOn)
     }
 
     /// Tells all registers.
@@ -201,7 +200,11 @@ impl Target {
                 }
             },
         };
-        replies.push(if is_set { Answer::Done } else { ErrorNumber::Full.answer() })?;
+        replies.push(if is_set {
+            Answer::Done
+        } else {
+            ErrorNumber::Full.answer()
+        })?;
         Ok(Then::GoOn)
     }
 
@@ -325,6 +328,17 @@ impl Target {
             machine.psw().wait(),
         );
         replies.push(Answer::Console(words.as_bytes()))
+    }
+}
+
+/// How serving goes on after a request that changes nothing.
+fn then_after(request: &Request) -> Then
+    ensures { result ≡ then_after request.now }
+{
+    match *request {
+        Request::Detach | Request::KillProcess(_) => Then::End,
+        Request::StopAcknowledging => Then::StopAcknowledging,
+        _ => Then::GoOn,
     }
 }
 

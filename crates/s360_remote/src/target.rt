@@ -218,7 +218,8 @@ impl Target {
     fn byte_altered_by(&self, number: u32) -> Option<u32>
         ensures { result ≡ byte_altered_by self.now.recorded (watched_bytes self.now.points.watches) number }
     {
-        self.points.byte_altered_by(&self.counting.recording, number)
+        self.points
+            .byte_altered_by(&self.counting.recording, number)
     }
 
     /// The number of the last change of a watched byte, 0 if there is none.

@@ -1,9 +1,9 @@
 //! What gdb writes into the machine, each an event of its own, which stands and can be taken back. Source: gdb manual,
 //! "Packets", `M`, `X`, `P` and `G`.
-ghost use Rattle.std.specs.Prelude.{◌≡◌, ◌+◌, ◌-◌, ◌^◌, ◌<◌, ◌≤◌, ◌∷◌, [], length, nat_le, None, if◌then◌else◌};
+ghost use Rattle.std.specs.Prelude.{◌≡◌, ◌+◌, ◌-◌, ◌^◌, ◌<◌, ◌≤◌, ◌∷◌, ◌||◌, [], length, nat_le, None, if◌then◌else◌};
 ghost use Rattle.s360_machine.specs.Machine.{seen, storage_size};
 ghost use Rattle.s360_machine.specs.Refusals.{refusal_of_patch};
-ghost use Rattle.s360_remote.specs.Writing.{IsMadeOrBegun, IsWriteEnd, patch_count, patches_from_register, patches_of_bytes};
+ghost use Rattle.s360_remote.specs.Writing.{IsMadeOrBegun, IsWriteEnd, is_other, patch_count, patches_from_register, patches_of_bytes};
 ghost use Rattle.s360_remote.specs.Writing.{patches_of_words, register_write, registers_write, storage_write};
 
 use crate::counting::dropped_by;
@@ -96,8 +96,10 @@ impl Target {
         requires room { self.old.recorded.standing + 18 ≤ self.old.recorded.limit }
         ensures { IsMadeOrBegun self.old (patches_of_words before.now words.now) self.new result }
     {
-        let is_other = before[0] != words[0] || before[1] != words[1];
-        self.patch_if(is_other, patch_of_psw(words[0], words[1]))?;
+        self.patch_if(
+            are_other_psws(before, words),
+            patch_of_psw(words[0], words[1]),
+        )?;
         self.write_general(before, words, 0)
     }
 
@@ -148,4 +150,11 @@ impl Target {
         self.counting.dropped = dropped_by(forwarded, self.counting.dropped);
         Ok(())
     }
+}
+
+/// Whether the words of the PSW are others.
+fn are_other_psws(before: &[u32; REGISTERS], words: &[u32; REGISTERS]) -> bool
+    ensures { result ≡ is_other before.now words.now 0 || is_other before.now words.now 1 }
+{
+    before[0] != words[0] || before[1] != words[1]
 }

@@ -1,4 +1,4 @@
-use Rattle.std.proofs.Common.{◌≡◌, ◌<◌, ◌+◌, ◌∙◌, [], ◌∷◌, Err, ap, arith, drop, length, rules, take}
+use Rattle.std.proofs.Common.{◌≡◌, ◌<◌, ◌+◌, ◌∙◌, [], ◌∷◌, Err, ap, drop, length, rules, take}
 use Rattle.s360_machine.specs.declared.event.Patch.TheVariants.{Bytes}
 use Rattle.s360_remote.specs.Writing.{IsMadeOrBegun, patches_of_bytes}
 use Rattle.s360_remote.specs.declared.error_number.ErrorNumber.TheVariants.{Memory}

@@ -8,9 +8,9 @@ pub returns-in_err-patch_if : goal.returns-in_err-patch_if
 returns-in_err-patch_if c =
     let same : c.from_residual.result ≡ Err Memory = search rules
     in made-from (psw_patches c.args.before.now c.args.words.now) (patches_from_register c.args.before.now c.args.words.now 0) c.args.self.now c.patch_if.new.self _ c.from_residual.result same
-    (rw c.patch_of_psw.ensures at c.in_err-patch_if.ensures.made)
+    (rw (c.patch_of_psw.ensures, c.are_other_psws.ensures) at c.in_err-patch_if.ensures.made)
 
 pub returns : goal.returns
 returns c =
     made-both (psw_patches c.args.before.now c.args.words.now) (patches_from_register c.args.before.now c.args.words.now 0) c.args.self.now c.patch_if.new.self c.write_general.new.self c.write_general.result
-    (rw c.patch_of_psw.ensures at c.in_ok-patch_if.ensures.made) c.write_general.ensures
+    (rw (c.patch_of_psw.ensures, c.are_other_psws.ensures) at c.in_ok-patch_if.ensures.made) c.write_general.ensures

@@ -1,0 +1,121 @@
+-- Requests that change nothing, and what is answered to a byte.
+use Rattle.std.proofs.Common.{◌≡◌, ◌++◌, ◌∙◌, inl, inr, ℕ, false, List, Some, Result, Ok, Err, refl, ap, sym, subst, append_assoc}
+use Rattle.std.specs.Option.{option_to_list}
+use Rattle.std.specs.Prelude.{IfOk, OnErr}
+use Rattle.s360_packet.specs.Framing.{framed}
+use Rattle.s360_packet.specs.Receiving.{acknowledgement_of, after_byte, received_at}
+use Rattle.s360_packet.specs.Requests.{Reading, Reads}
+use Rattle.s360_packet.specs.declared.receiver.Received.{Received}
+use Rattle.s360_packet.specs.declared.request.Payload.{Payload}
+use Rattle.s360_packet.specs.declared.request.Point.{Point}
+use Rattle.s360_packet.specs.declared.request.Request.{Request}
+use Rattle.s360_packet.specs.declared.request.Request.TheVariants.{Stopped, Registers, WriteRegisters, Register, WriteRegister, Storage, WriteStorage, Step, Continue, StepBack, ContinueBack, Insert, Remove, Supported, Description, Select, IsAlive, CurrentThread, Attached, FirstThreads, NextThreads, StopAcknowledging, Command, Detach, Kill, KillProcess}
+use Rattle.s360_packet.specs.declared.request.RequestFault.{RequestFault}
+use Rattle.s360_packet.specs.declared.request.RequestFault.TheVariants as fault
+use Rattle.s360_remote.specs.Connecting.{Connected, IsAnswered, IsCompleted, IsReceived, IsTaken, answer_to_fault, dropped_by, going}
+use Rattle.s360_remote.specs.Driven.{Driven}
+use Rattle.s360_remote.specs.ErrorNumbers.{error_of}
+use Rattle.s360_remote.specs.Serving.{IsBegun, IsServed, machine_now, packet_of, then_after, told}
+use Rattle.s360_remote.specs.declared.error_number.ErrorNumber.TheVariants.{Memory}
+use Rattle.s360_remote.specs.declared.serving.Then.{Then}
+
+pub if-ok-map : {X E : Type 0} (r : Result X E) (P Q : X → Type 0) → ((x : X) → P x → Q x) → IfOk r P → IfOk r Q
+if-ok-map (Ok x) P Q f h = f x h
+if-ok-map (Err e) P Q f h = h
+
+pub on-err : {X E : Type 0} (r : Result X E) (A : Type 0) → A → OnErr r A
+on-err (Ok x) A a = tt
+on-err (Err e) A a = a
+
+-- a request that changes nothing was answered
+pub record ChangesNothing (request : Request) : Type 0 where
+  pub registers : (x : Payload) → request ≡ WriteRegisters x → ⊥
+  pub register : (x y : ℕ) → request ≡ WriteRegister x y → ⊥
+  pub storage : (x : ℕ) (y : Payload) → request ≡ WriteStorage x y → ⊥
+  pub step : request ≡ Step → ⊥
+  pub continue : request ≡ Continue → ⊥
+  pub step_back : request ≡ StepBack → ⊥
+  pub continue_back : request ≡ ContinueBack → ⊥
+  pub insert : (x : Point) (y z : ℕ) → request ≡ Insert x y z → ⊥
+  pub remove : (x : Point) (y z : ℕ) → request ≡ Remove x y z → ⊥
+  pub command : (x : Payload) → request ≡ Command x → ⊥
+  pub kill : request ≡ Kill → ⊥
+
+pub served-told : (request : Request) (d : Driven) → ChangesNothing request → IsServed request d d (then_after request) (framed (told request (machine_now d))) × IsBegun request d d
+served-told Stopped d h = ((refl, refl, refl), refl)
+served-told Registers d h = ((refl, refl, refl), refl)
+served-told (WriteRegisters x) d h = absurd (h.registers x refl)
+served-told (Register n) d h = ((refl, refl, refl), refl)
+served-told (WriteRegister x y) d h = absurd (h.register x y refl)
+served-told (Storage at count) d h = ((refl, refl, refl), refl)
+served-told (WriteStorage x y) d h = absurd (h.storage x y refl)
+served-told Step d h = absurd (h.step refl)
+served-told Continue d h = absurd (h.continue refl)
+served-told StepBack d h = absurd (h.step_back refl)
+served-told ContinueBack d h = absurd (h.continue_back refl)
+served-told (Insert x y z) d h = absurd (h.insert x y z refl)
+served-told (Remove x y z) d h = absurd (h.remove x y z refl)
+served-told Supported d h = ((refl, refl, refl), refl)
+served-told (Description offset count) d h = ((refl, refl, refl), refl)
+served-told (Select thread) d h = ((refl, refl, refl), refl)
+served-told (IsAlive thread) d h = ((refl, refl, refl), refl)
+served-told CurrentThread d h = ((refl, refl, refl), refl)
+served-told Attached d h = ((refl, refl, refl), refl)
+served-told FirstThreads d h = ((refl, refl, refl), refl)
+served-told NextThreads d h = ((refl, refl, refl), refl)
+served-told StopAcknowledging d h = ((refl, refl, refl), refl)
+served-told (Command x) d h = absurd (h.command x refl)
+served-told Detach d h = ((refl, refl, refl), refl)
+served-told Kill d h = absurd (h.kill refl)
+served-told (KillProcess n) d h = ((refl, refl, refl), refl)
+
+-- what it made and what it was answered
+pub told-served : (request : Request) (d : Driven) (next : Then) (old new : List ℕ) → ChangesNothing request → (next ≡ then_after request) × (new ≡ old ++ framed (told request (machine_now d)))
+    → (packets : List ℕ) × IsServed request d d next packets × (new ≡ old ++ packets)
+told-served request d next old new h is =
+    (framed (told request (machine_now d)), subst (λ n. IsServed request d d n (framed (told request (machine_now d)))) (sym is.0) (served-told request d h).0, is.1)
+
+-- ---- a packet's data
+
+pub answered-fault : (reading : Reading) (c : Connected) (d : Driven) (f : RequestFault) (old new : List ℕ) → Reads reading (Err f) → new ≡ old ++ packet_of (answer_to_fault f)
+    → (packets : List ℕ) × IsAnswered reading c d c d 0 packets × (new ≡ old ++ packets)
+answered-fault (Err g) c d f old new h is =
+    let same : f ≡ g = cc
+    in (packet_of (answer_to_fault g), ((refl, refl, refl), refl), is ∙ ap (λ x. old ++ packet_of (answer_to_fault x)) same)
+answered-fault (Ok r) c d f old new (inl h) is = absurd (cc)
+answered-fault (Ok r) c d f old new (inr h) is =
+    let wrong = h.1
+    in let same : f ≡ fault.Memory = cc
+    in (packet_of (error_of Memory), inr (inl refl, refl, refl, refl), is ∙ ap (λ x. old ++ packet_of (answer_to_fault x)) same)
+
+pub answered-request : (reading : Reading) (c e : Connected) (d t : Driven) (request : Request) (next : Then) (dropped : ℕ) (packets : List ℕ) → Reads reading (Ok request)
+    → IsServed request d t next packets → e ≡ going c next → dropped ≡ dropped_by next → IsAnswered reading c d e t dropped packets
+answered-request (Err g) c e d t request next dropped packets h served is count = absurd (cc)
+answered-request (Ok r) c e d t request next dropped packets (inl h) served is count =
+    let same : request ≡ r = cc
+    in inl (next, subst (λ x. IsServed x d t next packets) same served, is, count)
+answered-request (Ok r) c e d t request next dropped packets (inr h) served is count = let wrong = h.1 in absurd (cc)
+
+pub answered-memory : (reading : Reading) (c : Connected) (d t : Driven) (request : Request) → Reads reading (Ok request) → IsBegun request d t
+    → IsAnswered reading c d c t 0 (packet_of (error_of Memory))
+answered-memory (Err g) c d t request h begun = absurd (cc)
+answered-memory (Ok r) c d t request (inl h) begun =
+    let same : request ≡ r = cc
+    in inr (inr (subst (λ x. IsBegun x d t) same begun), refl, refl, refl)
+answered-memory (Ok r) c d t request (inr h) begun = let wrong = h.1 in absurd (cc)
+
+-- ---- a byte
+
+pub taken-from : (byte : ℕ) (c e : Connected) (d t : Driven) (dropped : ℕ) (came : Received) (old said new : List ℕ) → c.ended ≡ false → received_at c.receiving byte ≡ Some came
+    → said ≡ old ++ option_to_list (acknowledgement_of c.acknowledging came)
+    → (packets : List ℕ) × IsReceived came (record c { receiving = after_byte c.receiving byte }) d e t dropped packets × (new ≡ said ++ packets)
+    → (bytes : List ℕ) × IsTaken c.ended byte c d e t dropped bytes × (new ≡ old ++ bytes)
+taken-from byte c e d t dropped came old said new here at acknowledged h =
+    let acknowledgement : List ℕ = option_to_list (acknowledgement_of c.acknowledging came)
+    in let completed : IsCompleted (received_at c.receiving byte) (record c { receiving = after_byte c.receiving byte }) d e t dropped (acknowledgement ++ h.0)
+    = subst (λ o. IsCompleted o (record c { receiving = after_byte c.receiving byte }) d e t dropped (acknowledgement ++ h.0)) (sym at) (h.0, h.1, refl)
+    in (
+      acknowledgement ++ h.0,
+      subst (λ b. IsTaken b byte c d e t dropped (acknowledgement ++ h.0)) (sym here) completed,
+      h.2 ∙ ap (λ l. l ++ h.0) acknowledged ∙ append_assoc old acknowledgement h.0,
+    )

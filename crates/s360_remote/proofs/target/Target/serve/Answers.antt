@@ -1,0 +1,22 @@
+use Rattle.s360_remote.proofs.ServingLemmas.{ChangesNothing, if-ok-map, on-err, served-told, told-served}
+use Rattle.s360_remote.proofs.target.Target.serve.Goals as goal
+
+pub returns-in_default : goal.returns-in_default
+returns-in_default c =
+    let nothing : ChangesNothing c.args.request = record {
+      registers = c.in_default.not-WriteRegisters;
+      register = c.in_default.not-WriteRegister;
+      storage = c.in_default.not-WriteStorage;
+      step = c.in_default.not-Step;
+      continue = c.in_default.not-Continue;
+      step_back = c.in_default.not-StepBack;
+      continue_back = c.in_default.not-ContinueBack;
+      insert = c.in_default.not-Insert;
+      remove = c.in_default.not-Remove;
+      command = c.in_default.not-Command;
+      kill = c.in_default.not-Kill;
+    }
+    in record {
+      served = if-ok-map c.tell.result _ _ (λ next h. told-served c.args.request c.args.self.now next c.args.replies.now c.tell.new.replies nothing h) c.tell.ensures;
+      begun = on-err c.tell.result _ (served-told c.args.request c.args.self.now nothing).1;
+    }
