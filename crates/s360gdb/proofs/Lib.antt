@@ -1,1 +1,2 @@
 mod Conversations
+mod Notes

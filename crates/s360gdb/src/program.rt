@@ -99,9 +99,9 @@ fn serve<R: Read, W: Write, N: Write>(
         // What was answered before memory was wanted is written too.
         let written = write_whole(writer, replies.as_bytes());
         taken?;
-        if written.is_err() {
+        let Ok(()) = written else {
             return Err(Failure::Part(Part::Connection, Fault::WriteFailed));
-        }
+        };
         replies.clear();
     }
     Ok(())
