@@ -11,6 +11,7 @@ mod running;
 
 pub use answering::answer;
 pub use bytes::ScriptFault;
+pub use lines::skips;
 pub use run::{answer_line, run_script};
 pub use s360_language::{Command, LineFault, Shown, read_command};
 pub use s360_text::Text;

@@ -66,7 +66,7 @@ fn strip_return(line: &[u8]) -> &[u8]
 }
 
 /// Whether a line is skipped: it is blank, or begins with an asterisk.
-pub(crate) fn skips(line: &[u8]) -> bool
+pub fn skips(line: &[u8]) -> bool
     ensures { result ≡ is_skipped line.now }
 {
     line.first() == Some(&b'*') || is_blank(line)

@@ -5,3 +5,4 @@ pub mod BackwardLemmas
 pub mod DrivenLemmas
 pub mod WritingLemmas
 pub mod AgainLemmas
+pub mod MonitorLemmas

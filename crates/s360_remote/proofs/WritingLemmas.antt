@@ -1,6 +1,8 @@
 -- Writes: patches are made one after another.
-use Rattle.std.proofs.Common.{◌≡◌, ◌<◌, ◌≤◌, ◌+◌, ◌-◌, ◌/◌, ◌++◌, ◌∙◌, ◌⊎◌, inl, inr, ℕ, zero, suc, Bool, true, false, List, [], ◌∷◌, Option, Some, None, Result, Ok, Err, ⊤, tt, refl, ap, sym, subst, arith, rules, drop, length, min, take}
-use Rattle.std.specs.Prelude.{nat_lt, if◌then◌else◌}
+use Rattle.std.proofs.Common.{◌≡◌, ◌<◌, ◌≤◌, ◌+◌, ◌-◌, ◌/◌, ◌++◌, ◌∙◌, inl, inr, ℕ, zero, suc, Bool, true, false, List, [], ◌∷◌, Option, Some, None, Result, Ok, Err, refl, ap, sym, subst, arith, rules, drop, length, min, take}
+use Rattle.std.specs.Prelude.{⊤, nat_lt, if◌then◌else◌}
+use Rattle.std.specs.List.{flat_map, range_with_len}
+use Rattle.std.proofs.lemmas.Bool.{cases_lt}
 use Rattle.std.proofs.lemmas.List.{drop_all, length-drop, length-take-le, take_all}
 use Rattle.s360_machine.specs.Machine.{seen, storage_size}
 use Rattle.s360_machine.specs.Refusals.{refusal_of_patch}
@@ -15,24 +17,40 @@ use Rattle.s360_record.specs.Recorded.{Recorded, rest_of, session_of, standing_e
 use Rattle.s360_record.specs.declared.forwarding.Forwarded.{Forwarded}
 use Rattle.s360_record.specs.declared.forwarding.Forwarded.TheVariants.{New, Again, Dropped}
 use Rattle.s360_remote.specs.Driven.{Driven}
-use Rattle.s360_remote.specs.Writing.{AreBegun, AreMade, IsMadeOrBegun, after_patch, patch_count, patches_from, patches_of_bytes}
+use Rattle.s360_remote.specs.Writing.{AreBegun, AreMade, IsMadeOrBegun, after_patch, patch_count, patches_from, patches_from_register, patches_of_bytes, register_patches}
 use Rattle.s360_remote.specs.declared.error_number.ErrorNumber.{ErrorNumber}
+use Rattle.s360_remote.specs.declared.error_number.ErrorNumber.TheVariants.{Memory}
 
 -- ---- one patch, and those that follow
 
-pub AreMade-more : (d next t : Driven) (p : Patch) (ps : List Patch) (f : Forwarded) → IsMet (rest_of d.recorded) (patch p) f → next ≡ after_patch d p f → AreMade next ps t → AreMade d (p ∷ ps) t
-AreMade-more d next t p ps f met is made = (f, met, subst (λ n. AreMade n ps t) is made)
+pub AreMade-both : (ps qs : List Patch) (d m t : Driven) → AreMade d ps m → AreMade m qs t → AreMade d (ps ++ qs) t
+AreMade-both [] qs d m t h made = subst (λ n. AreMade n qs t) h made
+AreMade-both (p ∷ ps) qs d m t h made = (h.0, h.1, AreMade-both ps qs (after_patch d p h.0) m t h.2 made)
 
-pub AreBegun-more : (d next t : Driven) (p : Patch) (ps : List Patch) (f : Forwarded) → IsMet (rest_of d.recorded) (patch p) f → next ≡ after_patch d p f → AreBegun next ps t → AreBegun d (p ∷ ps) t
-AreBegun-more d next t p ps f met is begun = (suc begun.0, AreMade-more d next t p (take begun.0 ps) f met is begun.1)
+AreBegun-both : (ps qs : List Patch) (d m t : Driven) → AreMade d ps m → AreBegun m qs t → AreBegun d (ps ++ qs) t
+AreBegun-both [] qs d m t h begun = subst (λ n. AreBegun n qs t) h begun
+AreBegun-both (p ∷ ps) qs d m t h begun =
+    let others : AreBegun (after_patch d p h.0) (ps ++ qs) t = AreBegun-both ps qs (after_patch d p h.0) m t h.2 begun
+    in (suc others.0, (h.0, h.1, others.1))
 
-pub AreBegun-none : (d t : Driven) (ps : List Patch) → t ≡ d → AreBegun d ps t
-AreBegun-none d t ps is = (0, is)
+begun-first : (n : ℕ) (ps qs : List Patch) (d t : Driven) → AreMade d (take n ps) t → AreBegun d (ps ++ qs) t
+begun-first zero ps qs d t made = (0, made)
+begun-first (suc n) [] qs d t made = (0, made)
+begun-first (suc n) (p ∷ ps) qs d t made =
+    let others : AreBegun (after_patch d p made.0) (ps ++ qs) t = begun-first n ps qs (after_patch d p made.0) t made.2
+    in (suc others.0, (made.0, made.1, others.1))
 
-pub IsMadeOrBegun-more : (d next t : Driven) (p : Patch) (ps : List Patch) (f : Forwarded) → IsMet (rest_of d.recorded) (patch p) f → next ≡ after_patch d p f
-    → (r : Result ⊤ ErrorNumber) → IsMadeOrBegun next ps t r → IsMadeOrBegun d (p ∷ ps) t r
-IsMadeOrBegun-more d next t p ps f met is (Ok tt) made = AreMade-more d next t p ps f met is made
-IsMadeOrBegun-more d next t p ps f met is (Err fault) h = (h.0, AreBegun-more d next t p ps f met is h.1)
+-- the first ones are made, and then the others
+pub made-both : (ps qs : List Patch) (d m t : Driven) (r : Result ⊤ ErrorNumber) → IsMadeOrBegun d ps m (Ok tt) → IsMadeOrBegun m qs t r → IsMadeOrBegun d (ps ++ qs) t r
+made-both ps qs d m t (Ok done) first others = AreMade-both ps qs d m t first others
+made-both ps qs d m t (Err fault) first others = (others.0, AreBegun-both ps qs d m t first others.1)
+
+-- memory was wanting on the way through the first ones
+pub made-first : (ps qs : List Patch) (d t : Driven) (fault : ErrorNumber) → IsMadeOrBegun d ps t (Err fault) → IsMadeOrBegun d (ps ++ qs) t (Err fault)
+made-first ps qs d t fault h = (h.0, begun-first h.1.0 ps qs d t h.1.1)
+
+pub made-from : (ps qs : List Patch) (d t : Driven) (fault : ErrorNumber) (r : Result ⊤ ErrorNumber) → r ≡ Err Memory → IsMadeOrBegun d ps t (Err fault) → IsMadeOrBegun d (ps ++ qs) t r
+made-from ps qs d t fault r is h = subst (λ x. IsMadeOrBegun d (ps ++ qs) t x) (sym is) (refl, (made-first ps qs d t fault h).1)
 
 -- ---- what a patch leaves as it is
 
@@ -53,18 +71,15 @@ start-after d p (Dropped n) = refl
 
 -- ---- bytes in parts
 
-least-of : (n : ℕ) → (256 ≤ n) ⊎ (n ≤ 256)
-least-of n = omega arith
-
 pub part-of : (bytes : List ℕ) → take (min (length bytes) 256) bytes ≡ take 256 bytes
-part-of bytes = elim least-of (length bytes) as (λ _. take (min (length bytes) 256) bytes ≡ take 256 bytes) [
+part-of bytes = elim (cases_lt 256 (length bytes)) as (λ _. take (min (length bytes) 256) bytes ≡ take 256 bytes) [
   | inl h ↦ let least : min (length bytes) 256 ≡ 256 = omega (arith, h) in ap (λ k. take k bytes) least
   | inr h ↦ let least : min (length bytes) 256 ≡ length bytes = omega (arith, h)
     in ap (λ k. take k bytes) least ∙ take_all (length bytes) bytes (omega arith) ∙ sym (take_all 256 bytes h)
 ]
 
 pub rest-of : (bytes : List ℕ) → drop (min (length bytes) 256) bytes ≡ drop 256 bytes
-rest-of bytes = elim least-of (length bytes) as (λ _. drop (min (length bytes) 256) bytes ≡ drop 256 bytes) [
+rest-of bytes = elim (cases_lt 256 (length bytes)) as (λ _. drop (min (length bytes) 256) bytes ≡ drop 256 bytes) [
   | inl h ↦ let least : min (length bytes) 256 ≡ 256 = omega (arith, h) in ap (λ k. drop k bytes) least
   | inr h ↦ let least : min (length bytes) 256 ≡ length bytes = omega (arith, h)
     in ap (λ k. drop k bytes) least ∙ drop_all (length bytes) bytes (omega arith) ∙ sym (drop_all 256 bytes h)
@@ -86,24 +101,15 @@ patches-more at bytes part rest h first others =
     ∙ ap (λ xs. Bytes at xs ∷ patches_from (patch_count (length (drop 256 bytes))) (at + length xs) (drop 256 bytes)) (sym first)
     ∙ ap (λ ys. Bytes at part ∷ patches_of_bytes (at + length part) ys) (sym others)
 
--- ---- patches of a loop: what is left of them leads where all of them lead
+-- ---- words of registers
 
-pub record IsWriting (start : Driven) (all : List Patch) (now : Driven) (left : List Patch) : Type 0 where
-  pub made : (t : Driven) → AreMade now left t → AreMade start all t
-  pub begun : (t : Driven) → AreBegun now left t → AreBegun start all t
+pub general-more : (before words : List ℕ) (r : ℕ) → r < 16 → patches_from_register before words r ≡ register_patches before words r ++ patches_from_register before words (r + 1)
+general-more before words r h =
+    let more : 16 - r ≡ suc (16 - (r + 1)) = omega (arith, h)
+    in ap (λ n. flat_map (λ k. register_patches before words k) (range_with_len r n)) more
 
-pub IsWriting-start : (d : Driven) (ps : List Patch) → IsWriting d ps d ps
-IsWriting-start d ps = record { made = λ t h. h; begun = λ t h. h }
-
-pub IsWriting-more : (start now next : Driven) (all ps : List Patch) (p : Patch) (f : Forwarded) → IsWriting start all now (p ∷ ps)
-    → IsMet (rest_of now.recorded) (patch p) f → next ≡ after_patch now p f → IsWriting start all next ps
-IsWriting-more start now next all ps p f h met is = record {
-  made = λ t made. h.made t (AreMade-more now next t p ps f met is made);
-  begun = λ t begun. h.begun t (AreBegun-more now next t p ps f met is begun);
-}
-
-pub IsWriting-same : (start now : Driven) (all ps qs : List Patch) → ps ≡ qs → IsWriting start all now ps → IsWriting start all now qs
-IsWriting-same start now all ps qs same h = subst (λ l. IsWriting start all now l) same h
+pub general-none : (before words : List ℕ) (r : ℕ) → r ≡ 16 → patches_from_register before words r ≡ []
+general-none before words r h = ap (λ k. patches_from_register before words k) h
 
 -- ---- a patch that is not refused
 

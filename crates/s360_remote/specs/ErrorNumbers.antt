@@ -4,9 +4,10 @@ use Rattle.s360_machine.specs.declared.refusal.Refusal.TheVariants as refused
 use Rattle.s360_packet.specs.declared.answer.Answer.{Answer}
 use Rattle.s360_packet.specs.declared.answer.Answer.TheVariants.{Error}
 use Rattle.s360_remote.specs.declared.error_number.ErrorNumber.{ErrorNumber}
-use Rattle.s360_remote.specs.declared.error_number.ErrorNumber.TheVariants.{Memory, Address, Malformed, Full}
+use Rattle.s360_remote.specs.declared.error_number.ErrorNumber.TheVariants.{NoThread, Memory, Address, Malformed, Full}
 
 abbrev pub error_of : ErrorNumber → Answer
+error_of NoThread = Error 3
 error_of Memory = Error 12
 error_of Address = Error 14
 error_of Malformed = Error 22

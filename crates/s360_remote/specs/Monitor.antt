@@ -3,7 +3,7 @@
 use Rattle.std.specs.Prelude.{◌≡◌, ◌≢◌, ◌⊎◌, ℕ, zero, suc, List, [], ◌++◌, codes}
 use Rattle.s360_model.specs.Text.{decimal}
 use Rattle.s360_debug.specs.Debugger.{Debugger}
-use Rattle.s360_debug.specs.Script.{StandsAfterReading, answer_to_reading, state_after_reading}
+use Rattle.s360_debug.specs.Script.{StandsAfterReading, answer_to_line, state_after_line}
 use Rattle.s360_language.specs.Reading.{reading_of}
 use Rattle.s360_record.specs.Recorded.{session_of}
 use Rattle.s360_remote.specs.Driven.{Driven}
@@ -18,18 +18,18 @@ dropped_text zero = []
 dropped_text (suc n) = codes "dropped " ++ decimal (suc n) ++ codes " recorded changes\n"
 
 abbrev pub monitor_text : Debugger → List ℕ → ℕ → List ℕ
-monitor_text d line dropped = answer_to_reading d (reading_of line) ++ dropped_text dropped
+monitor_text d line dropped = answer_to_line d line ++ dropped_text dropped
 
--- the line was carried out: one of the language as a script's is, `help` with no change
-pub record IsCarriedOut (line : List ℕ) (d t : Driven) (text : List ℕ) : Type 0 where
-  pub text : line ≢ codes "help" → text ≡ monitor_text (debugger_of d) line t.dropped
-  pub state : line ≢ codes "help" → debugger_of t ≡ state_after_reading (debugger_of d) (reading_of line)
+-- the line was carried out: one of the language as a script's is, also where a script skips it; `help` with no change
+pub record IsCarriedOut (line : List ℕ) (d t : Driven) (said : List ℕ) : Type 0 where
+  pub text : line ≢ codes "help" → said ≡ monitor_text (debugger_of d) line t.dropped
+  pub state : line ≢ codes "help" → debugger_of t ≡ state_after_line (debugger_of d) line
   pub points : t.points ≡ d.points
   pub help : line ≡ codes "help" → t ≡ d
 
 -- after want of memory: some first ones of the events stand that it would have run, or it was carried out and its text is lost
 pub record IsLineBegun (line : List ℕ) (d t : Driven) : Type 0 where
   pub stands : line ≢ codes "help" → StandsAfterReading (reading_of line) (debugger_of d) (debugger_of t).session
-    ⊎ (debugger_of t ≡ state_after_reading (debugger_of d) (reading_of line))
+    ⊎ (debugger_of t ≡ state_after_line (debugger_of d) line)
   pub points : t.points ≡ d.points
   pub help : line ≡ codes "help" → t ≡ d

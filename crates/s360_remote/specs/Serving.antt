@@ -1,6 +1,6 @@
 -- What a request makes of the target, and what it is answered (gdb manual, "Packets", "Stop Reply Packets", "General Query
 -- Packets").
-use Rattle.std.specs.Prelude.{◌≡◌, ◌≢◌, ◌⊎◌, ⊤, tt, ℕ, zero, suc, ◌+◌, ◌^◌, Bool, true, false, nat_lt, if◌then◌else◌, List, [], ◌∷◌, length, take, Result, Ok, Err}
+use Rattle.std.specs.Prelude.{◌≡◌, ◌≢◌, ◌⊎◌, ⊤, ℕ, zero, suc, ◌+◌, ◌^◌, Bool, true, false, nat_eq, nat_lt, if◌then◌else◌, List, [], ◌∷◌, length, take, Result, Ok, Err}
 use Rattle.byteorder.specs.Endian.{IsRead, big_number}
 use Rattle.s360_machine.specs.Machine.{Machine, storage_size}
 use Rattle.s360_journal.specs.Breakpoints.{has_room_for, with_address, without_address}
@@ -14,6 +14,8 @@ use Rattle.s360_packet.specs.declared.answer.Stop.{Stop}
 use Rattle.s360_packet.specs.declared.answer.Stop.TheVariants.{Trap, Quiet}
 use Rattle.s360_packet.specs.declared.request.Point.{Point}
 use Rattle.s360_packet.specs.declared.request.Point.TheVariants.{Software, Hardware, Write as write}
+use Rattle.s360_packet.specs.declared.request.Thread.{Thread}
+use Rattle.s360_packet.specs.declared.request.Thread.TheVariants.{Numbered}
 use Rattle.s360_packet.specs.declared.request.Request.{Request}
 use Rattle.s360_packet.specs.declared.request.Request.TheVariants.{Stopped, Registers, WriteRegisters, Register, WriteRegister, Storage, WriteStorage, Step, Continue, StepBack, ContinueBack, Insert, Remove, Supported, Description, Select, IsAlive, CurrentThread, Attached, FirstThreads, NextThreads, StopAcknowledging, Command, Detach, Kill, KillProcess}
 use Rattle.s360_record.specs.Recorded.{session_of, standing_events}
@@ -27,7 +29,7 @@ use Rattle.s360_remote.specs.Registers.{words_of}
 use Rattle.s360_remote.specs.Replies.{pause_packets, register_of_number, storage_text}
 use Rattle.s360_remote.specs.Writing.{IsWriteEnd, Write, register_write, registers_write, storage_write}
 use Rattle.s360_remote.specs.declared.error_number.ErrorNumber.{ErrorNumber}
-use Rattle.s360_remote.specs.declared.error_number.ErrorNumber.TheVariants.{Address, Full, Malformed, Memory}
+use Rattle.s360_remote.specs.declared.error_number.ErrorNumber.TheVariants.{NoThread, Address, Full, Malformed, Memory}
 use Rattle.s360_remote.specs.declared.pause.Reach.TheVariants as reach
 use Rattle.s360_remote.specs.declared.serving.Then.{Then}
 use Rattle.s360_remote.specs.declared.serving.Then.TheVariants as then
@@ -54,7 +56,7 @@ after_write (suc n) = then.Dropped (suc n)
 
 -- how a write ended is told
 abbrev pub IsTold : Result ⊤ ErrorNumber → ℕ → Then → List ℕ → Type 0
-IsTold (Ok tt) dropped next packets = (next ≡ after_write dropped) × (packets ≡ packet_of answer.Done)
+IsTold (Ok done) dropped next packets = (next ≡ after_write dropped) × (packets ≡ packet_of answer.Done)
 IsTold (Err fault) dropped next packets = (next ≡ then.GoOn) × (packets ≡ packet_of (error_of fault))
 
 -- a write ended, and not for want of memory, which is told
@@ -107,6 +109,11 @@ points_without other at count d = record d.points { breaks = without_address d.p
 
 -- ---- requests that change nothing
 
+-- there is one thread, whose number is 1
+abbrev pub thread_answer : Thread → Answer
+thread_answer (Numbered n) = if nat_eq n 1 then answer.Done else error_of NoThread
+thread_answer other = answer.Done
+
 abbrev pub told : Request → Machine → List ℕ
 told Registers m = registers_text (words_of m)
 told (Register number) m = register_of_number m number
@@ -118,6 +125,8 @@ told Attached m = answer_text answer.Attached
 told FirstThreads m = answer_text answer.FirstThreads
 told NextThreads m = answer_text answer.NoMoreThreads
 told Stopped m = answer_text (answer.Stopped Trap)
+told (Select thread) m = answer_text (thread_answer thread)
+told (IsAlive thread) m = answer_text (thread_answer thread)
 told other m = answer_text answer.Done
 
 -- a line without an answer is done

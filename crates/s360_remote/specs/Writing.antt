@@ -1,9 +1,8 @@
 -- What gdb writes into the machine: patches, each an event of its own, which stands and can be taken back (gdb manual,
 -- "Packets", `M`, `X`, `P` and `G`).
-use Rattle.std.specs.Prelude.{◌≡◌, ⊤, tt, ℕ, zero, suc, ◌+◌, ◌/◌, ◌||◌, ◌&&◌, Bool, nat_eq, nat_lt, if◌then◌else◌, List, [], ◌∷◌, ◌++◌, length, take, drop, slice_index, Result, Ok, Err}
-use Rattle.std.specs.Int.{from_be_bytes}
+use Rattle.std.specs.Prelude.{◌≡◌, ⊤, ℕ, zero, suc, ◌+◌, ◌-◌, ◌/◌, ◌||◌, Bool, not, nat_eq, nat_lt, if◌then◌else◌, List, [], ◌∷◌, ◌++◌, length, take, drop, slice_index, Result, Ok, Err}
 use Rattle.std.specs.List.{flat_map, range_with_len}
-use Rattle.s360_machine.specs.Machine.{Machine, storage_size}
+use Rattle.s360_machine.specs.Machine.{storage_size}
 use Rattle.s360_machine.specs.declared.event.Event.TheVariants.{Patch as patch}
 use Rattle.s360_machine.specs.declared.event.Patch.{Patch}
 use Rattle.s360_machine.specs.declared.event.Patch.TheVariants.{Bytes, Register}
@@ -73,7 +72,7 @@ register_write d number word =
 
 -- what gives the PSW and the registers other words: one patch for both words of the PSW, and one for each register
 abbrev pub is_other : List ℕ → List ℕ → ℕ → Bool
-is_other before words n = if nat_eq (slice_index before n) (slice_index words n) then false else true
+is_other before words n = not (nat_eq (slice_index before n) (slice_index words n))
 
 abbrev pub psw_patches : List ℕ → List ℕ → List Patch
 psw_patches before words =
@@ -83,8 +82,12 @@ abbrev pub register_patches : List ℕ → List ℕ → ℕ → List Patch
 register_patches before words r =
     if is_other before words (r + 2) then Register r (slice_index words (r + 2)) ∷ [] else []
 
+-- those of the general registers from one on
+abbrev pub patches_from_register : List ℕ → List ℕ → ℕ → List Patch
+patches_from_register before words register = flat_map (λ r. register_patches before words r) (range_with_len register (16 - register))
+
 abbrev pub patches_of_words : List ℕ → List ℕ → List Patch
-patches_of_words before words = psw_patches before words ++ flat_map (λ r. register_patches before words r) (range_with_len 0 16)
+patches_of_words before words = psw_patches before words ++ patches_from_register before words 0
 
 -- `G`: the record has to have room for all of them
 abbrev pub registers_write : Driven → List ℕ → Write
@@ -92,7 +95,7 @@ registers_write d words = with_room d 18 (patches_of_words (words_of (machine_of
 
 -- how a write that makes these patches ends: after want of memory some first ones are made
 abbrev pub IsMadeOrBegun : Driven → List Patch → Driven → Result ⊤ ErrorNumber → Type 0
-IsMadeOrBegun d ps t (Ok tt) = AreMade d ps t
+IsMadeOrBegun d ps t (Ok done) = AreMade d ps t
 IsMadeOrBegun d ps t (Err fault) = (fault ≡ Memory) × AreBegun d ps t
 
 -- how a write ends

@@ -1,5 +1,5 @@
 //! A connection with gdb: bytes come in and go out. Source: gdb manual, "Remote Serial Protocol", "Packet Acknowledgment".
-ghost use Rattle.std.specs.Prelude.{◌≡◌, ◌++◌, ℕ, List, IfOk};
+ghost use Rattle.std.specs.Prelude.{◌≡◌, ◌++◌, ℕ, List, false, IfOk};
 ghost use Rattle.s360_packet.specs.Receiving.{between_packets};
 ghost use Rattle.s360_packet.specs.Requests.{reading_of};
 ghost use Rattle.s360_packet.specs.declared.receiver.Acknowledging.TheVariants.{On};

@@ -10,6 +10,8 @@ use std::alloc::AllocError;
 /// Why a request failed.
 #[derive(Clone, Copy, Debug, PartialEq, Eq)]
 pub enum ErrorNumber {
+    /// ESRCH: there is no such thread.
+    NoThread,
     /// ENOMEM: a growth was refused.
     Memory,
     /// EFAULT: an address is outside storage.
@@ -26,6 +28,7 @@ impl ErrorNumber {
         ensures { result ≡ error_of self }
     {
         Answer::Error(match self {
+            ErrorNumber::NoThread => 3,
             ErrorNumber::Memory => 12,
             ErrorNumber::Address => 14,
             ErrorNumber::Malformed => 22,

@@ -1,12 +1,13 @@
 //! Lines of gdb's user for the target: `monitor LINE`. Each is a line of the script language, and has the answer that it has
 //! in a script. What it takes back stays recorded.
-ghost use Rattle.std.specs.Prelude.{◌≡◌, ◌⊎◌, ◌++◌, IfOk, OnErr, OnOk};
+ghost use Rattle.std.specs.Prelude.{◌≡◌, ◌⊎◌, ◌++◌, false, IfOk, OnErr, OnOk};
 ghost use Rattle.s360_language.specs.Reading.{reading_of};
-ghost use Rattle.s360_debug.specs.Script.{StandsAfterReading, state_after_reading};
+ghost use Rattle.s360_debug.specs.Lines.{is_skipped};
+ghost use Rattle.s360_debug.specs.Script.{StandsAfterReading, state_after_line};
 ghost use Rattle.s360_remote.specs.Monitor.{IsCarriedOut, IsLineBegun, debugger_of, dropped_text, monitor_text};
 
 use crate::target::Target;
-use s360_debug::answer_line;
+use s360_debug::{answer_line, skips};
 use s360_text::Text;
 use std::alloc::{AllocError, Global};
 
@@ -49,6 +50,10 @@ pub(crate) fn monitor(target: &mut Target, line: &[u8]) -> Result<Text, AllocErr
 {
     match line {
         b"help" => text_of(target.alloc, HELP),
+        line if skips(line) => {
+            target.counting.dropped = 0;
+            Ok(Text::new(target.alloc))
+        }
         line => carry_out(target, line),
     }
 }
@@ -62,12 +67,13 @@ fn text_of(alloc: Global, words: &str) -> Result<Text, AllocError>
     Ok(text)
 }
 
-/// Carries out a line of the language.
+/// Carries out a line of the language that a script does not skip.
 fn carry_out(target: &mut Target, line: &[u8]) -> Result<Text, AllocError>
+    requires { is_skipped line.now ≡ false }
     ensures text { IfOk result (λ text. text ≡ monitor_text (debugger_of target.old) line.now target.new.dropped) }
-    ensures state { OnOk result (debugger_of target.new ≡ state_after_reading (debugger_of target.old) (reading_of line.now)) }
+    ensures state { OnOk result (debugger_of target.new ≡ state_after_line (debugger_of target.old) line.now) }
     ensures points { target.new.points ≡ target.old.points }
-    ensures memory { OnErr result (StandsAfterReading (reading_of line.now) (debugger_of target.old) (debugger_of target.new).session ⊎ (debugger_of target.new ≡ state_after_reading (debugger_of target.old) (reading_of line.now))) }
+    ensures memory { OnErr result (StandsAfterReading (reading_of line.now) (debugger_of target.old) (debugger_of target.new).session ⊎ (debugger_of target.new ≡ state_after_line (debugger_of target.old) line.now)) }
 {
     target.counting.dropped = 0;
     let alloc = target.alloc;

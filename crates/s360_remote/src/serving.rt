@@ -13,7 +13,7 @@ ghost use Rattle.s360_remote.specs.Registers.{words_of};
 ghost use Rattle.s360_remote.specs.Replies.{console_packet, idle_words, idle_words_of, pause_packets};
 ghost use Rattle.s360_remote.specs.Replies.{refusal_words, register_of_number, storage_text};
 ghost use Rattle.s360_remote.specs.Serving.{AreAllBegun, AreAllWritten, IsBegun, IsPaused, IsServed, IsTold};
-ghost use Rattle.s360_remote.specs.Serving.{after_write, insert_answer, line_text, machine_now, packet_of, points_with, points_without};
+ghost use Rattle.s360_remote.specs.Serving.{after_write, insert_answer, line_text, machine_now, packet_of, points_with, points_without, then_after, thread_answer, told};
 ghost use Rattle.s360_remote.specs.declared.error_number.ErrorNumber.TheVariants.{Memory};
 ghost use Rattle.s360_remote.specs.declared.serving.Then.TheVariants.{GoOn};
 
@@ -26,7 +26,7 @@ use crate::replies::Replies;
 use crate::target::Target;
 use byteorder::{BigEndian, ByteOrder};
 use s360_machine::{EventKind, Refusal};
-use s360_packet::{Answer, Payload, Point, REGISTERS, Request, Stop, register_value};
+use s360_packet::{Answer, Payload, Point, REGISTERS, Request, Stop, Thread, register_value};
 use s360_text::Text;
 use std::alloc::{AllocError, Global};
 
@@ -82,7 +82,9 @@ impl Target {
     }
 
     /// Answers a request that changes nothing.
-    fn tell(&self, request: Request, replies: &mut Replies) -> Result<Then, AllocError> {
+    fn tell(&self, request: Request, replies: &mut Replies) -> Result<Then, AllocError>
+        ensures { IfOk result (λ next. (next ≡ then_after request) × (replies.new ≡ replies.old ++ framed (told request (machine_now self.now)))) }
+    {
         match request {
             Request::Registers => self.tell_registers(replies)?,
             Request::Register(number) => self.tell_register(number, replies)?,
@@ -92,6 +94,9 @@ impl Target {
             })?,
             Request::Description { offset, count } => {
                 replies.push(Answer::Description { offset, count })?;
+            }
+            Request::Select(thread) | Request::IsAlive(thread) => {
+                replies.push(thread_answer(thread))?;
             }
             Request::CurrentThread => replies.push(Answer::Thread)?,
             Request::Attached => replies.push(Answer::Attached)?,
@@ -240,11 +245,7 @@ impl Target {
         ensures begun { OnErr result (IsLineBegun line.now self.old self.new) }
     {
         let text = monitor(self, line.as_slice())?;
-        if text.as_bytes().is_empty() {
-            replies.push(Answer::Done)?;
-        } else {
-            replies.push(Answer::Bytes(text.as_bytes()))?;
-        }
+        tell_line(&text, replies)?;
         Ok(Then::GoOn)
     }
 
@@ -325,6 +326,26 @@ impl Target {
         );
         replies.push(Answer::Console(words.as_bytes()))
     }
+}
+
+/// Whether a thread is there: there is one, whose number is 1.
+fn thread_answer(thread: Thread) -> Answer<'static>
+    ensures { result ≡ thread_answer thread }
+{
+    match thread {
+        Thread::Numbered(number) if number != 1 => ErrorNumber::NoThread.answer(),
+        Thread::Every | Thread::Any | Thread::Numbered(_) => Answer::Done,
+    }
+}
+
+/// Tells the answer of a line.
+fn tell_line(text: &Text, replies: &mut Replies) -> Result<(), AllocError>
+    ensures { OnOk result (replies.new ≡ replies.old ++ framed (line_text text.now)) }
+{
+    if text.as_bytes().is_empty() {
+        return replies.push(Answer::Done);
+    }
+    replies.push(Answer::Bytes(text.as_bytes()))
 }
 
 /// How serving goes on after a write that dropped so many recorded changes.

@@ -1,15 +1,10 @@
 //! What gdb writes into the machine, each an event of its own, which stands and can be taken back. Source: gdb manual,
 //! "Packets", `M`, `X`, `P` and `G`.
-ghost use Rattle.std.specs.Prelude.{◌≡◌, ◌+◌, ◌<◌, ◌≤◌, length, nat_le, None, IfErr, OnErr, OnOk};
+ghost use Rattle.std.specs.Prelude.{◌≡◌, ◌+◌, ◌-◌, ◌^◌, ◌<◌, ◌≤◌, ◌∷◌, [], length, nat_le, None, if◌then◌else◌};
 ghost use Rattle.s360_machine.specs.Machine.{seen, storage_size};
 ghost use Rattle.s360_machine.specs.Refusals.{refusal_of_patch};
-ghost use Rattle.s360_machine.specs.declared.event.Event.TheVariants.{Patch as patched};
-ghost use Rattle.s360_record.specs.Forwarding.{IsMet};
-ghost use Rattle.s360_record.specs.Recorded.{rest_of};
-ghost use Rattle.s360_record.specs.declared.forwarding.Forwarded.{Forwarded};
-ghost use Rattle.s360_remote.specs.Writing.{IsMadeOrBegun, IsWriteEnd, after_patch, patch_count, patches_of_bytes};
-ghost use Rattle.s360_remote.specs.Writing.{register_write, registers_write, storage_write};
-ghost use Rattle.s360_remote.specs.declared.error_number.ErrorNumber.TheVariants.{Memory};
+ghost use Rattle.s360_remote.specs.Writing.{IsMadeOrBegun, IsWriteEnd, patch_count, patches_from_register, patches_of_bytes};
+ghost use Rattle.s360_remote.specs.Writing.{patches_of_words, register_write, registers_write, storage_write};
 
 use crate::counting::dropped_by;
 use crate::error_number::ErrorNumber;
@@ -65,29 +60,20 @@ impl Target {
         }
         self.counting.dropped = 0;
         let before = words_of(self.machine());
-        if before[0] != words[0] || before[1] != words[1] {
-            self.patch(patch_of_psw(words[0], words[1]))?;
-        }
-        for register in 0..16u8 {
-            let number = usize::from(register) + 2;
-            if before[number] != words[number] {
-                let patch = Patch::Register(RegisterNumber::new(register), words[number]);
-                self.patch(patch)?;
-            }
-        }
-        Ok(())
+        self.write_words(&before, words)
     }
 
     /// Whether so many events more can be recorded after those that stand.
     fn has_room_for(&self, events: usize) -> bool
         ensures { result ≡ nat_le (self.now.recorded.standing + events) self.now.recorded.limit }
     {
-        self.standing() as usize + events <= self.limit as usize
+        (self.standing() as usize).saturating_add(events) <= self.limit as usize
     }
 
     /// Gives storage from an address on these bytes, all of which are in storage. The record has room for the patches.
     fn write_parts(&mut self, at: u32, bytes: &[u8]) -> Result<(), ErrorNumber>
         requires inside { at + length bytes.now ≤ storage_size (seen self.old.recorded.start) }
+        requires small { storage_size (seen self.old.recorded.start) < 2 ^ 32 }
         requires room { self.old.recorded.standing + patch_count (length bytes.now) ≤ self.old.recorded.limit }
         ensures { IsMadeOrBegun self.old (patches_of_bytes at bytes.now) self.new result }
     {
@@ -95,19 +81,65 @@ impl Target {
             return Ok(());
         }
         let (part, rest) = bytes.split_at(bytes.len().min(PATCH));
-        let patch = Patch::Bytes {
-            at,
-            bytes: Bytes::new(part.to_vec(self.alloc)?),
-        };
-        self.patch(patch)?;
-        self.write_parts(at + part.len() as u32, rest)
+        let next = at + part.len() as u32;
+        let bytes = Bytes::new(part.to_vec(self.alloc)?);
+        self.patch(Patch::Bytes { at, bytes })?;
+        self.write_parts(next, rest)
     }
 
-    /// Makes a patch. Want of memory changes nothing, nor does a refusal.
+    /// Gives those registers their words whose words before were others. The record has room for a patch of each.
+    fn write_words(
+        &mut self,
+        before: &[u32; REGISTERS],
+        words: &[u32; REGISTERS],
+    ) -> Result<(), ErrorNumber>
+        requires room { self.old.recorded.standing + 18 ≤ self.old.recorded.limit }
+        ensures { IsMadeOrBegun self.old (patches_of_words before.now words.now) self.new result }
+    {
+        let is_other = before[0] != words[0] || before[1] != words[1];
+        self.patch_if(is_other, patch_of_psw(words[0], words[1]))?;
+        self.write_general(before, words, 0)
+    }
+
+    /// Does so with the general registers, from this one on.
+    fn write_general(
+        &mut self,
+        before: &[u32; REGISTERS],
+        words: &[u32; REGISTERS],
+        register: u8,
+    ) -> Result<(), ErrorNumber>
+        requires number { register ≤ 16 }
+        requires room { self.old.recorded.standing + (16 - register) ≤ self.old.recorded.limit }
+        ensures { IsMadeOrBegun self.old (patches_from_register before.now words.now register) self.new result }
+    {
+        if register == 16 {
+            return Ok(());
+        }
+        let number = usize::from(register) + 2;
+        let patch = Patch::Register(RegisterNumber::new(register), words[number]);
+        self.patch_if(before[number] != words[number], patch)?;
+        self.write_general(before, words, register + 1)
+    }
+
+    /// Makes a patch if what it puts is something else.
+    fn patch_if(&mut self, is_other: bool, patch: Patch) -> Result<(), ErrorNumber>
+        requires allowed { refusal_of_patch (storage_size (seen self.old.recorded.start)) patch ≡ None }
+        requires room { self.old.recorded.standing < self.old.recorded.limit }
+        ensures made { IsMadeOrBegun self.old (if is_other then patch ∷ [] else []) self.new result }
+        ensures standing { self.new.recorded.standing ≤ self.old.recorded.standing + 1 }
+        ensures limit { self.new.recorded.limit ≡ self.old.recorded.limit }
+    {
+        if is_other { self.patch(patch) } else { Ok(()) }
+    }
+
+    /// Makes a patch that is not refused. Want of memory changes nothing.
     fn patch(&mut self, patch: Patch) -> Result<(), ErrorNumber>
-        ensures made { OnOk result ((f : Forwarded) × IsMet (rest_of self.old.recorded) (patched patch) f × (self.new ≡ after_patch self.old patch f)) }
-        ensures err { OnErr result (self.new ≡ self.old) }
-        ensures memory { refusal_of_patch (storage_size (seen self.old.recorded.start)) patch ≡ None → self.old.recorded.standing < self.old.recorded.limit → IfErr result (λ e. e ≡ Memory) }
+        requires allowed { refusal_of_patch (storage_size (seen self.old.recorded.start)) patch ≡ None }
+        requires room { self.old.recorded.standing < self.old.recorded.limit }
+        ensures made { IsMadeOrBegun self.old (patch ∷ []) self.new result }
+        ensures standing { self.new.recorded.standing ≤ self.old.recorded.standing + 1 }
+        ensures limit { self.new.recorded.limit ≡ self.old.recorded.limit }
+        ensures start { self.new.recorded.start ≡ self.old.recorded.start }
     {
         // Both are looked at, since their clauses have that storage is as large as at the start, and that what stands is recorded.
         let _machine = self.machine();
