@@ -1,0 +1,2 @@
+mod Conversations
+mod Notes

@@ -1,9 +1,10 @@
 //! What the program does once its command line is read. Faults are found in the order of the steps.
-ghost use Rattle.std.specs.Prelude.{◌≡◌, ◌≢◌, ◌⊎◌, true, false, IfErr, OnOk, Err};
+ghost use Rattle.std.specs.Prelude.{◌≡◌, ◌++◌, ℕ, List, true, false, IfErr, OnOk, Err};
 ghost use Rattle.std.specs.Io.KnownBytes.{Appends};
 ghost use Rattle.s360_model.specs.Storage.{is_storage_size};
 ghost use Rattle.s360_setup.specs.Failures.{IsAnsweringFailure};
 ghost use Rattle.s360_setup.specs.Partial.{IsBegun};
+ghost use Rattle.s360gdb.specs.Conversation.{IsConversation, IsServedWhole};
 ghost use Rattle.s360gdb.specs.Failures.{IsServingFailure, IsRunFailure};
 ghost use Rattle.s360gdb.specs.Notes.{note_of_dropped};
 ghost use Rattle.s360_setup.specs.declared.failure.Failure.TheVariants.{Memory, StorageSize};
@@ -77,6 +78,7 @@ fn serve<R: Read, W: Write, N: Write>(
     writer: &mut W,
     notes: &mut N,
 ) -> Result<(), Failure>
+    ensures served { OnOk result (IsServedWhole (R.remaining reader.old) (R.remaining reader.new) target.old target.new (W.contents writer.old) (W.contents writer.new)) }
     ensures failure { IfErr result IsServingFailure }
 {
     let mut connection = Connection::new(alloc)?;
@@ -97,9 +99,9 @@ fn serve<R: Read, W: Write, N: Write>(
         // What was answered before memory was wanted is written too.
         let written = write_whole(writer, replies.as_bytes());
         taken?;
-        if written.is_err() {
+        let Ok(()) = written else {
             return Err(Failure::Part(Part::Connection, Fault::WriteFailed));
-        }
+        };
         replies.clear();
     }
     Ok(())
@@ -113,6 +115,7 @@ fn take_all<N: Write>(
     bytes: &[u8],
     notes: &mut N,
 ) -> Result<(), Failure>
+    ensures answered { OnOk result ((answers : List ℕ) × IsConversation bytes.now connection.old target.old connection.new target.new answers × (replies.new ≡ replies.old ++ answers)) }
     ensures failure { IfErr result (λ failure. failure ≡ Memory) }
 {
     for byte in bytes {

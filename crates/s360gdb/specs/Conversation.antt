@@ -1,0 +1,39 @@
+-- What gdb sends byte by byte, and what it is answered (gdb manual, "Remote Serial Protocol", "Overview").
+use Rattle.std.specs.Prelude.{◌≡◌, ◌≤◌, ◌⊎◌, ℕ, true, false, List, [], ◌∷◌, ◌++◌, length, Option}
+use Rattle.std.specs.Io.KnownBytes.{Appends, Consumes, IsAtEnd}
+use Rattle.s360_packet.specs.Receiving.{between_packets}
+use Rattle.s360_packet.specs.declared.receiver.Acknowledging.TheVariants.{On}
+use Rattle.s360_remote.specs.Connecting.{Connected, IsTaken}
+use Rattle.s360_remote.specs.Driven.{Driven}
+
+-- nothing has come
+abbrev pub new_connection : Connected
+new_connection = record { receiving = between_packets 16384; acknowledging = On; ended = false }
+
+-- bytes came one after another, and were answered so
+abbrev pub IsConversation : List ℕ → Connected → Driven → Connected → Driven → List ℕ → Type 0
+IsConversation [] c d e t answers = (e ≡ c) × (t ≡ d) × (answers ≡ [])
+IsConversation (byte ∷ bytes) c d e t answers =
+    (f : Connected) × (u : Driven) × (dropped : ℕ) × (first : List ℕ) × (rest : List ℕ)
+    × IsTaken c.ended byte c d f u dropped first × IsConversation bytes f u e t rest × (answers ≡ first ++ rest)
+
+-- the bytes that were read of a reader, of which the last read gave at most 4,096: gdb had not left before it; and their
+-- answers, which a writer has
+pub record IsServed (old new : Option (List ℕ)) (d t : Driven) (silent answered : Option (List ℕ)) (e : Connected) : Type 0 where
+  pub before : List ℕ
+  pub last : List ℕ
+  pub connection : Connected
+  pub target : Driven
+  pub first : List ℕ
+  pub rest : List ℕ
+  pub read : Consumes old new (before ++ last)
+  pub few : length last ≤ 4096
+  pub begun : IsConversation before new_connection d connection target first
+  pub stays : connection.ended ≡ false
+  pub ended : IsConversation last connection target e t rest
+  pub written : Appends silent answered (first ++ rest)
+
+-- until gdb has left, or the reader has no more, or more was read than a file can have
+abbrev pub IsServedWhole : Option (List ℕ) → Option (List ℕ) → Driven → Driven → Option (List ℕ) → Option (List ℕ) → Type 0
+IsServedWhole old new d t silent answered =
+    (e : Connected) × (s : IsServed old new d t silent answered e) × ((e.ended ≡ true) ⊎ (IsAtEnd new ⊎ (18446744073709551615 ≤ length (s.before ++ s.last))))
