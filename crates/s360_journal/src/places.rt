@@ -95,7 +95,11 @@ impl Places {
         ensures memory { OnErr result (IfSome (slice_get changes.now (length changes.now - 1)) (λ x. places_of_change x ≢ [])) }
     {
         let number = changes.len();
-        let count = if number == 0 { 0 } else { changes.count(number) };
+        let count = if number == 0 {
+            0
+        } else {
+            changes.count(number)
+        };
         if count == 0 {
             let spans = SpanList::Within(None, None);
             return Ok(Places { spans, count });
