@@ -21,7 +21,7 @@ from concurrent.futures import ProcessPoolExecutor
 
 from fuzzer.packets import Requests
 from packet_rows import STOP_ACKNOWLEDGING, TOP, framed, plain
-from second.remote import MALFORMED, Endless, Target
+from second.remote import MALFORMED, OK, Endless, Target
 
 SECONDS = 120
 IN_A_SESSION = 200
@@ -78,7 +78,8 @@ class Connection:
             return
         answers = [MALFORMED] if len(packet) > SIZE else self.target.answer(packet)
         self.answered += b"".join(framed(answer) for answer in answers)
-        self.acknowledges = self.acknowledges and packet != STOP_ACKNOWLEDGING
+        if packet == STOP_ACKNOWLEDGING and answers == [OK]:
+            self.acknowledges = False
 
 
 def requests(some, count, has_deck):
