@@ -20,7 +20,7 @@ import sys
 from concurrent.futures import ProcessPoolExecutor
 
 from fuzzer.packets import Requests
-from packet_rows import STOP_ACKNOWLEDGING, TOP, framed, plain
+from packet_rows import PROGRAM, STOP_ACKNOWLEDGING, TOP, framed, plain
 from second.remote import MALFORMED, OK, Endless, Target
 
 SECONDS = 120
@@ -136,7 +136,7 @@ def fault_of(seed, program):
 
 def main():
     parser = argparse.ArgumentParser(description=__doc__.partition("\n")[0])
-    parser.add_argument("--program", type=pathlib.Path, default=TOP / "crates/s360gdb/out/s360gdb")
+    parser.add_argument("--program", type=pathlib.Path, default=PROGRAM)
     parser.add_argument("--requests", type=int, default=2000)
     parser.add_argument("--seed", type=int, default=1)
     options = parser.parse_args()

@@ -13,12 +13,11 @@ import functools
 import itertools
 import os
 import re
-from typing import NamedTuple
 
 from packet_fuzz import CARD, Connection
 from packet_rows import TOP, framed, row_of
 from second.core import SIZE as STORAGE
-from second.remote import MEMORY, OK, Recording, Target
+from second.remote import MALFORMED, MEMORY, OK, Recording, Target
 
 OUT_OF_MEMORY = "s360gdb: memory: out of memory"
 AT_THE_START = b"T05replaylog:begin;"
@@ -27,6 +26,9 @@ SET_POINT = re.compile(rb"\$Z([012],[0-9a-f]+,[0-9a-f]+)#")
 # Altered storage is asked for in whole blocks.
 BLOCK = 256
 NOT_AT_ALL = -1
+# What is answered to no request, and what is not answered.
+NEED_NONE = ([], [b""], [MALFORMED])
+SHOWN = 300
 
 
 class WantOfMemory(Exception):
@@ -93,12 +95,6 @@ class NotingConnection(Connection):
         self.ends.append((len(self.answered), len(self.target.answers)))
 
 
-class Outcome(NamedTuple):
-    answered: bytes
-    told: list[str]
-    is_done: bool
-
-
 class Conversation:
     """A row of packets with what leads back to the start, and what may be answered."""
 
@@ -108,15 +104,16 @@ class Conversation:
         self.deck = deck_of(row.words)
         leave = LEAVE.search(row.sent)
         end = leave.start() if leave else len(row.sent)
-        first, last = row.sent[:end], row.sent[end:]
-        connection = self.connection(first)
-        self.before = len(connection.target.answers)
-        points = dict.fromkeys(b"z" + point for point in SET_POINT.findall(first))
-        asked = [b"g", *storage_requests(connection.target.recording.altered)]
+        before, behind = row.sent[:end], row.sent[end:]
+        target = self.connection(before).target
+        points = dict.fromkeys(b"z" + point for point in SET_POINT.findall(before))
+        asked = [b"g", *storage_requests(target.recording.altered)]
         fresh = Target(self.deck)
-        self.back = [[OK]] * len(points) + [[AT_THE_START], *(fresh.answer(data) for data in asked)]
-        self.sent = first + b"".join(map(framed, [*points, b"bc", *asked])) + last
+        self.first_back = len(target.answers)
+        self.back = [[OK]] * len(points) + [[AT_THE_START], *map(fresh.answer, asked)]
+        self.sent = before + b"".join(map(framed, [*points, b"bc", *asked])) + behind
         self.whole = self.connection(self.sent)
+        self.lacked = set()  # the requests that were answered `E0c`
 
     def connection(self, sent, *lack):
         """The connection once this was sent to a target that lacks memory so."""
@@ -127,39 +124,68 @@ class Conversation:
     def fault_of(self, done):
         """What is wrong with a run in which a growth was refused, or none was."""
         told = done.stderr.decode(errors="replace").splitlines()
-        if done.returncode == 1:
-            *told, last = told or [""]
-            is_told = last == OUT_OF_MEMORY and told == self.whole.target.told[: len(told)]
-            if is_told and self.whole.answered.startswith(done.stdout):
-                return None
-        elif done.returncode == 0:
-            came = done.stdout, told
-            if came == (self.whole.answered, self.whole.target.told):
-                return None
-            request = self.request_answered_otherwise(done.stdout)
-            if any(came == outcome[:2] for outcome in self.outcomes(request)):
-                return None
-            return f"after request {request} no target answers so: {done.stdout[-300:]!r}, {told}"
-        return f"status {done.returncode}: {told}"
+        if done.returncode == 1 and told[-1:] == [OUT_OF_MEMORY]:
+            is_told = told[:-1] == self.whole.target.told[: len(told) - 1]
+            is_begun = is_told and self.whole.answered.startswith(done.stdout)
+            return None if is_begun else f"other answers before it ends: {done.stdout[-SHOWN:]}"
+        if done.returncode != 0:
+            return f"status {done.returncode}: {told}"
+        if self.is_answered(done.stdout, told, self.whole):
+            return None
+        request = self.answered_otherwise(done.stdout)
+        self.lacked.add(request)
+        outcomes = self.outcomes(request)
+        if any(self.is_answered(done.stdout, told, outcome) for outcome in outcomes):
+            return None
+        return f"from request {request} on no target answers so: {done.stdout[-SHOWN:]}, {told}"
 
-    def request_answered_otherwise(self, answered):
+    def is_answered(self, answered, told, connection):
+        """Whether this is what came over a connection, on which all led back to the start."""
+        target = connection.target
+        back = target.answers[self.first_back :][: len(self.back)]
+        leads_back = all(map(lambda came, want: came in (want, [MEMORY]), back, self.back))
+        return leads_back and (answered, told) == (connection.answered, target.told)
+
+    def answered_otherwise(self, answered):
         """The number of the first request that is answered in another way."""
         same = len(os.path.commonprefix([answered, self.whole.answered]))
         return next((count - 1 for end, count in self.whole.ends if end > same), None)
 
     def outcomes(self, request):
-        """What may come of want of memory at a request."""
-        for events in itertools.count(NOT_AT_ALL):
+        """What may come of want of memory at a request, if there is this one."""
+        for events in itertools.count(NOT_AT_ALL) if request is not None else ():
             outcome = self.outcome(request, events)
             yield outcome
-            if outcome.is_done or request is None:
+            if outcome.target.is_done:
                 return
 
     @functools.cache
     def outcome(self, request, events):
-        connection = self.connection(self.sent, request, events)
-        target = connection.target
-        return Outcome(connection.answered, target.told, target.is_done)
+        return self.connection(self.sent, request, events)
+
+    def faults_at_the_end(self):
+        """Each request that is done is to lack memory at some growth, but for `k`: it has no answer."""
+        for request, answers in enumerate(self.whole.target.answers):
+            if answers not in NEED_NONE and request not in self.lacked:
+                yield f"no growth is wanted by request {request}, answered {answers}"
+
+
+class NoPacket:
+    """What sets the program up, and no packet."""
+
+    sent = b""
+
+    def __init__(self, words):
+        self.words = words
+
+    def fault_of(self, done):
+        ends = (0, b""), (1, f"{OUT_OF_MEMORY}\n".encode())
+        if (done.returncode, done.stderr) in ends and done.stdout == b"":
+            return None
+        return f"status {done.returncode}: {done.stderr}, and it answers {done.stdout}"
+
+    def faults_at_the_end(self):
+        return ()
 
 
 def deck_of(words):
