@@ -1,21 +1,23 @@
 """What s360gdb may answer to a row of packets if one growth of memory is refused.
 
-The request for which memory is wanting is answered `E0c`. Of what it asks nothing is done then, or some
-first events stand, or all is done and the answer alone is lost. All other answers are those of a target
-with these events: the second one (`second/remote.py`) tells them. If not even `E0c` gets memory, the
-program ends with status 1, and what it has answered is the beginning of the row's answers.
+The request for which memory is wanting is answered `E0c`. Of what it asks nothing is done then, or
+some first events stand, or all is done and the answer alone is lost. All other answers are those of
+a target with these events: the second one (`second/remote.py`) tells them. If a growth is wanted
+where nothing can be answered, the program ends with status 1. What it has answered is then the
+beginning of the row's answers.
 
-Behind the packets of a row, but before gdb leaves, others lead back to the start: they take out each
-point that the row sets, go back by `bc`, and ask for the registers and for the storage that the row
-altered, which have to be what they were.
+Behind the packets of a row, but before gdb leaves, others lead back to the start: they take out
+each point that the row sets, go back by `bc`, and ask for the registers and for the storage that
+the row altered, which have to be what they were. Of all these only the answers take memory.
 """
 import functools
 import itertools
 import os
 import re
+from typing import NamedTuple
 
-from packet_fuzz import CARD, Connection
-from packet_rows import TOP, framed, row_of
+from packet_fuzz import Connection, deck_of
+from packet_rows import framed, row_of
 from second.core import SIZE as STORAGE
 from second.remote import MALFORMED, MEMORY, OK, Recording, Target
 
@@ -36,7 +38,7 @@ class WantOfMemory(Exception):
 
 
 class LackingRecording(Recording):
-    """A recording that can lack memory for events, and knows which bytes of storage were altered."""
+    """A recording that can lack memory for events, and knows which bytes were altered."""
 
     def __init__(self, deck):
         super().__init__(deck)
@@ -84,7 +86,7 @@ class LackingTarget(Target):
 
 
 class NotingConnection(Connection):
-    """A connection that notes where what answers a packet ends, and how many requests there were."""
+    """A connection that notes where the answer to each packet ends, and after how many requests."""
 
     def __init__(self, target):
         super().__init__(target)
@@ -95,8 +97,23 @@ class NotingConnection(Connection):
         self.ends.append((len(self.answered), len(self.target.answers)))
 
 
+class Outcome(NamedTuple):
+    """What is answered and told, whether that leads back to the start, and whether the request that
+    lacks memory was done."""
+
+    answered: bytes
+    told: list[str]
+    leads_back: bool
+    is_done: bool
+
+    def is_what_came(self, answered, told):
+        return self.leads_back and (answered, told) == (self.answered, self.told)
+
+
 class Conversation:
-    """A row of packets with what leads back to the start, and what may be answered."""
+    """A row of packets with what leads back to the start, and what may be answered.
+
+    Runs have to be told in the order of the growths that are refused."""
 
     def __init__(self, file):
         row = row_of(file)
@@ -112,8 +129,11 @@ class Conversation:
         self.first_back = len(target.answers)
         self.back = [[OK]] * len(points) + [[AT_THE_START], *map(fresh.answer, asked)]
         self.sent = before + b"".join(map(framed, [*points, b"bc", *asked])) + behind
-        self.whole = self.connection(self.sent)
+        whole = self.connection(self.sent)
+        self.whole, self.ends = self.outcome_of(whole), [(0, 0), *whole.ends]
+        self.answers = whole.target.answers
         self.lacked = set()  # the requests that were answered `E0c`
+        self.reached = 0  # so many bytes were answered before the last one of them
 
     def connection(self, sent, *lack):
         """The connection once this was sent to a target that lacks memory so."""
@@ -121,53 +141,59 @@ class Conversation:
         connection.take(sent)
         return connection
 
+    def outcome_of(self, connection):
+        """What came over a connection."""
+        target = connection.target
+        back = target.answers[self.first_back :][: len(self.back)]
+        leads_back = all(came in (want, [MEMORY]) for came, want in zip(back, self.back))
+        return Outcome(connection.answered, target.told, leads_back, target.is_done)
+
+    @functools.cache
+    def outcome(self, request, events):
+        return self.outcome_of(self.connection(self.sent, request, events))
+
+    def outcomes(self, request):
+        """What may come of want of memory at a request."""
+        for events in itertools.count(NOT_AT_ALL):
+            outcome = self.outcome(request, events)
+            yield outcome
+            if outcome.is_done:
+                return
+
     def fault_of(self, done):
         """What is wrong with a run in which a growth was refused, or none was."""
         told = done.stderr.decode(errors="replace").splitlines()
         if done.returncode == 1 and told[-1:] == [OUT_OF_MEMORY]:
-            is_told = told[:-1] == self.whole.target.told[: len(told) - 1]
-            is_begun = is_told and self.whole.answered.startswith(done.stdout)
-            return None if is_begun else f"other answers before it ends: {done.stdout[-SHOWN:]}"
+            return self.fault_of_end(done.stdout, told[:-1])
         if done.returncode != 0:
             return f"status {done.returncode}: {told}"
-        if self.is_answered(done.stdout, told, self.whole):
-            return None
-        request = self.answered_otherwise(done.stdout)
-        self.lacked.add(request)
-        outcomes = self.outcomes(request)
-        if any(self.is_answered(done.stdout, told, outcome) for outcome in outcomes):
-            return None
-        return f"from request {request} on no target answers so: {done.stdout[-SHOWN:]}, {told}"
+        return self.fault_of_answers(done.stdout, told)
 
-    def is_answered(self, answered, told, connection):
-        """Whether this is what came over a connection, on which all led back to the start."""
-        target = connection.target
-        back = target.answers[self.first_back :][: len(self.back)]
-        leads_back = all(map(lambda came, want: came in (want, [MEMORY]), back, self.back))
-        return leads_back and (answered, told) == (connection.answered, target.told)
+    def fault_of_end(self, answered, told):
+        """What is wrong with what was answered before the program ended for want of memory."""
+        is_begun = told == self.whole.told[: len(told)] and self.whole.answered.startswith(answered)
+        if is_begun and len(answered) >= self.reached:
+            return None
+        return f"{len(answered)} bytes, of {self.reached}, before it ends: {answered[-SHOWN:]}"
 
-    def answered_otherwise(self, answered):
-        """The number of the first request that is answered in another way."""
+    def fault_of_answers(self, answered, told):
+        """What is wrong with what was answered, and told, to the end."""
+        if self.whole.is_what_came(answered, told):
+            return None
         same = len(os.path.commonprefix([answered, self.whole.answered]))
-        return next((count - 1 for end, count in self.whole.ends if end > same), None)
-
-    def outcomes(self, request):
-        """What may come of want of memory at a request, if there is this one."""
-        for events in itertools.count(NOT_AT_ALL) if request is not None else ():
-            outcome = self.outcome(request, events)
-            yield outcome
-            if outcome.target.is_done:
-                return
-
-    @functools.cache
-    def outcome(self, request, events):
-        return self.connection(self.sent, request, events)
+        self.reached, before = max(end for end in self.ends if end[0] <= same)
+        if before == len(self.answers):
+            return f"more is answered: {answered[same:][:SHOWN]}"
+        self.lacked.add(before)
+        if any(outcome.is_what_came(answered, told) for outcome in self.outcomes(before)):
+            return None
+        return f"from request {before} on no target answers so: {answered[same:][:SHOWN]}, {told}"
 
     def faults_at_the_end(self):
-        """Each request that is done is to lack memory at some growth, but for `k`: it has no answer."""
-        for request, answers in enumerate(self.whole.target.answers):
+        """Each request that is known and right lacks memory at some growth, if it is answered."""
+        for request, answers in enumerate(self.answers):
             if answers not in NEED_NONE and request not in self.lacked:
-                yield f"no growth is wanted by request {request}, answered {answers}"
+                yield f"no growth was refused at request {request}, answered {answers}"
 
 
 class NoPacket:
@@ -186,14 +212,6 @@ class NoPacket:
 
     def faults_at_the_end(self):
         return ()
-
-
-def deck_of(words):
-    """The deck that a command line names, if it names one."""
-    if "--reader" not in words:
-        return []
-    deck = (TOP / words[words.index("--reader") + 1]).read_bytes()
-    return [deck[at : at + CARD] for at in range(0, len(deck), CARD)]
 
 
 def storage_requests(addresses):
