@@ -1,5 +1,5 @@
 #!/usr/bin/env python3
-"""Says of each instruction, device command and script line which worked row carries it out.
+"""Says of each instruction, device command, line and request of gdb which row carries it out.
 
     tests/coverage.py            fails where one is carried out by no row
     tests/coverage.py --table    prints the first row of each, too
@@ -9,20 +9,29 @@ and notes which instructions and commands it brought to their end, and which lin
 no fault and no refusal. Its answers have to be those of the row. The program then has to answer the
 first row of each as well, with status 0: a run that is out of memory has another status.
 
-It needs the program as `rt ci` or `./run` has built it, and Python's standard library alone.
+Requests stand in rows of packets (`packet_rows.py`), which the second target answers. One is
+carried out if its answer is no error, and not that it is unknown.
+
+It needs the programs as `rt ci` has built them, and Python's standard library alone.
 """
 import argparse
 import os
+import pathlib
+import re
 import sys
 import tempfile
 from concurrent.futures import ThreadPoolExecutor, ProcessPoolExecutor
+from typing import NamedTuple
 
+import packet_rows
 import rows
+from packet_fuzz import Connection, deck_of
 from second.channels import CONSOLE, PRINTER, PUNCH, READER, TAPES
 from second.core import SIZE
 from second.debugger import Debugger
 from second.devices import CARD, REFUSED
 from second.machine import Machine
+from second.remote import Target
 from second.tapes import Tape, items_of
 
 # The operation codes of docs/INSTRUCTIONS.md.
@@ -51,8 +60,14 @@ LINES = {
 }
 OTHER_LINES = ["step", "channel", "tick", "load", "enter", "run", "back", "until", "break", "clear"]
 OTHER_LINES += ["standing", "withdraw"]
-# What a faulty line and a refusal begin with.
+# The requests of docs/GDB.md: what their data is, or begins with.
+REQUESTS = ["?", "g", "G", "p", "P", "m", "M", "X", "s", "c", "bs", "bc"]
+REQUESTS += [f"{letter}{point}," for letter in "Zz" for point in range(3)]
+REQUESTS += ["qSupported", "qXfer:features:read:target.xml:", "Hg", "Hc", "T", "qC", "qAttached"]
+REQUESTS += ["qfThreadInfo", "qsThreadInfo", "qRcmd,", "QStartNoAckMode", "D", "vKill;", "k"]
+# What a faulty line and a refusal begin with, and what answers a request that is not carried out.
 FAULT, REFUSAL = b"? ", b"refused "
+NOT_CARRIED_OUT = re.compile(rb"|E[0-9a-f]{2}")
 
 
 def instruction(code):
@@ -61,6 +76,16 @@ def instruction(code):
 
 def command(device, code):
     return f"{device} command {code:02X}"
+
+
+def request_named(name):
+    return f"request {name}"
+
+
+def request(data):
+    """The request of the table that this data is, which was carried out."""
+    names = (name for name in REQUESTS if data.startswith(name.encode()))
+    return request_named(max(names, key=len))
 
 
 def line_named(words):
@@ -75,6 +100,7 @@ def wanted():
         yield from (command(device, code) for code in (*OF_ALL_UNITS, *codes))
     yield from (line_named([word, other]) for word, others in LINES.items() for other in others)
     yield from (line_named([word]) for word in OTHER_LINES)
+    yield from map(request_named, REQUESTS)
 
 
 class NotingMachine(Machine):
@@ -94,8 +120,63 @@ class NotingMachine(Machine):
             self.carried_out.add(command(DEVICES[unit], program.command))
 
 
+class NotingTarget(Target):
+    """A target that notes which requests were carried out."""
+
+    def __init__(self, deck):
+        super().__init__(deck)
+        self.carried_out = set()
+
+    def answer(self, data):
+        answers = super().answer(data)
+        if not any(map(NOT_CARRIED_OUT.fullmatch, answers)):
+            self.carried_out.add(request(data))
+        return answers
+
+
 class OtherAnswers(Exception):
-    """The second machine answers a line of a row otherwise."""
+    """The second machine answers a line or a packet of a row otherwise."""
+
+
+class ScriptRow(NamedTuple):
+    """A row of lines."""
+
+    row: rows.Row
+
+    @property
+    def name(self):
+        return self.row.name
+
+    def carried_out(self):
+        return carried_out(self.row)
+
+    def fault(self):
+        with tempfile.TemporaryDirectory() as folder:
+            return rows.fault_of_answers(self.row.placed(folder), rows.PROGRAM)
+
+
+class PacketRow(NamedTuple):
+    """A row of packets."""
+
+    file: pathlib.Path
+
+    @property
+    def name(self):
+        return f"packets/{self.file.name}"
+
+    def carried_out(self):
+        row = packet_rows.row_of(self.file)
+        target = NotingTarget(deck_of(row.words))
+        connection = Connection(target)
+        connection.take(row.sent)
+        answered = packet_rows.items_of(connection.answered)
+        fault = packet_rows.first_difference(row.wanted, answered)
+        if fault is not None:
+            raise OtherAnswers(f"{self.name}: {fault}")
+        return target.carried_out
+
+    def fault(self):
+        return "; ".join(packet_rows.faults_of(self.file, packet_rows.PROGRAM))
 
 
 def debugger_of(row):
@@ -138,10 +219,19 @@ def carried_out(row):
     return found | debugger.machine.carried_out
 
 
+def all_rows():
+    yield from map(ScriptRow, rows.rows())
+    yield from map(PacketRow, sorted(packet_rows.ROWS.iterdir()))
+
+
+def things_of(row):
+    return row.carried_out()
+
+
 def first_rows(wanted_rows):
     """The first row of each thing that is carried out."""
     with ProcessPoolExecutor(os.cpu_count()) as pool:
-        found = list(pool.map(carried_out, wanted_rows))
+        found = list(pool.map(things_of, wanted_rows))
     first = {}
     for row, things in zip(wanted_rows, found):
         for thing in things:
@@ -150,10 +240,9 @@ def first_rows(wanted_rows):
 
 
 def faults_of(rows_of_table):
-    """What is wrong with what the program answers to rows, by their names."""
-    with tempfile.TemporaryDirectory() as folder, ThreadPoolExecutor(os.cpu_count()) as pool:
-        placed = [row.placed(folder) for row in rows_of_table]
-        faults = pool.map(lambda row: rows.fault_of_answers(row, rows.PROGRAM), placed)
+    """What is wrong with what a program answers to rows, by their names."""
+    with ThreadPoolExecutor(os.cpu_count()) as pool:
+        faults = pool.map(lambda row: row.fault(), rows_of_table)
         return {row.name: fault for row, fault in zip(rows_of_table, faults) if fault}
 
 
@@ -164,7 +253,7 @@ def main():
     parser.add_argument("--table", action="store_true", help="print the first row of each")
     options = parser.parse_args()
     try:
-        first = first_rows(list(rows.rows()))
+        first = first_rows(list(all_rows()))
     except OtherAnswers as fault:
         sys.exit(str(fault))
     things = list(wanted())

@@ -20,13 +20,13 @@ import sys
 from concurrent.futures import ProcessPoolExecutor
 
 from fuzzer.packets import Requests
-from packet_rows import STOP_ACKNOWLEDGING, TOP, framed, plain
-from second.remote import MALFORMED, Endless, Target
+from packet_rows import PROGRAM, STOP_ACKNOWLEDGING, TOP, framed, plain
+from second.remote import MALFORMED, OK, Endless, Target
 
 SECONDS = 120
 IN_A_SESSION = 200
 SIZE = 16384
-DECK = TOP / "examples/cards.deck"
+DECK = ["--reader", "examples/cards.deck"]
 CARD = 80
 DAMAGED = "damaged"
 # A sum is what follows `#`, up to the second digit or the first byte that is none.
@@ -78,7 +78,16 @@ class Connection:
             return
         answers = [MALFORMED] if len(packet) > SIZE else self.target.answer(packet)
         self.answered += b"".join(framed(answer) for answer in answers)
-        self.acknowledges = self.acknowledges and packet != STOP_ACKNOWLEDGING
+        if packet == STOP_ACKNOWLEDGING and answers == [OK]:
+            self.acknowledges = False
+
+
+def deck_of(words):
+    """The deck that a command line names, if it names one."""
+    if "--reader" not in words:
+        return []
+    deck = (TOP / words[words.index("--reader") + 1]).read_bytes()
+    return [deck[at : at + CARD] for at in range(0, len(deck), CARD)]
 
 
 def requests(some, count, has_deck):
@@ -96,31 +105,29 @@ def requests(some, count, has_deck):
 
 
 def session(seed, count):
-    """Whether a session has the deck, what is sent, and who answered it. What makes the machine run
-    on and on is not sent."""
+    """The words of a session's command line, what is sent, and who answered it. What makes the
+    machine run on and on is not sent."""
     some = Requests(seed)
-    has_deck = some.random() < 0.5
-    cards = DECK.read_bytes() if has_deck else b""
-    deck = [cards[at : at + CARD] for at in range(0, len(cards), CARD)]
-    sent, connection = b"", Connection(Target(deck))
-    for data in requests(some, count, has_deck):
+    words = DECK if some.random() < 0.5 else []
+    sent, connection = b"", Connection(Target(deck_of(words)))
+    for data in requests(some, count, bool(words)):
         packet, before = some.packet(data), copy.copy(connection)
         try:
             connection.take(packet)
         except Endless:
             if connection.answered not in (before.answered, before.answered + b"+"):
-                return has_deck, sent, before
+                return words, sent, before
             connection = before
         else:
             sent += packet
-    return has_deck, sent, connection
+    return words, sent, connection
 
 
 def fault_of(seed, program):
     """What is wrong with what a session is answered, if anything is."""
-    has_deck, sent, connection = session(seed, IN_A_SESSION)
-    command = [program, *(["--reader", DECK] if has_deck else [])]
-    done = subprocess.run(command, input=sent, capture_output=True, timeout=SECONDS)
+    words, sent, connection = session(seed, IN_A_SESSION)
+    how = {"input": sent, "capture_output": True, "timeout": SECONDS, "cwd": TOP}
+    done = subprocess.run([program, *words], **how)
     told = done.stderr.decode(errors="replace").splitlines()
     if done.returncode != 0:
         return f"status {done.returncode}: {told}"
@@ -135,7 +142,7 @@ def fault_of(seed, program):
 
 def main():
     parser = argparse.ArgumentParser(description=__doc__.partition("\n")[0])
-    parser.add_argument("--program", type=pathlib.Path, default=TOP / "crates/s360gdb/out/s360gdb")
+    parser.add_argument("--program", type=pathlib.Path, default=PROGRAM)
     parser.add_argument("--requests", type=int, default=2000)
     parser.add_argument("--seed", type=int, default=1)
     options = parser.parse_args()

@@ -28,6 +28,7 @@ from typing import NamedTuple
 
 TOP = pathlib.Path(__file__).resolve().parent.parent
 ROWS = TOP / "tests/packets"
+PROGRAM = TOP / "crates/s360gdb/out/s360gdb"
 SECONDS = 60
 PACKET = re.compile(rb"\$((?:[^#}]|}.)*)#([0-9a-f]{2})", re.DOTALL)
 STOP_ACKNOWLEDGING = b"QStartNoAckMode"
@@ -133,7 +134,7 @@ def first_difference(wanted, got):
 
 def main():
     parser = argparse.ArgumentParser(description=__doc__.partition("\n")[0])
-    parser.add_argument("--program", type=pathlib.Path, default=TOP / "crates/s360gdb/out/s360gdb")
+    parser.add_argument("--program", type=pathlib.Path, default=PROGRAM)
     parser.add_argument("names", nargs="*", metavar="NAME")
     options = parser.parse_args()
     rows = [ROWS / name for name in options.names] or sorted(ROWS.iterdir())

@@ -1,5 +1,5 @@
 #!/usr/bin/env python3
-"""Runs each worked row and each unit test again and again with one growth of memory refused.
+"""Runs each worked row, each unit test and each row of packets with one growth of memory refused.
 
     tests/refuse_each_growth.py [WORD ..]    with words, those that have one of them in their name
 
@@ -14,6 +14,8 @@ the same did without the growth.
 A test may tell how many events of a line stood after want of memory within it. Then EVENTS_OF_LINES says
 of each such line which numbers have to be met. None may be above them.
 
+What may come of a row of packets, `packets/NAME`, is said in `refused_packets.py`.
+
 It needs what `rt ci` has built, and a C compiler. It prints what is wrong, and how many rows and
 tests were right with each refused growth.
 """
@@ -25,8 +27,11 @@ import sys
 import tempfile
 from collections import defaultdict
 from concurrent.futures import ThreadPoolExecutor
+from typing import NamedTuple
 
+import packet_rows
 import rows
+from refused_packets import Conversation, NoPacket
 
 TOP = rows.TOP
 WANT_OF_MEMORY = ("Memory", "AllocError", "AllocFailed", "OutOfMemory", "out of memory")
@@ -84,25 +89,14 @@ MOST_GROWTHS = {
 }
 
 
-class Subject:
-    """What is run: a command line, and how what it does is judged."""
+class Answered:
+    """What may come of a row of lines."""
 
-    def __init__(self, name, program, args, script=b"", answers=None):
-        self.name, self.program, self.args = name, program, args
-        self.script, self.answers = script, answers
-        self.events_of_lines = defaultdict(set)
-
-    def run(self, shim, **variables):
-        environment = dict(os.environ, LD_PRELOAD=str(shim), **variables)
-        return rows.run(self.program, self.args, self.script, env=environment)
+    def __init__(self, answers):
+        self.answers = answers
 
     def fault_of(self, done):
         """What is wrong with a run in which a growth was refused, or none was."""
-        if self.answers is None:
-            said = (done.stdout + done.stderr).decode(errors="replace")
-            if done.returncode == 0 or any(word in said for word in WANT_OF_MEMORY):
-                return None
-            return f"status {done.returncode}: {said.strip()[:200]}"
         if done.returncode == 0:
             return None if done.stdout == self.answers else "other answers"
         if done.returncode != 1 or done.stderr != b"s360dbg: memory: out of memory\n":
@@ -110,10 +104,49 @@ class Subject:
         whole = done.stdout == b"" or done.stdout.endswith(b"\n")
         return None if whole and self.answers.startswith(done.stdout) else "other answers"
 
+    def faults_at_the_end(self):
+        return ()
+
+
+class Tested:
+    """What may come of a unit test."""
+
+    def __init__(self, wanted):
+        self.wanted = wanted  # how many events of lines are to be met
+        self.met = defaultdict(set)
+
+    def fault_of(self, done):
+        said = (done.stdout + done.stderr).decode(errors="replace")
+        for count, line in OUT_OF_MEMORY_AFTER.findall(said):
+            self.met[line].add(int(count))
+        if done.returncode == 0 or any(word in said for word in WANT_OF_MEMORY):
+            return None
+        return f"status {done.returncode}: {said.strip()[:200]}"
+
+    def faults_at_the_end(self):
+        for line in sorted({*self.wanted, *self.met}):
+            met, numbers = self.met[line], self.wanted.get(line, set())
+            if not numbers <= met <= {*range(max(numbers, default=-1) + 1)}:
+                yield f"{line}: {sorted(met)} events stood after want of memory"
+
+
+class Subject(NamedTuple):
+    """What is run: a command line and its input, and what may come of it."""
+
+    name: str
+    program: pathlib.Path
+    args: list[str]
+    script: bytes
+    may_come: Answered | Tested | Conversation | NoPacket
+
+    def run(self, shim, **variables):
+        environment = dict(os.environ, LD_PRELOAD=str(shim), **variables)
+        return rows.run(self.program, self.args, self.script, env=environment, cwd=TOP)
+
     def faults(self, shim, folder):
         with tempfile.NamedTemporaryFile(dir=folder) as file:
             whole = self.run(shim, COUNT_FILE=file.name)
-            if whole.returncode != 0 or self.fault_of(whole):
+            if whole.returncode != 0 or self.may_come.fault_of(whole):
                 return [f"{self.name}: status {whole.returncode} with nothing refused"], 0
             count = int(pathlib.Path(file.name).read_text())
         each = count if self.name in TO_THE_END else min(count, EACH)
@@ -123,38 +156,29 @@ class Subject:
         if count > most:
             found.append(f"{self.name}: {count} growths, and at most {most} are allowed")
         for nth in refused:
-            done = self.run(shim, REFUSE_NTH=str(nth))
-            self.note_events(done)
-            fault = self.fault_of(done)
+            fault = self.may_come.fault_of(self.run(shim, REFUSE_NTH=str(nth)))
             if fault:
                 found.append(f"{self.name}: growth {nth} of {count} refused: {fault}")
-        return [*found, *self.faults_of_lines()], len(refused)
-
-    def note_events(self, done):
-        """Notes how many events of a line stood after want of memory, if the run tells that."""
-        said = (done.stdout + done.stderr).decode(errors="replace")
-        for count, line in OUT_OF_MEMORY_AFTER.findall(said):
-            self.events_of_lines[line].add(int(count))
-
-    def faults_of_lines(self):
-        wanted = EVENTS_OF_LINES.get(self.name, {})
-        for line in sorted({*wanted, *self.events_of_lines}):
-            found = self.events_of_lines[line]
-            numbers = wanted.get(line, set())
-            if not numbers <= found <= {*range(max(numbers, default=-1) + 1)}:
-                yield f"{self.name}: {line}: {sorted(found)} events stood after want of memory"
+        found += (f"{self.name}: {fault}" for fault in self.may_come.faults_at_the_end())
+        return found, len(refused)
 
 
 def subjects(folder):
     for row in rows.rows():
         row = row.placed(folder)
-        yield Subject(row.name, rows.PROGRAM, row.args, row.script, row.answers)
+        yield Subject(row.name, rows.PROGRAM, row.args, row.script, Answered(row.answers))
     for program in sorted(TOP.glob("crates/*/out/*_tests")):
         listed = subprocess.run([program, "--list"], capture_output=True, text=True)
         for line in (listed.stdout + listed.stderr).splitlines():
             if line.endswith(": test"):
                 test = line.removesuffix(": test")
-                yield Subject(f"{program.name} {test}", program, [test])
+                name = f"{program.name} {test}"
+                yield Subject(name, program, [test], b"", Tested(EVENTS_OF_LINES.get(name, {})))
+    conversations = {file.name: Conversation(file) for file in sorted(packet_rows.ROWS.iterdir())}
+    deck = conversations["cards"].words
+    conversations |= {"(none)": NoPacket([]), "(none, with a deck)": NoPacket(deck)}
+    for name, row in conversations.items():
+        yield Subject(f"packets/{name}", packet_rows.PROGRAM, row.words, row.sent, row)
 
 
 def main():

@@ -116,9 +116,10 @@ class Recording(Debugger):
     def with_fields(self, fields, answer, *words):
         """Answers a line whose event, if it isn't refused, has these fields."""
         self.fields = fields
-        answers = answer(*words)
-        self.fields = ()
-        return answers
+        try:
+            return answer(*words)
+        finally:
+            self.fields = ()
 
     def answer_withdraw(self, count):
         rest, self.later = self.later, []
