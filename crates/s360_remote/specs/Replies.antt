@@ -67,10 +67,10 @@ idle_words m last = idle_words_of (is_operating m.control.run_state) last (wait_
 -- what tells why the machine pauses: where nothing is left to do, or an event is refused, a text and the stop that stands for
 -- it; m is the machine then, and the last event is that which stands last
 abbrev pub pause_packets : Stop → Machine → Option EventKind → Pause → List ℕ
-pause_packets quiet m last (Refused refusal) = console_packet (codes "refused: " ++ refusal_words refusal ++ codes "\n") ++ stop_packet quiet
-pause_packets quiet m last Idle = console_packet (idle_words m last) ++ stop_packet quiet
-pause_packets quiet m last (Watch at) = stop_packet (watch at)
-pause_packets quiet m last Break = stop_packet Breakpoint
-pause_packets quiet m last Stepped = stop_packet Trap
-pause_packets quiet m last RecordEnd = stop_packet HistoryEnd
-pause_packets quiet m last RecordStart = stop_packet HistoryBegin
+pause_packets halt m last (Refused refusal) = console_packet (codes "refused: " ++ refusal_words refusal ++ codes "\n") ++ stop_packet halt
+pause_packets halt m last Idle = console_packet (idle_words m last) ++ stop_packet halt
+pause_packets halt m last (Watch at) = stop_packet (watch at)
+pause_packets halt m last Break = stop_packet Breakpoint
+pause_packets halt m last Stepped = stop_packet Trap
+pause_packets halt m last RecordEnd = stop_packet HistoryEnd
+pause_packets halt m last RecordStart = stop_packet HistoryBegin

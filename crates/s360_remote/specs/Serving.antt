@@ -44,8 +44,8 @@ machine_now d = machine_of (session_of d.recorded)
 
 -- the machine paused: the target is as it was but for the machine, and gdb is told why
 abbrev pub IsPaused : Stop → Paused → Driven → Driven → Then → List ℕ → Type 0
-IsPaused quiet paused d t next packets =
-    (t ≡ moved_to d paused) × (next ≡ then.GoOn) × (packets ≡ pause_packets quiet (machine_now t) (last_kind_of (standing_events t.recorded)) paused.why)
+IsPaused halt paused d t next packets =
+    (t ≡ moved_to d paused) × (next ≡ then.GoOn) × (packets ≡ pause_packets halt (machine_now t) (last_kind_of (standing_events t.recorded)) paused.why)
 
 -- ---- requests that write
 
