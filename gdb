@@ -24,6 +24,15 @@ fi
 
 folder="$(mktemp -d)"
 trap 'rm -rf "$folder"' EXIT
+
+# gdb would say no more than that the target has disconnected. So what is wrong with the words, a file or the script is said
+# before it starts; and so is what `--help` asks for.
+said="$("$program" "$@" </dev/null 2>"$folder/faults")" || { status=$?; cat "$folder/faults" >&2; exit "$status"; }
+if [[ -n $said ]]; then
+    echo "$said"
+    exit
+fi
+
 python3 "$top/tools/gdb/make_elf.py" "$folder/s360.elf"
 printf -v command '%q ' "$program" "$@"
 gdb-multiarch -q -x "$top/tools/gdb/s360.gdb" -ex "file $folder/s360.elf" -ex "target remote | $command"
