@@ -5,7 +5,7 @@ use Rattle.std.proofs.lemmas.List.{append-nil, reverse-append, reverse-reverse}
 use Rattle.std.specs.List.{slice_get}
 use Rattle.std.proofs.lemmas.Bool.{lt-ltb}
 use Rattle.std.specs.Bool.{MatchBool}
-use Rattle.std.specs.Prelude.{nat_lt, Bool, true, false, Result, Err, MatchOption, IsOkUnless}
+use Rattle.std.specs.Prelude.{nat_lt, Bool, true, false, Option, Result, Err, MatchOption, IsOkUnless}
 use Rattle.s360_machine.specs.declared.event.Event.{Event}
 use Rattle.s360_machine.specs.declared.refusal.Refusal.{Refusal}
 use Rattle.s360_machine.specs.declared.refusal.Refusal.TheVariants.{Memory}
@@ -179,3 +179,8 @@ pub next-allowed : (s : Standing) (l : Stacked) (e : Event) → IsKept s l → n
 next-allowed s l e h next =
     let split : (rest : List Event) × (l.events ≡ rest ++ e ∷ []) = last-split l.events e (sym (next-last s l.events) ∙ next)
     in next-refusal s l split.0 e h split.1
+
+-- an event was refused, or memory was wanting for it
+pub refused-from : {X : Type 0} (o : Option Refusal) (r : Refusal) (result : Result X Refusal) → result ≡ Err r → MatchOption o (r ≡ Memory) (λ s. r ≡ s) → MatchOption o (IsOkUnless result Memory) (λ s. result ≡ Err s)
+refused-from None r result is h = subst (λ x. IsOkUnless x Memory) (sym is) h
+refused-from (Some s) r result is h = is ∙ ap (λ x. Err x) h

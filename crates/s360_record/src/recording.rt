@@ -16,7 +16,7 @@ ghost use Rattle.s360_journal.specs.declared.withdrawing.Withdrawal.TheVariants.
 ghost use Rattle.s360_record.specs.Forwarding.{IsMet, state_after};
 ghost use Rattle.s360_record.specs.Recorded.{next_recorded, rest_of, session_of, standing_events, with_standing, without_change};
 
-use crate::forwarding::{Forwarded, leave, meet};
+use crate::forwarding::{Forwarded, leave, prepare};
 use s360_journal::{Breaks, EventStack, NothingStands, Report, Session, Withdrawal, next_event};
 use s360_machine::{Event, EventKind, Machine, Refusal};
 use s360_store::Place;
@@ -145,10 +145,7 @@ impl Recording {
         ensures err { OnErr result (self.new ≡ self.old) }
         ensures refused { MatchOption (refusal_in (session_of self.old) event) (IsOkUnless result no_memory) (λ r. result ≡ Err r) }
     {
-        if self.session.reserve_in(&mut self.later, &event).is_err() {
-            return Err(self.session.refusal(&event).unwrap_or(Refusal::Memory));
-        }
-        let forwarded = meet(&self.later, &event);
+        let forwarded = prepare(&self.session, &mut self.later, &event)?;
         self.session.advance(event)?;
         leave(&mut self.later, forwarded);
         // Looked at, since its clauses have that what stands is accepted.
@@ -164,10 +161,7 @@ impl Recording {
         ensures err { OnErr result (self.new ≡ self.old) }
         ensures refused { MatchOption (refusal_in (session_of self.old) event) (IsOkUnless result no_memory) (λ r. result ≡ Err r) }
     {
-        if self.session.reserve_in(&mut self.later, &event).is_err() {
-            return Err(self.session.refusal(&event).unwrap_or(Refusal::Memory));
-        }
-        let forwarded = meet(&self.later, &event);
+        let forwarded = prepare(&self.session, &mut self.later, &event)?;
         let report = self.session.forward(event)?;
         leave(&mut self.later, forwarded);
         // Looked at, since its clauses have that what stands is accepted.

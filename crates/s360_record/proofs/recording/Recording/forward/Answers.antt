@@ -1,10 +1,10 @@
-use Rattle.std.proofs.Common.{rules, ◌≡◌, ◌++◌, ◌∙◌, ◌∷◌, [], List, reverse, subst, sym}
+use Rattle.std.proofs.Common.{rules, Err, ◌≡◌, ◌++◌, ◌∷◌, [], List, reverse, subst, sym}
 use Rattle.std.proofs.Math.Seq.{take-append_seam}
 use Rattle.s360_machine.specs.declared.event.Event.{Event}
 use Rattle.s360_journal.specs.Stacks.{Fits, Room}
-use Rattle.s360_journal.proofs.IndexLemmas.{ok-there}
-use Rattle.s360_record.specs.Forwarding.{IsMet, rest_after}
-use Rattle.s360_record.proofs.RecordLemmas.{Kept-forward, accepted-room, recorded-forward}
+use Rattle.s360_journal.specs.Standing.{refusal_in}
+use Rattle.s360_record.specs.Forwarding.{rest_after}
+use Rattle.s360_record.proofs.RecordLemmas.{Kept-forward, accepted-room, recorded-forward, refused-from}
 use Rattle.s360_record.proofs.recording.Recording.forward.Goals as goal
 
 pub returns-in_err-advance-clause-refused : goal.returns-in_err-advance-clause-refused
@@ -12,24 +12,22 @@ returns-in_err-advance-clause-refused c = rw (← c.self.view_is, take-append_se
 
 pub invariant_of-self-2 : goal.invariant_of-self-2
 invariant_of-self-2 c =
-    let same = c.reserve_in.ensures.events
-    in let met : IsMet (reverse c.self.inside.later.events) c.args.event c.meet-forwarded.result
-    = subst (λ (es : List Event). IsMet (reverse es) c.args.event c.meet-forwarded.result) same c.meet-forwarded.ensures
-    in let left : reverse c.leave.new.later.events ≡ rest_after (reverse c.self.inside.later.events) c.meet-forwarded.result
-    = subst (λ (es : List Event). reverse c.leave.new.later.events ≡ rest_after (reverse es) c.meet-forwarded.result) same c.leave.ensures.events
+    let left : reverse c.leave.new.later.events ≡ rest_after (reverse c.self.inside.later.events) c.in_ok-forwarded.forwarded
+    = subst (λ (es : List Event). reverse c.leave.new.later.events ≡ rest_after (reverse es) c.in_ok-forwarded.forwarded) c.in_ok-forwarded.ensures.events c.leave.ensures.events
     in let room : Fits (c.self.inside.later.events ++ (c.self.inside.session.events ++ c.args.event ∷ [])) c.leave.new.later.room
-    = subst (λ (r : Room). Fits (c.self.inside.later.events ++ (c.self.inside.session.events ++ c.args.event ∷ [])) r) (sym c.leave.ensures.room)
-    (ok-there c.reserve_in.result _ (sym c.is_err.ensures.value ∙ c.if-is_err.false) c.reserve_in.ensures.ok)
-    in Kept-forward c.self.inside.session c.advance.new.self c.self.inside.later c.leave.new.later c.args.event c.meet-forwarded.result c.self.invariant
+    = subst (λ (r : Room). Fits (c.self.inside.later.events ++ (c.self.inside.session.events ++ c.args.event ∷ [])) r) (sym c.leave.ensures.room) c.in_ok-forwarded.ensures.room
+    in Kept-forward c.self.inside.session c.advance.new.self c.self.inside.later c.leave.new.later c.args.event c.in_ok-forwarded.forwarded c.self.invariant
     c.machine-machine.ensures.accepted c.in_ok-advance.ensures.ok
-    (accepted-room c.self.inside.session c.args.event c.advance.result c.in_ok-advance.field-0 c.in_ok-advance.was c.advance.ensures.refused) room met left
+    (accepted-room c.self.inside.session c.args.event c.advance.result c.in_ok-advance.field-0 c.in_ok-advance.was c.advance.ensures.refused) room c.in_ok-forwarded.ensures.met left
 
 pub returns-clause-state : goal.returns-clause-state
 returns-clause-state c =
-    let same = c.reserve_in.ensures.events
-    in let met : IsMet (reverse c.self.inside.later.events) c.args.event c.meet-forwarded.result
-    = subst (λ (es : List Event). IsMet (reverse es) c.args.event c.meet-forwarded.result) same c.meet-forwarded.ensures
-    in let left : reverse c.leave.new.later.events ≡ rest_after (reverse c.self.inside.later.events) c.meet-forwarded.result
-    = subst (λ (es : List Event). reverse c.leave.new.later.events ≡ rest_after (reverse es) c.meet-forwarded.result) same c.leave.ensures.events
+    let left : reverse c.leave.new.later.events ≡ rest_after (reverse c.self.inside.later.events) c.in_ok-forwarded.forwarded
+    = subst (λ (es : List Event). reverse c.leave.new.later.events ≡ rest_after (reverse es) c.in_ok-forwarded.forwarded) c.in_ok-forwarded.ensures.events c.leave.ensures.events
     in rw (← c.self.view_is) (recorded-forward c.self.inside.session c.advance.new.self c.self.inside.later.events c.leave.new.later.events c.args.event
-    c.meet-forwarded.result c.in_ok-advance.ensures.ok met left)
+    c.in_ok-forwarded.forwarded c.in_ok-advance.ensures.ok c.in_ok-forwarded.ensures.met left)
+
+pub returns-in_err-forwarded-clause-refused : goal.returns-in_err-forwarded-clause-refused
+returns-in_err-forwarded-clause-refused c =
+    let same : c.from_residual.result ≡ Err c.in_err-forwarded.field-0.0 = search rules
+    in rw (← c.self.view_is, take-append_seam) (refused-from (refusal_in c.self.inside.session c.args.event) c.in_err-forwarded.field-0.0 c.from_residual.result same c.in_err-forwarded.ensures.refused)
