@@ -54,7 +54,7 @@ COMMANDS = {
 # The lines of docs/DEBUGGER.md: the first word, with each second word that makes it another line.
 LINES = {
     "key": ["start", "stop", "reset", "interrupt", "request", "eof"],
-    "patch": ["s", "r", "k", "p"],
+    "patch": ["s", "r", "k", "f", "p"],
     "last": ["s", "r", "k", "u", "d", "p", "run", "ext"],
     "show": ["regs", "psw", "s", "k", "ext", "u", "d", "m", "image"],
 }
@@ -106,8 +106,8 @@ def wanted():
 class NotingMachine(Machine):
     """A machine that notes which instructions and commands came to their end."""
 
-    def __init__(self, deck, tapes, size):
-        super().__init__(deck, tapes, size)
+    def __init__(self, deck, tapes, size, protects_fetches):
+        super().__init__(deck, tapes, size, protects_fetches)
         self.carried_out = set()
 
     def execute(self, bytes_of_it, following, length_code):
@@ -189,7 +189,7 @@ def debugger_of(row):
     ]
     size = int(row.args[row.args.index("--storage") + 1]) if "--storage" in row.args else SIZE
     debugger = Debugger()
-    debugger.machine = NotingMachine(cards, tapes, size)
+    debugger.machine = NotingMachine(cards, tapes, size, "--fetch" in row.args)
     return debugger
 
 

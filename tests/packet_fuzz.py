@@ -7,7 +7,8 @@ What is sent is read here by the gdb manual ("Remote Serial Protocol"), apart fr
 answered by `second/remote.py` over the second machine. Each byte has to be the same: packets and
 their sums, what acknowledges them, and what is said on standard error. The program has to end with
 its input, or with the request that ends it, with status 0. Requests are sent in sessions of so
-many, each to a new machine. Half of these have a deck, with a program that it loads.
+many, each to a new machine. Half of these have a deck, with a program that it loads; some protect
+fetches.
 """
 import argparse
 import copy
@@ -27,6 +28,7 @@ SECONDS = 120
 IN_A_SESSION = 200
 SIZE = 16384
 DECK = ["--reader", "examples/cards.deck"]
+FETCH = "--fetch"
 CARD = 80
 DAMAGED = "damaged"
 # A sum is what follows `#`, up to the second digit or the first byte that is none.
@@ -108,9 +110,11 @@ def session(seed, count):
     """The words of a session's command line, what is sent, and who answered it. What makes the
     machine run on and on is not sent."""
     some = Requests(seed)
-    words = DECK if some.random() < 0.5 else []
-    sent, connection = b"", Connection(Target(deck_of(words)))
-    for data in requests(some, count, bool(words)):
+    deck = DECK if some.random() < 0.5 else []
+    words = [*deck, FETCH] if some.random() < 0.4 else deck
+    target = Target(deck_of(words), protects_fetches=FETCH in words)
+    sent, connection = b"", Connection(target)
+    for data in requests(some, count, bool(deck)):
         packet, before = some.packet(data), copy.copy(connection)
         try:
             connection.take(packet)

@@ -11,7 +11,8 @@ hexadecimal digits for each card, whose other columns are blank. The files of th
 bytes of its digits. In both a line that begins with `*` is a comment.
 
 A row of single instructions is `tests/rows/CHAPTER/NAME.cases`, of whose lines the script and its
-answers are made; `worked_cases.py` says how they are written. The examples are rows too: their
+answers are made; `worked_cases.py` says how they are written. Its words of the command line stand
+in `NAME.args` too, of which `--fetch` alone is known there. The examples are rows too: their
 answers stand beside them in `.answers`, and their decks and tapes as files in `.deck`, `.tape0` and
 `.tape1`. With words, the rows that have one of them in their path.
 
@@ -97,6 +98,7 @@ EXAMPLE_MEDIA = {
 }
 BESIDE = (".stdout", ".args", *ROW_MEDIA)
 CASES = ".cases"
+FETCH = "--fetch"
 
 
 def media_beside(script, kinds):
@@ -111,21 +113,27 @@ def media_beside(script, kinds):
 
 def row_of_script(script):
     answers, args = (script.with_name(script.name + part) for part in (".stdout", ".args"))
-    words = args.read_text().splitlines() if args.exists() else []
+    words = words_of(args)
     media = media_beside(script, ROW_MEDIA)
     name = str(script.relative_to(ROWS))
     return Row(name, script.read_bytes(), answers.read_bytes(), words, media)
 
 
+def words_of(args):
+    """The words of the command line that stand in a file, if it is there."""
+    return args.read_text().splitlines() if args.exists() else []
+
+
 def row_of_cases(file):
     """The row of a file of cases. A fault in it ends the program."""
+    words = words_of(file.with_suffix(".args"))
     try:
-        cases = tuple(worked_cases.cases(file))
+        cases = tuple(worked_cases.cases(file, protects_fetches=words == [FETCH]))
     except worked_cases.Fault as fault:
         sys.exit(str(fault))
     script = text_of(line for case in cases for line in case.lines)
     answers = text_of(line for case in cases for line in case.answers)
-    return Row(str(file.relative_to(ROWS).with_suffix("")), script, answers, [], {}, cases)
+    return Row(str(file.relative_to(ROWS).with_suffix("")), script, answers, words, {}, cases)
 
 
 def row_of_example(script):

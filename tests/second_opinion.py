@@ -34,6 +34,8 @@ def command_line(script, folder):
         file = pathlib.Path(folder) / option
         file.write_bytes(contents)
         yield from (f"--{option}", file)
+    if script.protects_fetches:
+        yield "--fetch"
     for number, mounted in enumerate(script.tapes):
         if mounted.is_protected:
             yield f"--protect{number}"

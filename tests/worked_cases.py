@@ -8,6 +8,7 @@ A case is a line: an instruction, what stands before it, and after the arrow wha
     rR=W        a register
     sA=BYTES    bytes of storage from A on
     kA=K        the storage key of the block of A, before the arrow alone
+    fA=D        the fetch bit of that block, which is 0 or 1, before the arrow alone
     code=C      a program interruption with code C follows, after the arrow alone
     svc=C       the interruption of a supervisor call with code C follows, after the arrow alone
 
@@ -52,6 +53,7 @@ VALUES = [
     re.compile(r"(r)([0-9A-F])=([0-9A-F]{1,8})"),
     re.compile(r"(s)([0-9A-F]{1,6})=(.*)"),
     re.compile(r"(k)([0-9A-F]{1,6})=([0-9A-F])"),
+    re.compile(r"(f)([0-9A-F]{1,6})=([01])"),
 ]
 INTERRUPTION = re.compile(r"(code|svc)=([0-9A-F]{1,2})")
 REPEATED = re.compile(r"((?:[0-9A-F]{2})+)(?:\*([0-9]{1,3}))?")
@@ -153,8 +155,8 @@ def step_of(text):
         raise Fault("no arrow")
     told = [word for word in after if INTERRUPTION.fullmatch(word)]
     values = values_of(word for word in after if word not in told)
-    if any(value.kind == "k" for value in values):
-        raise Fault("a storage key after the arrow")
+    if any(value.kind in "kf" for value in values):
+        raise Fault("a storage key or a fetch bit after the arrow")
     return Step(values_of(before), values, interruption_of(told))
 
 
@@ -179,8 +181,8 @@ class Session:
     The debugger of the second machine answers them, but a step leaves what its case says.
     """
 
-    def __init__(self):
-        self.debugger = Debugger()
+    def __init__(self, protects_fetches):
+        self.debugger = Debugger(protects_fetches=protects_fetches)
         self.lines = []
         self.answers = []
 
@@ -234,12 +236,12 @@ class Session:
             self.say("back")
 
 
-def worked(line, common):
+def worked(line, common, protects_fetches):
     """The session of a case, before which the common values stand too."""
     instruction, _, steps = line.partition(" ")
     first, *others = [step_of(text) for text in steps.split(";")]
     before = [START, *common, *first.before]
-    session = Session()
+    session = Session(protects_fetches)
     session.patch([*before, instruction_of(instruction, psw_in(before))])
     session.step(first)
     for step in others:
@@ -249,15 +251,15 @@ def worked(line, common):
     return session
 
 
-def cases(file):
-    """The cases of a file. A fault says the line that has it."""
+def cases(file, protects_fetches=False):
+    """The cases of a file, whose fetches are protected or not. A fault says the line that has it."""
     common = []
     for number, line in enumerate(file.read_text().splitlines(), 1):
         try:
             if line.startswith("with "):
                 common = values_of(line.split()[1:])
             elif line.strip() and not line.startswith("*"):
-                session = worked(line, common)
+                session = worked(line, common, protects_fetches)
                 yield Case(f"{file}:{number}: {line}", session.lines, session.answers)
         except Fault as fault:
             raise Fault(f"{file}:{number}: {fault}") from None

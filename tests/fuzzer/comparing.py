@@ -34,6 +34,8 @@ class Program(NamedTuple):
         for number, is_protected in enumerate((media.protect0, media.protect1)):
             if is_protected:
                 yield f"--protect{number}"
+        if media.fetch:
+            yield "--fetch"
 
     def run(self, session):
         command = [self.path, *self.words(session.media)]

@@ -70,7 +70,9 @@ def programs_case(sitting):
         keys = [0, KEY, KEY, KEY]
         command = some.choice(COMMANDS[units[0]])
         words[0] = media.word_of(command, BLOCK - some.randrange(40), 0x60, some.choice([20, 40]))
-        sitting.say(f"patch k {some.choice([CHAIN, CHAIN, BLOCK, size - 1]):X} {KEY}")
+        at = some.choice([CHAIN, CHAIN, BLOCK, size - 1])
+        sitting.say(f"patch k {at:X} {some.choice([0, KEY, KEY])}")
+        sitting.say(f"patch f {at:X} {some.randrange(2)}")
     sitting.patch_bytes(CHAIN, b"".join(words))
     if some.random() < 0.3:
         sitting.patch_bytes(CSW, some.randbytes(8))

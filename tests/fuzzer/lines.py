@@ -54,6 +54,7 @@ class Lines(Sitting):
             f"s {at} {run}",
             f"r {some.randrange(16):X} {self.digits(word, 8)}",
             f"k {at} {some.choice('0055Fa')}",
+            f"f {at} {some.choice('011')}",
             f"p {psw | some.choice([INSTRUCTION, 0, self.address()]):016X}",
         ]
         return f"patch {some.choice(kinds)}"
@@ -144,6 +145,9 @@ class Lines(Sitting):
         stored = [int(place[1:], 16) for place in places if place[0] == "s"]
         if stored:
             self.say(f"show s {stored[0]:X} {min(stored[-1] - stored[0] + 1, CHUNK)}")
+        for place in places:
+            if place[0] == "k":
+                self.say(f"show k {place[1:]}")
 
     def show_unit(self, unit):
         """What its channel does, its sense and media, and its last item."""

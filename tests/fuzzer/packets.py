@@ -20,6 +20,7 @@ LINES += [f"channel {unit}" for unit in ("00C", "00E", "01F", "999")]
 LINES += ["load 00C", "run 5", "enter", "enter AB", f"enter {'A' * 257}", "enter ~"]
 LINES += ["last p", "last u 00C", "show psw", "show regs", "show u 00C", "show d 00C"]
 LINES += ["show m 00E 1", "show ext", "show k 200", "show image 180"]
+LINES += ["patch k 200 3", "patch f 200 1", "patch f 1000 1"]
 LINES = [line.encode() for line in LINES]
 # How often a kind of request is made.
 KINDS = {"forward": 20, "backward": 12, "write": 8, "loop": 2, "point": 8, "register": 10}

@@ -51,8 +51,8 @@ ERRORS = (
         "the inserted key leaves low bits",
         "lines",
         "machine.py",
-        "self.register(r1) & ~255 | self.storage_key(block) << 4",
-        "self.register(r1) & ~240 | self.storage_key(block) << 4",
+        "self.register(r1) & ~255 | key",
+        "self.register(r1) & ~240 | key",
     ),
     Error(
         "packing does not exchange the sign",
@@ -67,6 +67,35 @@ ERRORS = (
         "logical.py",
         "2 if at == first + count - 1 else 1",
         "2 if at == first + count else 1",
+    ),
+    # Protection of fetches.
+    Error(
+        "a fetch bit of zero protects",
+        "lines",
+        "core.py",
+        "is_store or self.fetch_bit(block)]",
+        "is_store or self.protects_fetches]",
+    ),
+    Error(
+        "a channel's output is not protected",
+        "programs",
+        "channels.py",
+        "if self.is_locked(blocks, key, is_store=kind == INPUT):",
+        "if kind == INPUT and self.is_locked(blocks, key, is_store=True):",
+    ),
+    Error(
+        "a new key takes the fetch bit away",
+        "lines",
+        "debugger.py",
+        "self.machine.fetch_bit(block) << 4 | int(key, 16)",
+        "int(key, 16)",
+    ),
+    Error(
+        "a key is set without its fetch bit",
+        "lines",
+        "machine.py",
+        "self.register(r1) >> 3 & 1 if self.protects_fetches else 0",
+        "0",
     ),
     # Interruptions.
     Error(

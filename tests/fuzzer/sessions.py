@@ -19,7 +19,8 @@ MOST_STORAGE = 16_384
 
 
 class Media(NamedTuple):
-    """What a command line names: the bytes of storage, the files, and whether tapes are protected.
+    """What a command line names: the bytes of storage, the files, and what is protected: tapes, and
+    fetches.
 
     A file that is not named is None.
     """
@@ -30,6 +31,7 @@ class Media(NamedTuple):
     tape1: bytes | None = None
     protect0: bool = False
     protect1: bool = False
+    fetch: bool = False
 
     def debugger(self):
         """The debugger of a new machine, or the first fault in the order of the files."""
@@ -43,7 +45,7 @@ class Media(NamedTuple):
         ]
         if self.storage % BLOCK or not LEAST <= self.storage <= MOST:
             raise Fault(2, None)
-        return Debugger(deck, tapes, self.storage)
+        return Debugger(deck, tapes, self.storage, self.fetch)
 
 
 class Fault(Exception):

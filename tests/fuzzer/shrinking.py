@@ -10,6 +10,7 @@ from .sessions import outcome_of
 
 # It is made no smaller after so many seconds.
 SECONDS = 120
+OPTIONS = ("protect0", "protect1", "fetch")
 NUMBER = re.compile(rb"[0-9A-Fa-f]+")
 
 
@@ -69,9 +70,9 @@ def smaller_files(name, file):
 def smaller_media(media):
     if media.storage != SIZE:
         yield media._replace(storage=SIZE)
-    for number in (0, 1):
-        if getattr(media, f"protect{number}"):
-            yield media._replace(**{f"protect{number}": False})
+    for option in OPTIONS:
+        if getattr(media, option):
+            yield media._replace(**{option: False})
     for name in FILES:
         file = getattr(media, name)
         if file is not None:
@@ -88,7 +89,7 @@ def weight(session):
     media = session.media
     files = [getattr(media, name) for name in FILES]
     lengths = sum(1 + len(file) for file in files if file is not None)
-    other = media.storage != SIZE, media.protect0, media.protect1
+    other = media.storage != SIZE, *(getattr(media, option) for option in OPTIONS)
     nonzero = sum(len(file) - file.count(0) for file in files if file is not None)
     digits = sum(byte not in b"0 \n" for byte in session.script)
     return len(session.script) + lengths + sum(other), digits + nonzero, session.script
@@ -119,7 +120,7 @@ def keep(session, folder, name, comment):
     if session.limit:
         comment += f" Under a limit of {session.limit} bytes."
     words = ["--storage", str(media.storage)] if media.storage != SIZE else []
-    words += [f"--protect{number}" for number in (0, 1) if getattr(media, f"protect{number}")]
+    words += [f"--{option}" for option in OPTIONS if getattr(media, option)]
     files = {
         "": b"* %s\n" % comment.encode() + session.script,
         ".stdout": b"".join(outcome.answers),

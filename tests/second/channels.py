@@ -117,8 +117,8 @@ def shown_state(state):
 
 
 class Channels(Core):
-    def __init__(self, deck=(), tapes=(Tape(), Tape()), size=SIZE):
-        super().__init__(size)
+    def __init__(self, deck=(), tapes=(Tape(), Tape()), size=SIZE, protects_fetches=False):
+        super().__init__(size, protects_fetches)
         devices = (Reader(cards=tuple(deck)), Punch(), Printer(), Console(), *tapes)
         for unit, device in zip(UNITS, devices):
             self.values[device_name(unit)] = device
@@ -304,7 +304,7 @@ class Channels(Core):
         if any(place >= self.size for place in places):
             return PROGRAM_CHECK
         blocks = {place // BLOCK for place in places}
-        if kind == INPUT and key and any(self.storage_key(block) != key for block in blocks):
+        if self.is_locked(blocks, key, is_store=kind == INPUT):
             return PROTECTION_CHECK
         return 0
 

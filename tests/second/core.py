@@ -33,8 +33,9 @@ class Interruption(Exception):
 class Core:
     """The value of each place by its printed name, zero at first."""
 
-    def __init__(self, size=SIZE):
+    def __init__(self, size=SIZE, protects_fetches=False):
         self.size = size
+        self.protects_fetches = protects_fetches
         self.values = {}
         self.noted = {}
 
@@ -107,21 +108,31 @@ class Core:
         yield from (self.byte(at) for at in range(address + count - 1, address - 1, -1))
         yield from itertools.repeat(0)
 
+    def check_inside(self, address, count):
+        if address + count > self.size:
+            raise Interruption(5)
+
     def check(self, address, count, boundary, is_store):
         if address % boundary:
             raise Interruption(6)
-        if address + count > self.size:
-            raise Interruption(5)
-        key = self.psw_field(52, 4)
+        self.check_inside(address, count)
         blocks = range(address // BLOCK, (address + count - 1) // BLOCK + 1)
-        if is_store and key and any(self.storage_key(block) != key for block in blocks):
+        if self.is_locked(blocks, self.psw_field(52, 4), is_store):
             raise Interruption(4)
+
+    def is_locked(self, blocks, key, is_store):
+        """Whether one of the blocks is protected against an access with this key."""
+        guarded = [block for block in blocks if is_store or self.fetch_bit(block)]
+        return key != 0 and any(self.storage_key(block) != key for block in guarded)
 
     def key_name(self, block):
         return f"k{block * BLOCK:06X}"
 
     def storage_key(self, block):
-        return self.value(self.key_name(block))
+        return self.value(self.key_name(block)) & 15
+
+    def fetch_bit(self, block):
+        return self.value(self.key_name(block)) >> 4
 
     def fetch(self, address, count, boundary):
         self.check(address, count, boundary, is_store=False)

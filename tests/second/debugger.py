@@ -28,8 +28,8 @@ class Change(NamedTuple):
 
 
 class Debugger:
-    def __init__(self, deck=(), tapes=(Tape(), Tape()), size=SIZE):
-        self.machine = Machine(deck, tapes, size)
+    def __init__(self, deck=(), tapes=(Tape(), Tape()), size=SIZE, protects_fetches=False):
+        self.machine = Machine(deck, tapes, size, protects_fetches)
         self.changes = []
         self.breakpoints = set()
 
@@ -55,10 +55,12 @@ class Debugger:
 
     def report(self, event, act):
         self.happen(event, act)
-        places = self.changes[-1].places
+        return [f"{len(self.changes)} {self.altered_words(self.changes[-1].places)}"]
+
+    def altered_words(self, places):
+        """What a report says of the places that were altered."""
         names = " ".join(places[:8]) + (" .." if len(places) > 8 else "")
-        what = f"changed {len(places)} {names}" if places else "idle"
-        return [f"{len(self.changes)} {what}"]
+        return f"changed {len(places)} {names}" if places else "idle"
 
     def answer_step(self):
         return self.report("cpu", self.machine.step)
@@ -97,6 +99,7 @@ class Debugger:
     def places_of(self, kind, *words):
         """The values that the words of a patch put into places, if these are all there."""
         values = {"s": self.bytes_of, "r": self.register_of, "k": self.key_of, "p": self.psw_of}
+        values |= {"f": self.fetch_bit_of}
         return values[kind](*words)
 
     def put_all(self, places):
@@ -116,7 +119,17 @@ class Debugger:
         at = int(address, 16)
         if at >= self.machine.size:
             return None
-        return {self.machine.key_name(at // BLOCK): int(key, 16)}
+        block = at // BLOCK
+        return {self.machine.key_name(block): self.machine.fetch_bit(block) << 4 | int(key, 16)}
+
+    def fetch_bit_of(self, address, bit):
+        at = int(address, 16)
+        if at >= self.machine.size:
+            return None
+        if not self.machine.protects_fetches:
+            return {}
+        block = at // BLOCK
+        return {self.machine.key_name(block): int(bit) << 4 | self.machine.storage_key(block)}
 
     def psw_of(self, doubleword):
         return {"p": int(doubleword, 16) & ~(0x3FFFF << 30)}
@@ -190,11 +203,15 @@ class Debugger:
     def answer_standing(self):
         return [f"standing {len(self.changes)}"]
 
-    def answer_last(self, kind, word=""):
+    def place_of(self, kind, word=""):
+        """The name of a place that words tell."""
         number = int(word or "0", 16)
         names = {"s": f"s{number:06X}", "r": f"r{number:X}", "u": state_name(number)}
         names |= {"d": device_name(number), "k": self.machine.key_name(number // BLOCK)}
-        place = names.get(kind, kind)
+        return names.get(kind, kind)
+
+    def answer_last(self, *words):
+        place = self.place_of(*words)
         numbers = range(len(self.changes), 0, -1)
         found = (n for n in numbers if place in self.changes[n - 1].places)
         return [f"last {next(found, 'none')}"]
@@ -202,11 +219,13 @@ class Debugger:
     def answer_show(self, kind, *words):
         return getattr(self, f"show_{kind}")(*words)
 
-    def show_psw(self):
+    def run_state(self):
         run = self.machine.value("run")
         names = {OPERATING: "operating", STOPPED: "stopped"}
-        name = f"loading {run.unit:03X}" if isinstance(run, Loading) else names[run]
-        return [f"psw {self.machine.value('p'):016X} {name}"]
+        return f"loading {run.unit:03X}" if isinstance(run, Loading) else names[run]
+
+    def show_psw(self):
+        return [f"psw {self.machine.value('p'):016X} {self.run_state()}"]
 
     def show_regs(self):
         return [self.registers_from(first) for first in range(0, 16, 4)]
@@ -216,10 +235,13 @@ class Debugger:
         return f"r{first:X} {' '.join(words)}"
 
     def show_s(self, address, count):
+        return self.lines_of_storage(address, count, self.bytes_from)
+
+    def lines_of_storage(self, address, count, line):
         at, end = int(address, 16), int(address, 16) + int(count)
         if end > self.machine.size:
             return ["refused 2 outside storage"]
-        return [self.bytes_from(first, min(first + 16, end)) for first in range(at, end, 16)]
+        return [line(first, min(first + 16, end)) for first in range(at, end, 16)]
 
     def bytes_from(self, first, end):
         return f"{first:06X} {self.machine.run_of_bytes(first, end - first).hex().upper()}"
@@ -228,7 +250,9 @@ class Debugger:
         at = int(address, 16)
         if at >= self.machine.size:
             return ["refused 2 outside storage"]
-        return [f"key {self.machine.storage_key(at // BLOCK):X}"]
+        block = at // BLOCK
+        bit = f" fetch {self.machine.fetch_bit(block)}" if self.machine.protects_fetches else ""
+        return [f"key {self.machine.storage_key(block):X}{bit}"]
 
     def show_ext(self):
         return [f"ext {CONDITIONS[self.machine.value('ext')]}"]

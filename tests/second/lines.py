@@ -27,11 +27,12 @@ UNIT = written_as(rb"[0-9A-Fa-f]{1,3}")
 WORD = written_as(rb"[0-9A-Fa-f]{1,8}")
 DOUBLEWORD = written_as(rb"[0-9A-Fa-f]{16}")
 REGISTER = KEY = written_as(rb"[0-9A-Fa-f]")
+BIT = written_as(rb"[01]")
 BYTES = written_as(rb"([0-9A-Fa-f]{2})+")
 COUNT = count_up_to(MOST_EVENTS)
 # The arguments behind the first word of a line, or by the kind that its word 1 names.
 PATCHES = {b"s": (ADDRESS, BYTES), b"r": (REGISTER, WORD), b"k": (ADDRESS, KEY)}
-PATCHES |= {b"p": (DOUBLEWORD,)}
+PATCHES |= {b"f": (ADDRESS, BIT), b"p": (DOUBLEWORD,)}
 PLACES = {b"s": (ADDRESS,), b"r": (REGISTER,), b"k": (ADDRESS,), b"u": (UNIT,), b"d": (UNIT,)}
 PLACES |= {b"p": (), b"run": (), b"ext": ()}
 SHOWN = {b"regs": (), b"psw": (), b"ext": (), b"s": (ADDRESS, count_up_to(MOST_SHOWN))}

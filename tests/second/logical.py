@@ -43,7 +43,8 @@ class Logical(Core):
 
     def two_operands(self, code, lengths, first, second):
         if code == 0xD5:
-            self.compare(self.fetch(first, lengths + 1, 1), self.fetch(second, lengths + 1, 1))
+            self.check_both(first, lengths + 1, second, lengths + 1, is_store=False)
+            self.compare(self.number(first, lengths + 1), self.number(second, lengths + 1))
         elif 0xD1 <= code <= 0xD7:
             self.combine(code, lengths + 1, first, second)
         elif code == 0xDC:
@@ -55,10 +56,11 @@ class Logical(Core):
         else:
             raise Interruption(1)
 
-    def check_both(self, first, count, second, second_count):
+    def check_both(self, first, count, second, second_count, is_store=True):
         """An operand outside storage comes before a protected one."""
+        self.check_inside(first, count)
         self.check(second, second_count, 1, is_store=False)
-        self.check(first, count, 1, is_store=True)
+        self.check(first, count, 1, is_store)
 
     def combine(self, code, count, first, second):
         self.check_both(first, count, second, count)
@@ -76,26 +78,33 @@ class Logical(Core):
         if kind in LOGIC:
             self.bits(results)
 
-    def function_byte(self, table, argument):
-        return self.fetch((table + self.byte(argument)) % ADDRESSES, 1, 1)
+    def function_bytes(self, count, first, table, is_store):
+        """The addresses of an operand's bytes, each with the function byte that it selects once it
+        is asked for. A function byte outside storage comes before a protected one, and before a
+        protected operand."""
+        self.check_inside(first, count)
+        selected = []
+        for at in range(first, first + count):
+            selected.append((table + self.byte(at)) % ADDRESSES)
+            self.check_inside(selected[-1], 1)
+            yield at, self.byte(selected[-1])
+            if not is_store and self.byte(selected[-1]):
+                break
+        for at in selected:
+            self.check(at, 1, 1, is_store=False)
+        self.check(first, count, 1, is_store)
 
     def translate(self, count, first, table):
-        self.check(first, count, 1, is_store=False)
-        for at in range(first, first + count):
-            self.put_byte(at, self.function_byte(table, at))
-        # A function byte outside storage comes before a protected operand.
-        self.check(first, count, 1, is_store=True)
+        for at, function in self.function_bytes(count, first, table, is_store=True):
+            self.put_byte(at, function)
 
     def translate_and_test(self, count, first, table):
-        self.check(first, count, 1, is_store=False)
         self.set_condition_code(0)
-        for at in range(first, first + count):
-            function = self.function_byte(table, at)
+        for at, function in self.function_bytes(count, first, table, is_store=False):
             if function:
                 self.load(1, self.register(1) & 0xFF000000 | at)
                 self.load(2, self.register(2) & 0xFFFFFF00 | function)
                 self.set_condition_code(2 if at == first + count - 1 else 1)
-                return
 
     def move_digits(self, code, first, count, second, second_count):
         """MVO, PACK and UNPK, which go from right to left."""

@@ -184,9 +184,11 @@ class Machine(Logical, Channels):
         if block >= self.size // BLOCK:
             raise Interruption(5)
         if code == 0x08:
-            self.put(self.key_name(block), self.register(r1) >> 4 & 15)
+            bit = self.register(r1) >> 3 & 1 if self.protects_fetches else 0
+            self.put(self.key_name(block), bit << 4 | self.register(r1) >> 4 & 15)
         else:
-            self.load(r1, self.register(r1) & ~255 | self.storage_key(block) << 4)
+            key = self.storage_key(block) << 4 | self.fetch_bit(block) << 3
+            self.load(r1, self.register(r1) & ~255 | key)
 
     def switch_status(self, code, address, following):
         """SSM and LPSW."""

@@ -85,8 +85,8 @@ class Recording(Debugger):
 
     An event of a change is its name and its fields, since two patches of one kind may differ."""
 
-    def __init__(self, *media):
-        super().__init__(*media)
+    def __init__(self, *media, **options):
+        super().__init__(*media, **options)
         self.later = []  # changes that were taken back, the next one last
         self.fields = ()
         self.dropped = 0
@@ -133,8 +133,8 @@ class Recording(Debugger):
 class Target:
     """Answers the data of packets, each by those of some packets; `ended` once gdb has left."""
 
-    def __init__(self, *media):
-        self.recording = Recording(*media)
+    def __init__(self, *media, **options):
+        self.recording = Recording(*media, **options)
         self.breaks, self.watches = set(), []
         self.ended = False
         self.told = []  # what is said on standard error

@@ -50,7 +50,9 @@ class Script:
         self.deck = deck(self.random)
         self.tapes = [tape(self.random) for _ in TAPES]
         self.images = [image(self.random, mounted.recorded) for mounted in self.tapes]
-        self.debugger = Debugger(self.deck, self.tapes)
+        # Each second one protects fetches.
+        self.protects_fetches = seed % 2 == 0
+        self.debugger = Debugger(self.deck, self.tapes, protects_fetches=self.protects_fetches)
         self.machine = self.debugger.machine
         self.lines = []
         self.answers = []
@@ -202,6 +204,8 @@ class Script:
         some, size = self.random, self.machine.size
         at, key = some.choice([0, OPERANDS, size - 1, some.randrange(size)]), some.choice([0, 5])
         self.say(f"patch k {at:X} {key:X}")
+        if some.random() < (0.6 if self.machine.protects_fetches else 0.1):
+            self.say(f"patch f {at:X} {some.randrange(2)}")
 
     def patch_new_psws(self):
         for at in NEW_PSWS:

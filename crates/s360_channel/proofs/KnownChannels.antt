@@ -29,7 +29,7 @@ punch = device (Output 4) [] false
 
 -- a storage that begins with these bytes, and has this key
 abbrev storage : ℕ → List ℕ → Storage
-storage key bytes = record { bytes = bytes ++ replicate (48 - length bytes) 0; keys = key ∷ [] }
+storage key bytes = record { bytes = bytes ++ replicate (48 - length bytes) 0; keys = key ∷ []; fetch_protection = false }
 
 -- the channel status word that waits
 abbrev csw_of : Execution → Option ℕ
@@ -225,7 +225,7 @@ broken_before_the_answer = refl
 
 -- START I/O of an idle unit with the channel address word zero and this word at 0
 abbrev started : List ℕ → Storage
-started word = record { bytes = word ++ replicate (80 - length word) 0; keys = 0 ∷ [] }
+started word = record { bytes = word ++ replicate (80 - length word) 0; keys = 0 ∷ []; fetch_protection = false }
 
 abbrev idle : UnitControl
 idle = record { state = Idle; attention = false }

@@ -91,7 +91,7 @@ fn report_text(alloc: Global, number: u32, report: &Report) -> Result<Text, Allo
 }
 
 /// Adds the number of places that were changed, and the names of the first of them.
-fn push_changed(text: &mut Text, places: &Places) -> Result<(), AllocError>
+pub fn push_changed(text: &mut Text, places: &Places) -> Result<(), AllocError>
     ensures { OnOk result (text.new ≡ changed_after text.old places.now) }
 {
     text.push_text(" changed ")?;
@@ -161,7 +161,7 @@ fn answer_break(alloc: Global, breaks: &mut Breaks, at: u32) -> Result<Text, All
 }
 
 /// A line of these words.
-fn text_of_line(alloc: Global, words: &str) -> Result<Text, AllocError>
+pub fn text_of_line(alloc: Global, words: &str) -> Result<Text, AllocError>
     ensures { IfOk result (λ text. text ≡ words.now ++ codes "\n") }
 {
     let mut text = Text::new(alloc);
@@ -242,7 +242,7 @@ fn last_text(alloc: Global, number: Option<u32>) -> Result<Text, AllocError>
 }
 
 /// What a faulty line answers. Want of memory is no fault of the line, and has no text.
-pub(crate) fn text_of_fault(alloc: Global, fault: LineFault) -> Result<Text, AllocError>
+pub fn text_of_fault(alloc: Global, fault: LineFault) -> Result<Text, AllocError>
     ensures { IfOk result (λ text. (text ≡ fault_text fault) × (fault ≢ Memory)) }
 {
     let mut text = Text::new(alloc);

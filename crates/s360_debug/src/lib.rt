@@ -9,7 +9,7 @@ mod open_line;
 mod run;
 mod running;
 
-pub use answering::answer;
+pub use answering::{answer, push_changed, text_of_fault, text_of_line};
 pub use bytes::ScriptFault;
 pub use lines::skips;
 pub use run::{answer_line, run_script};

@@ -36,7 +36,7 @@ pub record Conditions : Type 0 where
   pub specification : Bool
   -- an operand is outside storage
   pub addressing : Bool
-  -- an operand is stored where the keys don't match
+  -- an operand is stored, or fetched where that is protected, and the keys don't match
   pub protection : Bool
   -- the quotient does not fit
   pub divide : Bool

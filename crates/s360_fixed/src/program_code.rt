@@ -14,7 +14,7 @@ pub enum ProgramCode {
     Privileged,
     /// Code 3: the subject of an execute is an execute.
     Execute,
-    /// Code 4: a store where the protection keys don't match.
+    /// Code 4: a store, or a fetch that is protected, where the protection keys don't match.
     Protection,
     /// Code 5: an address outside storage.
     Addressing,
@@ -30,7 +30,7 @@ pub enum ProgramCode {
 
 impl ProgramCode {
     /// The code of what an access to storage meets, if it meets anything.
-    pub(crate) fn of_access(checked: Checked) -> Option<ProgramCode>
+    pub fn of_access(checked: Checked) -> Option<ProgramCode>
         ensures { result ≡ code_of_access checked }
     {
         match checked {

@@ -28,6 +28,9 @@ fn is_same_patch(first: &Patch, second: &Patch) -> bool
         (Patch::StorageKey { at, key }, Patch::StorageKey { at: to, key: other }) => {
             at == to && key == other
         }
+        (Patch::FetchBit { at, on }, Patch::FetchBit { at: to, on: other }) => {
+            at == to && on == other
+        }
         (Patch::Psw(psw), Patch::Psw(other)) => psw == other,
         _ => false,
     }

@@ -9,7 +9,7 @@ use Rattle.s360_machine.specs.declared.event_kind.EventKind.TheVariants.{Cpu, Ch
 use Rattle.s360_machine.specs.declared.event_kind.KeyKind.{KeyKind}
 use Rattle.s360_machine.specs.declared.event_kind.KeyKind.TheVariants.{Start, Stop, Reset, Interrupt, EndOfFile, Request, Enter, Load}
 use Rattle.s360_machine.specs.declared.event_kind.PatchKind.{PatchKind}
-use Rattle.s360_machine.specs.declared.event_kind.PatchKind.TheVariants.{Bytes, Register as register, StorageKey, Psw as psw}
+use Rattle.s360_machine.specs.declared.event_kind.PatchKind.TheVariants.{Bytes, Register as register, StorageKey, FetchBit, Psw as psw}
 use Rattle.s360_machine.specs.declared.external.ExternalConditions.{ExternalConditions}
 use Rattle.s360_machine.specs.declared.refusal.Refusal.{Refusal}
 use Rattle.s360_machine.specs.declared.refusal.Refusal.TheVariants.{Memory, OutsideStorage, NoSuchUnit, LineTooLong, PatchTooLong, JournalFull}
@@ -42,6 +42,7 @@ abbrev pub patch_name : PatchKind → List ℕ
 patch_name Bytes = codes "patch s"
 patch_name register = codes "patch r"
 patch_name StorageKey = codes "patch k"
+patch_name FetchBit = codes "patch f"
 patch_name psw = codes "patch p"
 
 abbrev pub event_name : EventKind → List ℕ

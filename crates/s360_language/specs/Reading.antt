@@ -1,16 +1,17 @@
 -- The reading of a line as a command (own profile). Words are judged from left to right, and the first
 -- that is wrong, missing or too many is named by its number, the first word of the line being 0.
-use Rattle.std.specs.Prelude.{◌≡◌, ◌⊎◌, ◌/◌, ℕ, Bool, nat_eq, nat_lt, if◌then◌else◌, Option, None, Some, Result, Ok, Err, List, [], ◌∷◌, codes, drop, length, ⊤}
+use Rattle.std.specs.Prelude.{◌≡◌, ◌⊎◌, ◌/◌, ◌-◌, ℕ, Bool, true, false, nat_eq, nat_lt, if◌then◌else◌, Option, None, Some, Result, Ok, Err, List, [], ◌∷◌, codes, drop, length, ⊤}
 use Rattle.std.specs.Cmp.Lexicographic.{pointwise}
 use Rattle.std.specs.List.{filter_map, list_all}
 use Rattle.std.specs.Option.{is_some, ok_or}
 use Rattle.std.specs.Result.{result_ok}
 use Rattle.hex.specs.Hex.{decode_of}
 use Rattle.s360_model.specs.Storage.{block_size}
+use Rattle.s360_store.specs.declared.place.Place.{Place}
 use Rattle.s360_store.specs.declared.place.Place.TheVariants.{Psw, Register, Byte, Key as key_place, Run as run_place, External, UnitState, UnitMedia}
 use Rattle.s360_word.specs.declared.unit.Unit.{Unit as UnitAddress}
 use Rattle.s360_print.specs.Signs.{ebcdic_of}
-use Rattle.s360_machine.specs.declared.event.Patch.TheVariants.{Bytes as bytes_patch, Register as register_patch, StorageKey as storage_key_patch, Psw as psw_patch}
+use Rattle.s360_machine.specs.declared.event.Patch.TheVariants.{Bytes as bytes_patch, Register as register_patch, StorageKey as storage_key_patch, FetchBit as fetch_patch, Psw as psw_patch}
 use Rattle.s360_machine.specs.declared.operator.Key.{Key as OperatorKey}
 use Rattle.s360_machine.specs.declared.operator.Key.TheVariants.{Start, Stop, Reset, Interrupt, EndOfFile, Request, Enter, Load}
 use Rattle.s360_language.specs.declared.command.Command.{Command}
@@ -39,7 +40,7 @@ abbrev pub is_word : List ℕ → List ℕ → Bool
 is_word word name = pointwise nat_eq word name
 
 -- what follows an argument that is right
-abbrev pub and_then : {V : Type 0} → Result V LineFault → (V → Reading) → Reading
+abbrev pub and_then : {V W : Type 0} → Result V LineFault → (V → Result W LineFault) → Result W LineFault
 and_then (Ok v) next = next v
 and_then (Err f) next = Err f
 
@@ -59,6 +60,41 @@ as_unit (Err f) = Err f
 
 abbrev pub unit_argument : ℕ → List (List ℕ) → Result UnitAddress LineFault
 unit_argument place words = as_unit (number_argument place 3 words)
+
+-- a count from 1 to so many, or another number if no word is left
+abbrev pub count_or : ℕ → ℕ → ℕ → List (List ℕ) → Result ℕ LineFault
+count_or place most otherwise [] = Ok otherwise
+count_or place most otherwise (word ∷ words) = ok_or (count_of most word) (Argument place)
+
+-- a place that the words after its kind tell, which are numbered from 2, and the number of the word behind them
+abbrev pub byte_argument : List (List ℕ) → Result (Place × ℕ) LineFault
+byte_argument words = and_then (number_argument 2 6 words) (λ at. Ok (Byte at, 3))
+
+abbrev pub register_argument : List (List ℕ) → Result (Place × ℕ) LineFault
+register_argument words = and_then (number_argument 2 1 words) (λ n. Ok (Register n, 3))
+
+abbrev pub key_argument : List (List ℕ) → Result (Place × ℕ) LineFault
+key_argument words = and_then (number_argument 2 6 words) (λ at. Ok (key_place (at / block_size), 3))
+
+abbrev pub state_argument : List (List ℕ) → Result (Place × ℕ) LineFault
+state_argument words = and_then (unit_argument 2 words) (λ unit. Ok (UnitState unit, 3))
+
+abbrev pub media_argument : List (List ℕ) → Result (Place × ℕ) LineFault
+media_argument words = and_then (unit_argument 2 words) (λ unit. Ok (UnitMedia unit, 3))
+
+-- a place: its kind, which is the word numbered 1, and what the kind wants
+abbrev pub place_argument : List (List ℕ) → Result (Place × ℕ) LineFault
+place_argument [] = Err (Argument 1)
+place_argument (kind ∷ words) =
+    if is_word kind (codes "s") then byte_argument words
+    else (if is_word kind (codes "r") then register_argument words
+    else (if is_word kind (codes "k") then key_argument words
+    else (if is_word kind (codes "p") then Ok (Psw, 2)
+    else (if is_word kind (codes "run") then Ok (run_place, 2)
+    else (if is_word kind (codes "ext") then Ok (External, 2)
+    else (if is_word kind (codes "u") then state_argument words
+    else (if is_word kind (codes "d") then media_argument words
+    else Err (Argument 1))))))))
 
 -- bytes of two digits each, at least one byte
 abbrev pub bytes_in : List ℕ → Option (List ℕ)
@@ -90,6 +126,16 @@ key_patch words =
     and_then (number_argument 3 1 (drop 1 words)) (λ storage_key.
     finished 4 (Patch (storage_key_patch at storage_key)) (drop 2 words)))
 
+-- `patch f A D`, after its first two words: D is 0 or 1
+abbrev pub bit_of : List ℕ → Option Bool
+bit_of word = if is_word word (codes "0") then Some false else (if is_word word (codes "1") then Some true else None)
+
+abbrev pub fetch_bit_patch : List (List ℕ) → Reading
+fetch_bit_patch words =
+    and_then (number_argument 2 6 words) (λ at.
+    and_then (argument 3 bit_of (drop 1 words)) (λ bit.
+    finished 4 (Patch (fetch_patch at bit)) (drop 2 words)))
+
 -- `patch p Q`, after its first two words
 abbrev pub doubleword_patch : List (List ℕ) → Reading
 doubleword_patch words = and_then (argument 2 doubleword_of words) (λ q. finished 3 (Patch (psw_patch q)) (drop 1 words))
@@ -101,8 +147,9 @@ patch_reading (kind ∷ words) =
     if is_word kind (codes "s") then storage_patch words
     else (if is_word kind (codes "r") then word_patch words
     else (if is_word kind (codes "k") then key_patch words
+    else (if is_word kind (codes "f") then fetch_bit_patch words
     else (if is_word kind (codes "p") then doubleword_patch words
-    else Err (Argument 1))))
+    else Err (Argument 1)))))
 
 -- the operator's key of a name
 abbrev pub key_of : List ℕ → Option OperatorKey
@@ -150,36 +197,9 @@ enter_reading text = and_then (ok_or (ebcdic_text text) (Argument 1)) (λ bytes.
 abbrev pub load_reading : List (List ℕ) → Reading
 load_reading words = and_then (unit_argument 1 words) (λ unit. finished 2 (Key (Load unit)) (drop 1 words))
 
--- `last s A`, `last r R` and `last k A`, after their first two words
-abbrev pub last_byte : List (List ℕ) → Reading
-last_byte words = and_then (number_argument 2 6 words) (λ at. finished 3 (Last (Byte at)) (drop 1 words))
-
-abbrev pub last_register : List (List ℕ) → Reading
-last_register words = and_then (number_argument 2 1 words) (λ n. finished 3 (Last (Register n)) (drop 1 words))
-
-abbrev pub last_key : List (List ℕ) → Reading
-last_key words = and_then (number_argument 2 6 words) (λ at. finished 3 (Last (key_place (at / block_size))) (drop 1 words))
-
--- `last u U` and `last d U`, after their first two words
-abbrev pub last_state : List (List ℕ) → Reading
-last_state words = and_then (unit_argument 2 words) (λ unit. finished 3 (Last (UnitState unit)) (drop 1 words))
-
-abbrev pub last_media : List (List ℕ) → Reading
-last_media words = and_then (unit_argument 2 words) (λ unit. finished 3 (Last (UnitMedia unit)) (drop 1 words))
-
--- `last` with a kind
+-- `last` with a place, after its first word
 abbrev pub last_reading : List (List ℕ) → Reading
-last_reading [] = Err (Argument 1)
-last_reading (kind ∷ words) =
-    if is_word kind (codes "s") then last_byte words
-    else (if is_word kind (codes "r") then last_register words
-    else (if is_word kind (codes "k") then last_key words
-    else (if is_word kind (codes "p") then finished 2 (Last Psw) words
-    else (if is_word kind (codes "run") then finished 2 (Last run_place) words
-    else (if is_word kind (codes "ext") then finished 2 (Last External) words
-    else (if is_word kind (codes "u") then last_state words
-    else (if is_word kind (codes "d") then last_media words
-    else Err (Argument 1))))))))
+last_reading words = and_then (place_argument words) (λ named. finished named.1 (Last named.0) (drop (named.1 - 1) words))
 
 -- `show s A N`, after its first two words
 abbrev pub show_storage : List (List ℕ) → Reading

@@ -1,9 +1,9 @@
 -- What is shown of a machine (own profile). Each line is ended by one line feed.
-use Rattle.std.specs.Prelude.{ℕ, ◌+◌, ◌*◌, ◌/◌, nat_lt, if◌then◌else◌, List, [], ◌++◌, codes, length, min, slice_index}
+use Rattle.std.specs.Prelude.{ℕ, ◌+◌, ◌*◌, ◌/◌, Bool, nat_lt, if◌then◌else◌, List, [], ◌++◌, codes, length, min, slice_index}
 use Rattle.std.specs.List.{flat_map, range_with_len, slice_range}
 use Rattle.std.specs.Int.{div_ceil}
 use Rattle.s360_model.specs.Text.{hex_text, hex_bytes}
-use Rattle.s360_model.specs.Storage.{Storage as Contents, block_size, is_inside}
+use Rattle.s360_model.specs.Storage.{Storage as Contents, block_size, fetch_bit_of_block, is_inside, key_of_block}
 use Rattle.s360_model.specs.Psw.{stored_psw}
 use Rattle.s360_machine.specs.declared.refusal.Refusal.TheVariants.{OutsideStorage}
 use Rattle.s360_machine.specs.declared.external.ExternalConditions.{ExternalConditions}
@@ -47,12 +47,15 @@ bytes_text bytes at count = flat_map (numbered_line bytes at (at + count)) (rang
 abbrev pub storage_text : Contents → ℕ → ℕ → List ℕ
 storage_text s at count = if is_inside s at count then bytes_text s.bytes at count else refused_text OutsideStorage
 
--- the storage key of the block that an address lies in
-abbrev pub key_line : ℕ → List ℕ
-key_line storage_key = codes "key " ++ hex_text 1 storage_key ++ codes "\n"
+-- the storage key of the block that an address lies in, and its fetch bit where fetches are protected
+abbrev pub fetch_words : Bool → ℕ → List ℕ
+fetch_words fetch_protection k = if fetch_protection then (if fetch_bit_of_block k then codes " fetch 1" else codes " fetch 0") else []
+
+abbrev pub key_line : Bool → ℕ → List ℕ
+key_line fetch_protection k = codes "key " ++ hex_text 1 (key_of_block k) ++ fetch_words fetch_protection k ++ codes "\n"
 
 abbrev pub key_text : Contents → ℕ → List ℕ
-key_text s at = if nat_lt at (length s.bytes) then key_line (slice_index s.keys (at / block_size)) else refused_text OutsideStorage
+key_text s at = if nat_lt at (length s.bytes) then key_line s.fetch_protection (slice_index s.keys (at / block_size)) else refused_text OutsideStorage
 
 -- the external conditions that are pending
 abbrev pub external_text : ExternalConditions → List ℕ

@@ -34,8 +34,12 @@ state_name (Waiting csw) = codes " waiting " ++ csw_words (csw_doubleword csw)
 abbrev pub attention_name : Bool → List ℕ
 attention_name attention = if attention then codes " attention" else []
 
+-- what the channel does for a unit, and whether the unit asks for attention
+abbrev pub control_words : UnitState → Bool → List ℕ
+control_words state attention = state_name state ++ attention_name attention
+
 abbrev pub unit_line : Unit → UnitState → Bool → List ℕ
-unit_line unit state attention = hex_text 3 unit.0 ++ state_name state ++ attention_name attention ++ codes "\n"
+unit_line unit state attention = hex_text 3 unit.0 ++ control_words state attention ++ codes "\n"
 
 -- a unit's state, if the machine has it
 abbrev pub text_of_state : Unit → Option UnitState → Bool → List ℕ
@@ -52,46 +56,57 @@ sense_text sense = codes " sense " ++ hex_text 2 (slice_index sense 0)
 abbrev pub key_text : Bool → List ℕ
 key_text pressed = if pressed then codes "on" else codes "off"
 
+-- a count behind its name
+unfoldable pub counted : List ℕ → ℕ → List ℕ
+counted name count = name ++ decimal count
+
 -- the cards that were fed, of all, and the end-of-file key
-abbrev pub reader_line : Reader → List ℕ
-reader_line r =
-    codes "00C" ++ sense_text r.sense ++ codes " next " ++ decimal (length r.media.stackers) ++ codes " of " ++ decimal (length r.media.cards)
-    ++ codes " eof " ++ key_text r.media.end_of_file ++ codes "\n"
+abbrev pub reader_words : Reader → List ℕ
+reader_words r =
+    sense_text r.sense ++ codes " next " ++ decimal (length r.media.stackers) ++ codes " of " ++ decimal (length r.media.cards)
+    ++ codes " eof " ++ key_text r.media.end_of_file
 
 -- the cards that were punched
-abbrev pub punch_line : Punch → List ℕ
-punch_line p = codes "00D" ++ sense_text p.sense ++ codes " cards " ++ decimal (length p.media) ++ codes "\n"
+abbrev pub punch_words : Punch → List ℕ
+punch_words p = sense_text p.sense ++ codes " cards " ++ decimal (length p.media)
 
 -- where the carriage stands, and the lines that were printed
-abbrev pub printer_line : Printer → List ℕ
-printer_line p =
-    codes "00E" ++ sense_text p.sense ++ codes " page " ++ decimal p.media.position.page ++ codes " line " ++ decimal p.media.position.line
-    ++ codes " records " ++ decimal (length p.media.records) ++ codes "\n"
+abbrev pub printer_words : Printer → List ℕ
+printer_words p =
+    sense_text p.sense ++ counted (codes " page ") p.media.position.page ++ counted (codes " line ") p.media.position.line
+    ++ counted (codes " records ") (length p.media.records)
 
 -- the items that were typed, the lines that were entered, and how many of these were taken
-abbrev pub console_line : Console → List ℕ
-console_line c =
-    codes "01F" ++ sense_text c.sense ++ codes " typed " ++ decimal (length c.media.typed) ++ codes " entered " ++ decimal (length c.media.entered)
-    ++ codes " taken " ++ decimal c.media.taken ++ codes "\n"
+abbrev pub console_words : Console → List ℕ
+console_words c =
+    sense_text c.sense ++ counted (codes " typed ") (length c.media.typed) ++ counted (codes " entered ") (length c.media.entered)
+    ++ counted (codes " taken ") c.media.taken
 
 -- the sense bytes, the position among the blocks and marks, and whether the tape is loaded
 abbrev pub loaded_text : Bool → List ℕ
 loaded_text unloaded = if unloaded then codes " unloaded" else codes " loaded"
 
-abbrev pub tape_line : Unit → Tape → List ℕ
-tape_line unit t =
-    hex_text 3 unit.0 ++ codes " sense " ++ hex_bytes t.sense ++ codes " position " ++ decimal t.media.position ++ codes " of " ++ decimal (length t.media.items)
-    ++ loaded_text t.media.unloaded ++ codes "\n"
+abbrev pub tape_words : Tape → List ℕ
+tape_words t =
+    codes " sense " ++ hex_bytes t.sense ++ codes " position " ++ decimal t.media.position ++ codes " of " ++ decimal (length t.media.items)
+    ++ loaded_text t.media.unloaded
 
--- a unit's device, if the machine has it
+-- a unit's device
+abbrev pub device_words : Machine → ConfiguredUnit → List ℕ
+device_words m reader_unit = reader_words m.media.reader
+device_words m punch_unit = punch_words m.media.punch
+device_words m printer_unit = printer_words m.media.printer
+device_words m console_unit = console_words m.media.console
+device_words m Tape0 = tape_words m.media.tape0
+device_words m Tape1 = tape_words m.media.tape1
+
+-- the line of a unit's device, if the machine has it
+abbrev pub device_line : Machine → Unit → ConfiguredUnit → List ℕ
+device_line m unit configured = hex_text 3 unit.0 ++ device_words m configured ++ codes "\n"
+
 abbrev pub text_of_device : Machine → Unit → Option ConfiguredUnit → List ℕ
-text_of_device m unit (Some reader_unit) = reader_line m.media.reader
-text_of_device m unit (Some punch_unit) = punch_line m.media.punch
-text_of_device m unit (Some printer_unit) = printer_line m.media.printer
-text_of_device m unit (Some console_unit) = console_line m.media.console
-text_of_device m unit (Some Tape0) = tape_line unit m.media.tape0
-text_of_device m unit (Some Tape1) = tape_line unit m.media.tape1
 text_of_device m unit None = refused_text NoSuchUnit
+text_of_device m unit (Some configured) = device_line m unit configured
 
 abbrev pub device_text : Machine → Unit → List ℕ
 device_text m unit = text_of_device m unit (unit_at unit.0)

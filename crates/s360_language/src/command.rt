@@ -75,7 +75,8 @@ pub enum Shown {
     Psw,
     /// `show s A N`: so many bytes of storage from an address on.
     Storage { at: u32, count: u32 },
-    /// `show k A`: the storage key of the block that an address lies in.
+    /// `show k A`: the storage key of the block that an address lies in, and its fetch bit if fetches are
+    /// protected.
     StorageKey { at: u32 },
     /// `show ext`: the pending external conditions.
     External,

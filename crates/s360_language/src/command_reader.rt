@@ -1,40 +1,36 @@
 //! Reads a line as a command. Each first word has its row in `read_named`, and a word that has
 //! kinds a function of its own.
-ghost use Rattle.std.specs.Prelude.{◌≡◌, ◌≤◌, ◌<◌, ◌^◌, ◌∷◌, IfOk, IfSome, drop, take, length, MatchOption, Some, None};
+ghost use Rattle.std.specs.Prelude.{◌≡◌, ◌≤◌, ◌∷◌, IfSome, drop, take, length, MatchOption, Some, None};
 ghost use Rattle.s360_language.specs.Reading.{Reads, reading_of, reading_of_words, patch_reading};
 ghost use Rattle.s360_language.specs.Reading.{storage_patch, word_patch, key_patch, doubleword_patch};
+ghost use Rattle.s360_language.specs.Reading.{bit_of, fetch_bit_patch};
 ghost use Rattle.s360_language.specs.Reading.{break_reading, clear_reading, run_reading, withdraw_reading};
 ghost use Rattle.s360_language.specs.Reading.{channel_reading, key_of, key_reading, enter_reading};
 ghost use Rattle.s360_language.specs.Reading.{load_reading};
 ghost use Rattle.s360_language.specs.Reading.{last_reading, show_reading, show_storage, show_item};
-ghost use Rattle.s360_language.specs.Reading.{argument, number_argument, unit_argument};
-ghost use Rattle.s360_language.specs.Reading.{bytes_in, is_word, finished};
-ghost use Rattle.s360_language.specs.Reading.{AtEnd};
-ghost use Rattle.s360_language.specs.Digits.{doubleword_of, count_of};
+ghost use Rattle.s360_language.specs.Reading.{argument, bytes_in, finished};
+ghost use Rattle.s360_language.specs.Digits.{doubleword_of};
 
+use crate::arguments::{expect_end, next_count, next_number, next_place, next_unit};
 use crate::command::{Command, LineFault, Shown};
 use crate::ebcdic::{ebcdic_in, has_ebcdic};
-use crate::words::{Words, text_behind};
+use crate::words::{Words, is_word, text_behind};
 use s360_machine::{Bytes, Key, Patch};
-use s360_store::{BLOCK_SIZE, Place};
 use s360_text::number_in;
-use s360_word::{ProtectionKey, RegisterNumber, Unit};
+use s360_word::{ProtectionKey, RegisterNumber};
 use std::alloc::Global;
 
 /// A line has at most so many bytes.
-const LONGEST_LINE: usize = 1024;
+pub const LONGEST_LINE: usize = 1024;
 
 /// A doubleword has so many hexadecimal digits.
 const DOUBLEWORD_DIGITS: usize = 16;
-
-/// A count has at most so many decimal digits.
-const COUNT_DIGITS: usize = 8;
 
 /// A line shows at most so many bytes of storage.
 const MOST_SHOWN: u32 = 256;
 
 /// The greatest count of events, and number of an item or a change.
-const MOST_COUNT: u32 = 10_000_000;
+pub const MOST_COUNT: u32 = 10_000_000;
 
 /// The command of a line, without its line end. A fault is answered whatever memory there is, and only a
 /// line that enters a text or patches storage wants memory. A line of blanks alone is `Unknown`.
@@ -60,48 +56,41 @@ fn read_named(
 ) -> Result<Command, LineFault>
     ensures { Reads (reading_of_words text.now (name.now ∷ words.entry)) result }
 {
-    if is(name, "step") {
+    if is_word(name, "step") {
         finish(words, 1, Command::Step)
-    } else if is(name, "channel") {
+    } else if is_word(name, "channel") {
         read_channel(words)
-    } else if is(name, "tick") {
+    } else if is_word(name, "tick") {
         finish(words, 1, Command::Tick)
-    } else if is(name, "key") {
+    } else if is_word(name, "key") {
         read_key(words)
-    } else if is(name, "enter") {
+    } else if is_word(name, "enter") {
         read_enter(alloc, text)
-    } else if is(name, "load") {
+    } else if is_word(name, "load") {
         read_load(words)
-    } else if is(name, "back") {
+    } else if is_word(name, "back") {
         finish(words, 1, Command::Back)
-    } else if is(name, "standing") {
+    } else if is_word(name, "standing") {
         finish(words, 1, Command::Standing)
-    } else if is(name, "patch") {
+    } else if is_word(name, "patch") {
         read_patch(alloc, words)
-    } else if is(name, "last") {
+    } else if is_word(name, "last") {
         read_last(words)
-    } else if is(name, "show") {
+    } else if is_word(name, "show") {
         read_show(words)
-    } else if is(name, "break") {
+    } else if is_word(name, "break") {
         read_break(words)
-    } else if is(name, "clear") {
+    } else if is_word(name, "clear") {
         read_clear(words)
-    } else if is(name, "until") {
+    } else if is_word(name, "until") {
         finish(words, 1, Command::Until)
-    } else if is(name, "run") {
+    } else if is_word(name, "run") {
         read_run(words)
-    } else if is(name, "withdraw") {
+    } else if is_word(name, "withdraw") {
         read_withdraw(words)
     } else {
         Err(LineFault::Unknown)
     }
-}
-
-/// Whether a word is this one.
-fn is(word: &[u8], name: &str) -> bool
-    ensures { result ≡ is_word word.now name.now }
-{
-    word == name.as_bytes()
 }
 
 /// `channel U`
@@ -159,17 +148,17 @@ fn read_key(mut words: Words<'_>) -> Result<Command, LineFault>
 fn key_of(name: &[u8]) -> Option<Key>
     ensures { result ≡ key_of name.now }
 {
-    if is(name, "start") {
+    if is_word(name, "start") {
         Some(Key::Start)
-    } else if is(name, "stop") {
+    } else if is_word(name, "stop") {
         Some(Key::Stop)
-    } else if is(name, "reset") {
+    } else if is_word(name, "reset") {
         Some(Key::Reset)
-    } else if is(name, "interrupt") {
+    } else if is_word(name, "interrupt") {
         Some(Key::Interrupt)
-    } else if is(name, "eof") {
+    } else if is_word(name, "eof") {
         Some(Key::EndOfFile)
-    } else if is(name, "request") {
+    } else if is_word(name, "request") {
         Some(Key::Request)
     } else {
         None
@@ -200,13 +189,15 @@ fn read_patch(alloc: Global, mut words: Words<'_>) -> Result<Command, LineFault>
     ensures { Reads (patch_reading words.entry) result }
 {
     let kind = words.next_word().ok_or(LineFault::Argument(1))?;
-    if is(kind, "s") {
+    if is_word(kind, "s") {
         read_storage_patch(alloc, words)
-    } else if is(kind, "r") {
+    } else if is_word(kind, "r") {
         read_word_patch(words)
-    } else if is(kind, "k") {
+    } else if is_word(kind, "k") {
         read_key_patch(words)
-    } else if is(kind, "p") {
+    } else if is_word(kind, "f") {
+        read_fetch_bit_patch(words)
+    } else if is_word(kind, "p") {
         read_doubleword_patch(words)
     } else {
         Err(LineFault::Argument(1))
@@ -248,6 +239,28 @@ fn read_key_patch(mut words: Words<'_>) -> Result<Command, LineFault>
     finish(words, 4, Command::Patch(Patch::StorageKey { at, key }))
 }
 
+/// The bit that a word names: `0` or `1`.
+fn bit_of(word: &[u8]) -> Option<bool>
+    ensures { result ≡ bit_of word.now }
+{
+    if is_word(word, "0") {
+        Some(false)
+    } else if is_word(word, "1") {
+        Some(true)
+    } else {
+        None
+    }
+}
+
+/// `patch f A D`
+fn read_fetch_bit_patch(mut words: Words<'_>) -> Result<Command, LineFault>
+    ensures { result ≡ fetch_bit_patch words.entry }
+{
+    let at = next_number(&mut words, 2, 6)?;
+    let on = next_bit(&mut words, 3)?;
+    finish(words, 4, Command::Patch(Patch::FetchBit { at, on }))
+}
+
 /// `patch p Q`
 fn read_doubleword_patch(mut words: Words<'_>) -> Result<Command, LineFault>
     ensures { result ≡ doubleword_patch words.entry }
@@ -256,35 +269,12 @@ fn read_doubleword_patch(mut words: Words<'_>) -> Result<Command, LineFault>
     finish(words, 3, Command::Patch(Patch::Psw(psw)))
 }
 
-/// `last`, by its kind.
+/// `last` with a place.
 fn read_last(mut words: Words<'_>) -> Result<Command, LineFault>
     ensures { result ≡ last_reading words.entry }
 {
-    let kind = words.next_word().ok_or(LineFault::Argument(1))?;
-    if is(kind, "s") {
-        let at = next_number(&mut words, 2, 6)?;
-        finish(words, 3, Command::Last(Place::Byte(at)))
-    } else if is(kind, "r") {
-        let register = next_number(&mut words, 2, 1)?;
-        finish(words, 3, Command::Last(Place::Register(register as u8)))
-    } else if is(kind, "k") {
-        let at = next_number(&mut words, 2, 6)?;
-        finish(words, 3, Command::Last(Place::Key(at / BLOCK_SIZE)))
-    } else if is(kind, "p") {
-        finish(words, 2, Command::Last(Place::Psw))
-    } else if is(kind, "run") {
-        finish(words, 2, Command::Last(Place::Run))
-    } else if is(kind, "ext") {
-        finish(words, 2, Command::Last(Place::External))
-    } else if is(kind, "u") {
-        let unit = next_unit(&mut words, 2)?;
-        finish(words, 3, Command::Last(Place::UnitState(unit)))
-    } else if is(kind, "d") {
-        let unit = next_unit(&mut words, 2)?;
-        finish(words, 3, Command::Last(Place::UnitMedia(unit)))
-    } else {
-        Err(LineFault::Argument(1))
-    }
+    let (place, next) = next_place(&mut words)?;
+    finish(words, next, Command::Last(place))
 }
 
 /// `show`, by its kind.
@@ -292,26 +282,26 @@ fn read_show(mut words: Words<'_>) -> Result<Command, LineFault>
     ensures { result ≡ show_reading words.entry }
 {
     let kind = words.next_word().ok_or(LineFault::Argument(1))?;
-    if is(kind, "regs") {
+    if is_word(kind, "regs") {
         finish(words, 2, Command::Show(Shown::Registers))
-    } else if is(kind, "psw") {
+    } else if is_word(kind, "psw") {
         finish(words, 2, Command::Show(Shown::Psw))
-    } else if is(kind, "s") {
+    } else if is_word(kind, "s") {
         read_show_storage(words)
-    } else if is(kind, "k") {
+    } else if is_word(kind, "k") {
         let at = next_number(&mut words, 2, 6)?;
         finish(words, 3, Command::Show(Shown::StorageKey { at }))
-    } else if is(kind, "ext") {
+    } else if is_word(kind, "ext") {
         finish(words, 2, Command::Show(Shown::External))
-    } else if is(kind, "u") {
+    } else if is_word(kind, "u") {
         let unit = next_unit(&mut words, 2)?;
         finish(words, 3, Command::Show(Shown::UnitState(unit)))
-    } else if is(kind, "d") {
+    } else if is_word(kind, "d") {
         let unit = next_unit(&mut words, 2)?;
         finish(words, 3, Command::Show(Shown::Device(unit)))
-    } else if is(kind, "m") {
+    } else if is_word(kind, "m") {
         read_show_item(words)
-    } else if is(kind, "image") {
+    } else if is_word(kind, "image") {
         let unit = next_unit(&mut words, 2)?;
         finish(words, 3, Command::Show(Shown::Image(unit)))
     } else {
@@ -345,37 +335,13 @@ fn finish(words: Words<'_>, place: u8, command: Command) -> Result<Command, Line
     Ok(command)
 }
 
-/// Refuses a word that is left, by its number.
-fn expect_end(mut words: Words<'_>, place: u8) -> Result<(), LineFault>
-    ensures { AtEnd place words.entry result }
-{
-    match words.next_word() {
-        Some(_) => Err(LineFault::Argument(place)),
-        None => Ok(()),
-    }
-}
-
-/// The next word as a number of at most so many hexadecimal digits.
-fn next_number(words: &mut Words<'_>, place: u8, most: usize) -> Result<u32, LineFault>
-    requires { most ≤ 8 }
-    ensures value { result ≡ number_argument place most words.old }
-    ensures below { IfOk result (λ n. n < 16 ^ most) }
+/// The next word as a bit.
+fn next_bit(words: &mut Words<'_>, place: u8) -> Result<bool, LineFault>
+    ensures value { result ≡ argument place bit_of words.old }
     ensures rest { words.new ≡ drop 1 words.old }
 {
     let word = words.next_word().ok_or(LineFault::Argument(place))?;
-    let Some(number) = number_in(16, word, most) else {
-        return Err(LineFault::Argument(place));
-    };
-    Ok(number as u32)
-}
-
-/// The next word as the address of a unit, in at most three hexadecimal digits.
-fn next_unit(words: &mut Words<'_>, place: u8) -> Result<Unit, LineFault>
-    ensures unit { result ≡ unit_argument place words.old }
-    ensures rest { words.new ≡ drop 1 words.old }
-{
-    let address = next_number(words, place, 3)?;
-    Ok(Unit::new(address as u16))
+    bit_of(word).ok_or(LineFault::Argument(place))
 }
 
 /// The next word as a doubleword of sixteen hexadecimal digits.
@@ -388,18 +354,6 @@ fn next_doubleword(words: &mut Words<'_>, place: u8) -> Result<u64, LineFault>
         return Err(LineFault::Argument(place));
     }
     number_in(16, word, DOUBLEWORD_DIGITS).ok_or(LineFault::Argument(place))
-}
-
-/// The next word as a count from 1 to so many, in decimal digits.
-fn next_count(words: &mut Words<'_>, place: u8, most: u32) -> Result<u32, LineFault>
-    ensures value { result ≡ argument place (count_of most) words.old }
-    ensures rest { words.new ≡ drop 1 words.old }
-{
-    let word = words.next_word().ok_or(LineFault::Argument(place))?;
-    match number_in(10, word, COUNT_DIGITS) {
-        Some(count) if 1 <= count && count <= u64::from(most) => Ok(count as u32),
-        _ => Err(LineFault::Argument(place)),
-    }
 }
 
 /// Decodes a word of two digits a byte into a buffer, and answers the number of bytes.

@@ -1,6 +1,7 @@
 //! The language of scripts: how a line is read as a command, and how what a command asks for is shown.
 #![tactic(auto)]
 
+mod arguments;
 mod command;
 mod command_reader;
 mod ebcdic;
@@ -11,7 +12,15 @@ mod show_items;
 mod show_units;
 mod words;
 
+pub use arguments::{
+    count_in, expect_end, next_count, next_count_or, next_number, next_place, next_unit,
+};
 pub use command::{Command, LineFault, Shown};
-pub use command_reader::read_command;
-pub use names::{push_event, push_place, push_refusal, refusal_text};
+pub use command_reader::{LONGEST_LINE, MOST_COUNT, read_command};
+pub use names::{
+    name_of_external, push_event, push_place, push_refusal, push_run_state, refusal_text,
+};
 pub use show::text_of_shown;
+pub use show_items::push_signs;
+pub use show_units::{push_control, push_device, push_digits};
+pub use words::{Words, is_word};

@@ -63,6 +63,7 @@ fn name_of_patch(patch: PatchKind) -> &'static str
         PatchKind::Bytes => "patch s",
         PatchKind::Register => "patch r",
         PatchKind::StorageKey => "patch k",
+        PatchKind::FetchBit => "patch f",
         PatchKind::Psw => "patch p",
     }
 }
@@ -116,7 +117,7 @@ pub fn push_refusal(text: &mut Text, refusal: Refusal) -> Result<(), AllocError>
 }
 
 /// Adds the name of a run state.
-pub(crate) fn push_run_state(text: &mut Text, run: RunState) -> Result<(), AllocError>
+pub fn push_run_state(text: &mut Text, run: RunState) -> Result<(), AllocError>
     ensures { OnOk result (text.new ≡ text.old ++ run_state_name run) }
 {
     match run {
@@ -127,7 +128,7 @@ pub(crate) fn push_run_state(text: &mut Text, run: RunState) -> Result<(), Alloc
 }
 
 /// The name of the external conditions that are pending.
-pub(crate) fn name_of_external(external: ExternalConditions) -> &'static str
+pub fn name_of_external(external: ExternalConditions) -> &'static str
     ensures { result.now ≡ external_name external }
 {
     match (external.timer, external.key) {

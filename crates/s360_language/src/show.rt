@@ -3,7 +3,7 @@ ghost use Rattle.std.specs.Prelude.{◌≡◌, ◌++◌, ◌≤◌, ◌<◌, len
 ghost use Rattle.s360_machine.specs.Machine.{seen};
 ghost use Rattle.s360_language.specs.Shown.{shown_text, registers_text, after_registers, register_word};
 ghost use Rattle.s360_language.specs.Shown.{psw_text, storage_text, bytes_line};
-ghost use Rattle.s360_language.specs.Shown.{external_text, key_line, key_text};
+ghost use Rattle.s360_language.specs.Shown.{external_text, fetch_words, key_line, key_text};
 
 use crate::command::Shown;
 use crate::names::{name_of_external, push_run_state, refusal_text};
@@ -12,9 +12,9 @@ use crate::show_items::item_of;
 use crate::show_units::{device_of, unit_of};
 use s360_machine::{ExternalConditions, Machine, Refusal};
 use s360_psw::InstructionLength;
-use s360_store::{BLOCK_SIZE, Storage};
+use s360_store::{BLOCK_SIZE, BlockKey, Storage};
 use s360_text::Text;
-use s360_word::{ProtectionKey, RegisterNumber};
+use s360_word::RegisterNumber;
 use std::alloc::{AllocError, Global};
 
 /// A line shows so many bytes.
@@ -124,16 +124,32 @@ fn key_of(alloc: Global, storage: &Storage, at: u32) -> Result<Text, AllocError>
     if at >= storage.size() {
         return refusal_text(alloc, Refusal::OutsideStorage);
     }
-    line_of_key(alloc, storage.key(at / BLOCK_SIZE))
+    line_of_key(
+        alloc,
+        storage.fetch_protection(),
+        storage.block_key(at / BLOCK_SIZE),
+    )
+}
+
+/// What the line of a storage key says of the fetch bit, if fetches are protected.
+fn fetch_words(fetch_protection: bool, key: BlockKey) -> &'static str
+    ensures { result.now ≡ fetch_words fetch_protection key }
+{
+    match (fetch_protection, key.fetch_bit()) {
+        (false, _) => "",
+        (true, false) => " fetch 0",
+        (true, true) => " fetch 1",
+    }
 }
 
 /// The line of a storage key.
-fn line_of_key(alloc: Global, key: ProtectionKey) -> Result<Text, AllocError>
-    ensures { IfOk result (λ text. text ≡ key_line key) }
+fn line_of_key(alloc: Global, fetch_protection: bool, key: BlockKey) -> Result<Text, AllocError>
+    ensures { IfOk result (λ text. text ≡ key_line fetch_protection key) }
 {
     let mut text = Text::new(alloc);
     text.push_text("key ")?;
-    text.push_hex(u64::from(key.number()), 1)?;
+    text.push_hex(u64::from(key.key().number()), 1)?;
+    text.push_text(fetch_words(fetch_protection, key))?;
     text.push_text("\n")?;
     Ok(text)
 }

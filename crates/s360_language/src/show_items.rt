@@ -195,8 +195,8 @@ fn push_item(text: &mut Text, bytes: &[u8]) -> Result<(), AllocError>
     Ok(())
 }
 
-/// Adds the signs of EBCDIC bytes.
-fn push_signs(text: &mut Text, bytes: &[u8]) -> Result<(), AllocError>
+/// Adds the signs of EBCDIC bytes, a period for one that has none.
+pub fn push_signs(text: &mut Text, bytes: &[u8]) -> Result<(), AllocError>
     ensures { OnOk result (text.new ≡ text.old ++ map sign_of bytes.now) }
 {
     for byte in bytes {

@@ -1,9 +1,11 @@
 //! What is shown of the units and their devices.
 ghost use Rattle.std.specs.Prelude.{◌≡◌, ◌++◌, IfOk, OnOk};
 ghost use Rattle.s360_machine.specs.Machine.{seen};
-ghost use Rattle.s360_language.specs.ShownUnits.{console_line, csw_words, device_text, printer_line};
-ghost use Rattle.s360_language.specs.ShownUnits.{program_word, punch_line, reader_line, sense_text};
-ghost use Rattle.s360_language.specs.ShownUnits.{state_name, tape_line, unit_line, unit_text};
+ghost use Rattle.s360_language.specs.ShownUnits.{console_words, control_words, counted, csw_words};
+ghost use Rattle.s360_language.specs.ShownUnits.{device_line};
+ghost use Rattle.s360_language.specs.ShownUnits.{device_text, device_words, printer_words, program_word};
+ghost use Rattle.s360_language.specs.ShownUnits.{punch_words, reader_words, sense_text, state_name};
+ghost use Rattle.s360_language.specs.ShownUnits.{tape_words, unit_line, unit_text};
 ghost use Rattle.s360_model.specs.Text.{hex_bytes};
 ghost use Rattle.s360_device.specs.DeviceChanges.{bare};
 ghost use Rattle.s360_tape.specs.WholeTape.{seen as seen_tape};
@@ -39,12 +41,20 @@ fn line_of_unit(
 {
     let mut text = Text::new(alloc);
     text.push_hex(u64::from(unit.address()), 3)?;
-    push_state(&mut text, state)?;
+    push_control(&mut text, state, attention)?;
+    text.push_text("\n")?;
+    Ok(text)
+}
+
+/// Adds what the channel does for a unit, after a blank, and whether the unit asks for attention.
+pub fn push_control(text: &mut Text, state: &UnitState, attention: bool) -> Result<(), AllocError>
+    ensures { OnOk result (text.new ≡ text.old ++ control_words state.now attention) }
+{
+    push_state(text, state)?;
     if attention {
         text.push_text(" attention")?;
     }
-    text.push_text("\n")?;
-    Ok(text)
+    Ok(())
 }
 
 /// Adds the state of a unit after a blank.
@@ -87,15 +97,44 @@ pub(crate) fn device_of(alloc: Global, machine: &Machine, unit: Unit) -> Result<
     ensures { IfOk result (λ text. text ≡ device_text (seen machine.now.whole) unit) }
 {
     match ConfiguredUnit::at(unit) {
-        Some(ConfiguredUnit::Reader) => line_of_reader(alloc, machine.reader()),
-        Some(ConfiguredUnit::Punch) => line_of_punch(alloc, machine.punch()),
-        Some(ConfiguredUnit::Printer) => line_of_printer(alloc, machine.printer()),
-        Some(ConfiguredUnit::Console) => line_of_console(alloc, machine.console()),
-        Some(ConfiguredUnit::Tape0 | ConfiguredUnit::Tape1) => match machine.tape(unit) {
-            Some(tape) => line_of_tape(alloc, unit, tape),
-            None => refusal_text(alloc, Refusal::NoSuchUnit),
-        },
+        Some(configured) => line_of_device(alloc, machine, unit, configured),
         None => refusal_text(alloc, Refusal::NoSuchUnit),
+    }
+}
+
+/// The line of a unit's device.
+fn line_of_device(
+    alloc: Global,
+    machine: &Machine,
+    unit: Unit,
+    configured: ConfiguredUnit,
+) -> Result<Text, AllocError>
+    ensures { IfOk result (λ text. text ≡ device_line (seen machine.now.whole) unit configured) }
+{
+    let mut text = Text::new(alloc);
+    text.push_hex(u64::from(unit.address()), 3)?;
+    push_device(&mut text, machine, configured)?;
+    text.push_text("\n")?;
+    Ok(text)
+}
+
+/// Adds the sense byte of a unit's device, or all six of a tape, and its media in numbers, after a blank.
+pub fn push_device(
+    text: &mut Text,
+    machine: &Machine,
+    unit: ConfiguredUnit,
+) -> Result<(), AllocError>
+    ensures { OnOk result (text.new ≡ text.old ++ device_words (seen machine.now.whole) unit) }
+{
+    match unit {
+        ConfiguredUnit::Reader => push_reader(text, machine.reader()),
+        ConfiguredUnit::Punch => push_punch(text, machine.punch()),
+        ConfiguredUnit::Printer => push_printer(text, machine.printer()),
+        ConfiguredUnit::Console => push_console(text, machine.console()),
+        ConfiguredUnit::Tape0 | ConfiguredUnit::Tape1 => match machine.tape(unit.unit()) {
+            Some(tape) => push_tape(text, tape),
+            None => unreachable!(),
+        },
     }
 }
 
@@ -106,13 +145,21 @@ fn push_sense(text: &mut Text, sense: &[u8; 6]) -> Result<(), AllocError>
     push_numbered(text, " sense ", u64::from(sense[0]), 2)
 }
 
-/// The line of the card reader.
-fn line_of_reader(alloc: Global, reader: &Reader) -> Result<Text, AllocError>
-    ensures { IfOk result (λ text. text ≡ reader_line (bare reader.now)) }
+/// Adds a count behind its name.
+#[tactic(auto, unfolding(crate::specs::ShownUnits::counted))]
+fn push_count(text: &mut Text, name: &str, count: u64) -> Result<(), AllocError>
+    ensures { OnOk result (text.new ≡ text.old ++ counted name.now count) }
 {
-    let mut text = Text::new(alloc);
-    text.push_text("00C")?;
-    push_sense(&mut text, &reader.sense())?;
+    text.push_text(name)?;
+    text.push_decimal(count)?;
+    Ok(())
+}
+
+/// Adds the card reader.
+fn push_reader(text: &mut Text, reader: &Reader) -> Result<(), AllocError>
+    ensures { OnOk result (text.new ≡ text.old ++ reader_words (bare reader.now)) }
+{
+    push_sense(text, &reader.sense())?;
     text.push_text(" next ")?;
     text.push_decimal(reader.media().fed() as u64)?;
     text.push_text(" of ")?;
@@ -122,67 +169,48 @@ fn line_of_reader(alloc: Global, reader: &Reader) -> Result<Text, AllocError>
         "on"
     } else {
         "off"
-    })?;
-    text.push_text("\n")?;
-    Ok(text)
+    })
 }
 
-/// The line of the card punch.
-fn line_of_punch(alloc: Global, punch: &Punch) -> Result<Text, AllocError>
-    ensures { IfOk result (λ text. text ≡ punch_line (bare punch.now)) }
+/// Adds the card punch.
+fn push_punch(text: &mut Text, punch: &Punch) -> Result<(), AllocError>
+    ensures { OnOk result (text.new ≡ text.old ++ punch_words (bare punch.now)) }
 {
-    let mut text = Text::new(alloc);
-    text.push_text("00D")?;
-    push_sense(&mut text, &punch.sense())?;
+    push_sense(text, &punch.sense())?;
     text.push_text(" cards ")?;
     text.push_decimal(punch.media().cards() as u64)?;
-    text.push_text("\n")?;
-    Ok(text)
+    Ok(())
 }
 
-/// The line of the printer.
-fn line_of_printer(alloc: Global, printer: &Printer) -> Result<Text, AllocError>
-    ensures { IfOk result (λ text. text ≡ printer_line (bare printer.now)) }
+/// Adds the printer.
+fn push_printer(text: &mut Text, printer: &Printer) -> Result<(), AllocError>
+    ensures { OnOk result (text.new ≡ text.old ++ printer_words (bare printer.now)) }
 {
     let position = printer.media().position();
-    let mut text = Text::new(alloc);
-    text.push_text("00E")?;
-    push_sense(&mut text, &printer.sense())?;
-    text.push_text(" page ")?;
-    text.push_decimal(u64::from(position.page()))?;
-    text.push_text(" line ")?;
-    text.push_decimal(u64::from(position.line()))?;
-    text.push_text(" records ")?;
-    text.push_decimal(printer.media().records() as u64)?;
-    text.push_text("\n")?;
-    Ok(text)
+    push_sense(text, &printer.sense())?;
+    push_count(text, " page ", u64::from(position.page()))?;
+    push_count(text, " line ", u64::from(position.line()))?;
+    push_count(text, " records ", printer.media().records() as u64)?;
+    Ok(())
 }
 
-/// The line of the console.
-fn line_of_console(alloc: Global, console: &Console) -> Result<Text, AllocError>
-    ensures { IfOk result (λ text. text ≡ console_line (bare console.now)) }
+/// Adds the console.
+fn push_console(text: &mut Text, console: &Console) -> Result<(), AllocError>
+    ensures { OnOk result (text.new ≡ text.old ++ console_words (bare console.now)) }
 {
-    let mut text = Text::new(alloc);
-    text.push_text("01F")?;
-    push_sense(&mut text, &console.sense())?;
-    text.push_text(" typed ")?;
-    text.push_decimal(console.media().typed_count() as u64)?;
-    text.push_text(" entered ")?;
-    text.push_decimal(console.media().entered_count() as u64)?;
-    text.push_text(" taken ")?;
-    text.push_decimal(console.media().taken() as u64)?;
-    text.push_text("\n")?;
-    Ok(text)
+    push_sense(text, &console.sense())?;
+    push_count(text, " typed ", console.media().typed_count() as u64)?;
+    push_count(text, " entered ", console.media().entered_count() as u64)?;
+    push_count(text, " taken ", console.media().taken() as u64)?;
+    Ok(())
 }
 
-/// The line of a magnetic tape.
-fn line_of_tape(alloc: Global, unit: Unit, tape: &Tape) -> Result<Text, AllocError>
-    ensures { IfOk result (λ text. text ≡ tape_line unit (seen_tape (bare tape.now))) }
+/// Adds a magnetic tape.
+fn push_tape(text: &mut Text, tape: &Tape) -> Result<(), AllocError>
+    ensures { OnOk result (text.new ≡ text.old ++ tape_words (seen_tape (bare tape.now))) }
 {
-    let mut text = Text::new(alloc);
-    text.push_hex(u64::from(unit.address()), 3)?;
     text.push_text(" sense ")?;
-    push_digits(&mut text, &tape.sense())?;
+    push_digits(text, &tape.sense())?;
     text.push_text(" position ")?;
     text.push_decimal(tape.media().position() as u64)?;
     text.push_text(" of ")?;
@@ -191,13 +219,11 @@ fn line_of_tape(alloc: Global, unit: Unit, tape: &Tape) -> Result<Text, AllocErr
         " unloaded"
     } else {
         " loaded"
-    })?;
-    text.push_text("\n")?;
-    Ok(text)
+    })
 }
 
 /// Adds bytes as two digits each.
-pub(crate) fn push_digits(text: &mut Text, bytes: &[u8]) -> Result<(), AllocError>
+pub fn push_digits(text: &mut Text, bytes: &[u8]) -> Result<(), AllocError>
     ensures { OnOk result (text.new ≡ text.old ++ hex_bytes bytes.now) }
 {
     for byte in bytes {

@@ -1,13 +1,14 @@
 //! The words of a line: what stands between its blanks.
 ghost use Rattle.std.specs.Prelude.{◌≡◌, ◌≤◌, ◌+◌, ◌∷◌, [], MatchOption, IfSome, length, nat_eq, not};
 ghost use Rattle.std.specs.List.{position};
+ghost use Rattle.s360_language.specs.Reading.{is_word};
 ghost use Rattle.s360_language.specs.Words.{behind_word, text_behind, words_of};
 
 use std::marker::Model;
 
 /// The words that are left of a line of at most 1,024 bytes, which a contract sees as their list.
 #[derive(Drop)]
-pub(crate) struct Words<'a> {
+pub struct Words<'a> {
     rest: &'a [u8],
 }
 
@@ -24,7 +25,7 @@ impl<'a> Model for Words<'a> {
 
 impl<'a> Words<'a> {
     /// The words of a line, which is not too long.
-    pub(crate) fn new(line: &'a [u8]) -> Words<'a>
+    pub fn new(line: &'a [u8]) -> Words<'a>
         requires { length line.now ≤ 1024 }
         ensures { result ≡ words_of line.now }
     {
@@ -32,7 +33,7 @@ impl<'a> Words<'a> {
     }
 
     /// The next word, if there is one.
-    pub(crate) fn next_word(&mut self) -> Option<&'a [u8]>
+    pub fn next_word(&mut self) -> Option<&'a [u8]>
         ensures word { MatchOption result ((self.old ≡ []) × (self.new ≡ [])) (λ word. self.old ≡ word.now ∷ self.new) }
         ensures short { IfSome result (λ word. length word.now ≤ 1024) }
     {
@@ -78,4 +79,11 @@ pub(crate) fn text_behind(line: &[u8]) -> &[u8]
         Some((_, [_, text @ ..])) => text,
         _ => &[],
     }
+}
+
+/// Whether a word is this one.
+pub fn is_word(word: &[u8], name: &str) -> bool
+    ensures { result ≡ is_word word.now name.now }
+{
+    word == name.as_bytes()
 }

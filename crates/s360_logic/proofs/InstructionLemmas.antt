@@ -1,5 +1,5 @@
 -- The instruction that was fetched.
-use Rattle.std.proofs.Common.{◌≡◌, ◌∙◌, ℕ, Bool, true, false, refl, List, Option, Some, None, IfSome, ap, sym, is_some}
+use Rattle.std.proofs.Common.{◌≡◌, ◌∙◌, ℕ, Bool, true, false, refl, List, [], Option, Some, None, IfSome, ap, arith, sym, is_none, is_some}
 use Rattle.std.specs.Option.{option_map}
 use Rattle.s360_model.specs.Core.{Core}
 use Rattle.s360_model.specs.Psw.{instruction_address_of}
@@ -8,7 +8,10 @@ use Rattle.s360_fixed.specs.declared.ended.Ended.{Ended}
 use Rattle.s360_fixed.specs.declared.ended.Ended.TheVariants.{Program}
 use Rattle.s360_fixed.specs.declared.form.Form.{Form}
 use Rattle.s360_fixed.specs.declared.making.Made.{Made}
+use Rattle.s360_fixed.specs.declared.program_code.ProgramCode.{ProgramCode}
 use Rattle.s360_fixed.specs.declared.program_code.ProgramCode.TheVariants.{Operation}
+use Rattle.s360_psw.specs.declared.instruction_length.InstructionLength.TheVariants.{NotAvailable}
+use Rattle.s360_store.proofs.PlannedLemmas.{IsPlanOf-none}
 use Rattle.s360_fixed.specs.Fetching.{instruction_bytes}
 use Rattle.s360_fixed.specs.Fixed.{fixed_outcome}
 use Rattle.s360_fixed.specs.Made.{outcome_of_made}
@@ -63,6 +66,39 @@ PlansInstruction-fetched f plan ended h p =
       plans = rw outcome p;
       next = ap (λ (v : View). v.next_address) h.view;
       length = ap (λ (v : View). v.instruction_length) h.view;
+    }
+
+-- what keeps an instruction from being fetched comes before its code
+refused-met : (odd outside_first protected_first outside_rest protected_rest operation : Bool) (code : ProgramCode)
+    → program_code (record no_conditions { odd_address = odd; outside_first = outside_first; protected_first = protected_first; outside_rest = outside_rest; protected_rest = protected_rest }) ≡ Some code
+    → program_code (record no_conditions { odd_address = odd; outside_first = outside_first; protected_first = protected_first; outside_rest = outside_rest; protected_rest = protected_rest; operation = operation }) ≡ Some code
+refused-met true f p r q o code h = h
+refused-met false true p r q o code h = h
+refused-met false false true r q o code h = h
+refused-met false false false true q o code h = h
+refused-met false false false false true o code h = h
+refused-met false false false false false o code h = absurd (cc)
+
+abbrev refused_outcome : Core → ProgramCode → Outcome
+refused_outcome m code = record { ended = Program code; core = m }
+
+instruction_of-refused : (m : Core) (a : ℕ) (form : Option Form) (code : ProgramCode) → program_code (conditions_at m a) ≡ Some code → instruction_of m a form ≡ refused_outcome m code
+instruction_of-refused m a form code h =
+    let c : Conditions = conditions_at m a
+    in rw (refused-met c.odd_address c.outside_first c.protected_first c.outside_rest c.protected_rest (is_none form) code h) refl
+
+-- one that could not be fetched puts nothing, and has no length
+pub PlansInstruction-refused : (m : Core) (plan : List Cell) (code : ProgramCode) → plan ≡ [] → program_code (conditions_at m (instruction_address_of m.psw)) ≡ Some code
+    → PlansInstruction m plan (instruction m) (record { ended = Program code; next_address = instruction_address_of m.psw; instruction_length = NotAvailable })
+unfolding instruction
+PlansInstruction-refused m plan code e h =
+    let a : ℕ = instruction_address_of m.psw
+    in let outcome : (instruction_at m a).outcome ≡ refused_outcome m code = instruction_of-refused m a (form_of (instruction_bytes m.storage a)) code h
+    in let nothing : PlansOutcome m [] (refused_outcome m code) (Program code) = record { ends = refl; makes = IsPlanOf-none m; few = omega arith }
+    in record {
+      plans = rw (e, outcome) nothing;
+      next = rw h refl;
+      length = rw h refl;
     }
 
 -- what it does by its row of fixed-point, branch and shift instructions

@@ -1,6 +1,6 @@
 -- Instructions worked by hand, which the definitions have to give. Each stands at address 0 of a storage of
 -- its own bytes alone.
-use Rattle.std.specs.Prelude.{◌≡◌, ℕ, List, [], ◌∷◌, refl, slice_index}
+use Rattle.std.specs.Prelude.{◌≡◌, ℕ, List, [], ◌∷◌, false, refl, slice_index}
 use Rattle.s360_model.specs.Core.{Core}
 use Rattle.s360_fixed.specs.declared.ended.Ended.TheVariants.{Done, Program, Io}
 use Rattle.s360_fixed.specs.declared.ended.IoOperation.TheVariants.{Start}
@@ -14,7 +14,7 @@ abbrev pub known : ℕ → ℕ → ℕ → ℕ → ℕ → ℕ → List ℕ → 
 known psw r1 r2 r3 r4 r5 bytes = record {
   psw = psw;
   registers = 0 ∷ r1 ∷ r2 ∷ r3 ∷ r4 ∷ r5 ∷ 0 ∷ 0 ∷ 0 ∷ 0 ∷ 0 ∷ 0 ∷ 0 ∷ 0 ∷ 0 ∷ 0 ∷ [];
-  storage = record { bytes = bytes; keys = 0 ∷ [] };
+  storage = record { bytes = bytes; keys = 0 ∷ []; fetch_protection = false };
 }
 
 -- AR: the largest word plus one overflows, and interrupts where its mask is one

@@ -1,9 +1,9 @@
 -- Status switching worked by hand, which the definitions have to give. Each instruction stands at address 0.
-use Rattle.std.specs.Prelude.{◌≡◌, ℕ, [], ◌∷◌, refl}
-use Rattle.s360_model.specs.Core.{core_with_key}
+use Rattle.std.specs.Prelude.{◌≡◌, ℕ, true, [], ◌∷◌, refl}
+use Rattle.s360_model.specs.Core.{Core, core_with_key}
 use Rattle.s360_psw.specs.declared.instruction_length.InstructionLength.TheVariants.{TwoHalfwords}
 use Rattle.s360_fixed.specs.declared.ended.Ended.TheVariants.{Done, Program, Svc}
-use Rattle.s360_fixed.specs.declared.program_code.ProgramCode.TheVariants.{Addressing, Privileged, Specification}
+use Rattle.s360_fixed.specs.declared.program_code.ProgramCode.TheVariants.{Addressing, Privileged, Protection, Specification}
 use Rattle.s360_logic.specs.Instruction.{instruction}
 use Rattle.s360_logic.proofs.KnownInstructions.{known}
 
@@ -28,6 +28,36 @@ insert_storage_key : (instruction (core_with_key 0 0xF (known 0 0 0 0x1234_5678 
     ≡ record { ended = Done; core = core_with_key 0 0xF (known 2 0 0 0x1234_56F0 0 0 (0x09 ∷ 0x32 ∷ [])) }
 unfolding instruction
 insert_storage_key = refl
+
+-- the same where fetches are protected: bit 28 is the fetch bit, which the block's number has as 16
+abbrev fetching : Core → Core
+fetching m = record m { storage = record m.storage { fetch_protection = true } }
+
+set_fetch_bit : (instruction (fetching (known 0 0x58 0 0 0 0 (0x08 ∷ 0x12 ∷ [])))).outcome
+    ≡ record { ended = Done; core = core_with_key 0 21 (fetching (known 2 0x58 0 0 0 0 (0x08 ∷ 0x12 ∷ []))) }
+unfolding instruction
+set_fetch_bit = refl
+
+insert_fetch_bit : (instruction (core_with_key 0 21 (fetching (known 0 0 0 0x1234_5677 0 0 (0x09 ∷ 0x32 ∷ []))))).outcome
+    ≡ record { ended = Done; core = core_with_key 0 21 (fetching (known 2 0 0 0x1234_5658 0 0 (0x09 ∷ 0x32 ∷ []))) }
+unfolding instruction
+insert_fetch_bit = refl
+
+-- LR with the key 1 of the PSW from a block with key 2: a fetch bit of one keeps it from being fetched
+abbrev key_1 : ℕ
+key_1 = 0x0010_0000_0000_0000
+
+fetch_bit_protects : (instruction (core_with_key 0 18 (fetching (known key_1 0 5 0 0 0 (0x18 ∷ 0x12 ∷ []))))).outcome.ended ≡ Program Protection
+unfolding instruction
+fetch_bit_protects = refl
+
+fetch_bit_of_zero : (instruction (core_with_key 0 2 (fetching (known key_1 0 5 0 0 0 (0x18 ∷ 0x12 ∷ []))))).outcome.ended ≡ Done
+unfolding instruction
+fetch_bit_of_zero = refl
+
+fetch_with_the_key : (instruction (core_with_key 0 17 (fetching (known key_1 0 5 0 0 0 (0x18 ∷ 0x12 ∷ []))))).outcome.ended ≡ Done
+unfolding instruction
+fetch_with_the_key = refl
 
 -- a one in bits 28 to 31 comes before a block outside
 low_bits : (instruction (known 0 0 0x0000_0801 0 0 0 (0x08 ∷ 0x12 ∷ []))).outcome.ended ≡ Program Specification

@@ -1,17 +1,22 @@
 -- Rows of two operands in storage of one length, a byte after another from left to right: a byte that was
 -- stored is seen by later fetches (GA22-6821, "Logical Operations").
-use Rattle.std.specs.Prelude.{ℕ, zero, suc, ◌+◌, ◌*◌, ◌/◌, ◌%◌, ◌^◌, Bool, false, not, ◌||◌, ◌&&◌, nat_eq, if◌then◌else◌, Option, Some, None, pos}
+use Rattle.std.specs.Prelude.{ℕ, zero, suc, ◌+◌, ◌*◌, ◌/◌, ◌%◌, ◌^◌, nat_eq, if◌then◌else◌, Option, Some, None, pos}
 use Rattle.s360_model.specs.ConditionCodes.{order_code}
-use Rattle.s360_model.specs.Storage.{Storage, is_inside}
+use Rattle.s360_model.specs.Psw.{protection_key_of}
+use Rattle.s360_model.specs.Storage.{Storage}
+use Rattle.s360_store.specs.Protection.{access, met_of_both}
 use Rattle.s360_store.specs.declared.protection.Access.TheVariants.{Fetch, Store}
+use Rattle.s360_store.specs.declared.protection.Checked.{Checked}
+use Rattle.s360_store.specs.declared.protection.Checked.TheVariants.{Clear}
+use Rattle.s360_fixed.specs.Operands.{is_guarded, is_outside}
 use Rattle.s360_fixed.specs.declared.setting.Setting.TheVariants.{Kept, Code}
 use Rattle.s360_fixed.specs.Outcomes.{after_effect, double, unless_met}
-use Rattle.s360_fixed.specs.ProgramCodes.{Conditions}
+use Rattle.s360_fixed.specs.ProgramCodes.{Conditions, no_conditions}
 use Rattle.s360_fixed.specs.View.{Outcome, View, register_of}
 use Rattle.s360_logic.specs.declared.field.Field.{Field}
 use Rattle.s360_logic.specs.declared.row.ByteCombination.{ByteCombination}
 use Rattle.s360_logic.specs.Immediate.{code_alone}
-use Rattle.s360_logic.specs.Bytes.{byte_at, byte_result, combination_setting, completed_with, field_conditions, fields_conditions, operand_bytes, with_byte}
+use Rattle.s360_logic.specs.Bytes.{byte_at, byte_result, combination_setting, completed_with, fields_conditions, operand_bytes, with_byte}
 
 -- the storage after the bytes from number i on, so many of them, were made and stored, each of the storage as
 -- those before it left it
@@ -53,28 +58,33 @@ compare_outcome v first second count =
 abbrev pub function_address : ℕ → ℕ → ℕ
 function_address table argument = (table + argument) % 2 ^ 24
 
--- the function byte that the byte at an address selects, and whether it is outside storage
+-- the function byte that the byte at an address selects, and what its fetch meets under a key
 abbrev pub function_byte : ℕ → ℕ → Storage → ℕ
 function_byte table address s = byte_at s (function_address table (byte_at s address))
 
-abbrev pub selects_outside : ℕ → ℕ → Storage → Bool
-selects_outside table address s = not (is_inside s (function_address table (byte_at s address)) 1)
+abbrev pub function_access : ℕ → ℕ → ℕ → Storage → Checked
+function_access table key address s = access s (function_address table (byte_at s address)) 1 Fetch key
 
 -- translate: each byte becomes the function byte that it selects
 abbrev pub translated_byte : ℕ → ℕ → ℕ → Storage → ℕ
 translated_byte table first i s = function_byte table (first + i) s
 
--- one of the bytes selects a byte outside storage, those before it being translated
-abbrev pub translates_outside : ℕ → ℕ → ℕ → ℕ → Storage → Bool
-translates_outside table first i zero s = false
-translates_outside table first i (suc n) s =
-    selects_outside table (first + i) s
-    || translates_outside table first (i + 1) n (with_byte (first + i) (translated_byte table first i s) s)
+-- what the fetches of the function bytes meet, each byte being translated before the next selects its own: a
+-- function byte decides what follows though it is protected
+abbrev pub translate_access : ℕ → ℕ → ℕ → ℕ → ℕ → Storage → Checked
+translate_access table key first i zero s = Clear
+translate_access table key first i (suc n) s =
+    met_of_both (function_access table key (first + i) s) (translate_access table key first (i + 1) n (with_byte (first + i) (translated_byte table first i s) s))
 
+-- the conditions of what accesses meet
+abbrev pub conditions_of : Checked → Conditions
+conditions_of met = record no_conditions { addressing = is_outside met; protection = is_guarded met }
+
+-- the operand with the function bytes that it selects
 abbrev pub translate_conditions : View → ℕ → ℕ → ℕ → Conditions
 translate_conditions v first table count =
-    let c = field_conditions v Store (field_at first count)
-    in record c { addressing = c.addressing || translates_outside table first 0 count v.core.storage }
+    let key = protection_key_of v.core.psw
+    in conditions_of (met_of_both (access v.core.storage first count Store key) (translate_access table key first 0 count v.core.storage))
 
 abbrev pub translate_outcome : View → ℕ → ℕ → ℕ → Outcome
 translate_outcome v first table count =
@@ -88,17 +98,17 @@ found_at table first i zero s = None
 found_at table first i (suc n) s =
     if nat_eq (function_byte table (first + i) s) 0 then found_at table first (i + 1) n s else Some i
 
--- one of the bytes up to there selects a byte outside storage
-abbrev pub searches_outside : ℕ → ℕ → ℕ → ℕ → Storage → Bool
-searches_outside table first i zero s = false
-searches_outside table first i (suc n) s =
-    selects_outside table (first + i) s
-    || (nat_eq (function_byte table (first + i) s) 0 && searches_outside table first (i + 1) n s)
+-- what the fetches of the function bytes up to there meet
+abbrev pub search_access : ℕ → ℕ → ℕ → ℕ → ℕ → Storage → Checked
+search_access table key first i zero s = Clear
+search_access table key first i (suc n) s =
+    met_of_both (function_access table key (first + i) s)
+    (if nat_eq (function_byte table (first + i) s) 0 then search_access table key first (i + 1) n s else Clear)
 
 abbrev pub search_conditions : View → ℕ → ℕ → ℕ → Conditions
 search_conditions v first table count =
-    let c = field_conditions v Fetch (field_at first count)
-    in record c { addressing = c.addressing || searches_outside table first 0 count v.core.storage }
+    let key = protection_key_of v.core.psw
+    in conditions_of (met_of_both (access v.core.storage first count Fetch key) (search_access table key first 0 count v.core.storage))
 
 -- a register with another address in bits 8 to 31, and one with another byte in bits 24 to 31
 abbrev pub with_address : ℕ → ℕ → ℕ

@@ -1,10 +1,10 @@
 -- Status switching: the PSW and its masks, the storage keys and the supervisor call (GA22-6821, "Status
 -- Switching", and "System Structure", protection feature). All but SPM and SVC are privileged: in the problem
 -- state they are refused before anything else is looked at.
-use Rattle.std.specs.Prelude.{ℕ, ◌+◌, ◌*◌, ◌/◌, ◌%◌, ◌^◌, not, nat_eq, nat_le, length, slice_index}
+use Rattle.std.specs.Prelude.{ℕ, ◌+◌, ◌*◌, ◌/◌, ◌%◌, ◌^◌, Bool, not, ◌&&◌, nat_eq, nat_le, if◌then◌else◌, length, slice_index}
 use Rattle.s360_model.specs.Core.{core_with_key, core_with_psw, core_with_word}
 use Rattle.s360_model.specs.Psw.{current_psw, problem_state_of, with_program_mask, with_system_mask}
-use Rattle.s360_model.specs.Storage.{block_size, doubleword_at}
+use Rattle.s360_model.specs.Storage.{block_size, doubleword_at, fetch_bit_of_block, key_of_block, with_fetch_bit}
 use Rattle.s360_store.specs.declared.protection.Access.TheVariants.{Fetch}
 use Rattle.s360_word.specs.declared.unit.Unit.{Unit}
 use Rattle.s360_fixed.specs.declared.ended.Ended.TheVariants.{Done, Svc, Io}
@@ -40,16 +40,17 @@ key_conditions v word = privileged v (record no_conditions {
   addressing = nat_le (length v.core.storage.keys) (block_of word);
 })
 
--- bits 24 to 27 of a word, and the word with others there and zeros in bits 28 to 31
-abbrev pub key_in : ℕ → ℕ
-key_in word = word / 16 % 16
+-- the key in bits 24 to 27 of a word, and where fetches are protected the fetch bit, which is bit 28
+abbrev pub key_in : Bool → ℕ → ℕ
+key_in fetch_protection word = with_fetch_bit (word / 16 % 16) (fetch_protection && nat_eq (word / 8 % 2) 1)
 
+-- the word with another key and fetch bit there, and zeros in bits 29 to 31
 abbrev pub with_key_in : ℕ → ℕ → ℕ
-with_key_in word key = word / 256 * 256 + key * 16
+with_key_in word key = word / 256 * 256 + key_of_block key * 16 + (if fetch_bit_of_block key then 8 else 0)
 
--- the key of the block that R2 names becomes that in R1, or is put into R1
+-- the key of the block that R2 names becomes that in R1, or is put into R1, with the fetch bit
 abbrev pub key_outcome : KeyRow → View → ℕ → ℕ → Outcome
-key_outcome Set v r1 block = completed v (core_with_key block (key_in (register_of v r1)) v.core)
+key_outcome Set v r1 block = completed v (core_with_key block (key_in v.core.storage.fetch_protection (register_of v r1)) v.core)
 key_outcome Insert v r1 block = completed v (core_with_word r1 (with_key_in (register_of v r1) (slice_index v.core.storage.keys block)) v.core)
 
 -- the rows of the format RR; the code of a supervisor call is the second byte of the instruction

@@ -1,27 +1,31 @@
 //! Rows of two operands in storage of one length, a byte after another from left to right. Source:
 //! GA22-6821, "Logical Operations".
 ghost use Rattle.std.specs.Option.{option_map};
-ghost use Rattle.std.specs.Prelude.{◌≡◌, ◌≤◌, ◌<◌, ◌+◌, ◌^◌, [], IfErr, IfOk, IfSome, IsTrue, false, not, true, length};
+ghost use Rattle.std.specs.Prelude.{◌≡◌, ◌≤◌, ◌<◌, ◌+◌, ◌^◌, [], ◌≢◌, IfNone, IfOk, IfSome, IsTrue, length};
 ghost use Rattle.s360_fixed.specs.Plans.{PlansOutcome};
+ghost use Rattle.s360_fixed.specs.ProgramCodes.{program_code};
 ghost use Rattle.s360_logic.specs.LeftToRight.{combine_outcome, combined, compare_outcome};
+ghost use Rattle.s360_logic.specs.LeftToRight.{conditions_of};
 ghost use Rattle.s360_logic.specs.LeftToRight.{comparison_code, found_at, function_address};
 ghost use Rattle.s360_logic.specs.LeftToRight.{found_outcome, function_byte, left_to_right};
-ghost use Rattle.s360_logic.specs.LeftToRight.{searches_outside, translate_outcome};
+ghost use Rattle.s360_logic.specs.LeftToRight.{search_access, translate_outcome};
 ghost use Rattle.s360_logic.specs.LeftToRight.{translate_and_test_outcome};
-ghost use Rattle.s360_logic.specs.LeftToRight.{translated_byte, translates_outside};
+ghost use Rattle.s360_logic.specs.LeftToRight.{translate_access, translated_byte};
 ghost use Rattle.s360_logic.specs.LeftToRight.{with_address, with_low_byte};
 ghost use Rattle.s360_logic.specs.declared.left_to_right.Found.{Found};
 ghost use Rattle.s360_logic.specs.Bytes.{operand_bytes};
 ghost use Rattle.s360_logic.specs.Operands.{IsApart, IsBeside, stored_in};
-ghost use Rattle.s360_fixed.specs.declared.program_code.ProgramCode.TheVariants.{Addressing};
+ghost use Rattle.s360_store.specs.Protection.{access, met_of_both};
+ghost use Rattle.s360_store.specs.declared.protection.Access.TheVariants.{Fetch};
+ghost use Rattle.s360_store.specs.declared.protection.Checked.TheVariants.{Addressing, Clear};
 
 use crate::condition::plan_code;
 use crate::field::{Field, check, fields_exception};
 use crate::first_operand::FirstOperand;
 use crate::row::ByteCombination;
-use s360_fixed::{ADDRESSES, Effect, Ended, ProgramCode, Setting, View, operand_exception};
+use s360_fixed::{ADDRESSES, Effect, Ended, ProgramCode, Setting, View};
 use s360_store::{Access, Checked, GREATEST_SIZE, Plan, Storage};
-use s360_word::{Cc, RegisterNumber, Word, compare_logical};
+use s360_word::{Cc, ProtectionKey, RegisterNumber, Word, compare_logical};
 use std::alloc::AllocError;
 
 /// So many function bytes has a table.
@@ -153,6 +157,21 @@ pub(crate) fn plan_compare(
     }
 }
 
+/// Whether nothing keeps so many bytes from being fetched with a key.
+fn is_clear(storage: &Storage, address: u32, count: u32, key: ProtectionKey) -> bool
+    ensures { IsTrue result → access storage.now address count Fetch key ≡ Clear }
+{
+    storage.check(address, count, Access::Fetch, key) == Checked::Clear
+}
+
+/// What the fetch of the byte at an address meets with a key.
+fn check_byte(storage: &Storage, address: u32, key: ProtectionKey) -> Checked
+    ensures met { result ≡ access storage.now address 1 Fetch key }
+    ensures inside { result ≢ Addressing → address < length storage.now.bytes }
+{
+    storage.check(address, 1, Access::Fetch, key)
+}
+
 /// Where a table has the function byte of an argument byte.
 fn function_address(table: u32, argument: u8) -> u32
     requires { table < 2 ^ 24 }
@@ -161,12 +180,14 @@ fn function_address(table: u32, argument: u8) -> u32
     (table + u32::from(argument)) % ADDRESSES
 }
 
-/// Makes each byte of the operand the one that it selects of the 256 bytes of a table, which has none of the operand.
-fn translate_apart(operand: &mut FirstOperand, table: u32, functions: &[u8])
+/// Makes each byte of the operand the one that it selects of the 256 bytes of a table, which has none of the operand
+/// and is not protected from fetches with the key.
+fn translate_apart(operand: &mut FirstOperand, table: u32, key: ProtectionKey, functions: &[u8])
     requires beside { IsBeside operand.old table 256 }
     requires functions { functions.now ≡ operand_bytes operand.old.storage table 256 }
     requires unaltered { stored_in operand.old ≡ operand.old.storage }
-    ensures inside { translates_outside table operand.old.address 0 (length operand.old.bytes) (stored_in operand.old) ≡ false }
+    requires clear { access operand.old.storage table 256 Fetch key ≡ Clear }
+    ensures met { translate_access table key operand.old.address 0 (length operand.old.bytes) (stored_in operand.old) ≡ Clear }
     ensures stored { stored_in operand.new ≡ left_to_right (translated_byte table operand.old.address) operand.old.address 0 (length operand.old.bytes) (stored_in operand.old) }
     ensures storage { operand.new.storage ≡ operand.old.storage }
     ensures address { operand.new.address ≡ operand.old.address }
@@ -178,50 +199,72 @@ fn translate_apart(operand: &mut FirstOperand, table: u32, functions: &[u8])
     }
 }
 
-/// Makes each byte of the operand the byte of a table that it selects, as the bytes before it left that. `false` where
-/// one selects a byte outside storage; the operand is then to be dropped.
-fn translate_in_turn(operand: &mut FirstOperand, size: u32, table: u32) -> bool
-    requires size { size ≡ length operand.old.storage.bytes }
+/// Makes each byte of the operand the byte of a table that it selects, as the bytes before it left that, and answers
+/// what the fetches of those meet with the key. If it is not clear, the operand is to be dropped.
+fn translate_in_turn(
+    operand: &mut FirstOperand,
+    storage: &Storage,
+    table: u32,
+    key: ProtectionKey,
+) -> Checked
+    requires storage { storage.now ≡ operand.old.storage }
     requires table { table < 2 ^ 24 }
-    ensures inside { result ≡ not (translates_outside table operand.old.address 0 (length operand.old.bytes) (stored_in operand.old)) }
-    ensures stored { IsTrue result → stored_in operand.new ≡ left_to_right (translated_byte table operand.old.address) operand.old.address 0 (length operand.old.bytes) (stored_in operand.old) }
+    ensures met { result ≡ translate_access table key operand.old.address 0 (length operand.old.bytes) (stored_in operand.old) }
+    ensures stored { result ≡ Clear → stored_in operand.new ≡ left_to_right (translated_byte table operand.old.address) operand.old.address 0 (length operand.old.bytes) (stored_in operand.old) }
     ensures storage { operand.new.storage ≡ operand.old.storage }
     ensures address { operand.new.address ≡ operand.old.address }
     ensures count { length operand.new.bytes ≡ length operand.old.bytes }
 {
+    let mut met = Checked::Clear;
     for i in 0..operand.len() {
         let argument = operand.byte(operand.address() + i);
         let selected = function_address(table, argument);
-        if selected >= size {
-            return false;
+        let one = check_byte(storage, selected, key);
+        if one == Checked::Addressing {
+            return Checked::Addressing;
         }
+        met = met.and(one);
         operand.set(i, operand.byte(selected));
     }
-    true
+    met
 }
 
-/// Makes each byte of the operand, of which nothing is stored yet, the byte of a table that it selects. `false` where
-/// one selects a byte outside storage; the operand is then to be dropped.
-fn translate(operand: &mut FirstOperand, size: u32, table: u32) -> bool
-    requires size { size ≡ length operand.old.storage.bytes }
+/// Makes each byte of the operand, of which nothing is stored yet, the byte of a table that it selects, and answers what
+/// the fetches of those meet with the key. If it is not clear, the operand is to be dropped.
+fn translate(
+    operand: &mut FirstOperand,
+    storage: &Storage,
+    table: u32,
+    key: ProtectionKey,
+) -> Checked
+    requires storage { storage.now ≡ operand.old.storage }
     requires table { table < 2 ^ 24 }
     requires unaltered { stored_in operand.old ≡ operand.old.storage }
-    ensures inside { result ≡ not (translates_outside table operand.old.address 0 (length operand.old.bytes) (stored_in operand.old)) }
-    ensures stored { IsTrue result → stored_in operand.new ≡ left_to_right (translated_byte table operand.old.address) operand.old.address 0 (length operand.old.bytes) (stored_in operand.old) }
+    ensures met { result ≡ translate_access table key operand.old.address 0 (length operand.old.bytes) (stored_in operand.old) }
+    ensures stored { result ≡ Clear → stored_in operand.new ≡ left_to_right (translated_byte table operand.old.address) operand.old.address 0 (length operand.old.bytes) (stored_in operand.old) }
     ensures storage { operand.new.storage ≡ operand.old.storage }
     ensures address { operand.new.address ≡ operand.old.address }
     ensures count { length operand.new.bytes ≡ length operand.old.bytes }
 {
     match operand.bytes_beside(table, FUNCTIONS) {
-        Some(functions) => {
-            translate_apart(operand, table, functions);
-            true
+        Some(functions) if is_clear(storage, table, FUNCTIONS, key) => {
+            translate_apart(operand, table, key, functions);
+            Checked::Clear
         }
-        None => translate_in_turn(operand, size, table),
+        _ => translate_in_turn(operand, storage, table, key),
     }
 }
 
-/// Plans a translation. A function byte outside storage comes before a protected first operand.
+/// What keeps an instruction from being done, by what the accesses to its operand and to the function bytes meet.
+fn exception_of(operand: Checked, functions: Checked) -> Option<ProgramCode>
+    ensures code { result ≡ program_code (conditions_of (met_of_both operand functions)) }
+    ensures clear { IfNone result (functions ≡ Clear) }
+{
+    ProgramCode::of_access(operand.and(functions))
+}
+
+/// Plans a translation. A function byte outside storage comes before a protected one, and before a protected first
+/// operand.
 pub(crate) fn plan_translate(
     view: &View,
     first: u32,
@@ -243,13 +286,12 @@ pub(crate) fn plan_translate(
         return Ok(Ended::Program(ProgramCode::Addressing));
     }
     let mut operand = FirstOperand::new(view.storage(), field);
-    if !translate(&mut operand, view.storage().size(), table) {
-        return Ok(Ended::Program(ProgramCode::Addressing));
+    let key = view.psw().protection_key();
+    let met = translate(&mut operand, view.storage(), table, key);
+    match exception_of(checked, met) {
+        Some(code) => Ok(Ended::Program(code)),
+        None => operand.plan(view, Setting::Kept, plan),
     }
-    if checked == Checked::Protection {
-        return Ok(Ended::Program(ProgramCode::Protection));
-    }
-    operand.plan(view, Setting::Kept, plan)
 }
 
 /// A byte that selects a byte of a table that is not zero.
@@ -261,30 +303,40 @@ struct Found {
     function_byte: u8,
 }
 
-/// The first byte that selects a byte of a table that is not zero, if there is one; or the program
-/// code where it or one before it selects a byte outside storage.
-fn search(storage: &Storage, field: Field, table: u32) -> Result<Option<Found>, ProgramCode>
+/// The first byte that selects a byte of a table that is not zero, if there is one; and what the fetches of the bytes
+/// up to there meet with a key. If one is outside storage, none is found.
+fn search(
+    storage: &Storage,
+    field: Field,
+    table: u32,
+    key: ProtectionKey,
+) -> (Checked, Option<Found>)
     requires inside { field.address + field.count ≤ length storage.now.bytes }
     requires table { table < 2 ^ 24 }
-    ensures outside { IfErr result (λ code. (code ≡ Addressing) × (searches_outside table field.address 0 field.count storage.now ≡ true)) }
-    ensures found { IfOk result (λ found. (option_map (λ (f : Found). f.number) found ≡ found_at table field.address 0 field.count storage.now) × (searches_outside table field.address 0 field.count storage.now ≡ false)) }
-    ensures byte { IfOk result (λ found. IfSome found (λ f. (f.number < field.count) × (f.function_byte ≡ function_byte table (field.address + f.number) storage.now))) }
+    ensures met { result.0 ≡ search_access table key field.address 0 field.count storage.now }
+    ensures found { result.0 ≢ Addressing → option_map (λ (f : Found). f.number) result.1 ≡ found_at table field.address 0 field.count storage.now }
+    ensures byte { IfSome result.1 (λ f. (f.number < field.count) × (f.function_byte ≡ function_byte table (field.address + f.number) storage.now)) }
 {
-    let size = storage.size();
+    // So no address of the operand passes 32 bits.
+    prove!(storage.size() <= GREATEST_SIZE);
+    let mut met = Checked::Clear;
     for i in 0..field.count {
         let selected = function_address(table, storage.byte(field.address + i));
-        if selected >= size {
-            return Err(ProgramCode::Addressing);
+        let one = check_byte(storage, selected, key);
+        if one == Checked::Addressing {
+            return (Checked::Addressing, None);
         }
+        met = met.and(one);
         let function_byte = storage.byte(selected);
         if function_byte != 0 {
-            return Ok(Some(Found {
+            let found = Found {
                 number: i,
                 function_byte,
-            }));
+            };
+            return (met, Some(found));
         }
     }
-    Ok(None)
+    (met, None)
 }
 
 /// The word with another address in bits 8 to 31.
@@ -337,12 +389,15 @@ pub(crate) fn plan_translate_and_test(
         address: first,
         count,
     };
-    if let Some(code) = operand_exception(view, first, 1, count, Access::Fetch) {
-        return Ok(Ended::Program(code));
+    let checked = check(view, Access::Fetch, field);
+    if checked == Checked::Addressing {
+        return Ok(Ended::Program(ProgramCode::Addressing));
     }
-    match search(view.storage(), field, table) {
-        Ok(Some(found)) => plan_found(view, found, field, plan),
-        Ok(None) => plan_code(view, Cc::new(0), plan),
-        Err(code) => Ok(Ended::Program(code)),
+    let key = view.psw().protection_key();
+    let (met, found) = search(view.storage(), field, table, key);
+    match (exception_of(checked, met), found) {
+        (Some(code), _) => Ok(Ended::Program(code)),
+        (None, Some(found)) => plan_found(view, found, field, plan),
+        (None, None) => plan_code(view, Cc::new(0), plan),
     }
 }

@@ -73,7 +73,8 @@ pub(crate) enum Conversion {
     ToDecimal,
 }
 
-/// What is done with the storage key of the block that R2 names. Both are privileged.
+/// What is done with the storage key of the block that R2 names, and with its fetch bit if fetches are
+/// protected. Both are privileged.
 #[derive(Clone, Copy, Debug, PartialEq, Eq)]
 pub(crate) enum KeyRow {
     /// It becomes the key in R1.

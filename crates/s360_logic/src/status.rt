@@ -1,6 +1,7 @@
 //! Status switching: the PSW and its masks, the storage keys and the supervisor call. Source:
 //! GA22-6821, "Status Switching", and "System Structure", protection feature.
 ghost use Rattle.std.specs.Prelude.{◌≡◌, ◌<◌, [], IfNone, IfOk};
+ghost use Rattle.s360_model.specs.Storage.{key_limit};
 ghost use Rattle.s360_store.specs.Plans.{HasBlock, HasBytes};
 ghost use Rattle.s360_fixed.specs.Plans.{PlansOutcome};
 ghost use Rattle.s360_fixed.specs.ProgramCodes.{program_code};
@@ -13,7 +14,7 @@ ghost use Rattle.s360_logic.specs.Status.{storage_status_outcome, unit_of, with_
 use crate::row::{KeyRow, RegisterStatus, StorageStatus};
 use s360_fixed::{Ended, ProgramCode, View, operand_exception, put_next_psw};
 use s360_psw::Psw;
-use s360_store::{Access, BLOCK_SIZE, Plan};
+use s360_store::{Access, BLOCK_SIZE, BlockKey, Plan};
 use s360_word::{ProtectionKey, RegisterNumber, Unit, Word};
 use std::alloc::AllocError;
 
@@ -22,6 +23,9 @@ const BLOCKS: u32 = 1 << 13;
 
 /// Bytes of a doubleword, and its boundary.
 const DOUBLEWORD: u32 = 8;
+
+/// Bit 28 of a word.
+const FETCH_BIT: Word = 8;
 
 /// Units that an address can name: eight channels of 256 devices.
 const UNITS: u32 = 1 << 11;
@@ -56,18 +60,21 @@ fn block_of(word: Word) -> u32
     word / BLOCK_SIZE % BLOCKS
 }
 
-/// The key in bits 24 to 27 of a word.
-fn key_in(word: Word) -> ProtectionKey
-    ensures { result ≡ key_in word }
+/// The key in bits 24 to 27 of a word, and where fetches are protected the fetch bit in bit 28.
+fn key_in(fetch_protection: bool, word: Word) -> BlockKey
+    ensures value { result ≡ key_in fetch_protection word }
+    ensures below { result < key_limit fetch_protection }
 {
-    ProtectionKey::new((word / 16 % 16) as u8)
+    let key = ProtectionKey::new((word / 16 % 16) as u8);
+    BlockKey::new(key, fetch_protection && word / FETCH_BIT % 2 == 1)
 }
 
-/// A word with a key in bits 24 to 27, and zeros in bits 28 to 31.
-fn with_key_in(word: Word, key: ProtectionKey) -> Word
+/// A word with a key in bits 24 to 27, its fetch bit in bit 28, and zeros in bits 29 to 31.
+fn with_key_in(word: Word, key: BlockKey) -> Word
     ensures { result ≡ with_key_in word key }
 {
-    word / 256 * 256 + u32::from(key.number()) * 16
+    let fetch_bit = if key.fetch_bit() { FETCH_BIT } else { 0 };
+    word / 256 * 256 + u32::from(key.key().number()) * 16 + fetch_bit
 }
 
 /// What keeps the storage key of the block that a word names from being used: the problem state, a
@@ -102,9 +109,12 @@ fn plan_key(
     let word = view.register(r1);
     put_next_psw(view, plan)?;
     match row {
-        KeyRow::Set => plan.put_key(block, key_in(word))?,
+        KeyRow::Set => {
+            let key = key_in(view.storage().fetch_protection(), word);
+            plan.put_key(block, key)?;
+        }
         KeyRow::Insert => {
-            plan.put_register(r1, with_key_in(word, view.storage().key(block)))?;
+            plan.put_register(r1, with_key_in(word, view.storage().block_key(block)))?;
         }
     }
     Ok(Ended::Done)

@@ -170,7 +170,7 @@ no-item [] h = refl
 no-item (x ∷ xs) h = absurd (omega (arith, h))
 
 -- cells whose values fit their places
-pub AllFit-from : (m : Core) (cs : List Cell) → AreCellsOf m cs → AllFit cs
+pub AllFit-from : (m : Core) (cs : List Cell) → AreCellsOf m cs → AllFit m.storage.fetch_protection cs
 AllFit-from m [] h = tt
 AllFit-from m (c ∷ cs) h = (h.1, AllFit-from m cs h.3)
 

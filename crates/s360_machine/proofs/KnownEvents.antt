@@ -35,6 +35,7 @@ known psw r1 r2 bytes run_state external = record {
     storage = record {
       bytes = with_run (with_run (with_run (with_run (replicate 128 0) 0 bytes) 93 (1 ∷ 3 ∷ 0 ∷ [])) 101 (2 ∷ 3 ∷ 0 ∷ [])) 109 (4 ∷ 3 ∷ 0 ∷ []);
       keys = 0 ∷ [];
+      fetch_protection = false;
     };
   };
   control = record { run_state = run_state; external = external };

@@ -338,7 +338,7 @@ appended-plain old new r bs h l e = record {
 
 -- and one of more
 pub appended-full : (oi ni : List Item) (ob nb : List ℕ) (ol nl : List Beside) (cells : List Cell) (b : Beside) (done : Bool) (items bytes count : ℕ)
-    → Appended oi ni ob nb cells → AllFit cells → (done ≡ true → nl ≡ ol ++ b ∷ []) → (done ≡ false → (nl ≡ ol) × IsNothing b)
+    → Appended oi ni ob nb cells → AllFit true cells → (done ≡ true → nl ≡ ol ++ b ∷ []) → (done ≡ false → (nl ≡ ol) × IsNothing b)
     → items ≡ length ni - length oi → bytes ≡ length nb - length ob → count ≡ length cells
     → IsAppended (lists oi ob ol) (lists ni nb nl) (More done items bytes count) (change_of cells b)
 appended-full oi ni ob nb ol nl cells b true items bytes count a fit some none ei eb ec =
@@ -353,7 +353,7 @@ appended-full oi ni ob nb ol nl cells b true items bytes count a fit some none e
         sym (ei ∙ omega (arith, ap length a.items_are, length-append oi a.items)),
         sym (eb ∙ omega (arith, ap length a.bytes_are, length-append ob a.bytes)),
         ap length a.cells_are ∙ sym ec,
-        record { whole = a.whole; all = a.all; fit = subst AllFit (sym a.cells_are) fit; few = subst (λ cs. length cs ≤ 1000000) (sym a.cells_are) a.few },
+        record { whole = a.whole; all = a.all; fit = subst (AllFit true) (sym a.cells_are) fit; few = subst (λ cs. length cs ≤ 1000000) (sym a.cells_are) a.few },
       );
       change = ap (λ cs. change_of cs b) a.cells_are;
     }
@@ -370,7 +370,7 @@ appended-full oi ni ob nb ol nl cells b false items bytes count a fit some none 
         sym (ei ∙ omega (arith, ap length a.items_are, length-append oi a.items)),
         sym (eb ∙ omega (arith, ap length a.bytes_are, length-append ob a.bytes)),
         ap length a.cells_are ∙ sym ec,
-        record { whole = a.whole; all = a.all; fit = subst AllFit (sym a.cells_are) fit; few = subst (λ cs. length cs ≤ 1000000) (sym a.cells_are) a.few },
+        record { whole = a.whole; all = a.all; fit = subst (AllFit true) (sym a.cells_are) fit; few = subst (λ cs. length cs ≤ 1000000) (sym a.cells_are) a.few },
       );
       change = ap change_of_core a.cells_are ∙ same-change (change_of_core cells) (change_of cells b) refl (sym nothing.control) (sym nothing.units) (sym nothing.media);
     }
@@ -488,9 +488,9 @@ swapped-there rows lent ls ms after e b r s n m k h some is before same over pi 
     }
 
 -- an exchange that is done again
-pub swap-there : (w v : Whole) (x y : Change) → CanSwap w x → v ≡ after_swap w x → y ≡ change_after_swap w x → AllFit y.cells → IsSwapOf w x v
+pub swap-there : (w v : Whole) (x y : Change) → CanSwap w x → v ≡ after_swap w x → y ≡ change_after_swap w x → AllFit v.core.storage.fetch_protection y.cells → IsSwapOf w x v
 swap-there w v x y can ev ey fit =
-    let back : IsSwap w x v (change_after_swap w x) = IsSwap-from w x v (change_after_swap w x) can ev refl (subst (λ (z : Change). AllFit z.cells) ey fit)
+    let back : IsSwap w x v (change_after_swap w x) = IsSwap-from w x v (change_after_swap w x) can ev refl (subst (λ (z : Change). AllFit v.core.storage.fetch_protection z.cells) ey fit)
     in record { machine = ev; again = back.again; restores_machine = back.whole; restores_change = back.change }
 
 -- the bytes of the changes are those of the list
@@ -506,11 +506,11 @@ no-byte-value : (p : Place) (v : ℕ) → ((a : ℕ) → p ≡ Byte a → ⊥) �
 no-byte-value (Byte a) v h = absurd (h a refl)
 no-byte-value p v h = refl
 
-pub fit-right : (cs ds : List Cell) → AllFit (cs ++ ds) → AllFit ds
+pub fit-right : (cs ds : List Cell) → AllFit true (cs ++ ds) → AllFit true ds
 fit-right [] ds h = h
 fit-right (c ∷ cs) ds h = fit-right cs ds h.1
 
-values-of-items : (is : List Item) (bs : List ℕ) → AreItems is → bytes_of_items is ≡ length bs → AllFit (cells_of_items is bs) → byte_values (cells_of_items is bs) ≡ bs
+values-of-items : (is : List Item) (bs : List ℕ) → AreItems is → bytes_of_items is ≡ length bs → AllFit true (cells_of_items is bs) → byte_values (cells_of_items is bs) ≡ bs
 values-of-items [] [] h e f = refl
 values-of-items [] (b ∷ bs) h e f = absurd (omega (arith, e))
 values-of-items (Single c ∷ is) bs h e f =

@@ -64,7 +64,7 @@ places_of_media-back m None = refl
 places_of_media-back m (Some x) = ap (λ u. media_place u ∷ []) (unit_of_change-back m x)
 
 -- the whole
-pub CanSwap-again : (w : Whole) (x : Change) → CanSwap w x → AllFit (cells_after_exchange w.core x.cells) → CanSwap (after_swap w x) (change_after_swap w x)
+pub CanSwap-again : (w : Whole) (x : Change) → CanSwap w x → AllFit (after_swap w x).core.storage.fetch_protection (cells_after_exchange w.core x.cells) → CanSwap (after_swap w x) (change_after_swap w x)
 CanSwap-again w x h f = (
   AreCellsOf-again w.core x.cells h.0 f,
   HasEachControlOnce-after w.control x.control h.1,
@@ -100,9 +100,9 @@ pub record IsSwap (w : Whole) (x : Change) (v : Whole) (y : Change) : Type 0 whe
   pub change : change_after_swap v y ≡ x
 
 pub IsSwap-from : (w : Whole) (x : Change) (v : Whole) (y : Change) → CanSwap w x → v ≡ after_swap w x → y ≡ change_after_swap w x
-    → AllFit y.cells → IsSwap w x v y
+    → AllFit v.core.storage.fetch_protection y.cells → IsSwap w x v y
 IsSwap-from w x v y h ev ey f = record {
-  again = rw (ev, ey) (CanSwap-again w x h (rw ey at f));
+  again = rw (ev, ey) (CanSwap-again w x h (rw (ey, ev) at f));
   whole = rw (ev, ey) (after_swap-twice w x h);
   change = rw (ev, ey) (change_after_swap-twice w x h);
 }

@@ -1,5 +1,5 @@
 -- What an event alters as its change has it: a row with all its parts, or cells and what is beside the core.
-use Rattle.std.specs.Prelude.{◌≡◌, ℕ, Option, Some, None, List, [], ◌∷◌, box_value}
+use Rattle.std.specs.Prelude.{◌≡◌, ℕ, true, Option, Some, None, List, [], ◌∷◌, box_value}
 use Rattle.s360_store.specs.declared.place.Cell.{Cell}
 use Rattle.s360_machine.specs.declared.beside.Beside.{Beside}
 use Rattle.s360_machine.specs.declared.changes.Parts.{Parts}
@@ -30,7 +30,7 @@ change_of_parts (full x) = change_of (box_value x).cells (box_value x).beside
 -- the values of its cells fit their places
 abbrev pub AreFit : Parts → Type 0
 AreFit (Plain cells) = Unit {0}
-AreFit (full x) = AllFit (box_value x).cells
+AreFit (full x) = AllFit true (box_value x).cells
 
 -- the cells begin with that of a PSW
 abbrev pub BeginsWithPsw : ℕ → List Cell → Type 0

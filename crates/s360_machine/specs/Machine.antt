@@ -1,6 +1,7 @@
 -- The machine as one record (GA22-6821, "System Structure"), and what its code keeps of it.
-use Rattle.std.specs.Prelude.{ℕ, false, List, length, slice_index_or}
-use Rattle.s360_model.specs.Core.{Core, zero_core}
+use Rattle.std.specs.Prelude.{ℕ, Bool, false, List, length, slice_index_or}
+use Rattle.s360_model.specs.Core.{Core, zero_core_with}
+use Rattle.s360_model.specs.Storage.{Storage, zero_storage}
 use Rattle.s360_device.specs.Punch.{Punch, new_punch}
 use Rattle.s360_device.specs.Reader.{Reader, new_reader}
 use Rattle.s360_print.specs.Console.{Console, new_console}
@@ -84,11 +85,12 @@ pub record WithRoom : Type 0 where
   pub whole : Whole
   pub spare : Spare
 
--- a new machine operates, with PSW, registers, storage and keys zero, no condition pending, every
--- unit idle, a deck in the card reader, and tapes on 180 and 181 (own profile)
-abbrev pub new_machine : ℕ → List (List ℕ) → Tape → Tape → Machine
-new_machine size deck tape0 tape1 = record {
-  core = zero_core size;
+-- a new machine operates, with PSW, registers, storage, keys and fetch bits zero, fetches protected or
+-- not, no condition pending, every unit idle, a deck in the card reader, and tapes on 180 and 181 (own
+-- profile)
+abbrev pub machine_with : Storage → List (List ℕ) → Tape → Tape → Machine
+machine_with storage deck tape0 tape1 = record {
+  core = zero_core_with storage;
   control = record { run_state = Operating; external = no_external };
   units = idle_units;
   media = record {
@@ -100,6 +102,9 @@ new_machine size deck tape0 tape1 = record {
     tape1 = tape1;
   };
 }
+
+abbrev pub new_machine : Bool → ℕ → List (List ℕ) → Tape → Tape → Machine
+new_machine fetch_protection size deck tape0 tape1 = machine_with (zero_storage fetch_protection size) deck tape0 tape1
 
 -- bytes of storage
 abbrev pub storage_size : Machine → ℕ

@@ -3,7 +3,7 @@ use Rattle.std.specs.Prelude.{ℕ, ◌+◌, Option, Some, None, is_none, length,
 use Rattle.s360_machine.specs.declared.event.Event.{Event}
 use Rattle.s360_machine.specs.declared.event.Event.TheVariants.{Channel, Key, Patch as patch}
 use Rattle.s360_machine.specs.declared.event.Patch.{Patch}
-use Rattle.s360_machine.specs.declared.event.Patch.TheVariants.{Bytes, Register, StorageKey, Psw}
+use Rattle.s360_machine.specs.declared.event.Patch.TheVariants.{Bytes, Register, StorageKey, FetchBit, Psw}
 use Rattle.s360_machine.specs.declared.operator.Key.{Key as OperatorKey}
 use Rattle.s360_machine.specs.declared.operator.Key.TheVariants.{Enter, Load}
 use Rattle.s360_machine.specs.declared.refusal.Refusal.{Refusal}
@@ -25,6 +25,7 @@ abbrev pub refusal_of_patch : ℕ → Patch → Option Refusal
 refusal_of_patch size (Bytes at bytes) = if nat_lt 256 (length bytes) then Some PatchTooLong else (if nat_lt size (at + length bytes) then Some OutsideStorage else None)
 refusal_of_patch size (Register n word) = None
 refusal_of_patch size (StorageKey at storage_key) = if nat_lt at size then None else Some OutsideStorage
+refusal_of_patch size (FetchBit at bit) = if nat_lt at size then None else Some OutsideStorage
 refusal_of_patch size (Psw psw) = None
 
 -- a line that is entered has at most 256 bytes, and the machine loads from a unit that it has

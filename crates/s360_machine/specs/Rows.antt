@@ -42,7 +42,7 @@ cells_of_row (More beside items bytes count) is bs = cells_of_items is bs
 pub record ArePartsOf (is : List Item) (bs : List ℕ) : Type 0 where
   pub whole : AreItems is
   pub all : bytes_of_items is ≡ length bs
-  pub fit : AllFit (cells_of_items is bs)
+  pub fit : AllFit true (cells_of_items is bs)
   pub few : length (cells_of_items is bs) ≤ 1000000
 
 -- all its parts stand within it

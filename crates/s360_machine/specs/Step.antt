@@ -1,12 +1,12 @@
 -- What an event makes of the machine.
 use Rattle.std.specs.Prelude.{◌/◌, Option, Some, None, Result, Ok, Err}
-use Rattle.s360_model.specs.Core.{core_with_bytes, core_with_key, core_with_psw, core_with_word}
+use Rattle.s360_model.specs.Core.{core_with_bytes, core_with_fetch_bit, core_with_psw, core_with_storage_key, core_with_word}
 use Rattle.s360_model.specs.Psw.{current_psw}
 use Rattle.s360_model.specs.Storage.{block_size}
 use Rattle.s360_machine.specs.declared.event.Event.{Event}
 use Rattle.s360_machine.specs.declared.event.Event.TheVariants.{Cpu, Channel, Tick, Key, Patch as patch}
 use Rattle.s360_machine.specs.declared.event.Patch.{Patch}
-use Rattle.s360_machine.specs.declared.event.Patch.TheVariants.{Bytes, Register, StorageKey, Psw}
+use Rattle.s360_machine.specs.declared.event.Patch.TheVariants.{Bytes, Register, StorageKey, FetchBit, Psw}
 use Rattle.s360_machine.specs.declared.refusal.Refusal.{Refusal}
 use Rattle.s360_machine.specs.ChannelEvents.{after_channel_event}
 use Rattle.s360_machine.specs.Cpu.{after_cpu}
@@ -16,11 +16,13 @@ use Rattle.s360_machine.specs.Refusals.{refusal_of}
 use Rattle.s360_machine.specs.Timer.{after_tick}
 
 -- a patch ignores protection and raises no condition; a PSW keeps no interruption code and no
--- length, and a storage key is that of the address's block
+-- length, and a storage key and a fetch bit are those of the address's block. A fetch bit changes
+-- nothing where fetches are not protected
 abbrev pub after_patch : Machine → Patch → Machine
 after_patch m (Bytes at bytes) = record m { core = core_with_bytes at bytes m.core }
 after_patch m (Register n word) = record m { core = core_with_word n word m.core }
-after_patch m (StorageKey at storage_key) = record m { core = core_with_key (at / block_size) storage_key m.core }
+after_patch m (StorageKey at storage_key) = record m { core = core_with_storage_key (at / block_size) storage_key m.core }
+after_patch m (FetchBit at bit) = record m { core = core_with_fetch_bit (at / block_size) bit m.core }
 after_patch m (Psw psw) = record m { core = core_with_psw (current_psw psw) m.core }
 
 -- the machine after an event that is not refused

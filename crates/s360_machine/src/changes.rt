@@ -1,5 +1,5 @@
 //! What an event alters, ready to be exchanged with the machine.
-ghost use Rattle.std.specs.Prelude.{◌≡◌, ◌<◌, ◌≤◌, ◌+◌, ◌^◌, ◌∷◌, [], length, slice_get, Some, IfOk, IfSome};
+ghost use Rattle.std.specs.Prelude.{◌≡◌, ◌<◌, ◌≤◌, ◌+◌, ◌^◌, ◌∷◌, [], length, slice_get, true, Some, IfOk, IfSome};
 ghost use Rattle.std.specs.Option.{option_copied};
 ghost use Rattle.s360_store.specs.Cells.{AllFit, byte_cells};
 ghost use Rattle.s360_store.specs.Places.{Fits};
@@ -134,7 +134,7 @@ impl Plain {
 
     /// What cells alter that are none, or the PSW and little beside it.
     fn within(cells: &Cells) -> Option<Plain>
-        requires fit { AllFit cells.now }
+        requires fit { AllFit true cells.now }
         ensures { IfSome result (λ x. x ≡ cells.now) }
     {
         if cells.is_empty() {
@@ -149,7 +149,7 @@ impl Plain {
 
     /// What cells alter that begin with a PSW, if little is beside it.
     fn after_psw(psw: Psw, cells: &Cells) -> Option<Plain>
-        requires fit { AllFit cells.now }
+        requires fit { AllFit true cells.now }
         requires first { BeginsWithPsw psw cells.now }
         ensures { IfSome result (λ x. x ≡ cells.now) }
     {
@@ -169,7 +169,7 @@ impl Plain {
 
     /// The PSW and the cell of a register, if it is one.
     fn with_cell(psw: Psw, cell: Cell) -> Option<Plain>
-        requires fits { Fits cell.place cell.value }
+        requires fits { Fits true cell.place cell.value }
         ensures { IfSome result (λ x. x ≡ psw_cell psw ∷ (cell ∷ [])) }
     {
         match cell.place {
@@ -191,7 +191,7 @@ impl Changes {
         units: Option<UnitChange>,
         media: Option<MediaChange>,
     ) -> Result<Changes, AllocError>
-        requires fit { AllFit cells }
+        requires fit { AllFit true cells }
         ensures { IfOk result (λ changes. changes ≡ record { cells = cells; control = control_cells control; units = units; media = media }) }
     {
         let beside = Beside {

@@ -1,14 +1,12 @@
 //! What an instruction works on: the current PSW, the general registers and main storage. Source:
 //! GA22-6821, "System Structure".
-ghost use Rattle.std.specs.Prelude.{◌≡◌, ◌≢◌, ◌<◌, ◌≤◌, ◌+◌, ◌^◌, [], length, slice_index, Err, IfOk, IsOkUnless, OnOk};
+ghost use Rattle.std.specs.Prelude.{◌≡◌, ◌≢◌, ◌<◌, ◌≤◌, ◌+◌, ◌^◌, [], length, slice_index, true, IfOk, OnOk};
 ghost use Rattle.std.specs.Bool.{MatchBool};
-ghost use Rattle.s360_model.specs.Core.{zero_core, core_with_bytes, core_with_psw, core_with_word};
+ghost use Rattle.s360_model.specs.Core.{zero_core_with, core_with_bytes, core_with_psw, core_with_word};
 ghost use Rattle.s360_model.specs.Psw.{IsCurrentPsw};
-ghost use Rattle.s360_model.specs.Storage.{is_storage_size};
 ghost use Rattle.s360_store.specs.Cells.{AllFit, AreCellsOf, after_exchange, byte_cells, cells_after_exchange};
 ghost use Rattle.s360_store.specs.Items.{cells_of_part};
 ghost use Rattle.s360_store.specs.Places.{IsPlaceOf, value_at};
-ghost use Rattle.s360_store.specs.declared.fault.StoreFault.TheVariants.{Size, Memory};
 ghost use Rattle.s360_store.specs.Differences.{AreKept, IsCoreChangeTo, KeepsAltering};
 ghost use Rattle.s360_store.specs.Plans.{HasBytes, IsPlanOf};
 ghost use Rattle.s360_logic.specs.Instruction.{PlansInstruction, instruction};
@@ -20,9 +18,7 @@ use crate::row::Row;
 use s360_fixed::ProgramCode;
 use s360_logic::{Fetched, PlannedInstruction};
 use s360_psw::{InstructionLength, Psw};
-use s360_store::{
-    Cell, Cells, GREATEST_SIZE, Item, Part, Place, Plan, Storage, StoreFault, exchange_items,
-};
+use s360_store::{Cell, Cells, GREATEST_SIZE, Item, Part, Place, Plan, Storage, exchange_items};
 use s360_word::{RegisterNumber, Word};
 use std::alloc::{AllocError, Global};
 use std::marker::Model;
@@ -60,17 +56,15 @@ impl Core {
         })
     }
 
-    /// A core with so many bytes of storage and everything zero.
-    pub(crate) fn new(alloc: Global, size: u32) -> Result<Core, StoreFault>
-        ensures zero { IfOk result (λ c. c ≡ zero_core size) }
-        ensures refused { MatchBool (is_storage_size size) (IsOkUnless result Memory) (result ≡ Err Size) }
+    /// A core with this storage, and with PSW and registers zero.
+    pub(crate) fn with(storage: Storage) -> Core
+        ensures { result ≡ zero_core_with storage }
     {
-        let storage = Storage::new(alloc, size)?;
-        Ok(Core {
+        Core {
             psw: Psw::from_u64(0),
             registers: [0; 16],
             storage,
-        })
+        }
     }
 
     /// The current PSW.
@@ -145,7 +139,7 @@ impl Core {
             Place::Psw => self.psw.stored(0, InstructionLength::NotAvailable),
             Place::Register(register) => u64::from(self.registers[register as usize]),
             Place::Byte(address) => u64::from(self.storage.byte(address)),
-            Place::Key(block) => u64::from(self.storage.key(block).number()),
+            Place::Key(block) => u64::from(self.storage.block_key(block).number()),
             _ => unreachable!(),
         }
     }
@@ -249,7 +243,7 @@ impl Core {
         ensures core { self.new ≡ after_exchange self.old (byte_cells address bytes.old) }
         ensures cells { byte_cells address bytes.new ≡ cells_after_exchange self.old (byte_cells address bytes.old) }
         ensures count { length bytes.new ≡ length bytes.old }
-        ensures fit { AllFit (byte_cells address bytes.new) }
+        ensures fit { AllFit self.new.storage.fetch_protection (byte_cells address bytes.new) }
     {
         self.storage.swap_run(address, bytes);
     }
@@ -259,7 +253,8 @@ impl Core {
         requires can { AreCellsOf self.old cells.old }
         ensures core { self.new ≡ after_exchange self.old cells.old }
         ensures cells { cells.new ≡ cells_after_exchange self.old cells.old }
-        ensures fit { AllFit cells.new }
+        ensures fit { AllFit self.new.storage.fetch_protection cells.new }
+        ensures values { AllFit true cells.new }
     {
         cells.exchange(&mut self.psw, &mut self.registers, &mut self.storage);
     }
@@ -269,7 +264,7 @@ impl Core {
         requires can { AreCellsOf self.old plain.old }
         ensures core { self.new ≡ after_exchange self.old plain.old }
         ensures cells { plain.new ≡ cells_after_exchange self.old plain.old }
-        ensures fit { AllFit plain.new }
+        ensures fit { AllFit self.new.storage.fetch_protection plain.new }
     {
         let mut row = plain.parts.row();
         let count = row.bytes();
@@ -288,7 +283,7 @@ impl Core {
         ensures cells { cells_of_row row.new items.new bytes.new ≡ cells_after_exchange self.old (cells_of_row row.old items.old bytes.old) }
         ensures over { IsOver row.new items.new bytes.new }
         ensures same { HasSameCounts row.old row.new }
-        ensures fit { AllFit (cells_of_row row.new items.new bytes.new) }
+        ensures fit { AllFit self.new.storage.fetch_protection (cells_of_row row.new items.new bytes.new) }
     {
         match row {
             Row::Nothing => {}

@@ -1,6 +1,6 @@
 //! The events of the machine, each of which is taken back as one change.
 ghost use Rattle.std.specs.Prelude.{◌≡◌, ◌<◌, ◌/◌, [], None, OnOk, length};
-ghost use Rattle.s360_model.specs.Core.{core_with_key, core_with_psw, core_with_word};
+ghost use Rattle.s360_model.specs.Core.{core_with_fetch_bit, core_with_psw, core_with_storage_key, core_with_word};
 ghost use Rattle.s360_model.specs.Psw.{current_psw};
 ghost use Rattle.s360_model.specs.Storage.{block_size};
 ghost use Rattle.s360_store.specs.Plans.{IsPlanOf};
@@ -12,7 +12,7 @@ use crate::core_state::Core;
 use crate::machine::Machine;
 use crate::operator::Key;
 use s360_psw::Psw;
-use s360_store::{BLOCK_SIZE, Bytes, Plan};
+use s360_store::{BLOCK_SIZE, BlockKey, Bytes, Plan};
 use s360_word::{ProtectionKey, RegisterNumber, Unit, Word};
 use std::alloc::AllocError;
 
@@ -23,8 +23,10 @@ pub enum Patch {
     Bytes { at: u32, bytes: Bytes },
     /// A general register's word.
     Register(RegisterNumber, Word),
-    /// The storage key of the block that an address lies in.
+    /// The storage key of the block that an address lies in. Its fetch bit stays.
     StorageKey { at: u32, key: ProtectionKey },
+    /// The fetch bit of the block that an address lies in, if fetches are protected; else nothing.
+    FetchBit { at: u32, on: bool },
     /// The current PSW, from a doubleword of which bits 16 to 33 (an interruption code and an
     /// instruction length code) are dropped.
     Psw(u64),
@@ -76,11 +78,28 @@ impl Core {
     fn plan_key(&self, at: u32, key: ProtectionKey, plan: &mut Plan) -> Result<(), AllocError>
         requires empty { plan.old ≡ [] }
         requires inside { at < length self.now.storage.bytes }
-        ensures { OnOk result (IsPlanOf self.now plan.new (core_with_key (at / block_size) key self.now)) }
+        ensures { OnOk result (IsPlanOf self.now plan.new (core_with_storage_key (at / block_size) key self.now)) }
     {
         // So each byte of storage is in a block.
         prove!(self.storage().size() % BLOCK_SIZE == 0);
-        plan.put_key(at / BLOCK_SIZE, key)?;
+        let block = at / BLOCK_SIZE;
+        plan.put_key(block, self.storage().with_key(block, key))?;
+        Ok(())
+    }
+
+    /// Plans a fetch bit of the block that an address lies in, if fetches are protected.
+    fn plan_fetch_bit(&self, at: u32, on: bool, plan: &mut Plan) -> Result<(), AllocError>
+        requires empty { plan.old ≡ [] }
+        requires inside { at < length self.now.storage.bytes }
+        ensures { OnOk result (IsPlanOf self.now plan.new (core_with_fetch_bit (at / block_size) on self.now)) }
+    {
+        if !self.storage().fetch_protection() {
+            return Ok(());
+        }
+        // So each byte of storage is in a block.
+        prove!(self.storage().size() % BLOCK_SIZE == 0);
+        let block = at / BLOCK_SIZE;
+        plan.put_key(block, BlockKey::new(self.storage().key(block), on))?;
         Ok(())
     }
 }
@@ -96,6 +115,7 @@ impl Machine {
             Patch::Bytes { at, bytes } => self.core.plan_bytes(*at, bytes.as_slice(), plan),
             Patch::Register(register, word) => self.core.plan_register(*register, *word, plan),
             Patch::StorageKey { at, key } => self.core.plan_key(*at, *key, plan),
+            Patch::FetchBit { at, on } => self.core.plan_fetch_bit(*at, *on, plan),
             Patch::Psw(doubleword) => self.core.plan_psw(*doubleword, plan),
         }
     }

@@ -36,6 +36,8 @@ pub enum PatchKind {
     Register,
     /// A storage key.
     StorageKey,
+    /// A fetch bit.
+    FetchBit,
     /// The current PSW.
     Psw,
 }
@@ -82,6 +84,7 @@ impl Patch {
             Patch::Bytes { .. } => PatchKind::Bytes,
             Patch::Register(..) => PatchKind::Register,
             Patch::StorageKey { .. } => PatchKind::StorageKey,
+            Patch::FetchBit { .. } => PatchKind::FetchBit,
             Patch::Psw(_) => PatchKind::Psw,
         }
     }

@@ -1,11 +1,11 @@
 //! The machine: its state, and the events that change it.
 ghost use Rattle.std.specs.Prelude.{◌≡◌, ◌≤◌, [], length, slice_index, None, Err, OnOk, IfOk, IfSome, IsOkUnless};
-ghost use Rattle.std.specs.Prelude.{MatchOption, OnErr};
+ghost use Rattle.std.specs.Prelude.{MatchOption, OnErr, false, true};
 ghost use Rattle.std.specs.Option.{option_copied, option_map};
 ghost use Rattle.std.specs.Bool.{MatchBool};
 ghost use Rattle.s360_model.specs.Storage.{is_storage_size};
 ghost use Rattle.s360_store.specs.declared.fault.StoreFault.TheVariants.{Size, Memory as no_memory};
-ghost use Rattle.s360_machine.specs.Machine.{Machine as SeenMachine, new_machine, room_for, storage_size, seen};
+ghost use Rattle.s360_machine.specs.Machine.{Machine as SeenMachine, machine_with, new_machine, room_for, storage_size, seen};
 ghost use Rattle.s360_store.specs.Cells.{AllFit, AreCellsOf};
 ghost use Rattle.s360_machine.specs.Change.{CanSwap, after_swap, change_after_swap};
 ghost use Rattle.s360_machine.specs.Change.{HasRoom, NeedsNoRoom, NeedsRoom};
@@ -89,12 +89,34 @@ impl Machine {
         tape0: Tape,
         tape1: Tape,
     ) -> Result<Machine, StoreFault>
-        ensures new { IfOk result (λ m. seen m.whole ≡ new_machine size deck (seen_tape (bare tape0)) (seen_tape (bare tape1))) }
+        ensures new { IfOk result (λ m. seen m.whole ≡ new_machine false size deck (seen_tape (bare tape0)) (seen_tape (bare tape1))) }
         ensures refused { MatchBool (is_storage_size size) (IsOkUnless result no_memory) (result ≡ Err Size) }
     {
-        let core = Core::new(alloc, size)?;
-        Ok(Machine {
-            core,
+        let storage = Storage::new(alloc, size)?;
+        Ok(Machine::with(alloc, storage, deck, tape0, tape1))
+    }
+
+    /// The same, whose fetches are protected. No event alters that.
+    pub fn new_with_fetch(
+        alloc: Global,
+        size: u32,
+        deck: Deck,
+        tape0: Tape,
+        tape1: Tape,
+    ) -> Result<Machine, StoreFault>
+        ensures new { IfOk result (λ m. seen m.whole ≡ new_machine true size deck (seen_tape (bare tape0)) (seen_tape (bare tape1))) }
+        ensures refused { MatchBool (is_storage_size size) (IsOkUnless result no_memory) (result ≡ Err Size) }
+    {
+        let storage = Storage::new_with_fetch(alloc, size)?;
+        Ok(Machine::with(alloc, storage, deck, tape0, tape1))
+    }
+
+    /// A new machine with this storage.
+    fn with(alloc: Global, storage: Storage, deck: Deck, tape0: Tape, tape1: Tape) -> Machine
+        ensures { seen result.whole ≡ machine_with storage deck (seen_tape (bare tape0)) (seen_tape (bare tape1)) }
+    {
+        Machine {
+            core: Core::with(storage),
             control: Control::new(),
             units: Units::idle(),
             devices: Devices {
@@ -106,7 +128,7 @@ impl Machine {
                 tape1,
             },
             alloc,
-        })
+        }
     }
 
     /// A machine that is equal to this one, with what is kept out of sight.
@@ -347,7 +369,7 @@ impl Machine {
         requires room { HasRoom self.old.spare (change_of_parts parts.old) }
         ensures machine { self.new.whole ≡ after_swap self.old.whole (change_of_parts parts.old) }
         ensures change { change_of_parts parts.new ≡ change_after_swap self.old.whole (change_of_parts parts.old) }
-        ensures fit { AllFit (change_of_parts parts.new).cells }
+        ensures fit { AllFit self.new.whole.core.storage.fetch_protection (change_of_parts parts.new).cells }
         ensures parts { AreFit parts.new }
     {
         match parts {
@@ -392,7 +414,7 @@ impl Machine {
         ensures over { IsOver row.new items.new bytes.new }
         ensures same { HasSameCounts row.old row.new }
         ensures as_many { length beside.new ≡ length beside.old }
-        ensures fit { AllFit (change_of_row row.new (lists items.new bytes.new beside.new)).cells }
+        ensures fit { AllFit self.new.whole.core.storage.fetch_protection (change_of_row row.new (lists items.new bytes.new beside.new)).cells }
     {
         self.core.exchange_row(row, items, bytes);
         if !beside.is_empty() {

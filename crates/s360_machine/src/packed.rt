@@ -1,6 +1,6 @@
 //! The changes of the journal, in little memory: a row of 16 bytes for each, all bytes of storage that they alter in one
 //! buffer, and what is rarer in lists apart.
-ghost use Rattle.std.specs.Prelude.{◌≡◌, ◌<◌, ◌≤◌, ◌-◌, ◌++◌, ◌∷◌, [], false, length, reverse, slice_get, slice_set, take, vec_capacity, vec_len, IfOk, IfSome, IsTrue, OnErr, OnOk, box_value};
+ghost use Rattle.std.specs.Prelude.{◌≡◌, ◌<◌, ◌≤◌, ◌-◌, ◌++◌, ◌∷◌, [], false, true, length, reverse, slice_get, slice_set, take, vec_capacity, vec_len, IfOk, IfSome, IsTrue, OnErr, OnOk, box_value};
 ghost use Rattle.s360_store.specs.Cells.{AllFit};
 ghost use Rattle.s360_machine.specs.Beside.{IsNothing};
 ghost use Rattle.s360_machine.specs.Change.{CanSwap, Change, HasRoom, change_after_swap, places_of_change};
@@ -165,7 +165,7 @@ fn append_full(
     bytes: &mut Vec<u8>,
     list: &mut Vec<Beside>,
 ) -> Result<Row, AllocError>
-    requires { AllFit (box_value full).cells }
+    requires { AllFit true (box_value full).cells }
     ensures ok { IfOk result (λ row. IsAppended (lists items.old.items bytes.old.items list.old.items) (lists items.new.items bytes.new.items list.new.items) row (change_of (box_value full).cells (box_value full).beside)) }
     ensures err_items { OnErr result (items.new.items ≡ items.old.items) }
     ensures err_bytes { OnErr result (bytes.new.items ≡ bytes.old.items) }

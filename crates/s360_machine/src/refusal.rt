@@ -81,9 +81,8 @@ impl Machine {
                     None
                 }
             }
-            Event::Patch(Patch::StorageKey { at, .. }) if *at >= size => {
-                Some(Refusal::OutsideStorage)
-            }
+            Event::Patch(Patch::StorageKey { at, .. } | Patch::FetchBit { at, .. })
+                if *at >= size => { Some(Refusal::OutsideStorage) }
             Event::Channel(unit) if ConfiguredUnit::at(*unit).is_none() => Some(
                 Refusal::NoSuchUnit,
             ),

@@ -1,19 +1,19 @@
 -- What an instruction works on (GA22-6821, "System Structure"): the current PSW, the sixteen general
 -- registers and main storage.
-use Rattle.std.specs.Prelude.{ℕ, List, replicate, slice_set}
-use Rattle.s360_model.specs.Storage.{Storage, zero_storage, with_run}
+use Rattle.std.specs.Prelude.{ℕ, Bool, if◌then◌else◌, List, replicate, slice_index, slice_set}
+use Rattle.s360_model.specs.Storage.{Storage, fetch_bit_of_block, key_of_block, with_fetch_bit, with_run}
 
 pub record Core : Type 0 where
   pub psw : ℕ
   pub registers : List ℕ
   pub storage : Storage
 
--- everything zero (own profile)
-abbrev pub zero_core : ℕ → Core
-zero_core size = record {
+-- PSW and registers zero, with this storage (own profile)
+abbrev pub zero_core_with : Storage → Core
+zero_core_with storage = record {
   psw = 0;
   registers = replicate 16 0;
-  storage = zero_storage size;
+  storage = storage;
 }
 
 -- with another PSW
@@ -28,6 +28,15 @@ core_with_word r word m = record m { registers = slice_set m.registers r word }
 abbrev pub core_with_bytes : ℕ → List ℕ → Core → Core
 core_with_bytes address bytes m = record m { storage = record m.storage { bytes = with_run m.storage.bytes address bytes } }
 
--- with another storage key of a block
+-- with another number for the key and fetch bit of a block
 abbrev pub core_with_key : ℕ → ℕ → Core → Core
 core_with_key block key m = record m { storage = record m.storage { keys = slice_set m.storage.keys block key } }
+
+-- with another storage key of a block, whose fetch bit stays
+abbrev pub core_with_storage_key : ℕ → ℕ → Core → Core
+core_with_storage_key block key m = core_with_key block (with_fetch_bit key (fetch_bit_of_block (slice_index m.storage.keys block))) m
+
+-- with another fetch bit of a block, whose storage key stays; as it was where fetches are not protected
+abbrev pub core_with_fetch_bit : ℕ → Bool → Core → Core
+core_with_fetch_bit block bit m =
+    if m.storage.fetch_protection then core_with_key block (with_fetch_bit (key_of_block (slice_index m.storage.keys block)) bit) m else m

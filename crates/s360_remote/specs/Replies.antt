@@ -2,49 +2,37 @@
 use Rattle.std.specs.Prelude.{ℕ, ◌+◌, Bool, true, false, nat_eq, nat_lt, if◌then◌else◌, List, ◌++◌, codes, length, slice_range, Option, Some, None}
 use Rattle.s360_machine.specs.declared.event_kind.EventKind.{EventKind}
 use Rattle.s360_machine.specs.declared.event_kind.EventKind.TheVariants.{Cpu, Channel}
-use Rattle.s360_machine.specs.declared.refusal.Refusal.{Refusal}
-use Rattle.s360_machine.specs.declared.refusal.Refusal.TheVariants.{Memory, OutsideStorage, NoSuchUnit, LineTooLong, PatchTooLong, JournalFull}
 use Rattle.s360_machine.specs.Machine.{Machine}
 use Rattle.s360_machine.specs.RunStates.{is_operating}
 use Rattle.s360_model.specs.Psw.{wait_of}
-use Rattle.s360_packet.specs.Answers.{stop_text}
-use Rattle.s360_packet.specs.Framing.{framed, two_digits}
+use Rattle.s360_language.specs.Names.{refused_text}
+use Rattle.s360_packet.specs.Answers.{answer_text, stop_text}
+use Rattle.s360_packet.specs.Framing.{framed}
 use Rattle.s360_packet.specs.Hexadecimal.{bytes_text}
 use Rattle.s360_packet.specs.Target.{register_text, register_value}
 use Rattle.s360_packet.specs.declared.answer.Stop.{Stop}
 use Rattle.s360_packet.specs.declared.answer.Stop.TheVariants.{Trap, Watch as watch, Breakpoint, HistoryBegin, HistoryEnd}
 use Rattle.s360_packet.specs.declared.target.RegisterValue.{RegisterValue}
+use Rattle.s360_remote.specs.ErrorNumbers.{error_of}
 use Rattle.s360_remote.specs.Registers.{words_of}
+use Rattle.s360_remote.specs.declared.error_number.ErrorNumber.TheVariants.{Address, Malformed}
 use Rattle.s360_remote.specs.declared.pause.Pause.{Pause}
 use Rattle.s360_remote.specs.declared.pause.Pause.TheVariants.{Refused, Watch, Idle, Break, Stepped, RecordEnd, RecordStart}
-
--- an error, by the number that the C library of a Unix gives it: ENOMEM, EFAULT, EINVAL, ENOSPC
-abbrev pub error_text : ℕ → List ℕ
-error_text number = codes "E" ++ two_digits number
 
 -- bytes of storage: an error where there are none, or one is outside
 abbrev pub storage_text : Machine → ℕ → ℕ → List ℕ
 storage_text m at count =
-    if nat_eq count 0 then error_text 22
-    else (if nat_lt (length m.core.storage.bytes) (at + count) then error_text 14
+    if nat_eq count 0 then answer_text (error_of Malformed)
+    else (if nat_lt (length m.core.storage.bytes) (at + count) then answer_text (error_of Address)
     else bytes_text (slice_range m.core.storage.bytes at (at + count)))
 
 -- one register: an error where there is none of this number
 abbrev pub register_or_error : Option RegisterValue → List ℕ
 register_or_error (Some value) = register_text value
-register_or_error None = error_text 22
+register_or_error None = answer_text (error_of Malformed)
 
 abbrev pub register_of_number : Machine → ℕ → List ℕ
 register_of_number m number = register_or_error (register_value (words_of m) number)
-
--- why an event was refused, for a person
-abbrev pub refusal_words : Refusal → List ℕ
-refusal_words Memory = codes "out of memory"
-refusal_words OutsideStorage = codes "outside storage"
-refusal_words NoSuchUnit = codes "no such unit"
-refusal_words LineTooLong = codes "line too long"
-refusal_words PatchTooLong = codes "patch too long"
-refusal_words JournalFull = codes "no more changes can stand"
 
 -- a text for gdb's user, which comes before the stop
 abbrev pub console_packet : List ℕ → List ℕ
@@ -67,7 +55,7 @@ idle_words m last = idle_words_of (is_operating m.control.run_state) last (wait_
 -- what tells why the machine pauses: where nothing is left to do, or an event is refused, a text and the stop that stands for
 -- it; m is the machine then, and the last event is that which stands last
 abbrev pub pause_packets : Stop → Machine → Option EventKind → Pause → List ℕ
-pause_packets halt m last (Refused refusal) = console_packet (codes "refused: " ++ refusal_words refusal ++ codes "\n") ++ stop_packet halt
+pause_packets halt m last (Refused refusal) = console_packet (refused_text refusal) ++ stop_packet halt
 pause_packets halt m last Idle = console_packet (idle_words m last) ++ stop_packet halt
 pause_packets halt m last (Watch at) = stop_packet (watch at)
 pause_packets halt m last Break = stop_packet Breakpoint

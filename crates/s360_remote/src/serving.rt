@@ -1,6 +1,7 @@
 //! What gdb asks, and what is answered. Source: gdb manual, "Packets", "Stop Reply Packets", "General Query Packets".
-ghost use Rattle.std.specs.Prelude.{◌≡◌, ◌≢◌, ◌≤◌, ◌+◌, ◌++◌, ℕ, List, Err, codes, IfOk, OnErr, OnOk, SomeIff};
+ghost use Rattle.std.specs.Prelude.{◌≡◌, ◌≢◌, ◌≤◌, ◌+◌, ◌++◌, ℕ, List, Err, IfOk, OnErr, OnOk, SomeIff};
 ghost use Rattle.s360_journal.specs.Standing.{last_kind_of};
+ghost use Rattle.s360_language.specs.Names.{refused_text};
 ghost use Rattle.s360_machine.specs.Machine.{storage_size};
 ghost use Rattle.s360_packet.specs.Answers.{registers_text};
 ghost use Rattle.s360_packet.specs.Framing.{framed};
@@ -11,7 +12,7 @@ ghost use Rattle.s360_remote.specs.Forward.{most_turns, resumed};
 ghost use Rattle.s360_remote.specs.Monitor.{IsCarriedOut, IsLineBegun};
 ghost use Rattle.s360_remote.specs.Registers.{words_of};
 ghost use Rattle.s360_remote.specs.Replies.{console_packet, idle_words, idle_words_of, pause_packets};
-ghost use Rattle.s360_remote.specs.Replies.{refusal_words, register_of_number, storage_text};
+ghost use Rattle.s360_remote.specs.Replies.{register_of_number, storage_text};
 ghost use Rattle.s360_remote.specs.Serving.{AreAllBegun, AreAllWritten, IsBegun, IsPaused, IsServed, IsTold};
 ghost use Rattle.s360_remote.specs.Serving.{after_write, insert_answer, line_text, machine_now, packet_of, points_with, points_without, then_after, thread_answer, told};
 ghost use Rattle.s360_remote.specs.declared.error_number.ErrorNumber.TheVariants.{Memory};
@@ -25,10 +26,11 @@ use crate::registers::words_of;
 use crate::replies::Replies;
 use crate::target::Target;
 use byteorder::{BigEndian, ByteOrder};
+use s360_language::refusal_text;
 use s360_machine::{EventKind, Refusal};
 use s360_packet::{Answer, Payload, Point, REGISTERS, Request, Stop, Thread, register_value};
 use s360_text::Text;
-use std::alloc::{AllocError, Global};
+use std::alloc::AllocError;
 
 /// How serving goes on.
 #[derive(Clone, Copy, Debug, PartialEq, Eq)]
@@ -311,7 +313,7 @@ impl Target {
 
     /// Tells gdb's user why an event was refused.
     fn tell_refusal(&self, refusal: Refusal, replies: &mut Replies) -> Result<(), AllocError>
-        ensures { OnOk result (replies.new ≡ replies.old ++ console_packet (codes "refused: " ++ refusal_words refusal ++ codes "\n")) }
+        ensures { OnOk result (replies.new ≡ replies.old ++ console_packet (refused_text refusal)) }
     {
         let text = refusal_text(self.alloc, refusal)?;
         replies.push(Answer::Console(text.as_bytes()))
@@ -382,30 +384,5 @@ fn idle_words(operates: bool, last: Option<EventKind>, waits: bool) -> &'static 
         Some(EventKind::Cpu) if waits => "idle: the CPU waits\n",
         Some(EventKind::Cpu) => "idle: the instruction altered nothing\n",
         _ => "idle: the event altered nothing\n",
-    }
-}
-
-/// What gdb's user is told of an event that was refused.
-fn refusal_text(alloc: Global, refusal: Refusal) -> Result<Text, AllocError>
-    ensures { IfOk result (λ text. text ≡ codes "refused: " ++ refusal_words refusal ++ codes "\n") }
-{
-    let mut text = Text::new(alloc);
-    text.push_text("refused: ")?;
-    text.push_text(refusal_words(refusal))?;
-    text.push_text("\n")?;
-    Ok(text)
-}
-
-/// Why an event was refused.
-fn refusal_words(refusal: Refusal) -> &'static str
-    ensures { result.now ≡ refusal_words refusal }
-{
-    match refusal {
-        Refusal::Memory => "out of memory",
-        Refusal::OutsideStorage => "outside storage",
-        Refusal::NoSuchUnit => "no such unit",
-        Refusal::LineTooLong => "line too long",
-        Refusal::PatchTooLong => "patch too long",
-        Refusal::JournalFull => "no more changes can stand",
     }
 }

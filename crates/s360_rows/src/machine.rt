@@ -91,14 +91,17 @@ pub(crate) fn are_same(first: &Machine, second: &Machine) -> bool {
     are_alike(first.storage(), second.storage())
 }
 
-/// Whether two storages have the same bytes and keys.
+/// Whether two storages have the same bytes, keys and fetch bits, and protect fetches alike.
 fn are_alike(one: &Storage, other: &Storage) -> bool {
     let size = one.size();
-    if other.size() != size || one.bytes(0, size) != other.bytes(0, size) {
+    if one.fetch_protection() != other.fetch_protection()
+        || other.size() != size
+        || one.bytes(0, size) != other.bytes(0, size)
+    {
         return false;
     }
     for block in 0..size / 2_048 {
-        if one.key(block) != other.key(block) {
+        if one.block_key(block) != other.block_key(block) {
             return false;
         }
     }

@@ -75,6 +75,11 @@ unfolding command_line clap_on_literals
 fits_flags-protect1 Debugger = refl
 fits_flags-protect1 Server = refl
 
+pub fits_flags-fetch : (p : Program) → fits_flags p (codes "fetch")
+unfolding command_line clap_on_literals
+fits_flags-fetch Debugger = refl
+fits_flags-fetch Server = refl
+
 -- what is read of a flag is whether the words give it
 pub flag-given : (p : Program) (command : Command) (words : List Text) (m : ArgMatches) (flag : Text) (b : Bool) → app_of command ≡ command_line p
     → HasMatchesOf (app_of command) words m → fits_flags p flag → (one_text (found_of m) flag ≡ None → b ≡ false)

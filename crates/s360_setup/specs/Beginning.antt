@@ -15,10 +15,10 @@ pub record IsTapeFor (options : TapeOptions) (tape : Tape) : Type 0 where
 abbrev pub deck_of : Machine → List (List ℕ)
 deck_of m = m.media.reader.media.cards
 
--- a new machine with a storage of the size that is asked for and a tape for each unit, and with no card where no file is
--- named
+-- a new machine with a storage of the size that is asked for, fetches protected where that is asked for, and a tape for
+-- each unit, and with no card where no file is named
 pub record IsBeginning (options : Options) (m : Machine) : Type 0 where
-  pub new : m ≡ new_machine options.storage (deck_of m) m.media.tape0 m.media.tape1
+  pub new : m ≡ new_machine options.fetch options.storage (deck_of m) m.media.tape0 m.media.tape1
   pub no_deck : options.reader ≡ None → IsDeckFile [] (deck_of m)
   pub tape0 : IsTapeFor options.tape0 m.media.tape0
   pub tape1 : IsTapeFor options.tape1 m.media.tape1

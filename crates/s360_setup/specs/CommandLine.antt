@@ -21,7 +21,7 @@ option_row name = record (operand_row name) { long = Some name }
 abbrev pub flag_row : Text → Rule
 flag_row name = record (new_rule name) { long = Some name; action = Some SetTrue }
 
--- --storage BYTES, --reader FILE, --tape0 FILE, --tape1 FILE, --protect0, --protect1 and SCRIPT
+-- --storage BYTES, --reader FILE, --tape0 FILE, --tape1 FILE, --protect0, --protect1, --fetch and SCRIPT
 abbrev pub command_rows : List Rule
 command_rows =
     option_row (codes "storage")
@@ -30,6 +30,7 @@ command_rows =
     ∷ option_row (codes "tape1")
     ∷ flag_row (codes "protect0")
     ∷ flag_row (codes "protect1")
+    ∷ flag_row (codes "fetch")
     ∷ operand_row (codes "script")
     ∷ []
 

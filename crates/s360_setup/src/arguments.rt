@@ -20,6 +20,8 @@ pub struct Options<'a> {
     pub tape0: TapeOptions<'a>,
     /// The tape of unit 181.
     pub tape1: TapeOptions<'a>,
+    /// Whether fetches are protected.
+    pub fetch: bool,
     /// The file of the script, if one is named. Else the program says what it does.
     pub script: Option<&'a str>,
 }

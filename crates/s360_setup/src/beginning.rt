@@ -22,5 +22,9 @@ pub fn set_up(rt: &HostRuntime, alloc: Global, options: Options<'_>) -> Result<M
     let deck = read_deck(rt, alloc, options.reader)?;
     let tape0 = read_tape(rt, alloc, Part::Tape0, options.tape0)?;
     let tape1 = read_tape(rt, alloc, Part::Tape1, options.tape1)?;
-    Ok(Machine::new(alloc, options.storage, deck, tape0, tape1)?)
+    let size = options.storage;
+    if options.fetch {
+        return Ok(Machine::new_with_fetch(alloc, size, deck, tape0, tape1)?);
+    }
+    Ok(Machine::new(alloc, size, deck, tape0, tape1)?)
 }

@@ -1,10 +1,10 @@
-//! The command line: `PROGRAM [--storage BYTES] [--reader FILE] [--tape0 FILE] [--tape1 FILE]
+//! The command line: `PROGRAM [--storage BYTES] [--fetch] [--reader FILE] [--tape0 FILE] [--tape1 FILE]
 //! [--protect0] [--protect1] [SCRIPT]`.
 ghost use Rattle.std.specs.Prelude.{◌≡◌, [], true, false, map, option_map, codes, IfOk, IfErr, OnOk};
 ghost use Rattle.std.specs.Option.{SomeIff};
 ghost use Rattle.std.specs.Str.Parse.{digits_value};
 ghost use Rattle.clap.specs.Words.{app_of, fault_of, kind_of, rule_of, takes};
-ghost use Rattle.s360_setup.specs.CommandLine.{command_line, operand_row, option_row, flag_row, given};
+ghost use Rattle.s360_setup.specs.CommandLine.{command_line, operand_row, option_row, flag_row, given, has_flag};
 ghost use Rattle.s360_setup.specs.CommandLine.{IsDecimalNumber, IsStorage, FitsStorage, IsTape};
 
 use crate::arguments::{Options, TapeOptions};
@@ -31,6 +31,8 @@ const PROTECT0_HELP: &str = "Protects the tape of unit 180 against writing";
 
 const PROTECT1_HELP: &str = "Protects the tape of unit 181 against writing";
 
+const FETCH_HELP: &str = "Lets the fetch bit of a block protect it against fetches";
+
 /// The options that a command line gives. Its first word is the name of the program. An `Err` is a
 /// fault of the command line, what `--help` or `--version` asks for, or want of memory.
 pub fn options<'a, S: AsStr>(
@@ -42,6 +44,7 @@ pub fn options<'a, S: AsStr>(
     ensures reader { IfOk result (λ o. option_map (λ name. name.now) o.reader ≡ given program (codes "reader") (map S.text words.entry.now)) }
     ensures tape0 { IfOk result (λ o. IsTape program (codes "tape0") (codes "protect0") (map S.text words.entry.now) o.tape0) }
     ensures tape1 { IfOk result (λ o. IsTape program (codes "tape1") (codes "protect1") (map S.text words.entry.now) o.tape1) }
+    ensures fetch { IfOk result (λ o. o.fetch ≡ has_flag program (codes "fetch") (map S.text words.entry.now)) }
     ensures script { IfOk result (λ o. option_map (λ name. name.now) o.script ≡ given program (codes "script") (map S.text words.entry.now)) }
     ensures accepted { OnOk result (fault_of (command_line program) (map S.text words.entry.now) ≡ []) }
     ensures passes { IfErr result (λ e. takes (command_line program) (map S.text words.entry.now) ≡ true → FitsStorage (given program (codes "storage") (map S.text words.entry.now)) → kind_of e ≡ ErrorKind.OutOfMemory) }
@@ -58,6 +61,7 @@ pub fn options<'a, S: AsStr>(
             file: matches.get_str("tape1"),
             protected: matches.get_flag("protect1"),
         },
+        fetch: matches.get_flag("fetch"),
         script: matches.get_str("script"),
     })
 }
@@ -78,6 +82,7 @@ fn command_line<'a>(alloc: Global, program: Program) -> Result<Command<'a>, Allo
         .arg(option(alloc, "tape1", "FILE", TAPE1_HELP))?
         .arg(flag(alloc, "protect0", PROTECT0_HELP))?
         .arg(flag(alloc, "protect1", PROTECT1_HELP))?
+        .arg(flag(alloc, "fetch", FETCH_HELP))?
         .arg(operand(alloc, "script", "SCRIPT", program.script()))
 }
 

@@ -1,12 +1,13 @@
 -- An exchange done twice restores the core and the cells.
-use Rattle.std.proofs.Common.{◌≡◌, ◌<◌, ◌+◌, ◌++◌, ℕ, List, [], ◌∷◌, refl, ap, sym, ◌∙◌, take, drop, set, get_or, length, arith}
+use Rattle.std.proofs.Common.{◌≡◌, ◌<◌, ◌+◌, ◌++◌, ℕ, Bool, true, false, List, [], ◌∷◌, refl, ap, sym, ◌∙◌, take, drop, set, get_or, length, arith}
 use Rattle.std.proofs.lemmas.List.{drop_more, drop-set-lt, take_more_set, append_assoc}
 use Rattle.s360_model.specs.Core.{Core}
 use Rattle.s360_store.specs.declared.place.Place.{Place}
+use Rattle.s360_store.specs.declared.place.Place.TheVariants.{Psw, Register, Byte, Key}
 use Rattle.s360_store.specs.declared.place.Cell.{Cell}
 use Rattle.s360_store.specs.Places.{IsPlaceOf, Fits, value_at, with_value}
 use Rattle.s360_store.specs.Cells.{after_exchange, cells_after_exchange, IsFresh, AreCellsOf, AllFit, places_of_cells}
-use Rattle.s360_store.proofs.PlaceLemmas.{value_at-same, value_at-other, with_value-twice, with_value-same_value, with_value-comm, IsPlaceOf-kept, IsPlaceOf-before}
+use Rattle.s360_store.proofs.PlaceLemmas.{value_at-same, value_at-other, with_value-twice, with_value-same_value, with_value-comm, IsPlaceOf-kept, IsPlaceOf-before, fetch_protection-kept}
 
 -- a place that no cell has keeps its value
 pub value_at-after_exchange : (m : Core) (cs : List Cell) (p : Place) → IsFresh p cs → value_at (after_exchange m cs) p ≡ value_at m p
@@ -34,7 +35,7 @@ IsFresh-cells_after_exchange m (c ∷ cs) p h = (h.0, IsFresh-cells_after_exchan
 
 pub AreCellsOf-kept : (m : Core) (cs : List Cell) (p : Place) (v : ℕ) → AreCellsOf m cs → AreCellsOf (with_value m p v) cs
 AreCellsOf-kept m [] p v h = tt
-AreCellsOf-kept m (c ∷ cs) p v h = (IsPlaceOf-kept m p c.place v h.0, h.1, h.2, AreCellsOf-kept m cs p v h.3)
+AreCellsOf-kept m (c ∷ cs) p v h = (IsPlaceOf-kept m p c.place v h.0, rw (fetch_protection-kept m p v) h.1, h.2, AreCellsOf-kept m cs p v h.3)
 
 -- the exchange, done twice, restores the core
 pub after_exchange-twice : (m : Core) (cs : List Cell) → AreCellsOf m cs → after_exchange (after_exchange m cs) (cells_after_exchange m cs) ≡ m
@@ -61,7 +62,7 @@ cells_after_exchange-twice m (c ∷ cs) h =
     ∙ ap (λ l. c ∷ l) t
 
 -- what an exchange leaves may be exchanged again
-pub AreCellsOf-cells_after_exchange : (m n : Core) (cs : List Cell) → ((p : Place) → IsPlaceOf m p → IsPlaceOf n p) → AreCellsOf m cs → AllFit (cells_after_exchange m cs) → AreCellsOf n (cells_after_exchange m cs)
+pub AreCellsOf-cells_after_exchange : (m n : Core) (cs : List Cell) → ((p : Place) → IsPlaceOf m p → IsPlaceOf n p) → AreCellsOf m cs → AllFit n.storage.fetch_protection (cells_after_exchange m cs) → AreCellsOf n (cells_after_exchange m cs)
 AreCellsOf-cells_after_exchange m n [] k h f = tt
 AreCellsOf-cells_after_exchange m n (c ∷ cs) k h f =
     let o : Core = with_value m c.place c.value
@@ -76,8 +77,26 @@ pub IsPlaceOf-after_exchange : (m : Core) (cs : List Cell) (p : Place) → IsPla
 IsPlaceOf-after_exchange m [] p h = h
 IsPlaceOf-after_exchange m (c ∷ cs) p h = IsPlaceOf-after_exchange (with_value m c.place c.value) cs p (IsPlaceOf-kept m c.place p c.value h)
 
-pub AreCellsOf-again : (m : Core) (cs : List Cell) → AreCellsOf m cs → AllFit (cells_after_exchange m cs) → AreCellsOf (after_exchange m cs) (cells_after_exchange m cs)
+pub AreCellsOf-again : (m : Core) (cs : List Cell) → AreCellsOf m cs → AllFit (after_exchange m cs).storage.fetch_protection (cells_after_exchange m cs) → AreCellsOf (after_exchange m cs) (cells_after_exchange m cs)
 AreCellsOf-again m cs h f = AreCellsOf-cells_after_exchange m (after_exchange m cs) cs (λ p i. IsPlaceOf-after_exchange m cs p i) h f
+
+-- whether fetches are protected stays
+pub fetch_protection-after_exchange : (m : Core) (cs : List Cell) → (after_exchange m cs).storage.fetch_protection ≡ m.storage.fetch_protection
+fetch_protection-after_exchange m [] = refl
+fetch_protection-after_exchange m (c ∷ cs) = fetch_protection-after_exchange (with_value m c.place c.value) cs ∙ fetch_protection-kept m c.place c.value
+
+-- what fits in either case fits where fetches are protected
+Fits-any : (b : Bool) (p : Place) (v : ℕ) → Fits b p v → Fits true p v
+Fits-any true p v h = h
+Fits-any false Psw v h = h
+Fits-any false (Register n) v h = h
+Fits-any false (Byte a) v h = h
+Fits-any false (Key k) v h = omega (arith, h)
+Fits-any false p v h = absurd h
+
+pub AllFit-any : (b : Bool) (cs : List Cell) → AllFit b cs → AllFit true cs
+AllFit-any b [] h = tt
+AllFit-any b (c ∷ cs) h = (Fits-any b c.place c.value h.0, AllFit-any b cs h.1)
 
 -- what follows where the condition of an exchange holds
 pub ruleset exchanges = (after_exchange-twice, cells_after_exchange-twice, AreCellsOf-again)

@@ -1,5 +1,5 @@
 -- The exchange of single cells and runs, item after item.
-use Rattle.std.proofs.Common.{◌≡◌, ◌<◌, ◌≤◌, ◌+◌, ◌-◌, ◌++◌, ◌∙◌, ℕ, suc, List, [], ◌∷◌, refl, ap, sym, take, drop, set, get_or, length, append-nil, arith}
+use Rattle.std.proofs.Common.{◌≡◌, ◌<◌, ◌≤◌, ◌+◌, ◌-◌, ◌++◌, ◌∙◌, ℕ, Bool, suc, List, [], ◌∷◌, refl, ap, sym, take, drop, set, get_or, length, append-nil, arith}
 use Rattle.std.proofs.lemmas.Slice.{drop-put_mid, take-put_mid}
 use borrow.Rule.Slice.PartMut.{put_mid}
 use Rattle.std.proofs.lemmas.List.{append_assoc, drop-drop, drop-set-lt, drop_all, drop_more, length-append, length-drop, length-take-le, set-get_or, take-append-drop, take_all, take_more, take_more_set}
@@ -13,7 +13,8 @@ use Rattle.s360_store.specs.Cells.{AllFit, AreCellsOf, IsFresh, after_exchange, 
 use Rattle.s360_store.specs.Items.{IsNoByte, AreItems, IsItem, bytes_of_items, cells_of_items, core_of}
 use Rattle.s360_store.specs.Places.{Fits, value_at, with_value}
 use Rattle.s360_store.specs.Plans.{HasBytes}
-use Rattle.s360_store.proofs.ExchangeLemmas.{AreCellsOf-kept}
+use Rattle.s360_store.proofs.ExchangeLemmas.{AreCellsOf-kept, fetch_protection-after_exchange}
+use Rattle.s360_store.proofs.PlaceLemmas.{fetch_protection-kept}
 use Rattle.s360_store.proofs.RunLemmas.{AllFit-run, IsPlanOf-bytes, cells_after_exchange-bytes, run-fits, run-inside}
 use Rattle.s360_store.proofs.ItemLemmas.{AreItems-at, AreItems-set, bytes_of_items-append, cells_of_items-run, cells_of_items-single}
 
@@ -43,15 +44,15 @@ pub AreCellsOf-later : (m : Core) (xs ys : List Cell) → AreCellsOf m (xs ++ ys
 AreCellsOf-later m [] ys h = h
 AreCellsOf-later m (c ∷ xs) ys h = AreCellsOf-later (with_value m c.place c.value) xs ys (AreCellsOf-kept m (xs ++ ys) c.place c.value h.3)
 
-AllFit-append : (xs ys : List Cell) → AllFit xs → AllFit ys → AllFit (xs ++ ys)
-AllFit-append [] ys h k = k
-AllFit-append (c ∷ xs) ys h k = (h.0, AllFit-append xs ys h.1 k)
+AllFit-append : (option : Bool) (xs ys : List Cell) → AllFit option xs → AllFit option ys → AllFit option (xs ++ ys)
+AllFit-append option [] ys h k = k
+AllFit-append option (c ∷ xs) ys h k = (h.0, AllFit-append option xs ys h.1 k)
 
 -- the items before an index were exchanged
 pub record ExchangingItems (m n : Core) (is₀ is : List Item) (bs₀ bs : List ℕ) (k from : ℕ) : Type 0 where
   pub core : after_exchange m (cells_of_items is₀ bs₀) ≡ after_exchange n (cells_of_items (drop k is) (drop from bs))
   pub cells : cells_after_exchange m (cells_of_items is₀ bs₀) ≡ cells_of_items (take k is) (take from bs) ++ cells_after_exchange n (cells_of_items (drop k is) (drop from bs))
-  pub fit : AllFit (cells_of_items (take k is) (take from bs))
+  pub fit : AllFit n.storage.fetch_protection (cells_of_items (take k is) (take from bs))
   pub can : AreCellsOf n (cells_of_items (drop k is) (drop from bs))
   pub items : AreItems is
   pub done : bytes_of_items (take k is) ≡ from
@@ -71,7 +72,7 @@ exchanging-inside m n is₀ is bs₀ bs k from a count d l g x =
 
 -- a single cell more
 pub exchanging-single : (m n : Core) (is₀ is : List Item) (bs₀ bs : List ℕ) (k from : ℕ) (d : Item) (c : Cell) → k < length is → get_or is k d ≡ Single c
-    → Fits c.place (value_at n c.place) → ExchangingItems m n is₀ is bs₀ bs k from
+    → Fits n.storage.fetch_protection c.place (value_at n c.place) → ExchangingItems m n is₀ is bs₀ bs k from
     → ExchangingItems m (with_value n c.place c.value) is₀ (set is k (Single (record { place = c.place; value = value_at n c.place }))) bs₀ bs (k + 1) from
 exchanging-single m n is₀ is bs₀ bs k from d c l g fits x =
     let new : Cell = record { place = c.place; value = value_at n c.place }
@@ -86,7 +87,7 @@ exchanging-single m n is₀ is bs₀ bs k from d c l g fits x =
     in record {
       core = rw later core;
       cells = rw (later, before, cells_of_items-single (take k is) (take from bs) new) (cells ∙ sym (append_assoc (cells_of_items (take k is) (take from bs)) (new ∷ []) (cells_after_exchange (with_value n c.place c.value) rest)));
-      fit = rw (before, cells_of_items-single (take k is) (take from bs) new) (AllFit-append (cells_of_items (take k is) (take from bs)) (new ∷ []) x.fit (fits, tt));
+      fit = rw (before, cells_of_items-single (take k is) (take from bs) new, fetch_protection-kept n c.place c.value) (AllFit-append n.storage.fetch_protection (cells_of_items (take k is) (take from bs)) (new ∷ []) x.fit (fits, tt));
       can = rw later (AreCellsOf-kept n rest c.place c.value can.3);
       items = AreItems-set is k (Single new) x.items (λ a e.
           let held : IsNoByte c = rw g at (AreItems-at is k d l x.items)
@@ -98,7 +99,7 @@ exchanging-single m n is₀ is bs₀ bs k from d c l g fits x =
 
 -- a run more
 pub exchanging-run : (m n o : Core) (is₀ is : List Item) (bs₀ bs new taken : List ℕ) (k from a count : ℕ) (d : Item) → k < length is → get_or is k d ≡ Run a count
-    → o ≡ after_exchange n (byte_cells a (take count (drop from bs))) → cells_after_exchange n (byte_cells a (take count (drop from bs))) ≡ byte_cells a taken → AllFit (byte_cells a taken)
+    → o ≡ after_exchange n (byte_cells a (take count (drop from bs))) → cells_after_exchange n (byte_cells a (take count (drop from bs))) ≡ byte_cells a taken → AllFit n.storage.fetch_protection (byte_cells a taken)
     → length taken ≡ count → take (from + count) new ≡ take from bs ++ taken → drop (from + count) new ≡ drop (from + count) bs
     → ExchangingItems m n is₀ is bs₀ bs k from → ExchangingItems m o is₀ is bs₀ new (k + 1) (from + count)
 exchanging-run m n o is₀ is bs₀ bs new taken k from a count d l g made back fits many front behind x =
@@ -120,7 +121,7 @@ exchanging-run m n o is₀ is bs₀ bs new taken k from a count d l g made back 
       core = rw (behind, made) (core ∙ after_exchange-append n ours rest);
       cells = rw (behind, made, those) (cells ∙ ap (λ (ds : List Cell). cells_of_items (take k is) (take from bs) ++ ds) (cells_after_exchange-append n ours rest ∙ ap (λ (ds : List Cell). ds ++ cells_after_exchange (after_exchange n ours) rest) back)
           ∙ sym (append_assoc (cells_of_items (take k is) (take from bs)) (byte_cells a taken) (cells_after_exchange (after_exchange n ours) rest)));
-      fit = rw those (AllFit-append (cells_of_items (take k is) (take from bs)) (byte_cells a taken) x.fit fits);
+      fit = rw (those, made, fetch_protection-after_exchange n ours) (AllFit-append n.storage.fetch_protection (cells_of_items (take k is) (take from bs)) (byte_cells a taken) x.fit fits);
       can = rw (behind, made) (AreCellsOf-later n ours rest can);
       items = x.items;
       done = rw before (omega (arith, bytes_of_items-append (take k is) (Run a count ∷ []), x.done));
@@ -147,7 +148,7 @@ exchanging-swapped m psw registers s t is₀ is bs₀ bs taken k from a count d 
     in let after : core_of psw registers t ≡ after_exchange n (byte_cells a ours) = rw made (sym (IsPlanOf-bytes n a ours (run-fits n a ours cells) inside).makes)
     in let back : cells_after_exchange n (byte_cells a ours) ≡ byte_cells a taken = cells_after_exchange-bytes n a ours taken inside (got ∙ ap (λ c. take c (drop a s.bytes)) (sym many))
     in let unchanged : set is k (Run a count) ≡ is = ap (λ (i : Item). set is k i) (sym g) ∙ set-get_or is k d
-    in rw unchanged (exchanging-run m n (core_of psw registers t) is₀ is bs₀ bs (put_mid from count bs taken) taken k from a count d l g after back (AllFit-run a taken fits) count-taken
+    in rw unchanged (exchanging-run m n (core_of psw registers t) is₀ is bs₀ bs (put_mid from count bs taken) taken k from a count d l g after back (AllFit-run s.fetch_protection a taken fits) count-taken
     (take-put_mid from count bs taken (from + count) (omega (arith, count-taken)) (omega (arith, bytes))) (drop-put_mid from count bs taken (from + count) (omega arith) (omega (arith, bytes)) count-taken) x)
 
 pub length-cells_after_exchange : (m : Core) (cs : List Cell) → length (cells_after_exchange m cs) ≡ length cs

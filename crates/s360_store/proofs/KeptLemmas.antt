@@ -25,7 +25,7 @@ IsFresh-at [] i d p l h = absurd (omega arith)
 IsFresh-at (c ∷ cs) zero d p l h = h.0
 IsFresh-at (c ∷ cs) (suc i) d p l h = IsFresh-at cs i d p (omega arith) h.1
 
-pub AreCellsOf-push : (m : Core) (cs : List Cell) (c : Cell) → AreCellsOf m cs → IsPlaceOf m c.place → Fits c.place c.value → IsFresh c.place cs → AreCellsOf m (cs ++ c ∷ [])
+pub AreCellsOf-push : (m : Core) (cs : List Cell) (c : Cell) → AreCellsOf m cs → IsPlaceOf m c.place → Fits m.storage.fetch_protection c.place c.value → IsFresh c.place cs → AreCellsOf m (cs ++ c ∷ [])
 AreCellsOf-push m [] c h i f n = (i, f, tt, tt)
 AreCellsOf-push m (d ∷ cs) c h i f n = (h.0, h.1, IsFresh-push cs c d.place (λ e. n.0 (sym e)) h.2, AreCellsOf-push m cs c h.3 i f n.1)
 
@@ -36,7 +36,7 @@ AllDiffer-push m (d ∷ cs) c h n = (h.0, AllDiffer-push m cs c h.1 n)
 -- the cell at an index of a plan
 pub record IsCellOf (m : Core) (before : List Cell) (c : Cell) : Type 0 where
   pub inside : IsPlaceOf m c.place
-  pub fits : Fits c.place c.value
+  pub fits : Fits m.storage.fetch_protection c.place c.value
   pub fresh : IsFresh c.place before
 
 pub after_exchange-push : (m : Core) (cs : List Cell) (c : Cell) → after_exchange m (cs ++ c ∷ []) ≡ with_value (after_exchange m cs) c.place c.value

@@ -1,4 +1,4 @@
--- What stands at a place after a value was put at a place.
+-- What stands at a place after a value was put at a place, and what stays.
 use Rattle.std.proofs.Common.{◌≡◌, ℕ, ◌≢◌, refl, ap, sym}
 use Rattle.std.proofs.lemmas.List.{get_or-set_same, get_or-set_other, set-set, set_comm, set-get_or, length-set}
 use Rattle.s360_model.specs.Core.{Core}
@@ -46,6 +46,12 @@ IsPlaceOf-kept m (Register n) (Register k) v h = rw length-set h
 IsPlaceOf-kept m (Byte n) (Byte k) v h = rw length-set h
 IsPlaceOf-kept m (Key n) (Key k) v h = rw length-set h
 IsPlaceOf-kept m p q v h = h
+
+pub fetch_protection-kept : (m : Core) (p : Place) (v : ℕ) → (with_value m p v).storage.fetch_protection ≡ m.storage.fetch_protection
+fetch_protection-kept m (Register n) v = refl
+fetch_protection-kept m (Byte n) v = refl
+fetch_protection-kept m (Key n) v = refl
+fetch_protection-kept m p v = refl
 
 pub IsPlaceOf-before : (m : Core) (p q : Place) (v : ℕ) → IsPlaceOf (with_value m p v) q → IsPlaceOf m q
 IsPlaceOf-before m (Register n) (Register k) v h = rw length-set at h

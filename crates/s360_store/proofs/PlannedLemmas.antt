@@ -14,7 +14,7 @@ pub HasEachOnce-from : (m : Core) (cs : List Cell) → AreCellsOf m cs → HasEa
 HasEachOnce-from m [] h = tt
 HasEachOnce-from m (c ∷ cs) h = (h.2, HasEachOnce-from m cs h.3)
 
-pub AreCellsOf-after_put : (m : Core) (cs : List Cell) (p : Place) (v : ℕ) → AreCellsOf m cs → IsPlaceOf m p → Fits p v → AreCellsOf m (after_put cs p v)
+pub AreCellsOf-after_put : (m : Core) (cs : List Cell) (p : Place) (v : ℕ) → AreCellsOf m cs → IsPlaceOf m p → Fits m.storage.fetch_protection p v → AreCellsOf m (after_put cs p v)
 AreCellsOf-after_put m [] p v h i f = (i, f, tt, tt)
 AreCellsOf-after_put m (c ∷ cs) p v h i f =
     let by : (b : Bool) → same_place c.place p ≡ b → AreCellsOf m (cond b (record { place = c.place; value = v } ∷ cs) (c ∷ after_put cs p v))
@@ -38,11 +38,11 @@ value_at-plan m (c ∷ cs) p h i =
     ]
     in by (same_place c.place p) refl
 
-pub planned_value-fits : (m : Core) (cs : List Cell) (p : Place) (v : ℕ) → AreCellsOf m cs → planned_value cs p ≡ Some v → Fits p v
+pub planned_value-fits : (m : Core) (cs : List Cell) (p : Place) (v : ℕ) → AreCellsOf m cs → planned_value cs p ≡ Some v → Fits m.storage.fetch_protection p v
 planned_value-fits m [] p v h e = absurd (let u : Some v ≡ None = sym e in cc)
 planned_value-fits m (c ∷ cs) p v h e =
-    let by : (b : Bool) → same_place c.place p ≡ b → cond b (Some c.value) (planned_value cs p) ≡ Some v → Fits p v
-    = λ b. elim b as (λ x. same_place c.place p ≡ x → cond x (Some c.value) (planned_value cs p) ≡ Some v → Fits p v) [
+    let by : (b : Bool) → same_place c.place p ≡ b → cond b (Some c.value) (planned_value cs p) ≡ Some v → Fits m.storage.fetch_protection p v
+    = λ b. elim b as (λ x. same_place c.place p ≡ x → cond x (Some c.value) (planned_value cs p) ≡ Some v → Fits m.storage.fetch_protection p v) [
       | true ↦ λ s t. let q : c.place ≡ p = same_place-true c.place p s in let w : c.value ≡ v = cc in rw (← w, ← q) h.1
       | false ↦ λ s t. planned_value-fits m cs p v h.3 t
     ]
@@ -52,7 +52,7 @@ planned_value-fits m (c ∷ cs) p v h e =
 pub IsPlanOf-none : (m : Core) → IsPlanOf m [] m
 IsPlanOf-none m = record { cells = tt; makes = refl }
 
-pub IsPlanOf-put : (m : Core) (cs : List Cell) (n : Core) (p : Place) (v : ℕ) → IsPlanOf m cs n → IsPlaceOf m p → Fits p v
+pub IsPlanOf-put : (m : Core) (cs : List Cell) (n : Core) (p : Place) (v : ℕ) → IsPlanOf m cs n → IsPlaceOf m p → Fits m.storage.fetch_protection p v
     → IsPlanOf m (after_put cs p v) (with_value n p v)
 IsPlanOf-put m cs n p v h i f = record {
   cells = AreCellsOf-after_put m cs p v h.cells i f;

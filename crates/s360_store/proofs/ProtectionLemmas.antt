@@ -6,7 +6,8 @@ use Rattle.std.specs.List.{list_all, range_with_len, slice_range}
 use Rattle.std.specs.Prelude.{slice_index, nat_eq, IsTrue}
 use Rattle.std.proofs.lemmas.Grind.{common_steps}
 use Rattle.s360_model.specs.Storage.{Storage, is_storage_size}
-use Rattle.s360_store.specs.Protection.{is_allowed}
+use Rattle.s360_store.specs.Protection.{block_allows, is_allowed}
+use Rattle.s360_store.specs.declared.protection.Access.{Access}
 
 -- a range's first element, and those after it
 slice_range-first : (keys : List ℕ) (b e : ℕ) → b < e → b < length keys → slice_range keys b e ≡ get_or keys b 0 ∷ slice_range keys (b + 1) e
@@ -39,14 +40,14 @@ list_all-blocks test keys (suc n) a h =
       | inr l ↦ let step : (a + 1) / 2048 ≡ a / 2048 = omega arith in rw (step, first) (sym (and-twice (test (get_or keys (a / 2048) 0)) _))
     ])
 
--- a key other than zero is allowed where each block of the operand has it
-pub is_allowed-blocks : (s : Storage) (address count key : ℕ) → 0 < count → key ≢ 0 → (address + count - 1) / 2048 < length s.keys
-    → list_all (λ k. nat_eq k key) (slice_range s.keys (address / 2048) ((address + count - 1) / 2048 + 1)) ≡ is_allowed s address count key
-is_allowed-blocks s address zero key some nonzero inside = absurd (omega arith)
-is_allowed-blocks s address (suc n) key some nonzero inside =
+-- a key other than zero allows an access where each block of the operand does
+pub is_allowed-blocks : (s : Storage) (address count : ℕ) (kind : Access) (key : ℕ) → 0 < count → key ≢ 0 → (address + count - 1) / 2048 < length s.keys
+    → list_all (block_allows kind key) (slice_range s.keys (address / 2048) ((address + count - 1) / 2048 + 1)) ≡ is_allowed s address count kind key
+is_allowed-blocks s address zero kind key some nonzero inside = absurd (omega arith)
+is_allowed-blocks s address (suc n) kind key some nonzero inside =
     let end : address + suc n - 1 ≡ address + n = omega arith
     in let other : nat_eq key 0 ≡ false = ne_eqb key 0 nonzero
-    in rw (other, end) (list_all-blocks (λ k. nat_eq k key) s.keys n address (rw end at inside))
+    in rw (other, end) (list_all-blocks (block_allows kind key) s.keys n address (rw end at inside))
 
 -- the last block of an operand inside a storage is one of its blocks
 pub last_block-inside : (size keys address count : ℕ) → IsTrue (is_storage_size size) → keys ≡ size / 2048 → 0 < count → address + count ≤ size

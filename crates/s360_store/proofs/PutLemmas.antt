@@ -1,12 +1,12 @@
 -- What puts add to a plan.
 use Rattle.std.proofs.Common.{◌≡◌, ◌<◌, ◌≤◌, ◌+◌, ◌++◌, ℕ, List, [], ◌∷◌, Bool, true, false, cond, length, take, drop, set, get_or, arith, ap, add-zero}
 use Rattle.std.proofs.lemmas.List.{take_more, set_at, drop_more, take-append-drop, append_assoc, length-append, length-take-le, append-nil}
-use Rattle.s360_model.specs.Core.{Core, core_with_bytes}
+use Rattle.s360_model.specs.Core.{Core, core_with_bytes, core_with_key}
 use Rattle.s360_store.specs.declared.place.Place.{Place}
-use Rattle.s360_store.specs.declared.place.Place.TheVariants.{Byte}
+use Rattle.s360_store.specs.declared.place.Place.TheVariants.{Byte, Key}
 use Rattle.s360_store.specs.declared.place.Cell.{Cell}
 use Rattle.s360_store.specs.Places.{same_place, with_value, IsPlaceOf, Fits}
-use Rattle.s360_store.specs.Plans.{after_put, AddsToPlan, HasBytes, IsPlanOf}
+use Rattle.s360_store.specs.Plans.{after_put, AddsToPlan, CanHaveKey, HasBytes, IsPlanOf}
 use Rattle.s360_store.proofs.PlannedLemmas.{IsPlanOf-put}
 use Rattle.s360_store.proofs.ExchangeLemmas.{IsPlaceOf-after_exchange}
 
@@ -18,11 +18,18 @@ length-after_put (c ∷ cs) p v =
     [ true ↦ omega arith | false ↦ let rest : length (after_put cs p v) ≤ length cs + 1 = length-after_put cs p v in omega arith ]
     in by (same_place c.place p)
 
--- one put
-pub AddsToPlan-put : (cs : List Cell) (p : Place) (v : ℕ) → Fits p v → AddsToPlan cs (after_put cs p v) 1 (λ m. IsPlaceOf m p) (λ n. with_value n p v)
+-- one put, of a value that fits the place in each core
+pub AddsToPlan-put : (cs : List Cell) (p : Place) (v : ℕ) → ((b : Bool) → Fits b p v) → AddsToPlan cs (after_put cs p v) 1 (λ m. IsPlaceOf m p) (λ n. with_value n p v)
 AddsToPlan-put cs p v f = record {
-  makes = λ m n i h. IsPlanOf-put m cs n p v h i f;
+  makes = λ m n i h. IsPlanOf-put m cs n p v h i (f m.storage.fetch_protection);
   few = length-after_put cs p v;
+}
+
+-- one put of a key and a fetch bit
+pub AddsToPlan-key : (cs : List Cell) (block key : ℕ) → AddsToPlan cs (after_put cs (Key block) key) 1 (CanHaveKey block key) (core_with_key block key)
+AddsToPlan-key cs block key = record {
+  makes = λ m n i h. IsPlanOf-put m cs n (Key block) key h i.0 i.1;
+  few = length-after_put cs (Key block) key;
 }
 
 -- no put

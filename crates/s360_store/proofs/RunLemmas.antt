@@ -1,5 +1,5 @@
 -- Runs of bytes as cells.
-use Rattle.std.proofs.Common.{◌≡◌, ◌<◌, ◌≤◌, ◌+◌, ◌++◌, ℕ, zero, suc, List, [], ◌∷◌, refl, ap, sym, ◌∙◌, take, drop, get_or, length, arith}
+use Rattle.std.proofs.Common.{◌≡◌, ◌<◌, ◌≤◌, ◌+◌, ◌++◌, ℕ, Bool, zero, suc, List, [], ◌∷◌, refl, ap, sym, ◌∙◌, take, drop, get_or, length, arith}
 use Rattle.std.proofs.lemmas.List.{append_assoc, drop-drop, drop_at, drop_more, length-append, length-drop, length-take-le, take-append-drop, take_at}
 use Rattle.s360_model.specs.Core.{Core, core_with_bytes}
 use Rattle.s360_model.specs.Storage.{with_run}
@@ -67,6 +67,6 @@ run-fits m a [] h i l = absurd (omega arith)
 run-fits m a (b ∷ run) h zero l = h.1
 run-fits m a (b ∷ run) h (suc i) l = run-fits m (a + 1) run h.3 i (omega arith)
 
-pub AllFit-run : (a : ℕ) (run : List ℕ) → ((i : ℕ) → i < length run → get_or run i 0 < 256) → AllFit (byte_cells a run)
-AllFit-run a [] h = tt
-AllFit-run a (b ∷ run) h = (h 0 (omega arith), AllFit-run (a + 1) run (λ i l. h (suc i) (omega arith)))
+pub AllFit-run : (option : Bool) (a : ℕ) (run : List ℕ) → ((i : ℕ) → i < length run → get_or run i 0 < 256) → AllFit option (byte_cells a run)
+AllFit-run option a [] h = tt
+AllFit-run option a (b ∷ run) h = (h 0 (omega arith), AllFit-run option (a + 1) run (λ i l. h (suc i) (omega arith)))

@@ -73,15 +73,15 @@ each_once (c ∷ cs) h =
     in (fresh-tally once c.place cs (omega arith), each_once cs (λ p. let both : mark once p c + sum_by (mark once p) cs ≤ 1 = split p in omega arith))
 
 -- facts of each cell as one of all
-AreCellsOf-each : (m : Core) (cs : List Cell) → AreCellsOf m cs → All (λ (c : Cell). IsPlaceOf m c.place × Fits c.place c.value) cs
+AreCellsOf-each : (m : Core) (cs : List Cell) → AreCellsOf m cs → All (λ (c : Cell). IsPlaceOf m c.place × Fits m.storage.fetch_protection c.place c.value) cs
 AreCellsOf-each m [] h k d l = absurd (omega arith)
 AreCellsOf-each m (c ∷ cs) h zero d l = (h.0, h.1)
 AreCellsOf-each m (c ∷ cs) h (suc k) d l = AreCellsOf-each m cs h.3 k d (omega arith)
 
-AreCellsOf-from : (m : Core) (cs : List Cell) → All (λ (c : Cell). IsPlaceOf m c.place × Fits c.place c.value) cs → HasEachOnce cs → AreCellsOf m cs
+AreCellsOf-from : (m : Core) (cs : List Cell) → All (λ (c : Cell). IsPlaceOf m c.place × Fits m.storage.fetch_protection c.place c.value) cs → HasEachOnce cs → AreCellsOf m cs
 AreCellsOf-from m [] h o = tt
 AreCellsOf-from m (c ∷ cs) h o =
-    let first : IsPlaceOf m c.place × Fits c.place c.value = h 0 c (omega arith)
+    let first : IsPlaceOf m c.place × Fits m.storage.fetch_protection c.place c.value = h 0 c (omega arith)
     in (first.0, first.1, o.0, AreCellsOf-from m cs (λ k d l. h (suc k) d (omega arith)) o.1)
 
 AllDiffer-each : (m : Core) (cs : List Cell) → AllDiffer m cs → All (λ (c : Cell). value_at m c.place ≢ c.value) cs
@@ -131,11 +131,12 @@ value_at-tally m (c ∷ cs) p h i =
     ]
     in rw (sum_by-cons (mark value_of_cell p) c cs) (by (same_place c.place p) refl)
 
--- cores of one size with the same value at each place are equal
+-- cores of one size and option with the same value at each place are equal
 record SameSizes (m n : Core) : Type 0 where
   registers : length m.registers ≡ length n.registers
   bytes : length m.storage.bytes ≡ length n.storage.bytes
   keys : length m.storage.keys ≡ length n.storage.keys
+  option : m.storage.fetch_protection ≡ n.storage.fetch_protection
 
 same_item : (xs : List ℕ) (k d e : ℕ) → k < length xs → get_or xs k d ≡ get_or xs k e
 same_item [] k d e l = absurd (omega arith)
@@ -152,21 +153,22 @@ same_core m n s h =
     in let keys : m.storage.keys ≡ n.storage.keys = same_items m.storage.keys n.storage.keys s.keys (λ k l. h (Key k) l)
     in ap (λ x. record { psw = x; registers = m.registers; storage = m.storage }) (h Psw tt)
     ∙ ap (λ x. record { psw = n.psw; registers = x; storage = m.storage }) registers
-    ∙ ap (λ x. record { psw = n.psw; registers = n.registers; storage = record { bytes = x; keys = m.storage.keys } }) bytes
-    ∙ ap (λ x. record { psw = n.psw; registers = n.registers; storage = record { bytes = n.storage.bytes; keys = x } }) keys
+    ∙ ap (λ x. record { psw = n.psw; registers = n.registers; storage = record { bytes = x; keys = m.storage.keys; fetch_protection = m.storage.fetch_protection } }) bytes
+    ∙ ap (λ x. record { psw = n.psw; registers = n.registers; storage = record { bytes = n.storage.bytes; keys = x; fetch_protection = m.storage.fetch_protection } }) keys
+    ∙ ap (λ x. record { psw = n.psw; registers = n.registers; storage = record { bytes = n.storage.bytes; keys = n.storage.keys; fetch_protection = x } }) s.option
 
 SameSizes-with_value : (m : Core) (p : Place) (v : ℕ) → SameSizes (with_value m p v) m
-SameSizes-with_value m (Register n) v = record { registers = length-set m.registers n v; bytes = refl; keys = refl }
-SameSizes-with_value m (Byte a) v = record { registers = refl; bytes = length-set m.storage.bytes a v; keys = refl }
-SameSizes-with_value m (Key b) v = record { registers = refl; bytes = refl; keys = length-set m.storage.keys b v }
-SameSizes-with_value m p v = record { registers = refl; bytes = refl; keys = refl }
+SameSizes-with_value m (Register n) v = record { registers = length-set m.registers n v; bytes = refl; keys = refl; option = refl }
+SameSizes-with_value m (Byte a) v = record { registers = refl; bytes = length-set m.storage.bytes a v; keys = refl; option = refl }
+SameSizes-with_value m (Key b) v = record { registers = refl; bytes = refl; keys = length-set m.storage.keys b v; option = refl }
+SameSizes-with_value m p v = record { registers = refl; bytes = refl; keys = refl; option = refl }
 
 SameSizes-after_exchange : (m : Core) (cs : List Cell) → SameSizes (after_exchange m cs) m
-SameSizes-after_exchange m [] = record { registers = refl; bytes = refl; keys = refl }
+SameSizes-after_exchange m [] = record { registers = refl; bytes = refl; keys = refl; option = refl }
 SameSizes-after_exchange m (c ∷ cs) =
     let rest : SameSizes (after_exchange (with_value m c.place c.value) cs) (with_value m c.place c.value) = SameSizes-after_exchange (with_value m c.place c.value) cs
     in let one : SameSizes (with_value m c.place c.value) m = SameSizes-with_value m c.place c.value
-    in record { registers = rest.registers ∙ one.registers; bytes = rest.bytes ∙ one.bytes; keys = rest.keys ∙ one.keys }
+    in record { registers = rest.registers ∙ one.registers; bytes = rest.bytes ∙ one.bytes; keys = rest.keys ∙ one.keys; option = rest.option ∙ one.option }
 
 IsPlaceOf-unexchanged : (m : Core) (cs : List Cell) (p : Place) → IsPlaceOf (after_exchange m cs) p → IsPlaceOf m p
 IsPlaceOf-unexchanged m [] p h = h
@@ -177,7 +179,7 @@ after_exchange-permutation m cs ds h k perm =
     let a : SameSizes (after_exchange m cs) m = SameSizes-after_exchange m cs
     in let b : SameSizes (after_exchange m ds) m = SameSizes-after_exchange m ds
     in same_core (after_exchange m cs) (after_exchange m ds)
-    (record { registers = a.registers ∙ sym b.registers; bytes = a.bytes ∙ sym b.bytes; keys = a.keys ∙ sym b.keys })
+    (record { registers = a.registers ∙ sym b.registers; bytes = a.bytes ∙ sym b.bytes; keys = a.keys ∙ sym b.keys; option = a.option ∙ sym b.option })
     (λ p i.
     let place : IsPlaceOf m p = IsPlaceOf-unexchanged m cs p i
     in value_at-tally m cs p h place
@@ -215,7 +217,7 @@ IsCoreChangeTo-sorted m plan kept sorted k perm s =
     let each : HasEachOnce sorted
     = HasEachOnce-permutation kept sorted perm (HasEachOnce-of m kept k.cells)
     in let cells : AreCellsOf m sorted
-    = AreCellsOf-from m sorted (All-permutation (λ (c : Cell). IsPlaceOf m c.place × Fits c.place c.value) kept sorted perm (AreCellsOf-each m kept k.cells)) each
+    = AreCellsOf-from m sorted (All-permutation (λ (c : Cell). IsPlaceOf m c.place × Fits m.storage.fetch_protection c.place c.value) kept sorted perm (AreCellsOf-each m kept k.cells)) each
     in let alter : AllDiffer m sorted
     = AllDiffer-from m sorted (All-permutation (λ (c : Cell). value_at m c.place ≢ c.value) kept sorted perm (AllDiffer-each m kept k.alter))
     in let makes : after_exchange m sorted ≡ after_exchange m plan = sym (after_exchange-permutation m kept sorted k.cells cells perm) ∙ k.makes

@@ -1,6 +1,6 @@
 -- Cells, each a place with a value, exchanged with a core one after another: the core gets their values,
 -- and they get what stood at their places.
-use Rattle.std.specs.Prelude.{◌≢◌, ◌+◌, ℕ, List, [], ◌∷◌, map}
+use Rattle.std.specs.Prelude.{◌≢◌, ◌+◌, ℕ, Bool, List, [], ◌∷◌, map}
 use Rattle.s360_model.specs.Core.{Core}
 use Rattle.s360_store.specs.declared.place.Place.{Place}
 use Rattle.s360_store.specs.declared.place.Place.TheVariants.{Byte}
@@ -40,12 +40,12 @@ HasEachOnce (c ∷ cs) = IsFresh c.place cs × HasEachOnce cs
 -- comes twice
 abbrev pub AreCellsOf : Core → List Cell → Type 0
 AreCellsOf m [] = Unit {0}
-AreCellsOf m (c ∷ cs) = IsPlaceOf m c.place × Fits c.place c.value × IsFresh c.place cs × AreCellsOf m cs
+AreCellsOf m (c ∷ cs) = IsPlaceOf m c.place × Fits m.storage.fetch_protection c.place c.value × IsFresh c.place cs × AreCellsOf m cs
 
--- each cell's value fits its place
-abbrev pub AllFit : List Cell → Type 0
-AllFit [] = Unit {0}
-AllFit (c ∷ cs) = Fits c.place c.value × AllFit cs
+-- each cell's value fits its place, where fetches are protected or are not
+abbrev pub AllFit : Bool → List Cell → Type 0
+AllFit fetch_protection [] = Unit {0}
+AllFit fetch_protection (c ∷ cs) = Fits fetch_protection c.place c.value × AllFit fetch_protection cs
 
 -- each cell's value is another than the core has
 abbrev pub AllDiffer : Core → List Cell → Type 0

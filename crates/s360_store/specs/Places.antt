@@ -25,7 +25,7 @@ abbrev pub is_among : List Place → Place → Bool
 is_among ps p = list_any (λ q. same_place q p) ps
 
 -- the places that a core has: its PSW, the registers by their numbers, the bytes by their addresses, and the
--- storage keys by the numbers of their blocks
+-- storage keys, with the fetch bits, by the numbers of their blocks
 pub data CorePlace : Type 0 where
   psw : CorePlace
   register byte key : ℕ → CorePlace
@@ -45,12 +45,12 @@ HasPlace m (register n) = n < length m.registers
 HasPlace m (byte a) = a < length m.storage.bytes
 HasPlace m (key b) = b < length m.storage.keys
 
--- the number is one that the place can hold
-abbrev pub CanHold : CorePlace → ℕ → Type 0
-CanHold psw v = IsCurrentPsw v
-CanHold (register n) v = v < 2 ^ 32
-CanHold (byte a) v = v < 256
-CanHold (key b) v = v < key_limit
+-- the number is one that the place can hold, where fetches are protected or are not
+abbrev pub CanHold : Bool → CorePlace → ℕ → Type 0
+CanHold fetch_protection psw v = IsCurrentPsw v
+CanHold fetch_protection (register n) v = v < 2 ^ 32
+CanHold fetch_protection (byte a) v = v < 256
+CanHold fetch_protection (key b) v = v < key_limit fetch_protection
 
 -- what stands there
 abbrev pub core_value : Core → CorePlace → ℕ
@@ -66,13 +66,17 @@ core_with_value (register n) v m = core_with_word n v m
 core_with_value (byte a) v m = record m { storage = record m.storage { bytes = slice_set m.storage.bytes a v } }
 core_with_value (key b) v m = core_with_key b v m
 
+-- the numbers are such as blocks have for their keys and fetch bits
+abbrev pub AreBlockKeys : Bool → List ℕ → Type 0
+AreBlockKeys fetch_protection keys = (b : ℕ) → b < length keys → slice_index keys b < key_limit fetch_protection
+
 -- the place is one of the core
 abbrev pub IsPlaceOf : Core → Place → Type 0
 IsPlaceOf m p = MatchOption (core_place_of p) ⊥ (HasPlace m)
 
--- the number is one that a place of the core can hold
-abbrev pub Fits : Place → ℕ → Type 0
-Fits p v = MatchOption (core_place_of p) ⊥ (λ q. CanHold q v)
+-- the number is one that a place of a core can hold, where fetches are protected or are not
+abbrev pub Fits : Bool → Place → ℕ → Type 0
+Fits fetch_protection p v = MatchOption (core_place_of p) ⊥ (λ q. CanHold fetch_protection q v)
 
 -- what stands at a place of the core
 abbrev pub value_at : Core → Place → ℕ

@@ -1,6 +1,7 @@
 -- A plan: the cells that an event puts, each place at most once, in the order of their first puts.
 use Rattle.std.specs.Prelude.{◌≡◌, ◌<◌, ◌≤◌, ◌+◌, Option, Some, None, ℕ, if◌then◌else◌, List, [], ◌∷◌, length}
 use Rattle.s360_model.specs.Core.{Core}
+use Rattle.s360_model.specs.Storage.{key_limit}
 use Rattle.s360_store.specs.declared.place.Place.{Place}
 use Rattle.s360_store.specs.declared.place.Place.TheVariants.{Byte}
 use Rattle.s360_store.specs.declared.place.Cell.{Cell}
@@ -42,6 +43,10 @@ HasBytes address count m = address + count ≤ length m.storage.bytes
 
 abbrev pub HasBlock : ℕ → Core → Type 0
 HasBlock block m = block < length m.storage.keys
+
+-- it has the block, which can have this number for its key and fetch bit
+abbrev pub CanHaveKey : ℕ → ℕ → Core → Type 0
+CanHaveKey block key m = HasBlock block m × (key < key_limit m.storage.fetch_protection)
 
 -- the core has the sixteen general registers
 abbrev pub HasRegisters : Core → Type 0

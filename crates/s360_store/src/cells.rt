@@ -254,7 +254,7 @@ impl Cells {
         requires { AreCellsOf (core_of psw.old registers.old storage.old) self.old }
         ensures core { core_of psw.new registers.new storage.new ≡ after_exchange (core_of psw.old registers.old storage.old) self.old }
         ensures cells { self.new ≡ cells_after_exchange (core_of psw.old registers.old storage.old) self.old }
-        ensures fit { AllFit self.new }
+        ensures fit { AllFit storage.new.fetch_protection self.new }
     {
         exchange_items(psw, registers, storage, &mut self.items, &mut self.bytes);
     }

@@ -15,10 +15,10 @@ use s360_word::Word;
 /// Exchanges what stands at the cell's place with its value.
 fn exchange_cell(psw: &mut Psw, registers: &mut [Word; 16], storage: &mut Storage, cell: &mut Cell)
     requires inside { IsPlaceOf (core_of psw.old registers.old storage.old) cell.old.place }
-    requires fits { Fits cell.old.place cell.old.value }
+    requires fits { Fits storage.old.fetch_protection cell.old.place cell.old.value }
     ensures core { core_of psw.new registers.new storage.new ≡ with_value (core_of psw.old registers.old storage.old) cell.old.place cell.old.value }
     ensures cell { cell.new ≡ record { place = cell.old.place; value = value_at (core_of psw.old registers.old storage.old) cell.old.place } }
-    ensures fits { Fits cell.old.place cell.new.value }
+    ensures fits { Fits storage.old.fetch_protection cell.old.place cell.new.value }
 {
     match cell.place {
         Place::Psw => {
@@ -49,7 +49,7 @@ pub fn exchange_items(
     requires can { AreCellsOf (core_of psw.old registers.old storage.old) (cells_of_items items.old bytes.old) }
     ensures core { core_of psw.new registers.new storage.new ≡ after_exchange (core_of psw.old registers.old storage.old) (cells_of_items items.old bytes.old) }
     ensures cells { cells_of_items items.new bytes.new ≡ cells_after_exchange (core_of psw.old registers.old storage.old) (cells_of_items items.old bytes.old) }
-    ensures fit { AllFit (cells_of_items items.new bytes.new) }
+    ensures fit { AllFit storage.new.fetch_protection (cells_of_items items.new bytes.new) }
     ensures items { AreItems items.new }
     ensures all { bytes_of_items items.new ≡ length bytes.new }
 {

@@ -4,6 +4,7 @@
 //! Addresses count bytes from 0. Source: GA22-6821, "System Structure".
 #![tactic(auto)]
 
+mod block_key;
 mod bytes;
 mod cells;
 mod exchange;
@@ -15,6 +16,7 @@ mod protection;
 mod span;
 mod storage;
 
+pub use block_key::BlockKey;
 pub use bytes::Bytes;
 pub use cells::Cells;
 pub use exchange::exchange_items;

@@ -14,7 +14,7 @@ pub enum Place {
     Register(u8),
     /// The byte of storage at an address.
     Byte(u32),
-    /// The storage key of a block of 2,048 bytes, by the block's number from 0.
+    /// The storage key and the fetch bit of a block of 2,048 bytes, by the block's number from 0.
     Key(u32),
     /// The run state.
     Run,
@@ -26,7 +26,8 @@ pub enum Place {
     UnitMedia(Unit),
 }
 
-/// A place with a value of it: a PSW's 64 bits, a register's word, a byte, or a key's number.
+/// A place with a value of it: a PSW's 64 bits, a register's word, a byte, or the number of a key and
+/// its fetch bit.
 #[derive(Clone, Copy, Debug, Default, PartialEq, Eq)]
 pub struct Cell {
     pub place: Place,

@@ -14,15 +14,16 @@ ghost use Rattle.s360_store.specs.Cells.{HasEachOnce};
 ghost use Rattle.s360_store.specs.Items.{IsPartAt};
 ghost use Rattle.s360_store.specs.PlanParts.{cells_of_entries, cells_of_planned};
 ghost use Rattle.s360_store.specs.Plans.{after_put, after_put_bytes, planned_value};
-ghost use Rattle.s360_store.specs.Plans.{AddsToPlan, HasBlock, HasBytes, HasPsw, HasRegister};
+ghost use Rattle.s360_store.specs.Plans.{AddsToPlan, CanHaveKey, HasBytes, HasPsw, HasRegister};
 ghost use Rattle.s360_store.specs.declared.place.Place.TheVariants.{Key, Psw as psw_place, Register};
 
+use crate::block_key::BlockKey;
 use crate::cells::Cells;
 use crate::items::Part;
 use crate::place::{Cell, Place};
 use indexmap::IndexMap;
 use s360_psw::{InstructionLength, Psw};
-use s360_word::{ProtectionKey, RegisterNumber, Word};
+use s360_word::{RegisterNumber, Word};
 use std::alloc::{AllocError, Global};
 use std::marker::Model;
 
@@ -223,11 +224,11 @@ impl Plan {
         Ok(())
     }
 
-    /// Puts a storage key of a block, by the block's number from 0. Want of memory leaves the plan as
-    /// it was.
-    pub fn put_key(&mut self, block: u32, key: ProtectionKey) -> Result<(), AllocError>
+    /// Puts a storage key and a fetch bit of a block, by the block's number from 0. Want of memory leaves
+    /// the plan as it was.
+    pub fn put_key(&mut self, block: u32, key: BlockKey) -> Result<(), AllocError>
         requires { length self.old < 1000000 }
-        ensures ok { OnOk result (AddsToPlan self.old self.new 1 (HasBlock block) (core_with_key block key)) }
+        ensures ok { OnOk result (AddsToPlan self.old self.new 1 (CanHaveKey block key) (core_with_key block key)) }
         ensures cell { OnOk result (self.new ≡ after_put self.old (Key block) key) }
         ensures err { OnErr result (self.new ≡ self.old) }
     {

@@ -1,6 +1,8 @@
 //! What an access to storage meets. Source: GA22-6821, "System Structure", protection feature.
+ghost use Rattle.std.specs.Prelude.{◌≡◌};
+ghost use Rattle.s360_store.specs.Protection.{met_of_both};
 
-/// What an access does. Fetches are not protected.
+/// What an access does. Fetches are protected by an option alone.
 #[derive(Clone, Copy, Debug, PartialEq, Eq)]
 pub enum Access {
     /// Bytes are read.
@@ -18,4 +20,17 @@ pub enum Checked {
     Addressing,
     /// A byte's block has another key: program interruption code 4.
     Protection,
+}
+
+impl Checked {
+    /// What two accesses meet: a byte outside the storage comes before a protected one.
+    pub fn and(self, other: Checked) -> Checked
+        ensures { result ≡ met_of_both self other }
+    {
+        match (self, other) {
+            (Checked::Addressing, _) | (_, Checked::Addressing) => Checked::Addressing,
+            (Checked::Protection, _) | (_, Checked::Protection) => Checked::Protection,
+            (Checked::Clear, Checked::Clear) => Checked::Clear,
+        }
+    }
 }

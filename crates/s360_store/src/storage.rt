@@ -1,15 +1,18 @@
-//! Main storage: its bytes, with numbers high byte first, and the storage keys of its blocks.
-//! A contract sees the record of both. Source: GA22-6821, "System Structure".
+//! Main storage: its bytes, with numbers high byte first, the storage keys and fetch bits of its
+//! blocks, and whether fetches are protected. A contract sees the record of all. Source: GA22-6821,
+//! "System Structure".
 ghost use Rattle.std.specs.Prelude.{◌≡◌, ◌<◌, ◌≤◌, ◌+◌, ℕ, length, slice_index, Err, IfOk, IsOkUnless};
-ghost use Rattle.std.specs.Prelude.{◌/◌, ◌%◌, nat_eq};
+ghost use Rattle.std.specs.Prelude.{◌/◌, ◌%◌, IsTrue, true, false};
 ghost use Rattle.std.specs.Bool.{MatchBool};
 ghost use Rattle.std.specs.List.{list_all, slice_range};
 ghost use Rattle.s360_model.specs.Storage.{is_storage_size, zero_storage, halfword_at, word_at};
 ghost use Rattle.s360_model.specs.Storage.{doubleword_at, block_size, with_run};
+ghost use Rattle.s360_model.specs.Storage.{fetch_bit_of_block, key_limit, key_of_block, with_fetch_bit};
 ghost use Rattle.s360_store.specs.Places.{IsStoragePlace, storage_value, with_storage_value, Fits};
-ghost use Rattle.s360_store.specs.Protection.{access, is_allowed};
+ghost use Rattle.s360_store.specs.Protection.{access, block_allows, is_allowed, is_protected};
 ghost use Rattle.s360_store.specs.declared.fault.StoreFault.TheVariants.{Size, Memory};
 
+use crate::block_key::BlockKey;
 use crate::fault::StoreFault;
 use crate::place::{Cell, Place};
 use crate::protection::{Access, Checked};
@@ -18,7 +21,7 @@ use s360_word::ProtectionKey;
 use std::alloc::{AllocError, Global};
 use std::marker::Model;
 
-/// Bytes in a block, which has one storage key.
+/// Bytes in a block, which has one storage key and one fetch bit.
 pub const BLOCK_SIZE: u32 = 2048;
 
 /// The fewest bytes that a storage has.
@@ -31,18 +34,20 @@ pub const GREATEST_SIZE: u32 = 1_048_576;
 #[derive(Drop)]
 pub struct Storage {
     bytes: Vec<u8>,
-    keys: Vec<ProtectionKey>,
+    keys: Vec<BlockKey>,
+    fetch_protection: bool,
 }
 
 impl Model for Storage {
     ghost use Rattle.std.specs.Prelude.{◌≡◌, ◌/◌, IsTrue, length};
     ghost use Rattle.s360_model.specs.Storage.{Storage as Contents, is_storage_size, block_size};
+    ghost use Rattle.s360_store.specs.Places.{AreBlockKeys};
 
     ghost Value = { Contents };
 
-    ghost view = { λ s. record { bytes = s.bytes.items; keys = s.keys.items } };
+    ghost view = { λ s. record { bytes = s.bytes.items; keys = s.keys.items; fetch_protection = s.fetch_protection } };
 
-    ghost invariant = { λ s. IsTrue (is_storage_size (length s.bytes.items)) × (length s.keys.items ≡ length s.bytes.items / block_size) };
+    ghost invariant = { λ s. IsTrue (is_storage_size (length s.bytes.items)) × (length s.keys.items ≡ length s.bytes.items / block_size) × AreBlockKeys s.fetch_protection s.keys.items };
 }
 
 /// Whether a storage may have so many bytes.
@@ -52,25 +57,45 @@ fn is_size(size: u32) -> bool
     (LEAST_SIZE..=GREATEST_SIZE).contains(&size) && size % BLOCK_SIZE == 0
 }
 
-/// Whether each of the keys is this one.
-fn all_are(keys: &[ProtectionKey], key: ProtectionKey) -> bool
-    ensures { result ≡ list_all (λ k. nat_eq k key) keys.now }
+/// Whether each of the blocks allows an access under a protection key other than 0.
+fn all_allow(blocks: &[BlockKey], kind: Access, key: ProtectionKey) -> bool
+    ensures { result ≡ list_all (block_allows kind key) blocks.now }
 {
-    keys.iter().all(|other| *other == key)
+    blocks.iter().all(|block| block.allows(kind, key))
 }
 
 impl Storage {
-    /// A storage of so many bytes, with every byte and key zero.
+    /// A storage of so many bytes, with every byte and key zero, whose fetches are not protected.
     pub fn new(alloc: Global, size: u32) -> Result<Storage, StoreFault>
-        ensures zero { IfOk result (λ s. s ≡ zero_storage size) }
+        ensures zero { IfOk result (λ s. s ≡ zero_storage false size) }
+        ensures refused { MatchBool (is_storage_size size) (IsOkUnless result Memory) (result ≡ Err Size) }
+    {
+        Storage::zero(alloc, size, false)
+    }
+
+    /// The same, with every fetch bit zero, whose fetches are protected.
+    pub fn new_with_fetch(alloc: Global, size: u32) -> Result<Storage, StoreFault>
+        ensures zero { IfOk result (λ s. s ≡ zero_storage true size) }
+        ensures refused { MatchBool (is_storage_size size) (IsOkUnless result Memory) (result ≡ Err Size) }
+    {
+        Storage::zero(alloc, size, true)
+    }
+
+    /// A storage of zeros, whose fetches are protected or not.
+    fn zero(alloc: Global, size: u32, fetch_protection: bool) -> Result<Storage, StoreFault>
+        ensures zero { IfOk result (λ s. s ≡ zero_storage fetch_protection size) }
         ensures refused { MatchBool (is_storage_size size) (IsOkUnless result Memory) (result ≡ Err Size) }
     {
         if !is_size(size) {
             return Err(StoreFault::Size);
         }
         let bytes = vec![in alloc; 0u8; size as usize]?;
-        let keys = vec![in alloc; ProtectionKey::new(0); (size / BLOCK_SIZE) as usize]?;
-        Ok(Storage { bytes, keys })
+        let keys = vec![in alloc; BlockKey::from_number(0); (size / BLOCK_SIZE) as usize]?;
+        Ok(Storage {
+            bytes,
+            keys,
+            fetch_protection,
+        })
     }
 
     /// A storage that is equal to this one.
@@ -79,7 +104,11 @@ impl Storage {
     {
         let bytes = Vec::from_slice(*self.bytes.allocator(), &self.bytes)?;
         let keys = Vec::from_slice(*self.keys.allocator(), &self.keys)?;
-        Ok(Storage { bytes, keys })
+        Ok(Storage {
+            bytes,
+            keys,
+            fetch_protection: self.fetch_protection,
+        })
     }
 
     /// The number of bytes.
@@ -135,12 +164,46 @@ impl Storage {
         BigEndian::read_u64(&self.bytes[address as usize..])
     }
 
-    /// The storage key of a block, by the block's number from 0.
-    pub fn key(&self, block: u32) -> ProtectionKey
+    /// Whether fetches are protected.
+    pub fn fetch_protection(&self) -> bool
+        ensures { result ≡ self.now.fetch_protection }
+    {
+        self.fetch_protection
+    }
+
+    /// The storage key and the fetch bit of a block, by the block's number from 0.
+    pub fn block_key(&self, block: u32) -> BlockKey
         requires inside { block < length self.now.keys }
-        ensures { result ≡ slice_index self.now.keys block }
+        ensures value { result ≡ slice_index self.now.keys block }
+        ensures below { result < key_limit self.now.fetch_protection }
     {
         self.keys[block as usize]
+    }
+
+    /// A storage key with the fetch bit of a block.
+    pub fn with_key(&self, block: u32, key: ProtectionKey) -> BlockKey
+        requires inside { block < length self.now.keys }
+        ensures value { result ≡ with_fetch_bit key (fetch_bit_of_block (slice_index self.now.keys block)) }
+        ensures below { result < key_limit self.now.fetch_protection }
+    {
+        BlockKey::new(key, self.fetch_bit(block))
+    }
+
+    /// The storage key of a block.
+    pub fn key(&self, block: u32) -> ProtectionKey
+        requires inside { block < length self.now.keys }
+        ensures { result ≡ key_of_block (slice_index self.now.keys block) }
+    {
+        self.block_key(block).key()
+    }
+
+    /// The fetch bit of a block, which is zero where fetches are not protected.
+    pub fn fetch_bit(&self, block: u32) -> bool
+        requires inside { block < length self.now.keys }
+        ensures bit { result ≡ fetch_bit_of_block (slice_index self.now.keys block) }
+        ensures option { IsTrue result → IsTrue self.now.fetch_protection }
+    {
+        self.block_key(block).fetch_bit()
     }
 
     /// What an access to the `count` bytes from `address` on meets under a protection key.
@@ -151,33 +214,45 @@ impl Storage {
         if end > self.bytes.len() as u64 {
             return Checked::Addressing;
         }
-        match kind {
-            Access::Store if !self.allows(address, count, key) => Checked::Protection,
-            _ => Checked::Clear,
+        if self.protects(kind) && !self.allows(address, count, kind, key) {
+            Checked::Protection
+        } else {
+            Checked::Clear
         }
     }
 
-    /// Whether a key allows stores to each byte of an operand.
-    fn allows(&self, address: u32, count: u32, key: ProtectionKey) -> bool
+    /// Whether an access is protected at all.
+    fn protects(&self, kind: Access) -> bool
+        ensures { result ≡ is_protected self.now kind }
+    {
+        match kind {
+            Access::Fetch => self.fetch_protection,
+            Access::Store => true,
+        }
+    }
+
+    /// Whether a key allows the access to each byte of an operand.
+    fn allows(&self, address: u32, count: u32, kind: Access, key: ProtectionKey) -> bool
         requires inside { address + count ≤ length self.now.bytes }
         requires small { length self.now.bytes ≤ 1048576 }
-        ensures { result ≡ is_allowed self.now address count key }
+        ensures { result ≡ is_allowed self.now address count kind key }
     {
         if count == 0 || key.number() == 0 {
             return true;
         }
         let first = (address / BLOCK_SIZE) as usize;
         let last = ((address + count - 1) / BLOCK_SIZE) as usize;
-        all_are(&self.keys[first..last + 1], key)
+        all_allow(&self.keys[first..last + 1], kind, key)
     }
 
-    /// Exchanges a byte or a storage key with the cell's value. Done again, it restores both.
+    /// Exchanges a byte, or a storage key and its fetch bit, with the cell's value. Done again, it restores both.
     pub fn swap(&mut self, cell: &mut Cell)
         requires inside { IsStoragePlace self.old cell.old.place }
-        requires fits { Fits cell.old.place cell.old.value }
+        requires fits { Fits self.old.fetch_protection cell.old.place cell.old.value }
         ensures storage { self.new ≡ with_storage_value self.old cell.old.place cell.old.value }
         ensures cell { cell.new ≡ record { place = cell.old.place; value = storage_value self.old cell.old.place } }
-        ensures fits { Fits cell.new.place cell.new.value }
+        ensures fits { Fits self.old.fetch_protection cell.new.place cell.new.value }
+        ensures option { self.new.fetch_protection ≡ self.old.fetch_protection }
         ensures inside { IsStoragePlace self.new cell.new.place }
         ensures restores_storage { with_storage_value self.new cell.new.place cell.new.value ≡ self.old }
         ensures restores_cell { storage_value self.new cell.new.place ≡ cell.old.value }
@@ -192,7 +267,7 @@ impl Storage {
             Place::Key(block) => {
                 let key = &mut self.keys[block as usize];
                 let taken = u64::from(key.number());
-                *key = ProtectionKey::new(cell.value as u8);
+                *key = BlockKey::from_number(cell.value as u8);
                 cell.value = taken;
             }
             _ => unreachable!(),

@@ -1,17 +1,18 @@
-use Rattle.std.proofs.Common.{◌≡◌, ◌<◌, ◌≤◌, ◌+◌, ◌-◌, ◌∙◌, ap, sym, arith, get_or, length, refl, false}
+use Rattle.std.proofs.Common.{◌≡◌, ◌<◌, ◌≤◌, ◌+◌, ◌-◌, ◌∙◌, ap, sym, arith, get_or, length, refl}
 use Rattle.std.proofs.lemmas.List.{length-set}
 use Rattle.s360_model.specs.Storage.{Storage}
+use Rattle.s360_store.specs.declared.protection.Checked.TheVariants.{Clear}
 use Rattle.s360_logic.specs.Bytes.{byte_at}
-use Rattle.s360_logic.specs.LeftToRight.{function_address, selects_outside, translated_byte}
+use Rattle.s360_logic.specs.LeftToRight.{function_access, function_address, translated_byte}
 use Rattle.s360_logic.specs.Operands.{stored_in}
 use Rattle.s360_logic.proofs.FieldLemmas.{beside-at, function_address-low, left_to_right-set, not-at, operand_bytes-at, still-later, stored_in-other}
-use Rattle.s360_logic.proofs.StepLemmas.{length-stored_in, selects_outside-no, translates_outside-set}
+use Rattle.s360_logic.proofs.StepLemmas.{access-within, function_access-stored, met-more, translate_access-set}
 use Rattle.s360_logic.proofs.left_to_right.translate_apart.Goals as goal
 
 pub loop-i-init : goal.loop-i-init
 loop-i-init c = record {
   rest = (let all : length c.args.operand.now.bytes - 0 ≡ length c.args.operand.now.bytes = omega arith in rw all refl);
-  outside = (let all : length c.args.operand.now.bytes - 0 ≡ length c.args.operand.now.bytes = omega arith in rw all refl);
+  met = (let all : length c.args.operand.now.bytes - 0 ≡ length c.args.operand.now.bytes = omega arith in rw all refl);
   storage = refl;
   address = refl;
   count = refl;
@@ -36,14 +37,24 @@ loop-i-preserved c =
     = ap (λ xs. get_or xs c.own_byte.result 0) c.requires.functions ∙ operand_bytes-at old.storage table 256 c.own_byte.result small
     ∙ sym (v.later (table + c.own_byte.result) (beside-at old table i c.own_byte.result within small c.requires.beside))
     in let byte : get_or c.args.functions.now c.own_byte.result 0 ≡ translated_byte table old.address i (stored_in now) = there ∙ ap (byte_at (stored_in now)) (sym selected)
-    in let size : length (stored_in now).bytes ≡ length old.storage.bytes = length-stored_in now inside ∙ ap (λ (s : Storage). length s.bytes) v.storage
-    in let clear : selects_outside table (old.address + i) (stored_in now) ≡ false = selects_outside-no table (old.address + i) (stored_in now) (omega (arith, selected, size, small, c.requires.beside.0))
+    in let clear : Clear ≡ function_access table c.args.key (old.address + i) (stored_in now)
+    = function_access-stored table c.args.key (old.address + i) (table + c.own_byte.result) now old.storage Clear inside v.storage (sym selected) (sym (access-within old.storage table 256 c.own_byte.result c.args.key c.requires.clear small))
     in let whole : get_or c.args.functions.now c.from.result 0 ≡ translated_byte table old.address i (stored_in now) = ap (λ k. get_or c.args.functions.now k 0) c.from.ensures ∙ byte
     in rw c.set.ensures (record {
       rest = left_to_right-set (translated_byte table old.address) old.address i n _ now within v.count v.address (rw v.storage (omega (arith, c.len-i-end.ensures.inside, c.len-i-end.ensures.len))) whole ∙ v.rest;
-      outside = translates_outside-set table old.address i n _ now within v.count v.address inside whole clear ∙ v.outside;
+      met = met-more Clear Clear _ _ _ Clear refl clear (translate_access-set table c.args.key old.address i n _ now within v.count v.address inside whole) ∙ v.met;
       storage = v.storage;
       address = v.address;
       count = length-set now.bytes i _ ∙ v.count;
       later = λ x h. stored_in-other now i _ x (omega (arith, within, v.count)) inside (rw v.address (not-at old.address i x h)) ∙ v.later x (still-later old.address i x h);
     })
+
+pub returns-clause-met : goal.returns-clause-met
+returns-clause-met c =
+    let none : length c.args.operand.now.bytes - c.loop-i.i ≡ 0 = omega (arith, c.loop-i-test.false, c.len-i-end.ensures.len)
+    in sym (rw none at c.loop-i.invariant.met)
+
+pub returns-clause-stored : goal.returns-clause-stored
+returns-clause-stored c =
+    let none : length c.args.operand.now.bytes - c.loop-i.i ≡ 0 = omega (arith, c.loop-i-test.false, c.len-i-end.ensures.len)
+    in rw none at c.loop-i.invariant.rest

@@ -1,13 +1,13 @@
 use Rattle.std.proofs.Common.{◌≡◌, ◌<◌, ◌≤◌, ◌+◌, ◌-◌, ◌⊎◌, ℕ, length}
 use Rattle.s360_logic.specs.Bytes.{byte_at}
-use Rattle.s360_logic.specs.LeftToRight.{left_to_right, translated_byte, translates_outside}
+use Rattle.s360_logic.specs.LeftToRight.{left_to_right, translate_access, translated_byte}
 use Rattle.s360_logic.specs.Operands.{stored_in}
 use Rattle.s360_logic.proofs.left_to_right.translate_apart.Given as goal
 
 abbrev pub invariant-loop-i : goal.invariant-loop-i
 invariant-loop-i l = record {
   rest : left_to_right (translated_byte l.table l.fn.operand.address) l.fn.operand.address l.i (length l.fn.operand.bytes - l.i) (stored_in l.operand) ≡ left_to_right (translated_byte l.table l.fn.operand.address) l.fn.operand.address 0 (length l.fn.operand.bytes) (stored_in l.fn.operand);
-  outside : translates_outside l.table l.fn.operand.address l.i (length l.fn.operand.bytes - l.i) (stored_in l.operand) ≡ translates_outside l.table l.fn.operand.address 0 (length l.fn.operand.bytes) (stored_in l.fn.operand);
+  met : translate_access l.table l.fn.key l.fn.operand.address l.i (length l.fn.operand.bytes - l.i) (stored_in l.operand) ≡ translate_access l.table l.fn.key l.fn.operand.address 0 (length l.fn.operand.bytes) (stored_in l.fn.operand);
   storage : l.operand.storage ≡ l.fn.operand.storage;
   address : l.operand.address ≡ l.fn.operand.address;
   count : length l.operand.bytes ≡ length l.fn.operand.bytes;

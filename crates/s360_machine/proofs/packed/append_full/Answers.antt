@@ -1,4 +1,4 @@
-use Rattle.std.proofs.Common.{◌++◌, ◌∷◌, ◌∙◌, [], List, ap, length, arith}
+use Rattle.std.proofs.Common.{◌++◌, ◌∷◌, ◌∙◌, [], List, true, ap, length, arith}
 use Rattle.std.proofs.lemmas.List.{length-append}
 use Rattle.s360_store.specs.Cells.{AllFit}
 use Rattle.s360_machine.specs.declared.beside.Beside.{Beside}
@@ -18,7 +18,7 @@ overflow_cast-result-2 c =
 pub returns-clause-ok : goal.returns-clause-ok
 returns-clause-ok c =
     let x = c.into_inner-cells.result
-    in let fit : AllFit x.cells = rw c.into_inner-cells.ensures c.requires
+    in let fit : AllFit true x.cells = rw c.into_inner-cells.ensures c.requires
     in rw (← c.into_inner-cells.ensures) (appended-full c.args.items.now.items c.append_to.new.items.items c.args.bytes.now.items c.append_to.new.bytes.items c.args.list.now.items c.push_if_any-beside.new.list.items x.cells x.beside
     c.push_if_any-beside.result _ _ c.len.result c.in_ok-append_to.ensures.ok fit
     (λ e. c.push_if_any-beside.ensures.some e ∙ ap (λ (l : List Beside). l ++ x.beside ∷ []) c.in_ok-reserve.ensures.items)

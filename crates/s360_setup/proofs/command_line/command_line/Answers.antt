@@ -15,4 +15,5 @@ returns c =
     let tape1 = app_of-added _ _ _ _ _ tape0 c.option-4.ensures.row c.option-4.ensures.own c.in_ok-arg-4.ensures in
     let protect0 = app_of-added _ _ _ _ _ tape1 c.flag.ensures.row c.flag.ensures.own c.in_ok-arg-5.ensures in
     let protect1 = app_of-added _ _ _ _ _ protect0 c.flag-2.ensures.row c.flag-2.ensures.own c.in_ok-arg-6.ensures in
-    IfOk-weaker c.arg-7.result _ _ (λ command adds. app_of-added _ _ _ command _ protect1 c.operand.ensures.row c.operand.ensures.own adds) c.arg-7.ensures
+    let fetch = app_of-added _ _ _ _ _ protect1 c.flag-3.ensures.row c.flag-3.ensures.own c.in_ok-arg-7.ensures in
+    IfOk-weaker c.arg-8.result _ _ (λ command adds. app_of-added _ _ _ command _ fetch c.operand.ensures.row c.operand.ensures.own adds) c.arg-8.ensures

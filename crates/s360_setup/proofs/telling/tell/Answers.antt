@@ -1,5 +1,4 @@
-use Rattle.std.proofs.Common.{map, codes}
-use Rattle.std.specs.List.{concat}
+use Rattle.std.proofs.Common.{codes}
 use Rattle.s360_setup.proofs.Texts.{IsBegun-name, IsBegun-named, IsBegun-ended}
 use Rattle.s360_setup.proofs.telling.tell.Goals as goal
 

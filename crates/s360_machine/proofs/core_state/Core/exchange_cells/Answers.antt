@@ -1,7 +1,11 @@
 use Rattle.s360_model.specs.Core.{Core}
 use Rattle.s360_store.specs.Items.{core_of}
+use Rattle.s360_store.proofs.ExchangeLemmas.{AllFit-any}
 use Rattle.s360_machine.proofs.AlteredLemmas.{registers-after}
 use Rattle.s360_machine.proofs.core_state.Core.exchange_cells.Goals as goal
+
+pub returns-clause-values : goal.returns-clause-values
+returns-clause-values c = AllFit-any _ _ c.exchange.ensures.fit
 
 pub invariant_of-self : goal.invariant_of-self
 invariant_of-self c =

@@ -4,7 +4,7 @@ use Rattle.s360_store.specs.declared.items.Item.{Item}
 use Rattle.s360_store.specs.Cells.{byte_cells}
 use Rattle.s360_store.specs.Items.{cells_of_items, core_of}
 use Rattle.s360_store.specs.declared.place.Place.TheVariants.{Psw}
-use Rattle.s360_store.proofs.ExchangeLemmas.{AreCellsOf-kept}
+use Rattle.s360_store.proofs.ExchangeLemmas.{AllFit-any, AreCellsOf-kept}
 use Rattle.s360_store.proofs.ItemExchangeLemmas.{length-cells_after_exchange}
 use Rattle.s360_machine.proofs.AlteredLemmas.{registers-after}
 use Rattle.s360_machine.proofs.core_state.Core.exchange_row.Goals as goal
@@ -30,5 +30,5 @@ returns-in-More-clause-over c =
       omega (arith, c.exchange_items.auto.items, over.0),
       omega (arith, c.exchange_items.auto.bytes, over.1),
       omega (arith, many, over.2),
-      record { whole = c.exchange_items.ensures.items; all = c.exchange_items.ensures.all; fit = c.exchange_items.ensures.fit; few = omega (arith, many, over.3.few) },
+      record { whole = c.exchange_items.ensures.items; all = c.exchange_items.ensures.all; fit = AllFit-any _ _ c.exchange_items.ensures.fit; few = omega (arith, many, over.3.few) },
     )

@@ -36,4 +36,4 @@ returns-clause-count c =
     ap length (taken (goal.at.returns-clause-count c).After-swap_run) ∙ length-take-le (length c.args.bytes.now) (drop c.args.address c.args.self.now.storage.bytes) (omega (arith, inside (goal.at.returns-clause-count c).After-swap_run, length-drop c.args.address c.args.self.now.storage.bytes))
 
 pub returns-clause-fit : goal.returns-clause-fit
-returns-clause-fit c = AllFit-run c.args.address c.swap_run.new.bytes c.swap_run.ensures.fit
+returns-clause-fit c = AllFit-run _ c.args.address c.swap_run.new.bytes c.swap_run.ensures.fit

@@ -7,7 +7,7 @@ use Rattle.s360_store.proofs.plan.Plan.put_psw.Goals as goal
 pub returns-clause-ok : goal.returns-clause-ok
 returns-clause-ok c =
     rw (c.in_ok-put.ensures.ok, c.stored.ensures.value, stored_psw-zero)
-    (AddsToPlan-put c.args.self.now Psw c.args.psw c.stored.ensures.current)
+    (AddsToPlan-put c.args.self.now Psw c.args.psw (λ b. c.stored.ensures.current))
 
 pub returns-clause-cell : goal.returns-clause-cell
 returns-clause-cell c = rw (c.in_ok-put.ensures.ok, c.stored.ensures.value, stored_psw-zero) refl
