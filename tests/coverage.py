@@ -25,7 +25,7 @@ from typing import NamedTuple
 
 import packet_rows
 import rows
-from packet_fuzz import Connection, deck_of
+from packet_fuzz import FETCH, Connection, deck_of
 from second.channels import CONSOLE, PRINTER, PUNCH, READER, TAPES
 from second.core import SIZE
 from second.debugger import Debugger
@@ -123,8 +123,8 @@ class NotingMachine(Machine):
 class NotingTarget(Target):
     """A target that notes which requests were carried out."""
 
-    def __init__(self, deck):
-        super().__init__(deck)
+    def __init__(self, *media, **options):
+        super().__init__(*media, **options)
         self.carried_out = set()
 
     def answer(self, data):
@@ -166,7 +166,7 @@ class PacketRow(NamedTuple):
 
     def carried_out(self):
         row = packet_rows.row_of(self.file)
-        target = NotingTarget(deck_of(row.words))
+        target = NotingTarget(deck_of(row.words), protects_fetches=FETCH in row.words)
         connection = Connection(target)
         connection.take(row.sent)
         answered = packet_rows.items_of(connection.answered)

@@ -7,8 +7,9 @@ A session is two files of tests/gdb: NAME.gdb has gdb's commands, and NAME.trans
 terminal shows of them: each command behind gdb's prompt, and what gdb prints then. The first line
 of the commands is `# s360gdb WORD ..`: the words of the program's command line, with files named
 from the top. What comes before the first prompt is not compared. The screen of gdb in README.md has
-to be the transcript of `tour`. `--print` prints sessions and compares nothing. The status is 0 if
-each session prints what it has to.
+to be the transcript of `tour`, and those in docs/GDB.md parts of those of `guide` and `saved`. gdb
+is started in a folder of its own, where files can be saved. `--print` prints sessions and compares
+nothing. The status is 0 if each session prints what it has to.
 """
 import argparse
 import difflib
@@ -24,8 +25,19 @@ from concurrent.futures import ThreadPoolExecutor
 TOP = pathlib.Path(__file__).resolve().parent.parent
 SESSIONS = TOP / "tests/gdb"
 PROMPT = "(gdb) "
-# The line above the screen of README.md, which is the one that begins a session there.
-SCREEN = "    ./gdb --reader examples/cards.deck"
+# Of each screen of gdb its page, the line above it, and the session of which it is a part: from the
+# line that is its first to the one that is its last.
+SCREENS = [
+    ("README.md", "    ./gdb --reader examples/cards.deck", "tour"),
+    (
+        "docs/GDB.md",
+        "With the deck of `examples/cards.deck`, after `key eof`, `load 00C` and `continue`:",
+        "guide",
+    ),
+    ("docs/GDB.md", "With the deck of `examples/cards.deck`, once it has run:", "saved"),
+]
+# What a session finds in the folder in which gdb is started.
+FOLDERS = ["examples", "tests"]
 SECONDS = 120
 # Nothing is asked, no page is waited for, and no line is cut.
 QUIET = ["set confirm off", "set pagination off", "set width 0"]
@@ -47,9 +59,12 @@ def shown(session, program, elf):
     setup = [*QUIET, f"file {elf}", f"target remote | {target}"]
     gdb = ["gdb-multiarch", "-q", "-nx", "-x", TOP / "tools/gdb/s360.gdb"]
     gdb += [word for line in setup for word in ("-ex", line)]
-    how = {"stdout": subprocess.PIPE, "stderr": subprocess.STDOUT, "timeout": SECONDS, "cwd": TOP}
+    how = {"stdout": subprocess.PIPE, "stderr": subprocess.STDOUT, "timeout": SECONDS}
     how |= {"text": True, "errors": "replace", "env": {**os.environ, "TERM": "dumb"}}
-    printed = subprocess.run(gdb, input="\n".join([*commands, ""]), **how).stdout
+    with tempfile.TemporaryDirectory() as folder:
+        for name in FOLDERS:
+            pathlib.Path(folder, name).symlink_to(TOP / name)
+        printed = subprocess.run(gdb, input="\n".join([*commands, ""]), cwd=folder, **how).stdout
     said = printed.replace(f"{elf.parent}/", "").split(PROMPT)[1:]
     echoed = [f"{PROMPT}{command}\n{answer}" for command, answer in zip(commands, said)]
     return "".join(echoed + said[len(commands) :]).splitlines()
@@ -62,18 +77,27 @@ def differences(session, program, elf):
     return list(difflib.unified_diff(wanted, got, "wanted", "shown", lineterm=""))
 
 
-def screen():
-    """The screen of gdb in README.md: the lines below the one that starts it, up to a text."""
-    lines = (TOP / "README.md").read_text().splitlines()
-    below = lines[lines.index(SCREEN) + 1 :]
+def screen(page, above):
+    """The screen of gdb in a page: the indented lines below a line, up to a text."""
+    lines = (TOP / page).read_text().splitlines()
+    below = lines[lines.index(above) + 1 :]
     shown = list(itertools.takewhile(lambda line: line.startswith("    ") or not line, below))
     return "\n".join(line[4:] for line in shown).strip("\n").splitlines()
 
 
-def differences_of_screen():
-    """The lines in which the screen of README.md differs from the session that it shows."""
-    wanted = (SESSIONS / "tour.transcript").read_text().expandtabs().splitlines()
-    return list(difflib.unified_diff(wanted, screen(), "tour.transcript", "README.md", lineterm=""))
+def differences_of_screen(page, above, session):
+    """The lines in which a screen differs from what a session shows."""
+    shown = screen(page, above)
+    lines = (SESSIONS / f"{session}.transcript").read_text().expandtabs().splitlines()
+    wanted = part_between(lines, shown[0], shown[-1])
+    return list(difflib.unified_diff(wanted, shown, f"{session}.transcript", page, lineterm=""))
+
+
+def part_between(lines, first, last):
+    """The lines from the first that is one to the last that is another; all, if they lack one."""
+    if first not in lines or last not in lines:
+        return lines
+    return lines[lines.index(first) : len(lines) - lines[::-1].index(last)]
 
 
 def main():
@@ -95,7 +119,8 @@ def main():
         found = list(pool.map(lambda session: differences(session, program, elf), sessions))
     names = [session.stem for session in sessions]
     if not options.names:
-        names, found = [*names, "README.md"], [*found, differences_of_screen()]
+        names = [*names, *(page for page, *_ in SCREENS)]
+        found = [*found, *itertools.starmap(differences_of_screen, SCREENS)]
     for name, lines in zip(names, found):
         if lines:
             print("\n".join([f"{name}: gdb shows something else", *lines]))

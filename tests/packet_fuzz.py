@@ -5,10 +5,10 @@
 
 What is sent is read here by the gdb manual ("Remote Serial Protocol"), apart from the program, and
 answered by `second/remote.py` over the second machine. Each byte has to be the same: packets and
-their sums, what acknowledges them, and what is said on standard error. The program has to end with
-its input, or with the request that ends it, with status 0. Requests are sent in sessions of so
-many, each to a new machine. Half of these have a deck, with a program that it loads; some protect
-fetches.
+their sums, what acknowledges them, what is said on standard error, and the files that are saved.
+The program has to end with its input, or with the request that ends it, with status 0. Requests are
+sent in sessions of so many, each to a new machine. Half of these have a deck, with a program that
+it loads, and half protect fetches.
 """
 import argparse
 import copy
@@ -18,6 +18,7 @@ import pathlib
 import re
 import subprocess
 import sys
+import tempfile
 from concurrent.futures import ProcessPoolExecutor
 
 from fuzzer.packets import Requests
@@ -27,7 +28,7 @@ from second.remote import MALFORMED, OK, Endless, Target
 SECONDS = 120
 IN_A_SESSION = 200
 SIZE = 16384
-DECK = ["--reader", "examples/cards.deck"]
+DECK = ["--reader", str(TOP / "examples/cards.deck")]
 FETCH = "--fetch"
 CARD = 80
 DAMAGED = "damaged"
@@ -111,7 +112,7 @@ def session(seed, count):
     machine run on and on is not sent."""
     some = Requests(seed)
     deck = DECK if some.random() < 0.5 else []
-    words = [*deck, FETCH] if some.random() < 0.4 else deck
+    words = [*deck, FETCH] if some.random() < 0.5 else deck
     target = Target(deck_of(words), protects_fetches=FETCH in words)
     sent, connection = b"", Connection(target)
     for data in requests(some, count, bool(deck)):
@@ -130,15 +131,18 @@ def session(seed, count):
 def fault_of(seed, program):
     """What is wrong with what a session is answered, if anything is."""
     words, sent, connection = session(seed, IN_A_SESSION)
-    how = {"input": sent, "capture_output": True, "timeout": SECONDS, "cwd": TOP}
-    done = subprocess.run([program, *words], **how)
+    with tempfile.TemporaryDirectory() as folder:
+        how = {"input": sent, "capture_output": True, "timeout": SECONDS, "cwd": folder}
+        done = subprocess.run([program, *words], **how)
+        saved = {file.name.encode(): file.read_bytes() for file in pathlib.Path(folder).iterdir()}
     told = done.stderr.decode(errors="replace").splitlines()
     if done.returncode != 0:
         return f"status {done.returncode}: {told}"
     if told != connection.target.told:
         return f"it says {told}, and not {connection.target.told}"
     if done.stdout == connection.answered:
-        return None
+        files = connection.target.savings.files
+        return None if saved == files else f"it saves {saved}, and not {files}"
     same = len(os.path.commonprefix([done.stdout, connection.answered]))
     shown = [text[max(0, same - 80) : same + 80] for text in (connection.answered, done.stdout)]
     return f"at byte {same} it has to answer {shown[0]}, and answers {shown[1]}"

@@ -1,8 +1,9 @@
 """What s360gdb may answer to a row of packets if one growth of memory is refused.
 
 The request for which memory is wanting is answered `E0c`. Of what it asks nothing is done then, or
-some first events stand, or all is done and the answer alone is lost. All other answers are those of
-a target with these events: the second one (`second/remote.py`) tells them. If a growth is wanted
+some first events stand, or all is done and the answer alone is lost; an inquiry leaves the
+recording at some change. All other answers are those of a target that stands there: the second one
+(`second/remote.py`) tells them. If a growth is wanted
 where nothing can be answered, the program ends with status 1. What it has answered is then the
 beginning of the row's answers.
 
@@ -16,9 +17,10 @@ import os
 import re
 from typing import NamedTuple
 
-from packet_fuzz import Connection, deck_of
+from packet_fuzz import FETCH, Connection, deck_of
 from packet_rows import framed, row_of
 from second.core import SIZE as STORAGE
+from second.inquiries import FORMS as INQUIRIES
 from second.remote import MALFORMED, MEMORY, OK, Recording, Target
 
 OUT_OF_MEMORY = "s360gdb: memory: out of memory"
@@ -28,6 +30,7 @@ SET_POINT = re.compile(rb"\$Z([012],[0-9a-f]+,[0-9a-f]+)#")
 # Altered storage is asked for in whole blocks.
 BLOCK = 256
 NOT_AT_ALL = -1
+LINE = b"qRcmd,"
 # What is answered to no request, and what is not answered.
 NEED_NONE = ([], [b""], [MALFORMED])
 SHOWN = 300
@@ -40,8 +43,8 @@ class WantOfMemory(Exception):
 class LackingRecording(Recording):
     """A recording that can lack memory for events, and knows which bytes were altered."""
 
-    def __init__(self, deck):
-        super().__init__(deck)
+    def __init__(self, *media, **options):
+        super().__init__(*media, **options)
         self.events_left = None  # no bound
         self.altered = set()
 
@@ -56,12 +59,14 @@ class LackingRecording(Recording):
 
 
 class LackingTarget(Target):
-    """A target that lacks memory at one request, of which at most so many events stand then."""
+    """A target that lacks memory at one request, of which at most so many events stand then; or
+    which is an inquiry, and leaves the recording at the change of this number."""
 
-    def __init__(self, deck, request=None, events=0):
-        super().__init__(deck)
-        self.recording = LackingRecording(deck)
-        self.request, self.events = request, events
+    recording_type = LackingRecording
+
+    def __init__(self, row, request=None, events=0, number=None):
+        super().__init__(deck_of(row.words), protects_fetches=FETCH in row.words)
+        self.request, self.events, self.number = request, events, number
         self.answers = []  # to each request
         self.is_done = False  # the request, and its answer alone is lost
 
@@ -73,7 +78,9 @@ class LackingTarget(Target):
 
     def answer_lost(self, data):
         told = list(self.told)
-        if self.events != NOT_AT_ALL:
+        if self.number is not None:
+            self.stand_at_change(data)
+        elif self.events != NOT_AT_ALL:
             self.recording.events_left = self.events
             try:
                 super().answer(data)
@@ -83,6 +90,19 @@ class LackingTarget(Target):
             self.recording.events_left = None
         self.told, self.ended = told, False
         return [MEMORY]
+
+
+    def stand_at_change(self, data):
+        """What an inquiry has done by then; any other request has done nothing."""
+        recorded = self.inquiries.recorded
+        self.is_done = not is_inquiry(data) or self.number >= recorded
+        if is_inquiry(data):
+            self.inquiries.go_to(min(self.number, recorded))
+
+
+def is_inquiry(data):
+    words = bytes.fromhex(data[len(LINE) :].decode()).split() if data.startswith(LINE) else []
+    return bool(words) and words[0] in INQUIRIES
 
 
 class NotingConnection(Connection):
@@ -117,15 +137,14 @@ class Conversation:
 
     def __init__(self, file):
         row = row_of(file)
-        self.words = row.words
-        self.deck = deck_of(row.words)
+        self.row, self.words = row, row.words
         leave = LEAVE.search(row.sent)
         end = leave.start() if leave else len(row.sent)
         before, behind = row.sent[:end], row.sent[end:]
         target = self.connection(before).target
         points = dict.fromkeys(b"z" + point for point in SET_POINT.findall(before))
         asked = [b"g", *storage_requests(target.recording.altered)]
-        fresh = Target(self.deck)
+        fresh = Target(deck_of(row.words), protects_fetches=FETCH in row.words)
         self.first_back = len(target.answers)
         self.back = [[OK]] * len(points) + [[AT_THE_START], *map(fresh.answer, asked)]
         self.sent = before + b"".join(map(framed, [*points, b"bc", *asked])) + behind
@@ -135,9 +154,9 @@ class Conversation:
         self.lacked = set()  # the requests that were answered `E0c`
         self.reached = 0  # so many bytes were answered before the last one of them
 
-    def connection(self, sent, *lack):
+    def connection(self, sent, **lack):
         """The connection once this was sent to a target that lacks memory so."""
-        connection = NotingConnection(LackingTarget(self.deck, *lack))
+        connection = NotingConnection(LackingTarget(self.row, **lack))
         connection.take(sent)
         return connection
 
@@ -149,16 +168,17 @@ class Conversation:
         return Outcome(connection.answered, target.told, leads_back, target.is_done)
 
     @functools.cache
-    def outcome(self, request, events):
-        return self.outcome_of(self.connection(self.sent, request, events))
+    def outcome(self, request, **lack):
+        return self.outcome_of(self.connection(self.sent, request=request, **lack))
 
     def outcomes(self, request):
         """What may come of want of memory at a request."""
-        for events in itertools.count(NOT_AT_ALL):
-            outcome = self.outcome(request, events)
-            yield outcome
-            if outcome.is_done:
-                return
+        for kind, first in (("events", NOT_AT_ALL), ("number", 0)):
+            for count in itertools.count(first):
+                outcome = self.outcome(request, **{kind: count})
+                yield outcome
+                if outcome.is_done:
+                    break
 
     def fault_of(self, done):
         """What is wrong with a run in which a growth was refused, or none was."""

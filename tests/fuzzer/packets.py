@@ -20,8 +20,14 @@ LINES += [f"channel {unit}" for unit in ("00C", "00E", "01F", "999")]
 LINES += ["load 00C", "run 5", "enter", "enter AB", f"enter {'A' * 257}", "enter ~"]
 LINES += ["last p", "last u 00C", "show psw", "show regs", "show u 00C", "show d 00C"]
 LINES += ["show m 00E 1", "show ext", "show k 200", "show image 180"]
+LINES += ["goto start", "goto end", "goto end", "goto last", "goto last", "units", "where", "where"]
+LINES += ["history", "who", "goto", "dump 0", "where x", "changes x"]
 LINES += ["patch k 200 3", "patch f 200 1", "patch f 1000 1"]
 LINES = [line.encode() for line in LINES]
+SAVED = [b"printer", b"printer", b"printer", b"console", b"console", b"punch", b"P1", b"P2", b"RP3"]
+SAVED += [b"tape0", b"tape1", b"x", b""]
+FILES = [b"a", b"a", b"b c", b" b  c", b"no/a", b"..", b"/dev/null", b"/dev/full", b""]
+PLACES = ["p", "run", "ext", "u 00C", "u 00E", "d 00C", "d 01F", "k 200", "u 999"]
 # How often a kind of request is made.
 KINDS = {"forward": 20, "backward": 12, "write": 8, "loop": 2, "point": 8, "register": 10}
 KINDS |= {"all_registers": 2, "line": 12, "storage": 8, "read_register": 4, "description": 2}
@@ -110,10 +116,23 @@ class Requests(random.Random):
         others = [
             *[b"run %d" % number, b"withdraw %d" % number, b"break %X" % at, b"clear %X" % at],
             *[b"patch s %X %s" % (at, self.randbytes(number).hex().encode()), b"patch k %X 5" % at],
+            *[b"patch f %X %d" % (at, number % 2), b"show k %X" % at],
             *[b"patch r 1 %X" % number, b"patch p 00%d2000000000%06X" % (number % 2, CODE)],
             *[b"last s %X" % at, b"last r %d" % (number % 4), b"show s %X 20" % at],
         ]
-        return b"qRcmd," + self.choice([*LINES, *others]).hex().encode()
+        lines = [*LINES, *others, *self.inquiries(), *self.savings()]
+        return b"qRcmd," + self.choice(lines).hex().encode()
+
+    def savings(self):
+        words = [[b"save", b"save!"], SAVED, FILES]
+        return [b" ".join(map(self.choice, words)) for _ in range(24)]
+
+    def inquiries(self):
+        at, number = self.address() % (1 << 24), self.randrange(1, 30)
+        place = self.choice([*PLACES, f"s {at:X}", f"k {at:X}", f"r {number % 4}"]).encode()
+        places = [b"who %s" % place, b"changes %s" % place, b"changes %s %d" % (place, number)]
+        numbers = [b"goto %d" % number, b"history %d" % number, b"dump %X %d" % (at, number)]
+        return places * 3 + numbers * 2
 
     def storage(self):
         return b"m%x,%x" % (self.address(), self.count())
@@ -130,10 +149,12 @@ class Requests(random.Random):
         return self.choice([*KNOWN, *WRONG, self.randbytes(5)])
 
     def request(self):
-        """A request that is right, or nearly so."""
+        """A request that is right, or nearly so. No name of a file is spoilt, since it could be
+        that of any file then."""
         kind = self.choices(list(KINDS), KINDS.values())[0]
         data = getattr(self, kind)()
-        return self.spoilt(data) if self.random() < 0.08 else data
+        names_file = b"save".hex().encode() in data
+        return self.spoilt(data) if self.random() < 0.08 and not names_file else data
 
     def spoilt(self, data):
         spoilt = bytearray(data)

@@ -250,9 +250,11 @@ class Debugger:
         at = int(address, 16)
         if at >= self.machine.size:
             return ["refused 2 outside storage"]
-        block = at // BLOCK
+        return [f"key {self.key_words(at // BLOCK)}"]
+
+    def key_words(self, block):
         bit = f" fetch {self.machine.fetch_bit(block)}" if self.machine.protects_fetches else ""
-        return [f"key {self.machine.storage_key(block):X}{bit}"]
+        return f"{self.machine.storage_key(block):X}{bit}"
 
     def show_ext(self):
         return [f"ext {CONDITIONS[self.machine.value('ext')]}"]

@@ -51,15 +51,15 @@ def lines_of(script):
     return [line for line in (*lines, last) if line.strip(b" ") and not line.startswith(b"*")]
 
 
-def fault_of(line):
-    """What is said of a line that is wrong."""
+def fault_of(line, forms=FORMS):
+    """What is said of a line that is wrong, or begins with none of the words that have these forms."""
     if len(line) > LONGEST_LINE:
         return TOO_LONG
     first, *words = filter(None, line.split(b" "))
-    if first == ENTER:
+    if first == ENTER and forms is FORMS:
         text = line.lstrip(b" ").removeprefix(ENTER)
         return None if text.strip(SIGNED) == b"" else argument(1)
-    form, number = FORMS.get(first), 1
+    form, number = forms.get(first), 1
     if form is None:
         return UNKNOWN
     if isinstance(form, dict):

@@ -7,8 +7,10 @@ import re
 from .channels import UNITS, Program
 from .core import WORD
 from .debugger import MOST_PATCHED, Debugger
+from .inquiries import Inquiries
 from .lines import fault_of
 from .machine import OPERATING
+from .savings import Savings
 
 MEMORY, ADDRESS, MALFORMED, FULL = b"E0c", b"E0e", b"E16", b"E1c"
 OK, TRAP = b"OK", b"T05"
@@ -30,7 +32,9 @@ HELP = [
     "patch s A BYTES: puts bytes into storage",
     "patch r R W: puts a word into a register",
     "patch k A K: gives the block of A a storage key",
+    "patch f A D: gives the block of A a fetch bit, 0 or 1",
     "patch p Q: puts a doubleword into the PSW",
+    "patch f A D: gives the block of A a fetch bit, if fetches are protected",
     "run N: runs at most N events",
     "back: takes back the last change",
     "until: takes changes back to a breakpoint of `break`",
@@ -49,6 +53,20 @@ HELP = [
     "show d U: the sense bytes and the media of a unit",
     "show m U N: an item of a unit's media",
     "show image U: the file of a tape",
+    "who P: goes to just before the last change of a place, as `last` names places, and tells it",
+    "goto N, goto start, goto end, goto last: goes to just after change N, to either end, to where"
+    " one stood before",
+    "changes P, changes P N: the last 10 or N changes of a place",
+    "history, history N: the last 10 or N changes",
+    "dump A N: bytes of storage with their signs",
+    "units: all units with their media",
+    "where: how far the recording stands, and what the CPU does next",
+    "save printer FILE: saves the pages that were printed in a file that is not there yet",
+    "save punch FILE, save P1 FILE, save P2 FILE, save RP3 FILE: saves the cards that were punched,"
+    " all or those of a stacker",
+    "save console FILE: saves what the console typed, and the lines that were entered",
+    "save tape0 FILE, save tape1 FILE: saves the file of a tape",
+    "save! WHAT FILE: writes over a file that is there",
 ]
 
 
@@ -133,8 +151,12 @@ class Recording(Debugger):
 class Target:
     """Answers the data of packets, each by those of some packets; `ended` once gdb has left."""
 
+    recording_type = Recording
+
     def __init__(self, *media, **options):
-        self.recording = Recording(*media, **options)
+        self.recording = self.recording_type(*media, **options)
+        self.inquiries = Inquiries(self.recording)
+        self.savings = Savings()
         self.breaks, self.watches = set(), []
         self.ended = False
         self.told = []  # what is said on standard error
@@ -351,10 +373,11 @@ class Target:
         return [b"l" + rest if len(rest) <= count else b"m" + rest[:count]]
 
     def line(self, digits):
-        """A line of the script language."""
+        """A line that saves, an inquiry, or a line of the script language."""
         line = bytes.fromhex(digits.decode())
         self.recording.dropped = 0
-        answers = HELP if line == b"help" else self.answers_to(line)
+        asked = self.savings.answers(line, self.machine) or self.inquiries.answers(line)
+        answers = HELP if line == b"help" else asked or self.answers_to(line)
         if self.recording.dropped:
             answers = [*answers, f"dropped {self.recording.dropped} recorded changes"]
         if not answers:

@@ -47,13 +47,18 @@ bytes_text bytes at count = flat_map (numbered_line bytes at (at + count)) (rang
 abbrev pub storage_text : Contents → ℕ → ℕ → List ℕ
 storage_text s at count = if is_inside s at count then bytes_text s.bytes at count else refused_text OutsideStorage
 
--- the storage key of the block that an address lies in, and its fetch bit where fetches are protected
+-- the fetch bit of a block, where fetches are protected
 abbrev pub fetch_words : Bool → ℕ → List ℕ
 fetch_words fetch_protection k = if fetch_protection then (if fetch_bit_of_block k then codes " fetch 1" else codes " fetch 0") else []
 
-abbrev pub key_line : Bool → ℕ → List ℕ
-key_line fetch_protection k = codes "key " ++ hex_text 1 (key_of_block k) ++ fetch_words fetch_protection k ++ codes "\n"
+-- its storage key, and the fetch bit
+abbrev pub block_key_words : Bool → ℕ → List ℕ
+block_key_words fetch_protection k = hex_text 1 (key_of_block k) ++ fetch_words fetch_protection k
 
+abbrev pub key_line : Bool → ℕ → List ℕ
+key_line fetch_protection k = codes "key " ++ block_key_words fetch_protection k ++ codes "\n"
+
+-- of the block that an address lies in
 abbrev pub key_text : Contents → ℕ → List ℕ
 key_text s at = if nat_lt at (length s.bytes) then key_line s.fetch_protection (slice_index s.keys (at / block_size)) else refused_text OutsideStorage
 

@@ -86,6 +86,8 @@ pub fn next_count_or(
 pub fn next_place(words: &mut Words<'_>) -> Result<(Place, u8), LineFault>
     ensures place { result ≡ place_argument words.old }
     ensures rest { IfOk result (λ named. words.new ≡ drop (named.1 - 1) words.old) }
+    ensures least { IfOk result (λ named. 2 ≤ named.1) }
+    ensures most { IfOk result (λ named. named.1 ≤ 3) }
 {
     let kind = words.next_word().ok_or(LineFault::Argument(1))?;
     if is_word(kind, "s") {

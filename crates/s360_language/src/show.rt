@@ -3,7 +3,7 @@ ghost use Rattle.std.specs.Prelude.{◌≡◌, ◌++◌, ◌≤◌, ◌<◌, len
 ghost use Rattle.s360_machine.specs.Machine.{seen};
 ghost use Rattle.s360_language.specs.Shown.{shown_text, registers_text, after_registers, register_word};
 ghost use Rattle.s360_language.specs.Shown.{psw_text, storage_text, bytes_line};
-ghost use Rattle.s360_language.specs.Shown.{external_text, fetch_words, key_line, key_text};
+ghost use Rattle.s360_language.specs.Shown.{block_key_words, external_text, fetch_words, key_line, key_text};
 
 use crate::command::Shown;
 use crate::names::{name_of_external, push_run_state, refusal_text};
@@ -148,10 +148,21 @@ fn line_of_key(alloc: Global, fetch_protection: bool, key: BlockKey) -> Result<T
 {
     let mut text = Text::new(alloc);
     text.push_text("key ")?;
-    text.push_hex(u64::from(key.key().number()), 1)?;
-    text.push_text(fetch_words(fetch_protection, key))?;
+    push_block_key(&mut text, fetch_protection, key)?;
     text.push_text("\n")?;
     Ok(text)
+}
+
+/// Adds a storage key, and behind it the fetch bit if fetches are protected.
+pub fn push_block_key(
+    text: &mut Text,
+    fetch_protection: bool,
+    key: BlockKey,
+) -> Result<(), AllocError>
+    ensures { OnOk result (text.new ≡ text.old ++ block_key_words fetch_protection key) }
+{
+    text.push_hex(u64::from(key.key().number()), 1)?;
+    text.push_text(fetch_words(fetch_protection, key))
 }
 
 /// The external conditions that are pending.

@@ -12,6 +12,7 @@ use Rattle.s360_machine.specs.declared.event_kind.EventKind.TheVariants.{Cpu as 
 use Rattle.s360_machine.specs.declared.refusal.Refusal.{Refusal}
 use Rattle.s360_journal.specs.Standing.{IsAfter, Standing, alteration, refusal_in}
 use Rattle.s360_journal.proofs.SessionLemmas.{last-there}
+use Rattle.s360_inquiry.proofs.InquiryLemmas.{take-next}
 use Rattle.s360_record.specs.Forwarding.{IsMet, state_after}
 use Rattle.s360_record.specs.Recorded.{Recorded, next_recorded, rest_of, session_of, standing_events, with_event}
 use Rattle.s360_record.specs.declared.forwarding.Forwarded.{Forwarded}
@@ -24,17 +25,6 @@ use Rattle.s360_remote.specs.declared.pause.Pause.TheVariants.{Refused, Watch, I
 use Rattle.s360_remote.specs.declared.pause.Reach.{Reach}
 
 -- ---- the event whose turn it is stands
-
-take-next : (n m : ℕ) (es : List Event) (e : Event) → m ≡ n + 1 → slice_get (drop n es) 0 ≡ Some e → take m es ≡ take n es ++ e ∷ []
-take-next zero m [] e is h = absurd (cc)
-take-next zero m (x ∷ es) e is h =
-    let one : m ≡ 1 = omega (arith, is)
-    in let same : x ≡ e = cc
-    in rw one (ap (λ y. y ∷ []) same)
-take-next (suc n) m [] e is h = absurd (cc)
-take-next (suc n) m (x ∷ es) e is h =
-    let more : m ≡ suc (n + 1) = omega (arith, is)
-    in rw more (ap (λ l. x ∷ l) (take-next n (n + 1) es e refl h))
 
 standing-event : (r : Recorded) (e : Event) → standing_events (with_event r e) ≡ standing_events r ++ e ∷ []
 standing-event r e = take_all (r.standing + 1) (standing_events r ++ e ∷ []) (omega (arith, length-append (standing_events r) (e ∷ []), length-take r.standing r.events))

@@ -7,3 +7,4 @@ pub mod WritingLemmas
 pub mod AgainLemmas
 pub mod MonitorLemmas
 pub mod ServingLemmas
+pub mod CommandLemmas

@@ -1,5 +1,5 @@
 -- Lines alter no limit.
-use Rattle.std.proofs.Common.{◌≡◌, ◌≢◌, ◌++◌, inr, ℕ, true, false, List, [], codes, Ok, Err, refl, ap, sym, ◌∙◌}
+use Rattle.std.proofs.Common.{◌≡◌, ◌≢◌, ◌++◌, inr, ℕ, true, false, List, [], codes, Ok, Err, Option, Some, None, refl, ap, sym, ◌∙◌}
 use Rattle.s360_journal.specs.Standing.{Standing}
 use Rattle.s360_language.specs.Reading.{Reading}
 use Rattle.s360_language.specs.declared.command.Command.{Command}
@@ -10,7 +10,8 @@ use Rattle.s360_language.specs.Reading.{reading_of}
 use Rattle.s360_debug.specs.Lines.{is_skipped}
 use Rattle.s360_debug.specs.Script.{StandsAfterReading, answer_to_line, answer_to_reading, state_after_line, state_after_reading}
 use Rattle.s360_remote.specs.Driven.{Driven}
-use Rattle.s360_remote.specs.Monitor.{IsCarriedOut, IsLineBegun, debugger_of, dropped_text}
+use Rattle.s360_inquiry.specs.Reading.{Asked}
+use Rattle.s360_remote.specs.Monitor.{IsAnswered, IsBegun, IsCarriedOut, IsLineBegun, debugger_of, dropped_text}
 
 limit-command : (d : Debugger) (c : Command) → (state_after d c).session.limit ≡ d.session.limit
 unfolding state_after
@@ -60,9 +61,15 @@ carried-skipped line d t h other is = record {
   text = λ _. ap (λ n. dropped_text n) (sym (ap (λ (x : Driven). x.dropped) is)) ∙ ap (λ l. l ++ dropped_text t.dropped) (sym (answer-skipped (debugger_of d) line h));
   state = λ _. ap (λ x. debugger_of x) is ∙ sym (state-skipped (debugger_of d) line h);
   points = ap (λ (x : Driven). x.points) is;
+  stood = ap (λ (x : Driven). x.stood) is;
   help = λ same. absurd (other same);
 }
 
 -- a line that was carried out, whose text is lost
 pub begun-carried : (line said : List ℕ) (d t : Driven) → IsCarriedOut line d t said → IsLineBegun line d t
-begun-carried line said d t h = record { stands = λ other. inr (h.state other); points = h.points; help = h.help }
+begun-carried line said d t h = record { stands = λ other. inr (h.state other); points = h.points; stood = h.stood; help = h.help }
+
+-- and so of an inquiry
+pub begun-answered : (asked : Option Asked) (line said : List ℕ) (d t : Driven) → IsAnswered asked line d t said → IsBegun asked line d t
+begun-answered None line said d t h = begun-carried line said d t h
+begun-answered (Some asked) line said d t h = inr h.1

@@ -12,10 +12,13 @@ use Rattle.s360_packet.specs.declared.request.Request.{Request}
 use Rattle.s360_packet.specs.declared.request.Request.TheVariants.{Stopped, Registers, WriteRegisters, Register, WriteRegister, Storage, WriteStorage, Step, Continue, StepBack, ContinueBack, Insert, Remove, Supported, Description, Select, IsAlive, CurrentThread, Attached, FirstThreads, NextThreads, StopAcknowledging, Command, Detach, Kill, KillProcess}
 use Rattle.s360_packet.specs.declared.request.RequestFault.{RequestFault}
 use Rattle.s360_packet.specs.declared.request.RequestFault.TheVariants as fault
-use Rattle.s360_remote.specs.Connecting.{Connected, IsAnswered, IsCompleted, IsReceived, IsTaken, answer_to_fault, dropped_by, going}
+use Rattle.s360_remote.specs.Connecting.{Connected, IsAnswered, IsCompleted, IsReceived, IsTaken, answer_to_fault, errand_of, going}
 use Rattle.s360_remote.specs.Driven.{Driven}
 use Rattle.s360_remote.specs.ErrorNumbers.{error_of}
-use Rattle.s360_remote.specs.Serving.{IsBegun, IsServed, machine_now, packet_of, then_after, told}
+use Rattle.s360_remote.specs.Replies.{packet_of}
+use Rattle.s360_remote.specs.Serving.{IsBegun, IsServed, machine_now, then_after, told}
+use Rattle.s360_remote.specs.declared.errand.Errand.{Errand}
+use Rattle.s360_remote.specs.declared.errand.Errand.TheVariants.{Nothing}
 use Rattle.s360_remote.specs.declared.error_number.ErrorNumber.TheVariants.{Memory}
 use Rattle.s360_remote.specs.declared.serving.Then.{Then}
 
@@ -78,7 +81,7 @@ told-served request d next old new h is =
 -- ---- a packet's data
 
 pub answered-fault : (reading : Reading) (c : Connected) (d : Driven) (f : RequestFault) (old new : List ℕ) → Reads reading (Err f) → new ≡ old ++ packet_of (answer_to_fault f)
-    → (packets : List ℕ) × IsAnswered reading c d c d 0 packets × (new ≡ old ++ packets)
+    → (packets : List ℕ) × IsAnswered reading c d c d Nothing packets × (new ≡ old ++ packets)
 answered-fault (Err g) c d f old new h is =
     let same : f ≡ g = cc
     in (packet_of (answer_to_fault g), ((refl, refl, refl), refl), is ∙ ap (λ x. old ++ packet_of (answer_to_fault x)) same)
@@ -88,16 +91,16 @@ answered-fault (Ok r) c d f old new (inr h) is =
     in let same : f ≡ fault.Memory = cc
     in (packet_of (error_of Memory), inr (inl refl, refl, refl, refl), is ∙ ap (λ x. old ++ packet_of (answer_to_fault x)) same)
 
-pub answered-request : (reading : Reading) (c e : Connected) (d t : Driven) (request : Request) (next : Then) (dropped : ℕ) (packets : List ℕ) → Reads reading (Ok request)
-    → IsServed request d t next packets → e ≡ going c next → dropped ≡ dropped_by next → IsAnswered reading c d e t dropped packets
-answered-request (Err g) c e d t request next dropped packets h served is count = absurd (cc)
-answered-request (Ok r) c e d t request next dropped packets (inl h) served is count =
+pub answered-request : (reading : Reading) (c e : Connected) (d t : Driven) (request : Request) (next : Then) (errand : Errand) (packets : List ℕ) → Reads reading (Ok request)
+    → IsServed request d t next packets → e ≡ going c next → errand ≡ errand_of next → IsAnswered reading c d e t errand packets
+answered-request (Err g) c e d t request next errand packets h served is count = absurd (cc)
+answered-request (Ok r) c e d t request next errand packets (inl h) served is count =
     let same : request ≡ r = cc
     in inl (next, subst (λ x. IsServed x d t next packets) same served, is, count)
-answered-request (Ok r) c e d t request next dropped packets (inr h) served is count = let wrong = h.1 in absurd (cc)
+answered-request (Ok r) c e d t request next errand packets (inr h) served is count = let wrong = h.1 in absurd (cc)
 
 pub answered-memory : (reading : Reading) (c : Connected) (d t : Driven) (request : Request) → Reads reading (Ok request) → IsBegun request d t
-    → IsAnswered reading c d c t 0 (packet_of (error_of Memory))
+    → IsAnswered reading c d c t Nothing (packet_of (error_of Memory))
 answered-memory (Err g) c d t request h begun = absurd (cc)
 answered-memory (Ok r) c d t request (inl h) begun =
     let same : request ≡ r = cc
@@ -106,16 +109,16 @@ answered-memory (Ok r) c d t request (inr h) begun = let wrong = h.1 in absurd (
 
 -- ---- a byte
 
-pub taken-from : (byte : ℕ) (c e : Connected) (d t : Driven) (dropped : ℕ) (came : Received) (old said new : List ℕ) → c.ended ≡ false → received_at c.receiving byte ≡ Some came
+pub taken-from : (byte : ℕ) (c e : Connected) (d t : Driven) (errand : Errand) (came : Received) (old said new : List ℕ) → c.ended ≡ false → received_at c.receiving byte ≡ Some came
     → said ≡ old ++ option_to_list (acknowledgement_of c.acknowledging came)
-    → (packets : List ℕ) × IsReceived came (record c { receiving = after_byte c.receiving byte }) d e t dropped packets × (new ≡ said ++ packets)
-    → (bytes : List ℕ) × IsTaken c.ended byte c d e t dropped bytes × (new ≡ old ++ bytes)
-taken-from byte c e d t dropped came old said new here at acknowledged h =
+    → (packets : List ℕ) × IsReceived came (record c { receiving = after_byte c.receiving byte }) d e t errand packets × (new ≡ said ++ packets)
+    → (bytes : List ℕ) × IsTaken c.ended byte c d e t errand bytes × (new ≡ old ++ bytes)
+taken-from byte c e d t errand came old said new here at acknowledged h =
     let acknowledgement : List ℕ = option_to_list (acknowledgement_of c.acknowledging came)
-    in let completed : IsCompleted (received_at c.receiving byte) (record c { receiving = after_byte c.receiving byte }) d e t dropped (acknowledgement ++ h.0)
-    = subst (λ o. IsCompleted o (record c { receiving = after_byte c.receiving byte }) d e t dropped (acknowledgement ++ h.0)) (sym at) (h.0, h.1, refl)
+    in let completed : IsCompleted (received_at c.receiving byte) (record c { receiving = after_byte c.receiving byte }) d e t errand (acknowledgement ++ h.0)
+    = subst (λ o. IsCompleted o (record c { receiving = after_byte c.receiving byte }) d e t errand (acknowledgement ++ h.0)) (sym at) (h.0, h.1, refl)
     in (
       acknowledgement ++ h.0,
-      subst (λ b. IsTaken b byte c d e t dropped (acknowledgement ++ h.0)) (sym here) completed,
+      subst (λ b. IsTaken b byte c d e t errand (acknowledgement ++ h.0)) (sym here) completed,
       h.2 ∙ ap (λ l. l ++ h.0) acknowledged ∙ append_assoc old acknowledgement h.0,
     )

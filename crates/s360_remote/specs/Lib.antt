@@ -7,5 +7,6 @@ pub mod Replies
 pub mod ErrorNumbers
 pub mod Writing
 pub mod Monitor
+pub mod Saving
 pub mod Serving
 pub mod Connecting

@@ -1,11 +1,14 @@
--- What gdb's user is answered to a line: the answer of the script language, and how many recorded changes were dropped
--- (own profile).
-use Rattle.std.specs.Prelude.{◌≡◌, ◌≢◌, ◌⊎◌, ℕ, zero, suc, List, [], ◌++◌, codes}
+-- What gdb's user is answered to a line: that of an inquiry, or the answer of the script language, and how many recorded
+-- changes were dropped (own profile).
+use Rattle.std.specs.Prelude.{◌≡◌, ◌≢◌, ◌⊎◌, ℕ, zero, suc, Option, Some, None, Ok, Err, List, [], ◌++◌, codes}
 use Rattle.s360_model.specs.Text.{decimal}
 use Rattle.s360_debug.specs.Debugger.{Debugger}
 use Rattle.s360_debug.specs.Script.{StandsAfterReading, answer_to_line, state_after_line}
 use Rattle.s360_language.specs.Reading.{reading_of}
-use Rattle.s360_record.specs.Recorded.{session_of}
+use Rattle.s360_debug.specs.Answers.{fault_text}
+use Rattle.s360_inquiry.specs.Answers.{Inquired, answer_to, state_after}
+use Rattle.s360_inquiry.specs.Reading.{Asked}
+use Rattle.s360_record.specs.Recorded.{session_of, with_standing}
 use Rattle.s360_remote.specs.Driven.{Driven}
 
 -- what a line meets: the session that stands, and the breakpoints that lines set
@@ -25,6 +28,7 @@ pub record IsCarriedOut (line : List ℕ) (d t : Driven) (said : List ℕ) : Typ
   pub text : line ≢ codes "help" → said ≡ monitor_text (debugger_of d) line t.dropped
   pub state : line ≢ codes "help" → debugger_of t ≡ state_after_line (debugger_of d) line
   pub points : t.points ≡ d.points
+  pub stood : t.stood ≡ d.stood
   pub help : line ≡ codes "help" → t ≡ d
 
 -- after want of memory: some first ones of the events stand that it would have run, or it was carried out and its text is lost
@@ -32,4 +36,35 @@ pub record IsLineBegun (line : List ℕ) (d t : Driven) : Type 0 where
   pub stands : line ≢ codes "help" → StandsAfterReading (reading_of line) (debugger_of d) (debugger_of t).session
       ⊎ (debugger_of t ≡ state_after_line (debugger_of d) line)
   pub points : t.points ≡ d.points
+  pub stood : t.stood ≡ d.stood
   pub help : line ≡ codes "help" → t ≡ d
+
+-- what a line asks of: the recording, and where it stood before
+abbrev pub inquired_of : Driven → Inquired
+inquired_of d = record { recorded = d.recorded; stood = d.stood }
+
+-- an inquiry's answer, or what is wrong with the line
+abbrev pub answer_to_asked : Inquired → Asked → List ℕ
+answer_to_asked i (Ok inquiry) = answer_to i inquiry
+answer_to_asked i (Err fault) = fault_text fault
+
+-- where the recording stands then; none of the record is dropped
+abbrev pub with_inquired : Driven → Inquired → Driven
+with_inquired d i = record d { recorded = i.recorded; stood = i.stood; dropped = 0 }
+
+abbrev pub after_asked : Driven → Asked → Driven
+after_asked d (Ok inquiry) = with_inquired d (state_after (inquired_of d) inquiry)
+after_asked d (Err fault) = record d { dropped = 0 }
+
+-- after want of memory the recording stands at some change, and all else is as it was
+abbrev pub IsAskedBegun : Driven → Driven → Type 0
+IsAskedBegun d t = t ≡ record d { recorded = with_standing d.recorded t.recorded.standing; dropped = 0 }
+
+-- how a line is answered that reads so as an inquiry, or that is none
+abbrev pub IsAnswered : Option Asked → List ℕ → Driven → Driven → List ℕ → Type 0
+IsAnswered None line d t said = IsCarriedOut line d t said
+IsAnswered (Some asked) line d t said = (said ≡ answer_to_asked (inquired_of d) asked) × (t ≡ after_asked d asked)
+
+abbrev pub IsBegun : Option Asked → List ℕ → Driven → Driven → Type 0
+IsBegun None line d t = IsLineBegun line d t
+IsBegun (Some asked) line d t = IsAskedBegun d t ⊎ (t ≡ after_asked d asked)

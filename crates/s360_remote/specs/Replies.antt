@@ -1,5 +1,5 @@
 -- The packets that are sent to gdb (gdb manual, "Packets", "Stop Reply Packets").
-use Rattle.std.specs.Prelude.{ℕ, ◌+◌, Bool, true, false, nat_eq, nat_lt, if◌then◌else◌, List, ◌++◌, codes, length, slice_range, Option, Some, None}
+use Rattle.std.specs.Prelude.{ℕ, ◌+◌, Bool, true, false, nat_eq, nat_lt, if◌then◌else◌, List, [], ◌∷◌, ◌++◌, codes, length, slice_range, Option, Some, None}
 use Rattle.s360_machine.specs.declared.event_kind.EventKind.{EventKind}
 use Rattle.s360_machine.specs.declared.event_kind.EventKind.TheVariants.{Cpu, Channel}
 use Rattle.s360_machine.specs.Machine.{Machine}
@@ -10,6 +10,8 @@ use Rattle.s360_packet.specs.Answers.{answer_text, stop_text}
 use Rattle.s360_packet.specs.Framing.{framed}
 use Rattle.s360_packet.specs.Hexadecimal.{bytes_text}
 use Rattle.s360_packet.specs.Target.{register_text, register_value}
+use Rattle.s360_packet.specs.declared.answer.Answer.{Answer}
+use Rattle.s360_packet.specs.declared.answer.Answer.TheVariants.{Done}
 use Rattle.s360_packet.specs.declared.answer.Stop.{Stop}
 use Rattle.s360_packet.specs.declared.answer.Stop.TheVariants.{Trap, Watch as watch, Breakpoint, HistoryBegin, HistoryEnd}
 use Rattle.s360_packet.specs.declared.target.RegisterValue.{RegisterValue}
@@ -18,6 +20,14 @@ use Rattle.s360_remote.specs.Registers.{words_of}
 use Rattle.s360_remote.specs.declared.error_number.ErrorNumber.TheVariants.{Address, Malformed}
 use Rattle.s360_remote.specs.declared.pause.Pause.{Pause}
 use Rattle.s360_remote.specs.declared.pause.Pause.TheVariants.{Refused, Watch, Idle, Break, Stepped, RecordEnd, RecordStart}
+
+abbrev pub packet_of : Answer → List ℕ
+packet_of a = framed (answer_text a)
+
+-- what answers a line: its text, or that it is done if it has none
+abbrev pub line_text : List ℕ → List ℕ
+line_text [] = answer_text Done
+line_text (b ∷ bs) = bytes_text (b ∷ bs)
 
 -- bytes of storage: an error where there are none, or one is outside
 abbrev pub storage_text : Machine → ℕ → ℕ → List ℕ

@@ -1,13 +1,13 @@
 -- What a request makes of the target, and what it is answered (gdb manual, "Packets", "Stop Reply Packets", "General Query
 -- Packets").
-use Rattle.std.specs.Prelude.{◌≡◌, ◌≢◌, ◌⊎◌, ⊤, ℕ, zero, suc, ◌+◌, ◌^◌, Bool, true, false, nat_eq, nat_lt, if◌then◌else◌, List, [], ◌∷◌, length, take, Result, Ok, Err}
+use Rattle.std.specs.Prelude.{◌≡◌, ◌≢◌, ◌⊎◌, ⊤, ℕ, zero, suc, ◌+◌, ◌^◌, Bool, true, false, nat_eq, nat_lt, if◌then◌else◌, Option, Some, None, List, [], length, take, Result, Ok, Err}
 use Rattle.byteorder.specs.Endian.{IsRead, big_number}
 use Rattle.s360_machine.specs.Machine.{Machine, storage_size}
 use Rattle.s360_journal.specs.Breakpoints.{has_room_for, with_address, without_address}
 use Rattle.s360_journal.specs.Standing.{last_kind_of, machine_of}
+use Rattle.s360_language.specs.declared.command.LineFault.{LineFault}
 use Rattle.s360_packet.specs.Answers.{answer_text, registers_text}
 use Rattle.s360_packet.specs.Framing.{framed}
-use Rattle.s360_packet.specs.Hexadecimal.{bytes_text}
 use Rattle.s360_packet.specs.declared.answer.Answer.{Answer}
 use Rattle.s360_packet.specs.declared.answer.Answer.TheVariants as answer
 use Rattle.s360_packet.specs.declared.answer.Stop.{Stop}
@@ -23,19 +23,19 @@ use Rattle.s360_remote.specs.Backward.{back_to_stop, stepped_back}
 use Rattle.s360_remote.specs.Driven.{Driven, moved_to}
 use Rattle.s360_remote.specs.ErrorNumbers.{error_of}
 use Rattle.s360_remote.specs.Forward.{Paused, most_turns, resumed}
-use Rattle.s360_remote.specs.Monitor.{IsCarriedOut, IsLineBegun}
+use Rattle.s360_inquiry.specs.Reading.{inquiry_of}
+use Rattle.s360_remote.specs.Monitor.{IsAnswered, IsBegun as IsMonitorBegun}
+use Rattle.s360_saving.specs.Reading.{Asked, saving_of}
 use Rattle.s360_remote.specs.Points.{Points, has_room_for_watch, watched_bytes, with_watch, without_watch}
 use Rattle.s360_remote.specs.Registers.{words_of}
-use Rattle.s360_remote.specs.Replies.{pause_packets, register_of_number, storage_text}
+use Rattle.s360_remote.specs.Replies.{line_text, packet_of, pause_packets, register_of_number, storage_text}
+use Rattle.s360_remote.specs.Saving.{IsSavingServed}
 use Rattle.s360_remote.specs.Writing.{IsWriteEnd, Write, register_write, registers_write, storage_write}
 use Rattle.s360_remote.specs.declared.error_number.ErrorNumber.{ErrorNumber}
 use Rattle.s360_remote.specs.declared.error_number.ErrorNumber.TheVariants.{NoThread, Address, Full, Malformed, Memory}
 use Rattle.s360_remote.specs.declared.pause.Reach.TheVariants as reach
 use Rattle.s360_remote.specs.declared.serving.Then.{Then}
 use Rattle.s360_remote.specs.declared.serving.Then.TheVariants as then
-
-abbrev pub packet_of : Answer → List ℕ
-packet_of a = framed (answer_text a)
 
 abbrev pub machine_now : Driven → Machine
 machine_now d = machine_of (session_of d.recorded)
@@ -129,10 +129,18 @@ told (Select thread) m = answer_text (thread_answer thread)
 told (IsAlive thread) m = answer_text (thread_answer thread)
 told other m = answer_text answer.Done
 
--- a line without an answer is done
-abbrev pub line_text : List ℕ → List ℕ
-line_text [] = answer_text answer.Done
-line_text (b ∷ bs) = bytes_text (b ∷ bs)
+-- ---- lines of gdb's user
+
+-- a line that saves makes nothing of the target; any other is carried out, and answered at once
+abbrev pub IsCommandServed : Option (Result Asked LineFault) → List ℕ → Driven → Driven → Then → List ℕ → Type 0
+IsCommandServed (Some asked) line d t next packets = (t ≡ d) × IsSavingServed asked (machine_now d) next packets
+IsCommandServed None line d t next packets =
+    (next ≡ then.GoOn) × ((text : List ℕ) × IsAnswered (inquiry_of line) line d t text × (packets ≡ framed (line_text text)))
+
+-- the same after want of memory
+abbrev pub IsCommandBegun : Option (Result Asked LineFault) → List ℕ → Driven → Driven → Type 0
+IsCommandBegun (Some asked) line d t = t ≡ d
+IsCommandBegun None line d t = IsMonitorBegun (inquiry_of line) line d t
 
 -- ---- all requests
 
@@ -153,7 +161,7 @@ IsServed (WriteRegister number word) d t next packets = IsWritten (register_writ
 IsServed (WriteRegisters bytes) d t next packets = AreAllWritten bytes d t next packets
 IsServed (Insert point at kind) d t next packets = (t ≡ record d { points = points_with point at kind d }) × (next ≡ then.GoOn) × (packets ≡ packet_of (insert_answer point at kind d))
 IsServed (Remove point at kind) d t next packets = (t ≡ record d { points = points_without point at kind d }) × (next ≡ then.GoOn) × (packets ≡ packet_of answer.Done)
-IsServed (Command line) d t next packets = (next ≡ then.GoOn) × ((text : List ℕ) × IsCarriedOut line d t text × (packets ≡ framed (line_text text)))
+IsServed (Command line) d t next packets = IsCommandServed (saving_of line) line d t next packets
 IsServed Kill d t next packets = (t ≡ d) × (next ≡ then.End) × (packets ≡ [])
 IsServed other d t next packets = (t ≡ d) × (next ≡ then_after other) × (packets ≡ framed (told other (machine_now d)))
 
@@ -168,5 +176,5 @@ IsBegun (WriteRegister number word) d t = IsWriteBegun (register_write d number 
 IsBegun (WriteRegisters bytes) d t = AreAllBegun bytes d t
 IsBegun (Insert point at kind) d t = t ≡ record d { points = points_with point at kind d }
 IsBegun (Remove point at kind) d t = t ≡ record d { points = points_without point at kind d }
-IsBegun (Command line) d t = IsLineBegun line d t
+IsBegun (Command line) d t = IsCommandBegun (saving_of line) line d t
 IsBegun other d t = t ≡ d

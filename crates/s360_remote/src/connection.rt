@@ -4,8 +4,9 @@ ghost use Rattle.std.specs.Option.{option_to_list};
 ghost use Rattle.s360_packet.specs.Receiving.{acknowledgement_of, between_packets};
 ghost use Rattle.s360_packet.specs.Requests.{reading_of};
 ghost use Rattle.s360_packet.specs.declared.receiver.Acknowledging.TheVariants.{On};
-ghost use Rattle.s360_remote.specs.Connecting.{IsAnswered, IsReceived, IsTaken, answer_to_fault, dropped_by, going};
+ghost use Rattle.s360_remote.specs.Connecting.{IsAnswered, IsReceived, IsTaken, answer_to_fault, errand_of, going};
 
+use crate::errand::Errand;
 use crate::error_number::ErrorNumber;
 use crate::replies::Replies;
 use crate::serving::Then;
@@ -51,22 +52,21 @@ impl Connection {
         self.ended
     }
 
-    /// Takes a byte that came, adds what is answered, and says how many recorded changes a write of gdb dropped by it, which no
-    /// answer tells. Once gdb has left a byte does nothing. An `Err` ends the connection: not even the want of memory could be
-    /// answered.
+    /// Takes a byte that came, adds what is answered, and says what is left to do. Once gdb has left a byte does nothing. An
+    /// `Err` ends the connection: not even the want of memory could be answered.
     pub fn take(
         &mut self,
         byte: u8,
         target: &mut Target,
         replies: &mut Replies,
-    ) -> Result<u32, AllocError>
-        ensures { IfOk result (λ dropped. (bytes : List ℕ) × IsTaken self.old.ended byte self.old target.old self.new target.new dropped bytes × (replies.new ≡ replies.old ++ bytes)) }
+    ) -> Result<Errand, AllocError>
+        ensures { IfOk result (λ errand. (bytes : List ℕ) × IsTaken self.old.ended byte self.old target.old self.new target.new errand bytes × (replies.new ≡ replies.old ++ bytes)) }
     {
         if self.ended {
-            return Ok(0);
+            return Ok(Errand::Nothing);
         }
         let Some(received) = self.receiver.take(byte) else {
-            return Ok(0);
+            return Ok(Errand::Nothing);
         };
         self.acknowledge(received, replies)?;
         self.complete(received, target, replies)
@@ -88,28 +88,28 @@ impl Connection {
         received: Received,
         target: &mut Target,
         replies: &mut Replies,
-    ) -> Result<u32, AllocError>
-        ensures { IfOk result (λ dropped. (packets : List ℕ) × IsReceived received self.old target.old self.new target.new dropped packets × (replies.new ≡ replies.old ++ packets)) }
+    ) -> Result<Errand, AllocError>
+        ensures { IfOk result (λ errand. (packets : List ℕ) × IsReceived received self.old target.old self.new target.new errand packets × (replies.new ≡ replies.old ++ packets)) }
     {
         match received {
             Received::Packet => self.answer(target, replies),
             Received::TooLong => {
                 replies.push(ErrorNumber::Malformed.answer())?;
-                Ok(0)
+                Ok(Errand::Nothing)
             }
-            Received::Damaged => Ok(0),
+            Received::Damaged => Ok(Errand::Nothing),
         }
     }
 
     /// Carries out the request that came, and adds what is answered.
-    fn answer(&mut self, target: &mut Target, replies: &mut Replies) -> Result<u32, AllocError>
-        ensures { IfOk result (λ dropped. (packets : List ℕ) × IsAnswered (reading_of self.old.receiving.bytes) self.old target.old self.new target.new dropped packets × (replies.new ≡ replies.old ++ packets)) }
+    fn answer(&mut self, target: &mut Target, replies: &mut Replies) -> Result<Errand, AllocError>
+        ensures { IfOk result (λ errand. (packets : List ℕ) × IsAnswered (reading_of self.old.receiving.bytes) self.old target.old self.new target.new errand packets × (replies.new ≡ replies.old ++ packets)) }
     {
         let request = match read_request(self.alloc, self.receiver.data()) {
             Ok(request) => request,
             Err(fault) => {
                 replies.push(answer_to_fault(fault))?;
-                return Ok(0);
+                return Ok(Errand::Nothing);
             }
         };
         let mut answered = Replies::new(self.alloc);
@@ -120,26 +120,27 @@ impl Connection {
             }
             Err(AllocError) => {
                 replies.push(ErrorNumber::Memory.answer())?;
-                Ok(0)
+                Ok(Errand::Nothing)
             }
         }
     }
 
-    /// Goes on after a request, and says how many recorded changes a write dropped.
-    fn go_on(&mut self, next: Then) -> u32
+    /// Goes on after a request, and says what is left to do.
+    fn go_on(&mut self, next: Then) -> Errand
         ensures state { self.new ≡ going self.old next }
-        ensures dropped { result ≡ dropped_by next }
+        ensures errand { result ≡ errand_of next }
     {
         match next {
-            Then::GoOn => 0,
-            Then::Dropped(count) => count,
+            Then::GoOn => Errand::Nothing,
+            Then::Dropped(count) => Errand::TellDropped(count),
+            Then::Save(file) => Errand::Write(file),
             Then::StopAcknowledging => {
                 self.acknowledging = Acknowledging::Off;
-                0
+                Errand::Nothing
             }
             Then::End => {
                 self.ended = true;
-                0
+                Errand::Nothing
             }
         }
     }

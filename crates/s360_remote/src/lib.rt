@@ -3,6 +3,7 @@
 
 mod connection;
 mod counting;
+mod errand;
 mod error_number;
 mod laws;
 mod monitor;
@@ -10,11 +11,13 @@ mod pause;
 mod points;
 mod registers;
 mod replies;
+mod saving;
 mod serving;
 mod target;
 mod writing;
 
 pub use connection::Connection;
+pub use errand::Errand;
 pub use error_number::ErrorNumber;
 pub use laws::{both_words_are_the_psw, turn_runs_again};
 pub use pause::{Pause, Reach};

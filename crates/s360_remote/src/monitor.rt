@@ -1,17 +1,23 @@
-//! Lines of gdb's user for the target: `monitor LINE`. Each is a line of the script language, and has the answer that it has
-//! in a script. What it takes back stays recorded.
+//! Lines of gdb's user for the target: `monitor LINE`. Each is an inquiry, or a line of the script language with the answer that
+//! it has in a script. What it takes back stays recorded.
 ghost use Rattle.std.specs.Prelude.{◌≡◌, ◌⊎◌, ◌++◌, false, IfOk, OnErr, OnOk};
 ghost use Rattle.s360_language.specs.Reading.{reading_of};
 ghost use Rattle.s360_debug.specs.Lines.{is_skipped};
 ghost use Rattle.s360_debug.specs.Script.{StandsAfterReading, state_after_line};
-ghost use Rattle.s360_remote.specs.Monitor.{IsCarriedOut, IsLineBegun, debugger_of, dropped_text, monitor_text};
+ghost use Rattle.s360_debug.specs.Answers.{fault_text};
+ghost use Rattle.s360_inquiry.specs.Answers.{answer_to, state_after};
+ghost use Rattle.s360_inquiry.specs.Reading.{inquiry_of};
+ghost use Rattle.s360_remote.specs.Monitor.{IsAnswered, IsAskedBegun, IsBegun, IsCarriedOut, IsLineBegun, after_asked};
+ghost use Rattle.s360_remote.specs.Monitor.{answer_to_asked, debugger_of, dropped_text, inquired_of, monitor_text, with_inquired};
 
 use crate::target::Target;
-use s360_debug::{answer_line, skips};
+use s360_debug::{answer_line, skips, text_of_fault};
+use s360_inquiry::{Inquiry, answer_inquiry, read_inquiry};
+use s360_language::LineFault;
 use s360_text::Text;
 use std::alloc::{AllocError, Global};
 
-/// The lines of the language, with what each does.
+/// The lines of the language and the inquiries, with what each does.
 const HELP: &str = "\
 step: a CPU event
 channel U: a channel event of a unit
@@ -22,7 +28,9 @@ load U: the operator presses the load key
 patch s A BYTES: puts bytes into storage
 patch r R W: puts a word into a register
 patch k A K: gives the block of A a storage key
+patch f A D: gives the block of A a fetch bit, 0 or 1
 patch p Q: puts a doubleword into the PSW
+patch f A D: gives the block of A a fetch bit, if fetches are protected
 run N: runs at most N events
 back: takes back the last change
 until: takes changes back to a breakpoint of `break`
@@ -40,11 +48,75 @@ show u U: what the channel does for a unit
 show d U: the sense bytes and the media of a unit
 show m U N: an item of a unit's media
 show image U: the file of a tape
+who P: goes to just before the last change of a place, as `last` names places, and tells it
+goto N, goto start, goto end, goto last: goes to just after change N, to either end, to where one stood before
+changes P, changes P N: the last 10 or N changes of a place
+history, history N: the last 10 or N changes
+dump A N: bytes of storage with their signs
+units: all units with their media
+where: how far the recording stands, and what the CPU does next
+save printer FILE: saves the pages that were printed in a file that is not there yet
+save punch FILE, save P1 FILE, save P2 FILE, save RP3 FILE: saves the cards that were punched, all or those of a stacker
+save console FILE: saves what the console typed, and the lines that were entered
+save tape0 FILE, save tape1 FILE: saves the file of a tape
+save! WHAT FILE: writes over a file that is there
 ";
 
-/// Carries a line out, and answers its text. Breakpoints that a line sets are the language's own, beside those of gdb. After
-/// want of memory some first ones of the events stand that it would have run, or it was carried out and its text is lost.
+/// Answers a line. After want of memory it may have been carried out in part, or its text is lost.
 pub(crate) fn monitor(target: &mut Target, line: &[u8]) -> Result<Text, AllocError>
+    ensures answered { IfOk result (λ text. IsAnswered (inquiry_of line.now) line.now target.old target.new text) }
+    ensures begun { OnErr result (IsBegun (inquiry_of line.now) line.now target.old target.new) }
+{
+    match read_inquiry(line) {
+        Some(asked) => answer_asked(target, asked),
+        None => answer_command(target, line),
+    }
+}
+
+/// Answers what a line asks of the recording, or tells what is wrong with it.
+fn answer_asked(target: &mut Target, asked: Result<Inquiry, LineFault>) -> Result<Text, AllocError>
+    ensures text { IfOk result (λ text. text ≡ answer_to_asked (inquired_of target.old) asked) }
+    ensures state { OnOk result (target.new ≡ after_asked target.old asked) }
+    ensures begun { OnErr result (IsAskedBegun target.old target.new) }
+{
+    match asked {
+        Ok(inquiry) => answer_of(target, inquiry),
+        Err(fault) => tell_fault(target, fault),
+    }
+}
+
+/// Answers an inquiry.
+fn answer_of(target: &mut Target, inquiry: Inquiry) -> Result<Text, AllocError>
+    ensures text { IfOk result (λ text. text ≡ answer_to (inquired_of target.old) inquiry) }
+    ensures state { OnOk result (target.new ≡ with_inquired target.old (state_after (inquired_of target.old) inquiry)) }
+    ensures begun { OnErr result (IsAskedBegun target.old target.new) }
+{
+    target.counting.dropped = 0;
+    let alloc = target.alloc;
+    let text = answer_inquiry(
+        alloc,
+        &mut target.counting.recording,
+        &mut target.stood,
+        inquiry,
+    )?;
+    Ok(text)
+}
+
+/// Tells what is wrong with a line.
+fn tell_fault(target: &mut Target, fault: LineFault) -> Result<Text, AllocError>
+    ensures text { IfOk result (λ text. text ≡ fault_text fault) }
+    ensures state { target.new ≡ record target.old { dropped = 0 } }
+    ensures begun { IsAskedBegun target.old target.new }
+{
+    target.counting.dropped = 0;
+    let text = text_of_fault(target.alloc, fault)?;
+    Ok(text)
+}
+
+/// Carries a line of the language out, and answers its text. Breakpoints that a line sets are the language's own, beside those
+/// of gdb. After want of memory some first ones of the events stand that it would have run, or it was carried out and its text
+/// is lost.
+fn answer_command(target: &mut Target, line: &[u8]) -> Result<Text, AllocError>
     ensures carried_out { IfOk result (λ text. IsCarriedOut line.now target.old target.new text) }
     ensures begun { OnErr result (IsLineBegun line.now target.old target.new) }
 {
@@ -73,6 +145,7 @@ fn carry_out(target: &mut Target, line: &[u8]) -> Result<Text, AllocError>
     ensures text { IfOk result (λ text. text ≡ monitor_text (debugger_of target.old) line.now target.new.dropped) }
     ensures state { OnOk result (debugger_of target.new ≡ state_after_line (debugger_of target.old) line.now) }
     ensures points { target.new.points ≡ target.old.points }
+    ensures stood { target.new.stood ≡ target.old.stood }
     ensures memory { OnErr result (StandsAfterReading (reading_of line.now) (debugger_of target.old) (debugger_of target.new).session ⊎ (debugger_of target.new ≡ state_after_line (debugger_of target.old) line.now)) }
 {
     target.counting.dropped = 0;

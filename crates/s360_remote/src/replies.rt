@@ -11,7 +11,7 @@ use std::marker::Model;
 #[derive(Debug, Drop)]
 pub struct Replies {
     bytes: Vec<u8>,
-    alloc: Global,
+    pub(crate) alloc: Global,
 }
 
 impl Model for Replies {

@@ -9,12 +9,15 @@ ghost use Rattle.s360_packet.specs.declared.answer.Answer.TheVariants.{Done};
 ghost use Rattle.s360_record.specs.Recorded.{standing_events};
 ghost use Rattle.s360_remote.specs.Driven.{moved_to};
 ghost use Rattle.s360_remote.specs.Forward.{most_turns, resumed};
-ghost use Rattle.s360_remote.specs.Monitor.{IsCarriedOut, IsLineBegun};
+ghost use Rattle.s360_inquiry.specs.Reading.{inquiry_of};
+ghost use Rattle.s360_remote.specs.Monitor.{IsAnswered, IsBegun as IsMonitorBegun};
 ghost use Rattle.s360_remote.specs.Registers.{words_of};
-ghost use Rattle.s360_remote.specs.Replies.{console_packet, idle_words, idle_words_of, pause_packets};
-ghost use Rattle.s360_remote.specs.Replies.{register_of_number, storage_text};
+ghost use Rattle.s360_remote.specs.Replies.{console_packet, idle_words, idle_words_of, line_text};
+ghost use Rattle.s360_remote.specs.Replies.{packet_of, pause_packets, register_of_number, storage_text};
 ghost use Rattle.s360_remote.specs.Serving.{AreAllBegun, AreAllWritten, IsBegun, IsPaused, IsServed, IsTold};
-ghost use Rattle.s360_remote.specs.Serving.{after_write, insert_answer, line_text, machine_now, packet_of, points_with, points_without, then_after, thread_answer, told};
+ghost use Rattle.s360_remote.specs.Serving.{IsCommandBegun, IsCommandServed};
+ghost use Rattle.s360_remote.specs.Serving.{after_write, insert_answer, machine_now, points_with, points_without, then_after, thread_answer, told};
+ghost use Rattle.s360_saving.specs.Reading.{saving_of};
 ghost use Rattle.s360_remote.specs.declared.error_number.ErrorNumber.TheVariants.{Memory};
 ghost use Rattle.s360_remote.specs.declared.serving.Then.TheVariants.{GoOn};
 
@@ -24,21 +27,25 @@ use crate::pause::{Pause, Reach};
 use crate::points::Watch;
 use crate::registers::words_of;
 use crate::replies::Replies;
+use crate::saving::save;
 use crate::target::Target;
 use byteorder::{BigEndian, ByteOrder};
 use s360_language::refusal_text;
 use s360_machine::{EventKind, Refusal};
 use s360_packet::{Answer, Payload, Point, REGISTERS, Request, Stop, Thread, register_value};
+use s360_saving::{FileToWrite, read_saving};
 use s360_text::Text;
 use std::alloc::AllocError;
 
 /// How serving goes on.
-#[derive(Clone, Copy, Debug, PartialEq, Eq)]
+#[derive(Debug, Drop)]
 pub enum Then {
     /// With the next request.
     GoOn,
     /// Likewise. A write dropped so many recorded changes, at least one, which its answer cannot tell.
     Dropped(u32),
+    /// Likewise. A file is to be written first, by which the request is answered.
+    Save(FileToWrite),
     /// With the next request, and packets are acknowledged no longer.
     StopAcknowledging,
     /// Not at all.
@@ -244,12 +251,23 @@ impl Target {
         Watch::new(at, count)
     }
 
-    /// Carries a line of gdb's user out, and tells its answer. A line without one is done.
+    /// Carries a line of gdb's user out, and tells its answer, or hands up the file that it saves.
     fn answer_line(&mut self, line: &Payload, replies: &mut Replies) -> Result<Then, AllocError>
-        ensures served { IfOk result (λ next. (next ≡ GoOn) × ((text : List ℕ) × IsCarriedOut line.now self.old self.new text × (replies.new ≡ replies.old ++ framed (line_text text)))) }
-        ensures begun { OnErr result (IsLineBegun line.now self.old self.new) }
+        ensures served { IfOk result (λ next. (packets : List ℕ) × IsCommandServed (saving_of line.now) line.now self.old self.new next packets × (replies.new ≡ replies.old ++ packets)) }
+        ensures begun { OnErr result (IsCommandBegun (saving_of line.now) line.now self.old self.new) }
     {
-        let text = monitor(self, line.as_slice())?;
+        match read_saving(line.as_slice()) {
+            Some(asked) => save(self, asked, replies),
+            None => self.answer_at_once(line.as_slice(), replies),
+        }
+    }
+
+    /// Carries a line out that saves nothing, and tells its answer. A line without one is done.
+    fn answer_at_once(&mut self, line: &[u8], replies: &mut Replies) -> Result<Then, AllocError>
+        ensures served { IfOk result (λ next. (next ≡ GoOn) × ((text : List ℕ) × IsAnswered (inquiry_of line.now) line.now self.old self.new text × (replies.new ≡ replies.old ++ framed (line_text text)))) }
+        ensures begun { OnErr result (IsMonitorBegun (inquiry_of line.now) line.now self.old self.new) }
+    {
+        let text = monitor(self, line)?;
         tell_line(&text, replies)?;
         Ok(Then::GoOn)
     }
@@ -355,7 +373,7 @@ fn thread_answer(thread: Thread) -> Answer<'static>
 }
 
 /// Tells the answer of a line.
-fn tell_line(text: &Text, replies: &mut Replies) -> Result<(), AllocError>
+pub(crate) fn tell_line(text: &Text, replies: &mut Replies) -> Result<(), AllocError>
     ensures { OnOk result (replies.new ≡ replies.old ++ framed (line_text text.now)) }
 {
     if text.as_bytes().is_empty() {

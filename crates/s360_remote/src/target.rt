@@ -1,6 +1,6 @@
 //! The target: a machine whose events are recorded, with the points at which gdb asks it to stop. Source: gdb manual,
 //! "Reverse Execution".
-ghost use Rattle.std.specs.Prelude.{◌≡◌, ◌↔◌, ◌-◌, ◌<◌, ◌≤◌, ℕ, [], length, IfOk, IsTrue, OnErr, OnOk};
+ghost use Rattle.std.specs.Prelude.{◌≡◌, ◌↔◌, ◌-◌, ◌<◌, ◌≤◌, ℕ, [], length, None, IfOk, IsTrue, OnErr, OnOk};
 ghost use Rattle.s360_machine.specs.Machine.{seen, storage_size};
 ghost use Rattle.s360_machine.specs.declared.event.Event.{Event as Happening};
 ghost use Rattle.s360_journal.specs.Breakpoints.{is_at_breakpoint};
@@ -32,6 +32,8 @@ pub struct Target {
     pub(crate) points: Points,
     /// The breakpoints of the script language, which `monitor` sets.
     pub(crate) own_breaks: Breaks,
+    /// Where the recording stood before the last inquiry that went elsewhere.
+    pub(crate) stood: Option<u32>,
     pub(crate) limit: u32,
     pub(crate) alloc: Global,
 }
@@ -42,7 +44,7 @@ impl Model for Target {
 
     ghost Value = { Driven };
 
-    ghost view = { λ t. record { recorded = t.counting.recording; points = t.points; own = t.own_breaks; dropped = t.counting.dropped } };
+    ghost view = { λ t. record { recorded = t.counting.recording; points = t.points; own = t.own_breaks; dropped = t.counting.dropped; stood = t.stood } };
 
     ghost invariant = { λ t. t.limit ≡ t.counting.recording.limit };
 }
@@ -51,7 +53,7 @@ impl Target {
     /// A target over a recording, of which at most `limit` events may be recorded, with no points.
     pub fn new(alloc: Global, recording: Recording, limit: u32) -> Target
         requires { limit ≡ recording.limit }
-        ensures { result ≡ record { recorded = recording; points = record { breaks = []; watches = [] }; own = []; dropped = 0 } }
+        ensures { result ≡ record { recorded = recording; points = record { breaks = []; watches = [] }; own = []; dropped = 0; stood = None } }
     {
         Target {
             counting: Counting {
@@ -60,6 +62,7 @@ impl Target {
             },
             points: Points::new(),
             own_breaks: Breaks::new(),
+            stood: None,
             limit,
             alloc,
         }

@@ -5,21 +5,29 @@ use Rattle.s360_packet.specs.Receiving.{between_packets}
 use Rattle.s360_packet.specs.declared.receiver.Acknowledging.TheVariants.{On}
 use Rattle.s360_remote.specs.Connecting.{Connected, IsTaken}
 use Rattle.s360_remote.specs.Driven.{Driven}
+use Rattle.s360_remote.specs.declared.errand.Errand.{Errand}
+use Rattle.s360gdb.specs.Saving.{IsRun}
 
 -- nothing has come
 abbrev pub new_connection : Connected
 new_connection = record { receiving = between_packets 16384; acknowledging = On; ended = false }
 
+-- a byte came, was answered, and what was left to do is done and answered too; files of the host have these contents, as far as
+-- they are known
+abbrev pub IsTalk : {F : Type 0} → (F → Option (List ℕ)) → ℕ → Connected → Driven → Connected → Driven → List ℕ → Type 0
+IsTalk contents byte c d e t answers =
+    (errand : Errand) × (first : List ℕ) × (second : List ℕ) × IsTaken c.ended byte c d e t errand first × IsRun contents errand second × (answers ≡ first ++ second)
+
 -- bytes came one after another, and were answered so
-abbrev pub IsConversation : List ℕ → Connected → Driven → Connected → Driven → List ℕ → Type 0
-IsConversation [] c d e t answers = (e ≡ c) × (t ≡ d) × (answers ≡ [])
-IsConversation (byte ∷ bytes) c d e t answers =
-    (f : Connected) × (u : Driven) × (dropped : ℕ) × (first : List ℕ) × (rest : List ℕ)
-    × IsTaken c.ended byte c d f u dropped first × IsConversation bytes f u e t rest × (answers ≡ first ++ rest)
+abbrev pub IsConversation : {F : Type 0} → (F → Option (List ℕ)) → List ℕ → Connected → Driven → Connected → Driven → List ℕ → Type 0
+IsConversation contents [] c d e t answers = (e ≡ c) × (t ≡ d) × (answers ≡ [])
+IsConversation contents (byte ∷ bytes) c d e t answers =
+    (f : Connected) × (u : Driven) × (first : List ℕ) × (rest : List ℕ)
+    × IsTalk contents byte c d f u first × IsConversation contents bytes f u e t rest × (answers ≡ first ++ rest)
 
 -- the bytes that were read of a reader, of which the last read gave at most 4,096: gdb had not left before it; and their
 -- answers, which a writer has
-pub record IsServed (old new : Option (List ℕ)) (d t : Driven) (silent answered : Option (List ℕ)) (e : Connected) : Type 0 where
+pub record IsServed {F : Type 0} (contents : F → Option (List ℕ)) (old new : Option (List ℕ)) (d t : Driven) (silent answered : Option (List ℕ)) (e : Connected) : Type 0 where
   pub before : List ℕ
   pub last : List ℕ
   pub connection : Connected
@@ -28,12 +36,12 @@ pub record IsServed (old new : Option (List ℕ)) (d t : Driven) (silent answere
   pub rest : List ℕ
   pub read : Consumes old new (before ++ last)
   pub few : length last ≤ 4096
-  pub begun : IsConversation before new_connection d connection target first
+  pub begun : IsConversation contents before new_connection d connection target first
   pub stays : connection.ended ≡ false
-  pub ended : IsConversation last connection target e t rest
+  pub ended : IsConversation contents last connection target e t rest
   pub written : Appends silent answered (first ++ rest)
 
 -- until gdb has left, or the reader has no more, or more was read than a file can have
-abbrev pub IsServedWhole : Option (List ℕ) → Option (List ℕ) → Driven → Driven → Option (List ℕ) → Option (List ℕ) → Type 0
-IsServedWhole old new d t silent answered =
-    (e : Connected) × (s : IsServed old new d t silent answered e) × ((e.ended ≡ true) ⊎ (IsAtEnd new ⊎ (18446744073709551615 ≤ length (s.before ++ s.last))))
+abbrev pub IsServedWhole : {F : Type 0} → (F → Option (List ℕ)) → Option (List ℕ) → Option (List ℕ) → Driven → Driven → Option (List ℕ) → Option (List ℕ) → Type 0
+IsServedWhole contents old new d t silent answered =
+    (e : Connected) × (s : IsServed contents old new d t silent answered e) × ((e.ended ≡ true) ⊎ (IsAtEnd new ⊎ (18446744073709551615 ≤ length (s.before ++ s.last))))

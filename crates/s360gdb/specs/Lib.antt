@@ -1,3 +1,4 @@
+pub mod Saving
 pub mod Conversation
 pub mod Failures
 pub mod Notes

@@ -1,6 +1,7 @@
 //! The program: serves gdb over a machine. docs/GDB.md tells of it.
 #![tactic(auto)]
 
+mod file;
 mod program;
 
 use s360_setup::{Program, start};

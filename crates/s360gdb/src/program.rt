@@ -7,14 +7,17 @@ ghost use Rattle.s360_setup.specs.Partial.{IsBegun};
 ghost use Rattle.s360gdb.specs.Conversation.{IsConversation, IsServedWhole};
 ghost use Rattle.s360gdb.specs.Failures.{IsServingFailure, IsRunFailure};
 ghost use Rattle.s360gdb.specs.Notes.{note_of_dropped};
+ghost use Rattle.s360gdb.specs.Saving.{IsRun};
 ghost use Rattle.s360_setup.specs.declared.failure.Failure.TheVariants.{Memory, StorageSize};
 
+use crate::file::write_file;
 use itoa::Buffer;
 use s360_record::Recording;
-use s360_remote::{Connection, Replies, Target};
+use s360_remote::{Connection, Errand, Replies, Target};
 use s360_setup::{Failure, Fault, LIMIT, Options, Part, Program, carry_out, open, set_up, tell};
 use s360_text::{Untaken, write_whole};
-use std::alloc::Global;
+use std::alloc::{AllocError, Global};
+use std::fs::Files;
 use std::io::{Input, Read, Write};
 
 /// A read is of at most so many bytes.
@@ -60,6 +63,7 @@ fn serve_on_output(rt: &HostRuntime, recording: Recording) -> Result<(), Failure
 {
     let mut target = Target::new(rt.alloc(), recording, LIMIT);
     let served = serve(
+        rt,
         rt.alloc(),
         &mut target,
         &mut rt.reader(),
@@ -70,15 +74,17 @@ fn serve_on_output(rt: &HostRuntime, recording: Recording) -> Result<(), Failure
     served
 }
 
-/// Serves gdb until it leaves, or until what it sends has ended. `notes` are told how many recorded changes it drops.
-fn serve<R: Read, W: Write, N: Write>(
+/// Serves gdb until it leaves, or until what it sends has ended. `notes` are told how many recorded changes it drops, and
+/// what it saves is written among `files`.
+fn serve<F: Files, R: Read, W: Write, N: Write>(
+    files: &F,
     alloc: Global,
     target: &mut Target,
     reader: &mut R,
     writer: &mut W,
     notes: &mut N,
 ) -> Result<(), Failure>
-    ensures served { OnOk result (IsServedWhole (R.remaining reader.old) (R.remaining reader.new) target.old target.new (W.contents writer.old) (W.contents writer.new)) }
+    ensures served { OnOk result (IsServedWhole F.File.contents (R.remaining reader.old) (R.remaining reader.new) target.old target.new (W.contents writer.old) (W.contents writer.new)) }
     ensures failure { IfErr result IsServingFailure }
 {
     let mut connection = Connection::new(alloc)?;
@@ -95,7 +101,14 @@ fn serve<R: Read, W: Write, N: Write>(
         if len == 0 {
             break;
         }
-        let taken = take_all(&mut connection, target, &mut replies, &chunk[..len], notes);
+        let taken = take_all(
+            files,
+            &mut connection,
+            target,
+            &mut replies,
+            &chunk[..len],
+            notes,
+        );
         // What was answered before memory was wanted is written too.
         let written = write_whole(writer, replies.as_bytes());
         taken?;
@@ -107,23 +120,46 @@ fn serve<R: Read, W: Write, N: Write>(
     Ok(())
 }
 
-/// Takes bytes that gdb sent, and adds what is answered. Those behind its leave are dropped.
-fn take_all<N: Write>(
+/// Takes bytes that gdb sent, adds what is answered, and does what is left to do. Those behind its leave are dropped.
+fn take_all<F: Files, N: Write>(
+    files: &F,
     connection: &mut Connection,
     target: &mut Target,
     replies: &mut Replies,
     bytes: &[u8],
     notes: &mut N,
 ) -> Result<(), Failure>
-    ensures answered { OnOk result ((answers : List ℕ) × IsConversation bytes.now connection.old target.old connection.new target.new answers × (replies.new ≡ replies.old ++ answers)) }
+    ensures answered { OnOk result ((answers : List ℕ) × IsConversation F.File.contents bytes.now connection.old target.old connection.new target.new answers × (replies.new ≡ replies.old ++ answers)) }
     ensures failure { IfErr result (λ failure. failure ≡ Memory) }
 {
     for byte in bytes {
-        let dropped = connection.take(*byte, target, replies)?;
-        // gdb is served all the same where this is not taken.
-        let _ = tell_dropped(dropped, notes);
+        let errand = connection.take(*byte, target, replies)?;
+        run_errand(files, errand, replies, notes)?;
     }
     Ok(())
+}
+
+/// Does what is left to do once a byte was taken, and adds what is answered then.
+fn run_errand<F: Files, N: Write>(
+    files: &F,
+    errand: Errand,
+    replies: &mut Replies,
+    notes: &mut N,
+) -> Result<(), AllocError>
+    ensures { OnOk result ((answers : List ℕ) × IsRun F.File.contents errand answers × (replies.new ≡ replies.old ++ answers)) }
+{
+    match errand {
+        Errand::Nothing => Ok(()),
+        Errand::TellDropped(count) => {
+            // gdb is served all the same where this is not taken.
+            let _ = tell_dropped(count, notes);
+            Ok(())
+        }
+        Errand::Write(file) => {
+            let outcome = write_file(files, &file);
+            replies.push_written(file.amount, outcome)
+        }
+    }
 }
 
 /// Tells how many recorded changes were dropped, if any. It takes no memory.

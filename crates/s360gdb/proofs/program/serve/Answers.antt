@@ -8,7 +8,7 @@ loop-read-preserved g c =
     let inside : c.in-Ok.len ≤ length c.read.new.buf = c.in-Ok.ensures.bound.0 in
     let size : length c.read.new.buf ≤ 4096 = search rules in (
       c.clear.ensures,
-      served_next (g.R.Read.remaining c.args.reader.now) (g.R.Read.remaining c.loop-read.reader) (g.R.Read.remaining c.read.new.self)
+      served_next g.F.File.Write.contents (g.R.Read.remaining c.args.reader.now) (g.R.Read.remaining c.loop-read.reader) (g.R.Read.remaining c.read.new.self)
           c.args.target.now c.loop-read.target c.take_all-taken.new.target
           (g.W.Write.contents c.args.writer.now) (g.W.Write.contents c.loop-read.writer) (g.W.Write.contents c.write_whole-written.new.writer)
           c.loop-read.connection c.take_all-taken.new.connection c.loop-read._read c.in-Ok.len c.read.new.buf c.loop-read.replies c.take_all-taken.new.replies
@@ -21,7 +21,7 @@ returns-clause-served g c = elim c.loop-read-test.branch [
   | else-loop-read-test w ↦ rw (w.reader-is) (c.loop-read.connection, c.loop-read.invariant.1.0, inr (inr (omega (arith, c.loop-read.invariant.1.1, w.loop-read-test.false))))
   | then-loop-read-test+then-has_ended w ↦ rw (w.reader-is) (c.loop-read.connection, c.loop-read.invariant.1.0, inl (sym w.has_ended.ensures ∙ w.if-has_ended.true))
   | then-loop-read-test+else-has_ended+in-Ok+then-len-eq0 w ↦ rw (w.reader-is)
-      (served_whole-at_end (g.R.Read.remaining c.args.reader.now) (g.R.Read.remaining c.loop-read.reader) (g.R.Read.remaining w.read.new.self)
+      (served_whole-at_end g.F.File.Write.contents (g.R.Read.remaining c.args.reader.now) (g.R.Read.remaining c.loop-read.reader) (g.R.Read.remaining w.read.new.self)
       c.args.target.now c.loop-read.target (g.W.Write.contents c.args.writer.now) (g.W.Write.contents c.loop-read.writer) c.loop-read.connection
       w.in-Ok.len w.read.new.buf c.loop-read.invariant.1.0 w.if-len-eq0.true w.in-Ok.ensures.bytes.0 w.in-Ok.ensures.bytes.1 (search rules))
 ]

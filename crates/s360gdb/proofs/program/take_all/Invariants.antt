@@ -4,4 +4,5 @@ use Rattle.s360gdb.proofs.program.take_all.Given as goal
 
 abbrev pub invariant-loop-byte : goal.invariant-loop-byte
 invariant-loop-byte g l =
-    (answers : List ℕ) × IsConversation (take l.byte-index l.bytes) l.initial.connection l.initial.target l.connection l.target answers × (l.replies ≡ l.initial.replies ++ answers)
+    (answers : List ℕ) × IsConversation g.F.File.Write.contents (take l.byte-index l.bytes) l.initial.connection l.initial.target l.connection l.target answers
+    × (l.replies ≡ l.initial.replies ++ answers)

@@ -2,7 +2,7 @@ use Rattle.std.proofs.Common.{◌≡◌, ◌++◌, ◌∙◌, Err, Ok, ap, rules
 use Rattle.s360_packet.specs.Requests.{Reads, reading_of}
 use Rattle.s360_remote.specs.Connecting.{Connected, answer_to_fault}
 use Rattle.s360_remote.specs.ErrorNumbers.{error_of}
-use Rattle.s360_remote.specs.Serving.{packet_of}
+use Rattle.s360_remote.specs.Replies.{packet_of}
 use Rattle.s360_remote.specs.declared.error_number.ErrorNumber.TheVariants.{Memory}
 use Rattle.s360_remote.proofs.ServingLemmas.{answered-fault, answered-memory, answered-request}
 use Rattle.s360_remote.proofs.connection.Connection.answer.Goals as goal
@@ -23,7 +23,7 @@ returns-in-Ok-serve c =
     in (
       served.0,
       answered-request (reading_of c.args.self.now.receiving.bytes) c.args.self.now c.go_on.new.self c.args.target.now c.serve.new.self c.in-Ok.request c.in-Ok-serve.next c.go_on.result served.0
-          reads served.1 c.go_on.ensures.state c.go_on.ensures.dropped,
+          reads served.1 c.go_on.ensures.state c.go_on.ensures.errand,
       whole,
     )
 

@@ -1,6 +1,21 @@
-use Rattle.s360_journal.proofs.RunningLemmas.{OnErr-from}
-use Rattle.s360_remote.proofs.MonitorLemmas.{begun-carried}
+use Rattle.std.proofs.Common.{◌≡◌, ◌∙◌, Some, None, sym}
+use Rattle.s360_saving.specs.Reading.{saving_of}
+use Rattle.s360_remote.proofs.CommandLemmas.{at_once-begun, at_once-served, saved-begun, saved-served}
 use Rattle.s360_remote.proofs.target.Target.answer_line.Goals as goal
 
-pub returns-in_err-tell_line-clause-begun : goal.returns-in_err-tell_line-clause-begun
-returns-in_err-tell_line-clause-begun c = OnErr-from c.from_residual-in_err-tell_line.result _ (begun-carried _ _ _ _ (rw c.as_slice.ensures at c.in_ok-text.ensures.carried_out))
+pub returns-in-Some : goal.returns-in-Some
+returns-in-Some c =
+    let is : saving_of c.args.line.now ≡ Some c.in-Some.asked = sym (rw c.as_slice.ensures at (rw c.in-Some.is at c.read_saving.ensures))
+    in record {
+      served = saved-served c.save.result _ c.in-Some.asked c.args.line.now c.args.self.now c.args.replies.now c.save.new.replies is c.save.ensures;
+      begun = saved-begun c.save.result _ c.in-Some.asked c.args.line.now c.args.self.now is;
+    }
+
+pub returns-in-None : goal.returns-in-None
+returns-in-None c =
+    let is : saving_of c.args.line.now ≡ None = sym (rw c.as_slice.ensures at (rw c.in-None.is at c.read_saving.ensures))
+    in record {
+      served = at_once-served c.answer_at_once.result _ c.args.line.now c.args.self.now c.answer_at_once.new.self c.args.replies.now c.answer_at_once.new.replies is
+          (rw c.as_slice-in-None.ensures at c.answer_at_once.ensures.served);
+      begun = at_once-begun c.answer_at_once.result _ c.args.line.now c.args.self.now c.answer_at_once.new.self is (rw c.as_slice-in-None.ensures at c.answer_at_once.ensures.begun);
+    }

@@ -3,7 +3,7 @@ use Rattle.std.proofs.lemmas.Bool.{true≢false}
 use Rattle.s360_debug.specs.Lines.{is_skipped}
 use Rattle.s360_remote.specs.Driven.{Driven}
 use Rattle.s360_remote.proofs.MonitorLemmas.{carried-skipped}
-use Rattle.s360_remote.proofs.monitor.monitor.Goals as goal
+use Rattle.s360_remote.proofs.monitor.answer_command.Goals as goal
 
 pub returns-then-skips-clause-carried_out : goal.returns-then-skips-clause-carried_out
 returns-then-skips-clause-carried_out c =

@@ -1,0 +1,11 @@
+use Rattle.std.proofs.Common.{◌≡◌, take}
+use Rattle.std.specs.List.{flat_map}
+use Rattle.s360_record.specs.Recorded.{with_standing}
+use Rattle.s360_inquiry.specs.Changes.{change_text}
+use Rattle.s360_inquiry.proofs.change.tell_changes.Given as goal
+
+abbrev pub invariant-loop-number : goal.invariant-loop-number
+invariant-loop-number l = record {
+  text : l.text ≡ flat_map (change_text l.initial.recording l.place) (take l.number-index l.numbers);
+  kept : l.recording ≡ with_standing l.initial.recording l.recording.standing;
+}

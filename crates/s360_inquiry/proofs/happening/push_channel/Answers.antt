@@ -1,0 +1,5 @@
+use Rattle.s360_inquiry.proofs.InquiryLemmas.{pushed}
+use Rattle.s360_inquiry.proofs.happening.push_channel.Goals as goal
+
+pub returns : goal.returns
+returns c = pushed c.args.text.now _ _ _ _ c.in_ok-push_event.ensures c.in_ok-push_unit.ensures

@@ -1,0 +1,9 @@
+pub mod Reading
+pub mod Happenings
+pub mod Values
+pub mod Going
+pub mod Changes
+pub mod Histories
+pub mod Dumps
+pub mod Situations
+pub mod Answers

@@ -1,0 +1,58 @@
+//! What an inquiry is answered. Each has its row in `text_of_inquiry`.
+ghost use Rattle.std.specs.Prelude.{◌≡◌, IfOk, OnErr, OnOk};
+ghost use Rattle.s360_record.specs.Recorded.{with_standing};
+ghost use Rattle.s360_inquiry.specs.Answers.{answer_to, stands_after, state_after};
+
+use crate::change::{answer_changes, answer_who};
+use crate::dump::dump_of;
+use crate::going::answer_goto;
+use crate::history::answer_history;
+use crate::inquiry::Inquiry;
+use crate::situation::{units_of, where_of};
+use s360_record::Recording;
+use s360_text::Text;
+use std::alloc::{AllocError, Global};
+
+/// Answers an inquiry, and notes in `stood` where the recording stood before it, if that goes elsewhere. No inquiry alters the
+/// record. Want of memory leaves the recording at some change, and `stood` as it was.
+pub fn answer_inquiry(
+    alloc: Global,
+    recording: &mut Recording,
+    stood: &mut Option<u32>,
+    inquiry: Inquiry,
+) -> Result<Text, AllocError>
+    ensures text { IfOk result (λ text. text ≡ answer_to (record { recorded = recording.old; stood = stood.old }) inquiry) }
+    ensures state { OnOk result (record { recorded = recording.new; stood = stood.new } ≡ state_after (record { recorded = recording.old; stood = stood.old }) inquiry) }
+    ensures memory { OnErr result (recording.new ≡ with_standing recording.old recording.new.standing) }
+    ensures memory_stood { OnErr result (stood.new ≡ stood.old) }
+{
+    let before = recording.standing();
+    let text = text_of_inquiry(alloc, recording, *stood, inquiry)?;
+    if recording.standing() != before {
+        *stood = Some(before);
+    }
+    Ok(text)
+}
+
+/// Answers an inquiry.
+#[tactic(auto, unfolding(crate::specs::Answers::answer_to, crate::specs::Answers::stands_after))]
+fn text_of_inquiry(
+    alloc: Global,
+    recording: &mut Recording,
+    stood: Option<u32>,
+    inquiry: Inquiry,
+) -> Result<Text, AllocError>
+    ensures text { IfOk result (λ text. text ≡ answer_to (record { recorded = recording.old; stood = stood }) inquiry) }
+    ensures state { OnOk result (recording.new ≡ with_standing recording.old (stands_after (record { recorded = recording.old; stood = stood }) inquiry)) }
+    ensures memory { OnErr result (recording.new ≡ with_standing recording.old recording.new.standing) }
+{
+    match inquiry {
+        Inquiry::Who(place) => answer_who(alloc, recording, place),
+        Inquiry::Goto(mark) => answer_goto(alloc, recording, stood, mark),
+        Inquiry::Changes { place, most } => answer_changes(alloc, recording, place, most),
+        Inquiry::History { most } => answer_history(alloc, recording, most),
+        Inquiry::Dump { at, count } => dump_of(alloc, recording.machine().storage(), at, count),
+        Inquiry::Units => units_of(alloc, recording),
+        Inquiry::Where => where_of(alloc, recording),
+    }
+}

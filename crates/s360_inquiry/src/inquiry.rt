@@ -1,0 +1,34 @@
+//! What is asked, one a line.
+use s360_store::Place;
+
+/// Where to go in what was recorded.
+#[derive(Clone, Copy, Debug, PartialEq, Eq)]
+pub enum Mark {
+    /// Just after the change of this number.
+    Change(u32),
+    /// Where nothing stands.
+    Start,
+    /// Where all that was recorded stands.
+    End,
+    /// Where the recording stood before the last line that went elsewhere.
+    Last,
+}
+
+/// A line with its arguments: a variant for each first word.
+#[derive(Clone, Copy, Debug, PartialEq, Eq)]
+pub enum Inquiry {
+    /// `who`: goes to just before the last change of a place, and tells it.
+    Who(Place),
+    /// `goto`: goes to a mark.
+    Goto(Mark),
+    /// `changes`: the last changes of a place, so many at most.
+    Changes { place: Place, most: u32 },
+    /// `history`: the last changes of any place, so many at most.
+    History { most: u32 },
+    /// `dump A N`: so many bytes of storage from an address on, with their signs.
+    Dump { at: u32, count: u32 },
+    /// `units`: how each unit stands, with its device.
+    Units,
+    /// `where`: how far the recording stands, and what the CPU does next.
+    Where,
+}

@@ -1,0 +1,19 @@
+//! What a person asks of a recording: what altered a place, where the machine stands, and to go there.
+#![tactic(auto)]
+
+mod answering;
+mod change;
+mod dump;
+mod going;
+mod happening;
+mod history;
+mod inquiry;
+mod inquiry_reader;
+mod pending;
+mod situation;
+mod unit;
+mod value;
+
+pub use answering::answer_inquiry;
+pub use inquiry::{Inquiry, Mark};
+pub use inquiry_reader::read_inquiry;

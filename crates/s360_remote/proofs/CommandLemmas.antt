@@ -1,0 +1,39 @@
+-- Lines of gdb's user: one that saves, and any other.
+use Rattle.std.proofs.Common.{◌≡◌, ◌++◌, ℕ, List, Option, Some, None, Result, refl, sym, subst}
+use Rattle.std.specs.Prelude.{IfOk, OnErr}
+use Rattle.s360_inquiry.specs.Reading.{inquiry_of}
+use Rattle.s360_language.specs.declared.command.LineFault.{LineFault}
+use Rattle.s360_packet.specs.Framing.{framed}
+use Rattle.s360_saving.specs.Reading.{Asked}
+use Rattle.s360_remote.specs.Driven.{Driven}
+use Rattle.s360_remote.specs.Monitor.{IsAnswered, IsBegun}
+use Rattle.s360_remote.specs.Replies.{line_text}
+use Rattle.s360_remote.specs.Saving.{IsSavingServed}
+use Rattle.s360_remote.specs.Serving.{IsCommandBegun, IsCommandServed, machine_now}
+use Rattle.s360_remote.specs.declared.serving.Then.{Then}
+use Rattle.s360_remote.specs.declared.serving.Then.TheVariants.{GoOn}
+use Rattle.s360_remote.proofs.ServingLemmas.{if-ok-map, on-err}
+
+-- a line that saves was served, and the target is as it was
+pub saved-served : {E : Type 0} (r : Result Then E) (reading : Option (Result Asked LineFault)) (asked : Result Asked LineFault) (line : List ℕ) (d : Driven) (old new : List ℕ)
+    → reading ≡ Some asked → IfOk r (λ next. (packets : List ℕ) × IsSavingServed asked (machine_now d) next packets × (new ≡ old ++ packets))
+    → IfOk r (λ next. (packets : List ℕ) × IsCommandServed reading line d d next packets × (new ≡ old ++ packets))
+saved-served r reading asked line d old new is h =
+    subst (λ o. IfOk r (λ next. (packets : List ℕ) × IsCommandServed o line d d next packets × (new ≡ old ++ packets))) (sym is)
+    (if-ok-map r _ _ (λ next g. (g.0, (refl, g.1), g.2)) h)
+
+pub saved-begun : {E : Type 0} (r : Result Then E) (reading : Option (Result Asked LineFault)) (asked : Result Asked LineFault) (line : List ℕ) (d : Driven)
+    → reading ≡ Some asked → OnErr r (IsCommandBegun reading line d d)
+saved-begun r reading asked line d is = on-err r _ (subst (λ o. IsCommandBegun o line d d) (sym is) refl)
+
+-- any other was answered at once
+pub at_once-served : {E : Type 0} (r : Result Then E) (reading : Option (Result Asked LineFault)) (line : List ℕ) (d t : Driven) (old new : List ℕ) → reading ≡ None
+    → IfOk r (λ next. (next ≡ GoOn) × ((text : List ℕ) × IsAnswered (inquiry_of line) line d t text × (new ≡ old ++ framed (line_text text))))
+    → IfOk r (λ next. (packets : List ℕ) × IsCommandServed reading line d t next packets × (new ≡ old ++ packets))
+at_once-served r reading line d t old new is h =
+    subst (λ o. IfOk r (λ next. (packets : List ℕ) × IsCommandServed o line d t next packets × (new ≡ old ++ packets))) (sym is)
+    (if-ok-map r _ _ (λ next g. (framed (line_text g.1.0), (g.0, (g.1.0, g.1.1, refl)), g.1.2)) h)
+
+pub at_once-begun : {E : Type 0} (r : Result Then E) (reading : Option (Result Asked LineFault)) (line : List ℕ) (d t : Driven) → reading ≡ None
+    → OnErr r (IsBegun (inquiry_of line) line d t) → OnErr r (IsCommandBegun reading line d t)
+at_once-begun r reading line d t is h = subst (λ o. OnErr r (IsCommandBegun o line d t)) (sym is) h

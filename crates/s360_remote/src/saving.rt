@@ -1,0 +1,62 @@
+//! Lines of gdb's user that save: the file is made here, and written elsewhere.
+ghost use Rattle.std.specs.Prelude.{◌≡◌, ◌++◌, ℕ, List, IfOk, OnOk};
+ghost use Rattle.s360_packet.specs.Framing.{framed};
+ghost use Rattle.s360_saving.specs.Outcomes.{outcome_text};
+ghost use Rattle.s360_remote.specs.Saving.{IsSavingServed, IsWrittenTold};
+ghost use Rattle.s360_remote.specs.Replies.{line_text};
+ghost use Rattle.s360_remote.specs.Serving.{machine_now};
+
+use crate::error_number::ErrorNumber;
+use crate::replies::Replies;
+use crate::serving::{Then, tell_line};
+use crate::target::Target;
+use s360_debug::text_of_fault;
+use s360_language::LineFault;
+use s360_saving::{Amount, SaveFault, Saving, file_for, outcome_text};
+use std::alloc::AllocError;
+
+/// Hands up the file that a line asks for, or tells what is wrong with the line.
+pub(crate) fn save(
+    target: &Target,
+    asked: Result<Saving<'_>, LineFault>,
+    replies: &mut Replies,
+) -> Result<Then, AllocError>
+    ensures { IfOk result (λ next. (packets : List ℕ) × IsSavingServed asked.entry (machine_now target.now) next packets × (replies.new ≡ replies.old ++ packets)) }
+{
+    match asked {
+        Ok(saving) => Ok(Then::Save(file_for(target.alloc, target.machine(), saving)?)),
+        Err(fault) => {
+            tell_line(&text_of_fault(target.alloc, fault)?, replies)?;
+            Ok(Then::GoOn)
+        }
+    }
+}
+
+impl Replies {
+    /// Adds what answers a line whose file was written or not, or that memory lacks for that.
+    pub fn push_written(
+        &mut self,
+        amount: Amount,
+        outcome: Result<(), SaveFault>,
+    ) -> Result<(), AllocError>
+        ensures { OnOk result ((packets : List ℕ) × IsWrittenTold amount outcome packets × (self.new ≡ self.old ++ packets)) }
+    {
+        let mut answered = Replies::new(self.alloc);
+        match answered.push_outcome(amount, outcome) {
+            Ok(()) => self.push_all(&answered),
+            Err(AllocError) => self.push(ErrorNumber::Memory.answer()),
+        }
+    }
+
+    /// Tells how the writing of a file ended.
+    fn push_outcome(
+        &mut self,
+        amount: Amount,
+        outcome: Result<(), SaveFault>,
+    ) -> Result<(), AllocError>
+        ensures { OnOk result (self.new ≡ self.old ++ framed (line_text (outcome_text amount outcome))) }
+    {
+        let text = outcome_text(self.alloc, amount, outcome)?;
+        tell_line(&text, self)
+    }
+}

@@ -1,0 +1,20 @@
+-- What the 1052 typed, and the lines that were entered, as a file (own profile). The console keeps them apart. So the file has
+-- first what was typed, in the lines of `show m`, and then the lines that were entered, as a script enters them.
+use Rattle.std.specs.Prelude.{ℕ, List, ◌++◌, codes, length, map, nat_eq}
+use Rattle.std.specs.List.{filter, flat_map}
+use Rattle.s360_language.specs.ShownItems.{sign_of, typed_line}
+use Rattle.s360_print.specs.Console.{ConsoleMedia}
+
+abbrev pub word_and_signs : List ℕ → List ℕ → List ℕ
+word_and_signs word bytes = word ++ codes " " ++ map sign_of bytes
+
+-- a line that was entered, with the blanks at its end
+abbrev pub entered_line : List ℕ → List ℕ
+entered_line line = word_and_signs (codes "enter") line ++ codes "\n"
+
+abbrev pub console_file : ConsoleMedia → List ℕ
+console_file c = flat_map typed_line c.typed ++ flat_map entered_line c.entered
+
+-- as many lines as are ended
+abbrev pub line_count : List ℕ → ℕ
+line_count file = length (filter (λ b. nat_eq b 0x0A) file)

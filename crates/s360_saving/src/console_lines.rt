@@ -1,0 +1,90 @@
+//! The file of what the console typed, and of the lines that were entered.
+ghost use Rattle.std.specs.Prelude.{◌≡◌, ◌++◌, IfOk, OnOk, codes};
+ghost use Rattle.std.specs.List.{flat_map};
+ghost use Rattle.s360_language.specs.ShownItems.{item_line, typed_line};
+ghost use Rattle.s360_saving.specs.ConsoleLines.{console_file, entered_line, line_count, word_and_signs};
+
+use s360_language::push_signs;
+use s360_print::{ConsoleMedia, Line, TypedItem};
+use s360_text::Text;
+use std::alloc::{AllocError, Global};
+
+/// The file of what was typed, and then of the lines that were entered.
+pub(crate) fn console_file_of(alloc: Global, media: &ConsoleMedia) -> Result<Text, AllocError>
+    ensures { IfOk result (λ text. text ≡ console_file media.now.media) }
+{
+    let mut text = Text::new(alloc);
+    push_all_typed(alloc, &mut text, media)?;
+    push_all_entered(&mut text, media)?;
+    Ok(text)
+}
+
+/// Adds what was typed.
+fn push_all_typed(alloc: Global, text: &mut Text, media: &ConsoleMedia) -> Result<(), AllocError>
+    ensures { OnOk result (text.new ≡ text.old ++ flat_map typed_line media.now.media.typed) }
+{
+    for index in 0..media.typed_count() {
+        if let Some(item) = media.typed(index + 1) {
+            push_typed(alloc, text, item)?;
+        }
+    }
+    Ok(())
+}
+
+/// Adds the lines that were entered.
+fn push_all_entered(text: &mut Text, media: &ConsoleMedia) -> Result<(), AllocError>
+    ensures { OnOk result (text.new ≡ text.old ++ flat_map entered_line media.now.media.entered) }
+{
+    for index in 0..media.entered_count() {
+        if let Some(line) = media.line(index + 1) {
+            push_entered(text, line)?;
+        }
+    }
+    Ok(())
+}
+
+/// Adds what was typed, as `show m` shows it.
+fn push_typed(alloc: Global, text: &mut Text, item: &TypedItem) -> Result<(), AllocError>
+    ensures { OnOk result (text.new ≡ text.old ++ typed_line item.now) }
+{
+    match item {
+        TypedItem::Text(line) => push_item(alloc, text, "type", line.as_slice()),
+        TypedItem::Return(line) => push_item(alloc, text, "return", line.as_slice()),
+        TypedItem::Alarm => text.push_text("alarm\n"),
+    }
+}
+
+/// Adds a line of a word and the signs of bytes, without the blanks at its end.
+fn push_item(alloc: Global, text: &mut Text, word: &str, bytes: &[u8]) -> Result<(), AllocError>
+    ensures { OnOk result (text.new ≡ text.old ++ item_line word.now bytes.now) }
+{
+    let mut line = Text::new(alloc);
+    push_word_and_signs(&mut line, word, bytes)?;
+    line.drop_blanks();
+    line.push_text("\n")?;
+    text.push_bytes(line.as_bytes())
+}
+
+/// Adds a line that was entered, as a script enters it.
+fn push_entered(text: &mut Text, line: &Line) -> Result<(), AllocError>
+    ensures { OnOk result (text.new ≡ text.old ++ entered_line line.now) }
+{
+    push_word_and_signs(text, "enter", line.as_slice())?;
+    text.push_text("\n")
+}
+
+/// Adds a word, and the signs of bytes behind a blank.
+fn push_word_and_signs(text: &mut Text, word: &str, bytes: &[u8]) -> Result<(), AllocError>
+    ensures { OnOk result (text.new ≡ text.old ++ word_and_signs word.now bytes.now) }
+{
+    text.push_text(word)?;
+    text.push_text(" ")?;
+    push_signs(text, bytes)
+}
+
+/// How many lines a file has.
+pub(crate) fn line_count(file: &[u8]) -> usize
+    ensures { result ≡ line_count file.now }
+{
+    file.iter().filter(|byte| **byte == b'\n').count()
+}

@@ -1,0 +1,97 @@
+//! The file that a line asks for.
+ghost use Rattle.std.specs.Prelude.{◌≡◌, IfOk};
+ghost use Rattle.s360_machine.specs.Machine.{seen};
+ghost use Rattle.s360_channel.specs.ConfiguredUnits.{unit_at};
+ghost use Rattle.s360_saving.specs.Files.{amount_of, bytes_of, file_for, tape_at};
+
+use crate::cards::cards_of;
+use crate::console_lines::{console_file_of, line_count};
+use crate::pages::{page_count, pages_of};
+use crate::saving::{Medium, Saving};
+use s360_device::COLUMNS;
+use s360_machine::Machine;
+use s360_tape::image_of;
+use s360_text::Text;
+use s360_word::Unit;
+use std::alloc::{AllocError, Global};
+
+/// How much a file has.
+#[derive(Clone, Copy, Debug, PartialEq, Eq)]
+pub enum Amount {
+    /// So many pages.
+    Pages(u32),
+    /// So many cards.
+    Cards(usize),
+    /// So many lines.
+    Lines(usize),
+    /// So many bytes.
+    Bytes(usize),
+}
+
+/// A file that is to be written.
+#[derive(Debug, Drop)]
+pub struct FileToWrite {
+    /// Its name.
+    pub name: Text,
+    /// Whether a file that is there is written over.
+    pub over: bool,
+    /// What it has.
+    pub bytes: Text,
+    /// How much that is.
+    pub amount: Amount,
+}
+
+/// The file that is asked for of a machine, which stays as it is.
+pub fn file_for(
+    alloc: Global,
+    machine: &Machine,
+    saving: Saving<'_>,
+) -> Result<FileToWrite, AllocError>
+    ensures { IfOk result (λ file. file ≡ file_for (seen machine.now.whole) saving.entry) }
+{
+    let bytes = bytes_of(alloc, machine, saving.what)?;
+    let amount = amount_of(machine, saving.what, bytes.as_bytes());
+    let mut name = Text::new(alloc);
+    name.push_bytes(saving.name)?;
+    Ok(FileToWrite {
+        name,
+        over: saving.over,
+        bytes,
+        amount,
+    })
+}
+
+/// The bytes of a file.
+fn bytes_of(alloc: Global, machine: &Machine, what: Medium) -> Result<Text, AllocError>
+    ensures { IfOk result (λ text. text ≡ bytes_of (seen machine.now.whole) what) }
+{
+    match what {
+        Medium::Printer => pages_of(alloc, machine.printer().media()),
+        Medium::Punch(stacker) => cards_of(alloc, machine.punch().media(), stacker),
+        Medium::Console => console_file_of(alloc, machine.console().media()),
+        Medium::Tape0 => tape_at(alloc, machine, Unit::new(0x180)),
+        Medium::Tape1 => tape_at(alloc, machine, Unit::new(0x181)),
+    }
+}
+
+/// The file of a unit's tape. It has no byte if the machine has no tape there.
+fn tape_at(alloc: Global, machine: &Machine, unit: Unit) -> Result<Text, AllocError>
+    ensures { IfOk result (λ text. text ≡ tape_at (seen machine.now.whole) (unit_at unit.0)) }
+{
+    match machine.tape(unit) {
+        Some(tape) => Ok(Text::of_bytes(alloc, image_of(alloc, tape)?)),
+        None => Ok(Text::new(alloc)),
+    }
+}
+
+/// How much a file of these bytes has.
+fn amount_of(machine: &Machine, what: Medium, file: &[u8]) -> Amount
+    ensures { result ≡ amount_of (seen machine.now.whole) what file.now }
+{
+    match what {
+        Medium::Printer => Amount::Pages(page_count(machine.printer().media())),
+        Medium::Punch(_) => Amount::Cards(file.len() / COLUMNS),
+        Medium::Console => Amount::Lines(line_count(file)),
+        Medium::Tape0 | Medium::Tape1 => Amount::Bytes(file.len()),
+    }
+}
