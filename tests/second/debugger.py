@@ -91,10 +91,10 @@ class Debugger:
     def answer_patch(self, kind, *words):
         if kind == "s" and len(words[1]) > 2 * MOST_PATCHED:
             return ["refused 5 patch too long"]
-        places = self.places_of(kind, *words)
-        if places is None:
+        if self.places_of(kind, *words) is None:
             return ["refused 2 outside storage"]
-        return self.report(f"patch {kind}", lambda: self.put_all(places))
+        # What a key or a fetch bit is put beside may be another once an earlier change is withdrawn.
+        return self.report(f"patch {kind}", lambda: self.put_all(self.places_of(kind, *words)))
 
     def places_of(self, kind, *words):
         """The values that the words of a patch put into places, if these are all there."""
