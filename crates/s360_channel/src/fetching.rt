@@ -14,7 +14,7 @@ const LOADING_WORD: u64 = 0x0200_0000_6000_0018;
 
 /// What a channel finds where a program goes on.
 #[derive(Clone, Copy, Debug, PartialEq, Eq)]
-pub(crate) enum Fetched {
+pub enum Fetched {
     /// A program check. The last word that it looked at stands at this address.
     Broken(u32),
     /// A word that can be executed, at this address.
@@ -22,7 +22,7 @@ pub(crate) enum Fetched {
 }
 
 /// The word at an address, if it is that of a doubleword inside storage.
-fn ccw_at(storage: &Storage, address: u32) -> Option<Ccw>
+pub fn ccw_at(storage: &Storage, address: u32) -> Option<Ccw>
     ensures { result ≡ ccw_at storage.now address }
 {
     if address % 8 != 0 || u64::from(address) + 8 > u64::from(storage.size()) {
@@ -61,7 +61,7 @@ fn transferred_to(storage: &Storage, same_record: bool, address: u32, transfer: 
 }
 
 /// The word with which a program goes on.
-pub(crate) fn next_ccw(storage: &Storage, program: &Program) -> Fetched
+pub fn next_ccw(storage: &Storage, program: &Program) -> Fetched
     ensures { result ≡ next_ccw storage.now program.now }
 {
     if program.progress.is_loading() {

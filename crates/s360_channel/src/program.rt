@@ -42,7 +42,7 @@ impl Progress {
     }
 
     /// Whether the next word is that with which loading begins.
-    pub(crate) fn is_loading(&self) -> bool
+    pub fn is_loading(&self) -> bool
         ensures { result ≡ is_loading self.now }
     {
         matches!(self, Progress::Loading)
@@ -59,7 +59,7 @@ impl Progress {
     }
 
     /// The command of a word: where the record goes on that of its first word, and else its own.
-    pub(crate) fn command_with(&self, ccw: &Ccw) -> u8
+    pub fn command_with(&self, ccw: &Ccw) -> u8
         ensures { result ≡ command_with self.now ccw.now }
     {
         match self {
@@ -91,7 +91,7 @@ impl Progress {
     }
 
     /// How many bytes that is, for a device that takes at most so many.
-    pub(crate) fn count_within(&self, limit: u32) -> u32
+    pub fn count_within(&self, limit: u32) -> u32
         ensures count { result ≡ length (gathered_within limit self.now) }
         ensures few { result ≤ limit }
     {

@@ -10,15 +10,15 @@ use s360_word::ProtectionKey;
 
 /// What a word moves of a record.
 #[derive(Clone, Copy, Debug, PartialEq, Eq)]
-pub(crate) struct Transfer {
+pub struct Transfer {
     /// The number of bytes.
-    pub(crate) count: u16,
+    pub count: u16,
     /// Whether the record goes on with the next word.
-    pub(crate) goes_on: bool,
+    pub goes_on: bool,
     /// The bytes of the count that are left, where it does not.
-    pub(crate) residual: u16,
+    pub residual: u16,
     /// Whether an incorrect length is told, where it does not.
-    pub(crate) incorrect_length: bool,
+    pub incorrect_length: bool,
 }
 
 /// Whether a wrong length is told.
@@ -50,7 +50,7 @@ pub(crate) fn input_transfer(ccw: &Ccw, left: u32) -> Transfer
 }
 
 /// What a word moves of an output that takes so many bytes more.
-pub(crate) fn output_transfer(ccw: &Ccw, left: u32) -> Transfer
+pub fn output_transfer(ccw: &Ccw, left: u32) -> Transfer
     ensures { result ≡ output_transfer ccw.now left }
 {
     transfer_with(ccw, left, left < u32::from(ccw.count))

@@ -42,7 +42,7 @@ instruction_of-unknown m a h =
     in rw (operation-met c.odd_address c.outside_first c.protected_first c.outside_rest c.protected_rest h) refl
 
 -- the outcome of an instruction that was fetched
-outcome-of-form : (m : Core) (a : ℕ) (form : Option Form) → program_code (conditions_at m a) ≡ None → instruction_of m a form ≡ fetched_outcome (view_at m a) form
+pub outcome-of-form : (m : Core) (a : ℕ) (form : Option Form) → program_code (conditions_at m a) ≡ None → instruction_of m a form ≡ fetched_outcome (view_at m a) form
 outcome-of-form m a None h =
     let late : unknown_outcome m ≡ fetched_outcome (view_at m a) None = rw h refl
     in instruction_of-unknown m a h ∙ late
@@ -79,10 +79,10 @@ refused-met false false false true q o code h = h
 refused-met false false false false true o code h = h
 refused-met false false false false false o code h = absurd (cc)
 
-abbrev refused_outcome : Core → ProgramCode → Outcome
+abbrev pub refused_outcome : Core → ProgramCode → Outcome
 refused_outcome m code = record { ended = Program code; core = m }
 
-instruction_of-refused : (m : Core) (a : ℕ) (form : Option Form) (code : ProgramCode) → program_code (conditions_at m a) ≡ Some code → instruction_of m a form ≡ refused_outcome m code
+pub instruction_of-refused : (m : Core) (a : ℕ) (form : Option Form) (code : ProgramCode) → program_code (conditions_at m a) ≡ Some code → instruction_of m a form ≡ refused_outcome m code
 instruction_of-refused m a form code h =
     let c : Conditions = conditions_at m a
     in rw (refused-met c.odd_address c.outside_first c.protected_first c.outside_rest c.protected_rest (is_none form) code h) refl

@@ -60,7 +60,9 @@ fn length_of_bytes(bytes: usize) -> InstructionLength
     }
 }
 
-/// Fetches the instruction at the instruction address, or says what keeps it from being fetched.
+/// Fetches the instruction at the instruction address, or says what keeps it from being fetched. It is done for each event of
+/// the CPU, and its call would cost more than what it does.
+#[inline(always)]
 pub fn fetch<'a>(
     psw: Psw,
     registers: &'a [Word; 16],
@@ -96,6 +98,13 @@ impl<'a> Fetched<'a> {
         ensures { result.now ≡ self.now.view }
     {
         &self.view
+    }
+
+    /// Its form, if its code is that of an operation.
+    pub fn form(&self) -> Option<Form>
+        ensures { result ≡ self.now.form }
+    {
+        self.form
     }
 
     /// What it makes, if it is a fixed-point, branch or shift instruction.

@@ -21,4 +21,4 @@ mod status;
 
 pub use cpu::{Fetched, PlannedInstruction, fetch, plan_instruction};
 pub use laws::digits_of_apart_operands;
-pub use logic::plan_logic;
+pub use logic::{plan_logic, subject_of, with_ored_byte};

@@ -134,7 +134,7 @@ fn plan_row(form: &Form, view: &View, plan: &mut Plan) -> Result<Ended, AllocErr
 }
 
 /// The field R1 of an execute, and the address of its subject.
-pub(crate) fn subject_of(form: &Form, view: &View) -> Option<(RegisterNumber, u32)>
+pub fn subject_of(form: &Form, view: &View) -> Option<(RegisterNumber, u32)>
     ensures { result ≡ subject_of view.now form.now }
 {
     match *form {
@@ -150,7 +150,7 @@ pub(crate) fn subject_of(form: &Form, view: &View) -> Option<(RegisterNumber, u3
 }
 
 /// The bytes of a subject with the low byte of R1 ored into the second, where the field R1 is not 0.
-fn with_ored_byte(view: &View, r1: RegisterNumber, bytes: &[u8]) -> ArrayVec<u8, 6>
+pub fn with_ored_byte(view: &View, r1: RegisterNumber, bytes: &[u8]) -> ArrayVec<u8, 6>
     requires two { 1 < length bytes.now }
     requires six { length bytes.now ≤ 6 }
     ensures bytes { result.items ≡ with_ored_byte view.now r1 bytes.now }

@@ -1,15 +1,16 @@
 //! What an instruction works on: the current PSW, the general registers and main storage. Source:
 //! GA22-6821, "System Structure".
-ghost use Rattle.std.specs.Prelude.{◌≡◌, ◌≢◌, ◌<◌, ◌≤◌, ◌+◌, ◌^◌, [], length, slice_index, true, IfOk, OnOk};
+ghost use Rattle.std.specs.Prelude.{◌≡◌, ◌≢◌, ◌<◌, ◌≤◌, ◌+◌, ◌^◌, [], length, slice_index, true, IfErr, IfOk, OnOk, Some};
 ghost use Rattle.std.specs.Bool.{MatchBool};
 ghost use Rattle.s360_model.specs.Core.{zero_core_with, core_with_bytes, core_with_psw, core_with_word};
-ghost use Rattle.s360_model.specs.Psw.{IsCurrentPsw};
+ghost use Rattle.s360_model.specs.Psw.{IsCurrentPsw, instruction_address_of};
 ghost use Rattle.s360_store.specs.Cells.{AllFit, AreCellsOf, after_exchange, byte_cells, cells_after_exchange};
 ghost use Rattle.s360_store.specs.Items.{cells_of_part};
 ghost use Rattle.s360_store.specs.Places.{IsPlaceOf, value_at};
 ghost use Rattle.s360_store.specs.Differences.{AreKept, IsCoreChangeTo, KeepsAltering};
 ghost use Rattle.s360_store.specs.Plans.{HasBytes, IsPlanOf};
-ghost use Rattle.s360_logic.specs.Instruction.{PlansInstruction, instruction};
+ghost use Rattle.s360_fixed.specs.ProgramCodes.{program_code};
+ghost use Rattle.s360_logic.specs.Instruction.{PlansInstruction, conditions_at, instruction};
 ghost use Rattle.s360_machine.specs.Rows.{HasSameCounts, IsOver, cells_of_row};
 
 use crate::changes::Plain;
@@ -91,7 +92,8 @@ impl Core {
 
     /// Fetches the instruction at the instruction address.
     pub(crate) fn fetch(&self) -> Result<Fetched<'_>, ProgramCode>
-        ensures { IfOk result (λ f. f.view.core ≡ self.now) }
+        ensures ok { IfOk result (λ f. f.view.core ≡ self.now) }
+        ensures err { IfErr result (λ code. program_code (conditions_at self.now (instruction_address_of self.now.psw)) ≡ Some code) }
     {
         s360_logic::fetch(self.psw, &self.registers, &self.storage)
     }

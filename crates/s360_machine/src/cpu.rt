@@ -1,7 +1,9 @@
 //! One CPU event: an interruption, or one instruction with the interruption that it causes. Source:
 //! GA22-6821, "Interruptions", "Status Switching" and "System Structure", program execution.
-ghost use Rattle.std.specs.Prelude.{◌≡◌, [], IfOk, IfSome};
-ghost use Rattle.s360_logic.specs.Instruction.{PlansInstruction, instruction};
+ghost use Rattle.std.specs.Prelude.{◌≡◌, [], IfErr, IfOk, IfSome, Some};
+ghost use Rattle.s360_model.specs.Psw.{instruction_address_of};
+ghost use Rattle.s360_fixed.specs.ProgramCodes.{program_code};
+ghost use Rattle.s360_logic.specs.Instruction.{PlansInstruction, conditions_at, instruction};
 ghost use Rattle.s360_psw.specs.Pending.{next_interruption_of};
 ghost use Rattle.s360_machine.specs.Changes.{change_of_core};
 ghost use Rattle.s360_machine.specs.Cpu.{after_case, after_cpu, after_external, after_instruction};
@@ -20,7 +22,7 @@ use std::alloc::AllocError;
 
 /// What a CPU event is: the first of these that holds.
 #[derive(Clone, Copy, Debug, PartialEq, Eq)]
-pub(crate) enum CpuCase {
+pub enum CpuCase {
     /// The machine is stopped or loads, and nothing happens.
     Halted,
     /// An interruption of this class is pending, and its mask is one.
@@ -58,7 +60,7 @@ impl Machine {
     }
 
     /// What a CPU event is.
-    fn cpu_case(&self) -> CpuCase
+    pub fn cpu_case(&self) -> CpuCase
         ensures { result ≡ cpu_case (seen self.now.whole) }
     {
         if !self.control.run_state().is_operating() {
@@ -69,6 +71,14 @@ impl Machine {
             None if self.core.psw().wait() => CpuCase::Waiting,
             None => CpuCase::Executing,
         }
+    }
+
+    /// Fetches the instruction at the instruction address, or says what keeps it from being fetched.
+    pub fn fetch(&self) -> Result<Fetched<'_>, ProgramCode>
+        ensures ok { IfOk result (λ f. f.view.core ≡ self.now.whole.core) }
+        ensures err { IfErr result (λ code. program_code (conditions_at self.now.whole.core (instruction_address_of self.now.whole.core.psw)) ≡ Some code) }
+    {
+        self.core.fetch()
     }
 
     /// What a CPU event alters.

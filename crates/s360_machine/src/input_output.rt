@@ -2,6 +2,7 @@
 //! interruption. Source: GA22-6821, "Input/Output Operations".
 ghost use Rattle.std.specs.Prelude.{◌≡◌, ◌≤◌, ◌+◌, [], IfOk, OnOk, length};
 ghost use Rattle.s360_store.specs.Plans.{IsPlanOf};
+ghost use Rattle.s360_channel.specs.ConfiguredUnits.{interrupting_unit};
 ghost use Rattle.s360_channel.specs.IoInstructions.{units_after_io};
 ghost use Rattle.s360_channel.specs.UnitChanges.{IsUnitsChangeTo};
 ghost use Rattle.s360_machine.specs.InputOutput.{after_input_output, after_io, after_taking};
@@ -60,7 +61,7 @@ impl Core {
 
 impl Machine {
     /// What an input/output instruction does.
-    fn io_result(&self, operation: IoOperation, unit: Unit) -> IoResult
+    pub fn io_result(&self, operation: IoOperation, unit: Unit) -> IoResult
         ensures { result ≡ io_result operation unit (seen self.now.whole) }
     {
         match operation {
@@ -69,6 +70,13 @@ impl Machine {
             IoOperation::Halt => halt(&self.units, unit),
             IoOperation::TestChannel => test_channel(&self.units, unit.address() / 0x100),
         }
+    }
+
+    /// The lowest unit that interrupts, whose channel the PSW lets do so.
+    pub fn interrupting_unit(&self) -> Option<ConfiguredUnit>
+        ensures { result ≡ interrupting_unit self.now.whole.core.psw self.now.whole.units }
+    {
+        self.units.interrupting_unit(self.core.psw())
     }
 
     /// What makes the unit stand so that an input/output instruction alters.
@@ -105,7 +113,7 @@ impl Machine {
         requires empty { plan.old ≡ [] }
         ensures { IfOk result (λ planned. IsPlanOfMachine self.now.whole plan.new planned (after_input_output (seen self.now.whole))) }
     {
-        let Some(unit) = self.units.interrupting_unit(self.core.psw()) else {
+        let Some(unit) = self.interrupting_unit() else {
             return Ok(self.planned(self.control));
         };
         match self.units.control(unit).condition() {

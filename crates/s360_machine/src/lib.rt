@@ -33,6 +33,7 @@ mod timer;
 
 pub use change_spans::{ChangeSpans, SpansApart};
 pub use changes::Changes;
+pub use cpu::CpuCase;
 pub use event::{Event, Patch};
 pub use event_kind::{EventKind, KeyKind, PatchKind};
 pub use external::ExternalConditions;

@@ -9,7 +9,7 @@ ghost use Rattle.s360_model.specs.Storage.{is_storage_size, zero_storage, halfwo
 ghost use Rattle.s360_model.specs.Storage.{doubleword_at, block_size, with_run};
 ghost use Rattle.s360_model.specs.Storage.{fetch_bit_of_block, key_limit, key_of_block, with_fetch_bit};
 ghost use Rattle.s360_store.specs.Places.{IsStoragePlace, storage_value, with_storage_value, Fits};
-ghost use Rattle.s360_store.specs.Protection.{access, block_allows, is_allowed, is_protected};
+ghost use Rattle.s360_store.specs.Protection.{access, block_allows, is_allowed};
 ghost use Rattle.s360_store.specs.declared.fault.StoreFault.TheVariants.{Size, Memory};
 
 use crate::block_key::BlockKey;
@@ -214,24 +214,21 @@ impl Storage {
         if end > self.bytes.len() as u64 {
             return Checked::Addressing;
         }
-        if self.protects(kind) && !self.allows(address, count, kind, key) {
-            Checked::Protection
-        } else {
+        // Most accesses are free, so that no block is looked at.
+        let is_free = match kind {
+            Access::Fetch => !self.fetch_protection,
+            Access::Store => key.number() == 0,
+        };
+        if is_free || self.allows(address, count, kind, key) {
             Checked::Clear
-        }
-    }
-
-    /// Whether an access is protected at all.
-    fn protects(&self, kind: Access) -> bool
-        ensures { result ≡ is_protected self.now kind }
-    {
-        match kind {
-            Access::Fetch => self.fetch_protection,
-            Access::Store => true,
+        } else {
+            Checked::Protection
         }
     }
 
     /// Whether a key allows the access to each byte of an operand.
+    #[cold]
+    #[inline(never)]
     fn allows(&self, address: u32, count: u32, kind: Access, key: ProtectionKey) -> bool
         requires inside { address + count ≤ length self.now.bytes }
         requires small { length self.now.bytes ≤ 1048576 }
