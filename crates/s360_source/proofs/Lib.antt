@@ -1,0 +1,37 @@
+pub mod AgreementLemmas
+pub mod EffectLemmas
+pub mod SuppressionLemmas
+pub mod RowLemmas
+pub mod CombinationLemmas
+pub mod DivisionLemmas
+pub mod BranchLemmas
+pub mod StatusLemmas
+pub mod StoreLemmas
+pub mod MultipleLemmas
+pub mod ConversionLemmas
+pub mod RegisterLaws
+pub mod IndexedLaws
+pub mod ShiftLaws
+pub mod ImmediateLaws
+pub mod LeftToRightLemmas
+pub mod SearchLemmas
+pub mod DigitLemmas
+pub mod StorageLaws
+pub mod InstructionLaws
+pub mod InterruptionLaws
+pub mod EventLaws
+pub mod KeyLaws
+pub mod CpuLaws
+pub mod ExecutionLemmas
+pub mod ChannelLemmas
+pub mod ChannelLaws
+pub mod LawOfSources
+pub mod FoundLemmas
+pub mod WordLemmas
+pub mod StoredLemmas
+pub mod DeciderLaws
+pub mod PartLemmas
+pub mod ByteLemmas
+pub mod ShapeLemmas
+mod KnownSources
+mod KnownChannelSources

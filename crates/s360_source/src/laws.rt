@@ -1,0 +1,21 @@
+//! The law of sources, the contract of a call that does nothing.
+ghost use Rattle.s360_source.specs.Laws.{InstructionDecided, InstructionFollows};
+ghost use Rattle.s360_source.specs.MachineLaws.{EventFollows};
+
+/// Where two machines of one size and profile execute instructions of one shape, and have the same at the sources of a
+/// place, they have the same at that place afterwards, before any interruption that follows.
+pub fn instructions_follow_their_sources()
+    ensures { InstructionFollows }
+{}
+
+/// Where two machines of one size and profile meet an event that is not refused, and it has one shape in both, they have the same
+/// at a place afterwards if they have the same at its sources. The interruptions that the event causes are a part of it.
+pub fn events_follow_their_sources()
+    ensures { EventFollows }
+{}
+
+/// Two machines of one size and profile that have the same at the deciders of an instruction perform the same instruction, on
+/// operands at the same places. That it ends alike in both is not promised.
+pub fn deciders_decide_the_instruction()
+    ensures { InstructionDecided }
+{}
