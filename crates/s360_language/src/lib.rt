@@ -21,6 +21,6 @@ pub use names::{
     name_of_external, push_event, push_place, push_refusal, push_run_state, refusal_text,
 };
 pub use show::{push_block_key, text_of_shown};
-pub use show_items::push_signs;
+pub use show_items::{line_of_typed, push_signs};
 pub use show_units::{push_control, push_device, push_digits};
 pub use words::{Words, is_word};

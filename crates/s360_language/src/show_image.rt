@@ -1,4 +1,4 @@
-//! What is shown of the file of a tape, as which it could be kept. docs/IMAGES.md has its format.
+//! What is shown of the file of a tape, as which it could be kept. docs/reference/images.md has its format.
 ghost use Rattle.std.specs.Prelude.{◌≡◌, ◌++◌, IfOk, OnOk};
 ghost use Rattle.s360_machine.specs.Machine.{seen};
 ghost use Rattle.s360_language.specs.ShownImages.{file_lines, file_text, image_text, tape_image};

@@ -141,7 +141,7 @@ fn line_of_record(alloc: Global, printed: &Record) -> Result<Text, AllocError>
 }
 
 /// The line of what the console typed.
-fn line_of_typed(alloc: Global, item: &TypedItem) -> Result<Text, AllocError>
+pub fn line_of_typed(alloc: Global, item: &TypedItem) -> Result<Text, AllocError>
     ensures { IfOk result (λ text. text ≡ typed_line item.now) }
 {
     match item {

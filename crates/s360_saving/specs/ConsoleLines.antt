@@ -5,12 +5,9 @@ use Rattle.std.specs.List.{filter, flat_map}
 use Rattle.s360_language.specs.ShownItems.{sign_of, typed_line}
 use Rattle.s360_print.specs.Console.{ConsoleMedia}
 
-abbrev pub word_and_signs : List ℕ → List ℕ → List ℕ
-word_and_signs word bytes = word ++ codes " " ++ map sign_of bytes
-
 -- a line that was entered, with the blanks at its end
 abbrev pub entered_line : List ℕ → List ℕ
-entered_line line = word_and_signs (codes "enter") line ++ codes "\n"
+entered_line line = codes "enter " ++ map sign_of line ++ codes "\n"
 
 abbrev pub console_file : ConsoleMedia → List ℕ
 console_file c = flat_map typed_line c.typed ++ flat_map entered_line c.entered

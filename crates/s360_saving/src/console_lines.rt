@@ -1,10 +1,10 @@
 //! The file of what the console typed, and of the lines that were entered.
-ghost use Rattle.std.specs.Prelude.{◌≡◌, ◌++◌, IfOk, OnOk, codes};
+ghost use Rattle.std.specs.Prelude.{◌≡◌, ◌++◌, IfOk, OnOk};
 ghost use Rattle.std.specs.List.{flat_map};
-ghost use Rattle.s360_language.specs.ShownItems.{item_line, typed_line};
-ghost use Rattle.s360_saving.specs.ConsoleLines.{console_file, entered_line, line_count, word_and_signs};
+ghost use Rattle.s360_language.specs.ShownItems.{typed_line};
+ghost use Rattle.s360_saving.specs.ConsoleLines.{console_file, entered_line, line_count};
 
-use s360_language::push_signs;
+use s360_language::{line_of_typed, push_signs};
 use s360_print::{ConsoleMedia, Line, TypedItem};
 use s360_text::Text;
 use std::alloc::{AllocError, Global};
@@ -47,21 +47,7 @@ fn push_all_entered(text: &mut Text, media: &ConsoleMedia) -> Result<(), AllocEr
 fn push_typed(alloc: Global, text: &mut Text, item: &TypedItem) -> Result<(), AllocError>
     ensures { OnOk result (text.new ≡ text.old ++ typed_line item.now) }
 {
-    match item {
-        TypedItem::Text(line) => push_item(alloc, text, "type", line.as_slice()),
-        TypedItem::Return(line) => push_item(alloc, text, "return", line.as_slice()),
-        TypedItem::Alarm => text.push_text("alarm\n"),
-    }
-}
-
-/// Adds a line of a word and the signs of bytes, without the blanks at its end.
-fn push_item(alloc: Global, text: &mut Text, word: &str, bytes: &[u8]) -> Result<(), AllocError>
-    ensures { OnOk result (text.new ≡ text.old ++ item_line word.now bytes.now) }
-{
-    let mut line = Text::new(alloc);
-    push_word_and_signs(&mut line, word, bytes)?;
-    line.drop_blanks();
-    line.push_text("\n")?;
+    let line = line_of_typed(alloc, item)?;
     text.push_bytes(line.as_bytes())
 }
 
@@ -69,17 +55,9 @@ fn push_item(alloc: Global, text: &mut Text, word: &str, bytes: &[u8]) -> Result
 fn push_entered(text: &mut Text, line: &Line) -> Result<(), AllocError>
     ensures { OnOk result (text.new ≡ text.old ++ entered_line line.now) }
 {
-    push_word_and_signs(text, "enter", line.as_slice())?;
+    text.push_text("enter ")?;
+    push_signs(text, line.as_slice())?;
     text.push_text("\n")
-}
-
-/// Adds a word, and the signs of bytes behind a blank.
-fn push_word_and_signs(text: &mut Text, word: &str, bytes: &[u8]) -> Result<(), AllocError>
-    ensures { OnOk result (text.new ≡ text.old ++ word_and_signs word.now bytes.now) }
-{
-    text.push_text(word)?;
-    text.push_text(" ")?;
-    push_signs(text, bytes)
 }
 
 /// How many lines a file has.

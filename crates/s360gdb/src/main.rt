@@ -1,4 +1,4 @@
-//! The program: serves gdb over a machine. docs/GDB.md tells of it.
+//! The program: serves gdb over a machine. docs/reference/gdb.md tells of it.
 #![tactic(auto)]
 
 mod file;
