@@ -94,17 +94,17 @@ def deck_of(words):
 
 
 def requests(some, count, has_deck):
-    """The data of the packets of a session."""
+    """The data of the packets of a session, each made once those before it are answered."""
     first = ["key eof", "load 00C"] if has_deck else []
-    data = [b"qRcmd," + line.encode().hex().encode() for line in first]
-    data += [some.request() for _ in range(count - len(first))]
+    fixed = {at: b"qRcmd," + line.encode().hex().encode() for at, line in enumerate(first)}
     if some.random() < 0.3:
-        data[some.randrange(count)] = STOP_ACKNOWLEDGING
+        fixed[some.randrange(count)] = STOP_ACKNOWLEDGING
     if some.random() < 0.1:
-        data[some.randrange(count)] = b"X2000,3ff%d:%s" % (some.choice([5, 6]), bytes(0x3FF5))
+        fixed[some.randrange(count)] = b"X2000,3ff%d:%s" % (some.choice([5, 6]), bytes(0x3FF5))
     if some.random() < 0.3:
-        data[-2] = some.choice([b"k", b"D", b"vKill;1"])
-    return data
+        fixed[count - 2] = some.choice([b"k", b"D", b"vKill;1"])
+    for number in range(count):
+        yield fixed.get(number) or some.request()
 
 
 def session(seed, count):
@@ -114,6 +114,7 @@ def session(seed, count):
     deck = DECK if some.random() < 0.5 else []
     words = [*deck, FETCH] if some.random() < 0.5 else deck
     target = Target(deck_of(words), protects_fetches=FETCH in words)
+    some.changes = target.recording.changes
     sent, connection = b"", Connection(target)
     for data in requests(some, count, bool(deck)):
         packet, before = some.packet(data), copy.copy(connection)

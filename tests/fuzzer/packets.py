@@ -27,15 +27,19 @@ LINES = [line.encode() for line in LINES]
 SAVED = [b"printer", b"printer", b"printer", b"console", b"console", b"punch", b"P1", b"P2", b"RP3"]
 SAVED += [b"tape0", b"tape1", b"x", b""]
 FILES = [b"a", b"a", b"b c", b" b  c", b"no/a", b"..", b"/dev/null", b"/dev/full", b""]
+NAMED = ["p", "run", "ext"]
 PLACES = ["p", "run", "ext", "u 00C", "u 00E", "d 00C", "d 01F", "k 200", "u 999"]
 # How often a kind of request is made.
 KINDS = {"forward": 20, "backward": 12, "write": 8, "loop": 2, "point": 8, "register": 10}
 KINDS |= {"all_registers": 2, "line": 12, "storage": 8, "read_register": 4, "description": 2}
-KINDS |= {"plain": 12}
+KINDS |= {"plain": 12, "why": 6}
 
 
 class Requests(random.Random):
-    """Random requests, and packets that carry them."""
+    """Random requests, and packets that carry them. What a place comes from is asked of those that
+    changes altered, where there are some."""
+
+    changes = ()
 
     def digits(self, count):
         return bytes(self.choice(HEX) for _ in range(count))
@@ -133,6 +137,16 @@ class Requests(random.Random):
         places = [b"who %s" % place, b"changes %s" % place, b"changes %s %d" % (place, number)]
         numbers = [b"goto %d" % number, b"history %d" % number, b"dump %X %d" % (at, number)]
         return places * 3 + numbers * 2
+
+    def why(self):
+        """Of a place that a change altered, most of them by the CPU, or of any that has a name."""
+        altering = [change for change in self.changes if change.places]
+        by_cpu = [change for change in altering if change.event[0] == "cpu"]
+        some = by_cpu if by_cpu and self.random() < 0.7 else altering
+        place = self.choice(self.choice(some).places if some else NAMED)
+        words = place if place in NAMED else f"{place[0]} {place[1:]}"
+        depth = self.choice(["", *range(7), self.choice([7, 30, 100, 101, "x"])])
+        return b"qRcmd," + f"why {words} {depth}".encode().hex().encode()
 
     def storage(self):
         return b"m%x,%x" % (self.address(), self.count())

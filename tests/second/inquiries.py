@@ -1,25 +1,38 @@
-"""What a person asks of a recording of the second machine, and is answered. Source: docs/GDB.md."""
+"""What a person asks of a recording of the second machine, and is answered.
+
+Source: docs/reference/gdb.md.
+"""
+import itertools
+
+from .causes import Causes
 from .channels import LOAD, UNITS, Program
 from .core import ADDRESSES, BLOCK
 from .devices import SHOWN
 from .lines import ADDRESS, COUNT, PLACES, TOO_LONG, UNKNOWN, count_up_to, fault_of
 from .machine import OPERATING
 
-CHANGES_TOLD = b"10"
-MOST_DUMPED = 1_048_576
+CHANGES_TOLD, DEPTH_TOLD = b"10", b"5"
+MOST_DUMPED, MOST_DEPTH, MOST_CAUSES = 1_048_576, 100, 1000
 NAMED_MARKS = (b"start", b"end", b"last")
+# What is meant where a line with a place has no number behind it.
+MEANT = {b"changes": CHANGES_TOLD, b"why": DEPTH_TOLD}
+
+
 FORMS = {b"who": PLACES, b"units": (), b"where": (), b"history": (COUNT,)}
 FORMS |= {b"goto": (lambda word: word in NAMED_MARKS or COUNT(word),)}
 FORMS |= {b"changes": {kind: (*form, COUNT) for kind, form in PLACES.items()}}
+FORMS |= {b"why": {kind: (*form, count_up_to(MOST_DEPTH)) for kind, form in PLACES.items()}}
 FORMS |= {b"dump": (ADDRESS, count_up_to(MOST_DUMPED))}
 
 
 def words_of(line):
-    """The words of a line, with the number that is meant where `changes` or `history` has none."""
+    """The words of a line, with the number that is meant where one that may have it has none."""
     words = list(filter(None, line.split(b" ")))
-    place = PLACES.get(words[1]) if words[:1] == [b"changes"] and len(words) > 1 else None
-    lacks_number = place is not None and len(words) == 2 + len(place) or words == [b"history"]
-    return [*words, CHANGES_TOLD] if lacks_number else words
+    if words == [b"history"]:
+        return [*words, CHANGES_TOLD]
+    meant = MEANT.get(words[0]) if words else None
+    place = PLACES.get(words[1]) if meant and len(words) > 1 else None
+    return [*words, meant] if place is not None and len(words) == 2 + len(place) else words
 
 
 class Inquiries:
@@ -101,6 +114,13 @@ class Inquiries:
         lines = [line for number in numbers for line in self.told(place, number)]
         self.go_to(stands)
         return lines or ["changes none"]
+
+    def answer_why(self, *words):
+        place, stands = self.recording.place_of(*words[:-1]), self.standing
+        causes = Causes(self).lines(place, int(words[-1]))
+        lines = list(itertools.islice(causes, MOST_CAUSES + 1))
+        self.go_to(stands)
+        return lines if len(lines) <= MOST_CAUSES else [*lines[:MOST_CAUSES], "and more"]
 
     def answer_history(self, most):
         stands = self.standing

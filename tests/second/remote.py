@@ -1,6 +1,6 @@
 """The target of gdb over the second machine: what is answered to the data of a packet.
 
-Sources: gdb manual, "Remote Serial Protocol" and "Reverse Execution"; docs/GDB.md.
+Sources: gdb manual, "Remote Serial Protocol" and "Reverse Execution"; docs/reference/gdb.md.
 """
 import re
 
@@ -22,7 +22,8 @@ PAIRS = rb"((?:[0-9a-fA-F]{2})*)"
 THREAD = rb"(-1|[0-9a-fA-F]{1,8})"
 # A pause is looked for within so many events.
 MOST_EVENTS = 3000
-HELP = [
+# The lines of a script, as help tells of them, and then those of gdb's user too.
+LINES = [
     "step: a CPU event",
     "channel U: a channel event of a unit",
     "tick: a tick of the timer",
@@ -34,7 +35,6 @@ HELP = [
     "patch k A K: gives the block of A a storage key",
     "patch f A D: gives the block of A a fetch bit, 0 or 1",
     "patch p Q: puts a doubleword into the PSW",
-    "patch f A D: gives the block of A a fetch bit, if fetches are protected",
     "run N: runs at most N events",
     "back: takes back the last change",
     "until: takes changes back to a breakpoint of `break`",
@@ -53,7 +53,11 @@ HELP = [
     "show d U: the sense bytes and the media of a unit",
     "show m U N: an item of a unit's media",
     "show image U: the file of a tape",
+]
+HELP = [
+    *LINES,
     "who P: goes to just before the last change of a place, as `last` names places, and tells it",
+    "why P, why P N: what made its value, and what that was made of, 5 or N changes deep",
     "goto N, goto start, goto end, goto last: goes to just after change N, to either end, to where"
     " one stood before",
     "changes P, changes P N: the last 10 or N changes of a place",

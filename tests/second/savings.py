@@ -1,4 +1,7 @@
-"""What gdb's user saves of the second machine in files, and is answered. Source: docs/GDB.md."""
+"""What gdb's user saves of the second machine in files, and is answered.
+
+Source: docs/reference/gdb.md.
+"""
 import re
 
 from .channels import CONSOLE, PRINTER, PUNCH, TAPES

@@ -45,6 +45,9 @@ BEFORE_THE_END = (1, 2, 3, 4, 8, 16, 24, 256)
 class Script:
     """A script, and the answers of the second machine to it."""
 
+    # How often an instruction is of each list.
+    weights = (30, 30, 10, 16, 12, 2)
+
     def __init__(self, seed):
         self.random = random.Random(seed)
         self.deck = deck(self.random)
@@ -158,7 +161,7 @@ class Script:
     def instruction(self):
         some = self.random
         lists = [FIXED_POINT, LOGICAL, STATUS, INPUT_OUTPUT, [EXECUTE], range(256)]
-        code = some.choice(some.choices(lists, [30, 30, 10, 16, 12, 2])[0])
+        code = some.choice(some.choices(lists, self.weights)[0])
         first = self.field()
         if code in INPUT_OUTPUT and some.random() < 0.9:
             first = some.choice([*UNITS * 4, *OTHER_UNITS, *self.units_with(Ended) * 8])

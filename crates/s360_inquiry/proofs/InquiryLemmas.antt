@@ -1,11 +1,11 @@
 -- A text that is told item by item, and the changes of a record.
-use Rattle.std.proofs.Common.{◌≡◌, ◌≢◌, ◌<◌, ◌≤◌, ◌+◌, ◌-◌, ◌++◌, ℕ, zero, suc, Bool, true, false, List, [], ◌∷◌, Option, Some, None, ap, sym, ◌∙◌, refl, arith, get_or, length, length-append, length-take, map, max, min, nat_eq, take, drop, append_assoc, codes}
-use Rattle.std.proofs.lemmas.List.{append-nil, take_min, take_more}
+use Rattle.std.proofs.Common.{◌≡◌, ◌<◌, ◌≤◌, ◌+◌, ◌-◌, ◌++◌, ℕ, zero, suc, Bool, true, false, List, [], ◌∷◌, Option, Some, None, ap, sym, ◌∙◌, refl, arith, get_or, length, length-append, length-take, map, min, take, drop, append_assoc, codes}
+use Rattle.std.proofs.lemmas.List.{append-nil, take_more}
 use Rattle.std.proofs.lemmas.List.Folds.{flat_map-map}
 use Rattle.std.proofs.lemmas.List.FromFn.{map-range_with_len_more}
 use Rattle.std.proofs.lemmas.Grind.{flat_map-append}
 use Rattle.std.specs.List.{flat_map, range_with_len, slice_get}
-use Rattle.std.specs.Option.{option_map, option_map_or, unwrap_or}
+use Rattle.std.specs.Option.{unwrap_or}
 use Rattle.std.specs.Prelude.{if◌then◌else◌}
 use Rattle.s360_store.specs.declared.place.Place.{Place}
 use Rattle.s360_machine.specs.declared.event.Event.{Event}
@@ -13,15 +13,15 @@ use Rattle.s360_machine.specs.declared.event_kind.EventKind.{EventKind}
 use Rattle.s360_machine.specs.EventKinds.{kind_of_event}
 use Rattle.s360_machine.specs.Machine.{Machine, seen}
 use Rattle.s360_machine.specs.Step.{after}
-use Rattle.s360_journal.specs.Rerun.{alters, last_numbered_from, or_else, rerun}
+use Rattle.s360_journal.specs.Rerun.{alters, last_numbered_from, or_else}
 use Rattle.s360_journal.specs.Standing.{alteration, last_kind_of, last_of, machine_of}
 use Rattle.s360_journal.specs.Reports.{IsReport}
 use Rattle.s360_journal.specs.declared.report.Report.{Report}
 use Rattle.s360_journal.specs.declared.report.Report.TheVariants.{Changed, Idle}
 use Rattle.s360_journal.proofs.SessionLemmas.{last-there}
-use Rattle.s360_record.specs.Recorded.{Recorded, next_recorded, rest_of, session_of, standing_events, with_standing}
+use Rattle.s360_record.specs.Recorded.{Recorded, next_recorded, session_of, standing_events, with_standing}
 use Rattle.s360_debug.specs.Answers.{changed_after}
-use Rattle.s360_inquiry.specs.Changes.{event_words, kind_of_change, last_change_in, machine_after, words_of_change}
+use Rattle.s360_inquiry.specs.Changes.{event_words, kind_of_change, last_change_in, machine_after}
 use Rattle.s360_inquiry.specs.Histories.{altered_next, history_line, lines_from, places_words, report_words}
 
 -- ---- lists that are told item by item

@@ -1,1 +1,2 @@
 pub mod InquiryLemmas
+pub mod WhyLemmas

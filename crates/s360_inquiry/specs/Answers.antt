@@ -4,7 +4,8 @@ use Rattle.std.specs.Prelude.{ℕ, nat_eq, if◌then◌else◌, Option, Some, Li
 use Rattle.s360_journal.specs.Standing.{machine_of}
 use Rattle.s360_record.specs.Recorded.{Recorded, session_of, with_standing}
 use Rattle.s360_inquiry.specs.declared.inquiry.Inquiry.{Inquiry}
-use Rattle.s360_inquiry.specs.declared.inquiry.Inquiry.TheVariants.{Who, Goto, Changes, History, Dump, Units, Where}
+use Rattle.s360_inquiry.specs.declared.inquiry.Inquiry.TheVariants.{Who, Why, Goto, Changes, History, Dump, Units, Where}
+use Rattle.s360_inquiry.specs.Causes.{why_text}
 use Rattle.s360_inquiry.specs.Changes.{changes_text, last_change_in, stands_after_who, who_text}
 use Rattle.s360_inquiry.specs.Dumps.{dump_text}
 use Rattle.s360_inquiry.specs.Going.{goto_number, goto_text, stands_after_goto}
@@ -18,6 +19,7 @@ pub record Inquired : Type 0 where
 
 unfoldable pub answer_to : Inquired → Inquiry → List ℕ
 answer_to i (Who place) = who_text i.recorded place (last_change_in i.recorded place)
+answer_to i (Why place depth) = why_text i.recorded place depth
 answer_to i (Goto mark) = goto_text i.recorded (goto_number i.recorded i.stood mark)
 answer_to i (Changes place most) = changes_text i.recorded place most
 answer_to i (History most) = history_text i.recorded most

@@ -1,6 +1,6 @@
 -- The changes of a place (own profile): each is told by its number and its event, and by the place with its value before
 -- and after.
-use Rattle.std.specs.Prelude.{ℕ, ◌-◌, Option, Some, None, List, [], ◌∷◌, ◌++◌, codes, drop, length, take}
+use Rattle.std.specs.Prelude.{ℕ, ◌-◌, Option, Some, None, List, [], ◌∷◌, ◌++◌, codes, drop, length}
 use Rattle.std.specs.List.{flat_map}
 use Rattle.s360_model.specs.Text.{decimal}
 use Rattle.s360_store.specs.declared.place.Place.{Place}

@@ -5,5 +5,7 @@ pub mod Going
 pub mod Changes
 pub mod Histories
 pub mod Dumps
+pub mod Extents
+pub mod Causes
 pub mod Situations
 pub mod Answers

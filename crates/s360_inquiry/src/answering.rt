@@ -9,6 +9,7 @@ use crate::going::answer_goto;
 use crate::history::answer_history;
 use crate::inquiry::Inquiry;
 use crate::situation::{units_of, where_of};
+use crate::why::answer_why;
 use s360_record::Recording;
 use s360_text::Text;
 use std::alloc::{AllocError, Global};
@@ -48,6 +49,7 @@ fn text_of_inquiry(
 {
     match inquiry {
         Inquiry::Who(place) => answer_who(alloc, recording, place),
+        Inquiry::Why { place, depth } => answer_why(alloc, recording, place, depth),
         Inquiry::Goto(mark) => answer_goto(alloc, recording, stood, mark),
         Inquiry::Changes { place, most } => answer_changes(alloc, recording, place, most),
         Inquiry::History { most } => answer_history(alloc, recording, most),

@@ -19,6 +19,8 @@ pub enum Mark {
 pub enum Inquiry {
     /// `who`: goes to just before the last change of a place, and tells it.
     Who(Place),
+    /// `why`: tells what a place had its value from, and so on, so deep.
+    Why { place: Place, depth: u32 },
     /// `goto`: goes to a mark.
     Goto(Mark),
     /// `changes`: the last changes of a place, so many at most.

@@ -3,9 +3,10 @@ ghost use Rattle.std.specs.Prelude.{◌≡◌, ◌≤◌, ◌∷◌, drop};
 ghost use Rattle.s360_language.specs.Reading.{argument};
 ghost use Rattle.s360_inquiry.specs.Reading.{asked, changes_of_place, changes_reading, dump_reading, goto_reading};
 ghost use Rattle.s360_inquiry.specs.Reading.{history_reading, inquiry_of, inquiry_of_words, mark_of};
-ghost use Rattle.s360_inquiry.specs.Reading.{who_reading};
+ghost use Rattle.s360_inquiry.specs.Reading.{who_reading, why_of_place, why_reading};
 
 use crate::inquiry::{Inquiry, Mark};
+use crate::why::MOST_DEPTH;
 use s360_language::{
     LONGEST_LINE, LineFault, MOST_COUNT, Words, count_in, expect_end, is_word, next_count,
     next_count_or, next_number, next_place,
@@ -14,6 +15,9 @@ use s360_store::{GREATEST_SIZE, Place};
 
 /// So many changes are told where no number is given.
 const CHANGES: u32 = 10;
+
+/// So deep is a chain of causes followed where no depth is given.
+const DEPTH: u32 = 5;
 
 /// The inquiry of a line, or why it is none; nothing of a line that begins with no word of an inquiry, or is too long. It
 /// takes no memory.
@@ -34,6 +38,8 @@ fn read_named(name: &[u8], words: Words<'_>) -> Option<Result<Inquiry, LineFault
 {
     if is_word(name, "who") {
         Some(read_who(words))
+    } else if is_word(name, "why") {
+        Some(read_why(words))
     } else if is_word(name, "goto") {
         Some(read_goto(words))
     } else if is_word(name, "changes") {
@@ -57,6 +63,23 @@ fn read_who(mut words: Words<'_>) -> Result<Inquiry, LineFault>
 {
     let (place, next) = next_place(&mut words)?;
     finish(words, next, Inquiry::Who(place))
+}
+
+/// `why` with a place and perhaps a depth.
+fn read_why(mut words: Words<'_>) -> Result<Inquiry, LineFault>
+    ensures { result ≡ why_reading words.entry }
+{
+    let (place, next) = next_place(&mut words)?;
+    read_depth(words, place, next)
+}
+
+/// The chain of causes of a place, and perhaps how deep. The first word behind the place has this number.
+fn read_depth(mut words: Words<'_>, place: Place, next: u8) -> Result<Inquiry, LineFault>
+    requires { next ≤ 3 }
+    ensures { result ≡ why_of_place place next words.entry }
+{
+    let depth = next_count_or(&mut words, next, MOST_DEPTH, DEPTH)?;
+    finish(words, next + 1, Inquiry::Why { place, depth })
 }
 
 /// `goto` with a mark.

@@ -2,8 +2,10 @@
 #![tactic(auto)]
 
 mod answering;
+mod cause;
 mod change;
 mod dump;
+mod extent;
 mod going;
 mod happening;
 mod history;
@@ -13,6 +15,7 @@ mod pending;
 mod situation;
 mod unit;
 mod value;
+mod why;
 
 pub use answering::answer_inquiry;
 pub use inquiry::{Inquiry, Mark};

@@ -1,5 +1,5 @@
 -- The machine goes on, turn by turn.
-use Rattle.std.proofs.Common.{◌≡◌, ◌≢◌, ◌<◌, ◌+◌, ◌-◌, ◌++◌, ◌∙◌, ℕ, zero, suc, Bool, true, false, nat_eq, List, [], ◌∷◌, Option, Some, None, refl, ap, sym, arith, length, take, drop}
+use Rattle.std.proofs.Common.{◌≡◌, ◌≢◌, ◌<◌, ◌+◌, ◌-◌, ◌++◌, ◌∙◌, ℕ, suc, Bool, true, false, nat_eq, List, [], ◌∷◌, Option, Some, None, refl, ap, sym, arith, length}
 use Rattle.std.proofs.Common.{length-append, length-take}
 use Rattle.std.proofs.lemmas.List.{take_all}
 use Rattle.std.specs.List.{slice_get}

@@ -30,7 +30,6 @@ patch r R W: puts a word into a register
 patch k A K: gives the block of A a storage key
 patch f A D: gives the block of A a fetch bit, 0 or 1
 patch p Q: puts a doubleword into the PSW
-patch f A D: gives the block of A a fetch bit, if fetches are protected
 run N: runs at most N events
 back: takes back the last change
 until: takes changes back to a breakpoint of `break`
@@ -49,6 +48,7 @@ show d U: the sense bytes and the media of a unit
 show m U N: an item of a unit's media
 show image U: the file of a tape
 who P: goes to just before the last change of a place, as `last` names places, and tells it
+why P, why P N: what made its value, and what that was made of, 5 or N changes deep
 goto N, goto start, goto end, goto last: goes to just after change N, to either end, to where one stood before
 changes P, changes P N: the last 10 or N changes of a place
 history, history N: the last 10 or N changes

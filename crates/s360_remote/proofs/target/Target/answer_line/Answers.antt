@@ -1,4 +1,4 @@
-use Rattle.std.proofs.Common.{◌≡◌, ◌∙◌, Some, None, sym}
+use Rattle.std.proofs.Common.{◌≡◌, Some, None, sym}
 use Rattle.s360_saving.specs.Reading.{saving_of}
 use Rattle.s360_remote.proofs.CommandLemmas.{at_once-begun, at_once-served, saved-begun, saved-served}
 use Rattle.s360_remote.proofs.target.Target.answer_line.Goals as goal

@@ -1,0 +1,11 @@
+use Rattle.std.proofs.Common.{◌≡◌, [], take}
+use Rattle.std.specs.List.{flat_map}
+use Rattle.indexmap.specs.IndexSet.{insert_all}
+use Rattle.s360_store.specs.Places.{same_place}
+use Rattle.s360_machine.specs.Machine.{seen}
+use Rattle.s360_source.specs.Events.{sources}
+use Rattle.s360_inquiry.proofs.cause.places_before.Given as goal
+
+abbrev pub invariant-loop-place : goal.invariant-loop-place
+invariant-loop-place l =
+    l.places.keys ≡ insert_all same_place [] (flat_map (sources (seen l.machine.whole) l.event) (take l.place-index l.place-items))

@@ -1,0 +1,107 @@
+-- The chain of causes of a value (own profile): the change that made it, the places that its event made it of, with the values that
+-- they had, and so on with each of these.
+use Rattle.std.specs.Prelude.{◌≡◌, ℕ, zero, suc, ◌+◌, ◌-◌, nat_lt, if◌then◌else◌, Option, Some, None, List, [], ◌∷◌, ◌++◌, codes, length, map, min, take}
+use Rattle.std.specs.List.{flat_map}
+use Rattle.std.specs.Option.{unwrap_or}
+use Rattle.indexmap.specs.IndexSet.{insert_all}
+use Rattle.s360_model.specs.Text.{decimal}
+use Rattle.s360_store.specs.declared.place.Place.{Place}
+use Rattle.s360_store.specs.declared.place.Place.TheVariants.{Psw}
+use Rattle.s360_store.specs.Places.{same_place}
+use Rattle.s360_machine.specs.declared.event.Event.{Event}
+use Rattle.s360_machine.specs.Machine.{Machine}
+use Rattle.s360_journal.specs.Running.{next_event}
+use Rattle.s360_journal.specs.Standing.{machine_of}
+use Rattle.s360_record.specs.Recorded.{Recorded, next_recorded, session_of, with_standing}
+use Rattle.s360_source.specs.Events.{sources}
+use Rattle.s360_inquiry.specs.declared.cause.Cause.{Cause}
+use Rattle.s360_inquiry.specs.declared.cause.Making.{Making}
+use Rattle.s360_inquiry.specs.declared.cause.Origin.{Origin}
+use Rattle.s360_inquiry.specs.declared.cause.Origin.TheVariants.{NotFollowed, Start, Change}
+use Rattle.s360_inquiry.specs.declared.extent.Extent.{Extent}
+use Rattle.s360_inquiry.specs.declared.extent.Extent.TheVariants.{Place as Alone}
+use Rattle.s360_inquiry.specs.declared.why.Telling.{Telling}
+use Rattle.s360_inquiry.specs.Changes.{last_change_in, words_of_change}
+use Rattle.s360_inquiry.specs.Extents.{first_place, places_of_extent, extent_name, extent_of, extent_words, extents_of}
+
+-- the last change that stands, or none: then it has its value from the start
+abbrev pub origin_of_change : Option ℕ → Origin
+origin_of_change None = Start
+origin_of_change (Some number) = Change number
+
+abbrev pub origin_of : Recorded → Place → Origin
+origin_of r place = origin_of_change (last_change_in r place)
+
+-- the PSW is told and not followed: each instruction alters it
+abbrev pub origin_in : Recorded → Extent → Origin
+origin_in r (Alone Psw) = NotFollowed
+origin_in r extent = origin_of r (first_place extent)
+
+abbrev pub cause_in : Recorded → Extent → Cause
+cause_in r extent = record { extent = extent; value = extent_words (machine_of (session_of r)) extent; origin = origin_in r extent }
+
+-- the places that an event makes those of an extent of, each once
+unfoldable pub places_before : Machine → Event → Extent → List Place
+places_before m e extent = insert_all same_place [] (flat_map (sources m e) (places_of_extent extent))
+
+-- the event that comes next in a record
+abbrev pub event_next : Recorded → Event
+event_next r = unwrap_or (next_recorded r) (next_event (machine_of (session_of r)))
+
+-- what the next event makes an extent of
+abbrev pub causes_next : Recorded → Extent → List Cause
+causes_next r extent = map (cause_in r) (extents_of r (places_before (machine_of (session_of r)) (event_next r) extent))
+
+-- and what the change of a number has made it of
+abbrev pub causes_of : Recorded → ℕ → Extent → List Cause
+causes_of r number extent = causes_next (with_standing r (number - 1)) extent
+
+-- two blanks further in at each level
+abbrev pub indent : ℕ → List ℕ
+indent zero = []
+indent (suc level) = codes "  " ++ indent level
+
+abbrev pub cause_line : ℕ → Cause → List ℕ → List ℕ
+cause_line level c made = indent level ++ extent_name c.extent ++ c.value ++ made ++ codes "\n"
+
+-- the lines of a cause: its own, and so deep those of what its change has made it of
+abbrev pub cause_lines : ℕ → ℕ → Recorded → Cause → Origin → List (List ℕ)
+cause_lines level depth r c NotFollowed = cause_line level c [] ∷ []
+cause_lines level depth r c Start = cause_line level c (codes " from the start") ∷ []
+cause_lines level zero r c (Change number) = cause_line level c (codes " by " ++ decimal number) ∷ []
+cause_lines level (suc depth) r c (Change number) =
+    cause_line level c (codes " by " ++ words_of_change r number)
+    ∷ flat_map (λ (x : Cause). cause_lines (level + 1) depth r x x.origin) (causes_of r number c.extent)
+
+-- what was noted of a change: that change in words, and what it made an extent of
+pub record IsMaking (r : Recorded) (m : Making) : Type 0 where
+  pub words : m.words ≡ words_of_change r m.number
+  pub causes : m.causes.items ≡ causes_of r m.number m.extent
+
+-- it was noted of the change that made a cause's value
+pub record IsOf (c : Cause) (m : Making) : Type 0 where
+  pub number : c.origin ≡ Change m.number
+  pub extent : c.extent ≡ m.extent
+
+-- so many lines are told at most
+abbrev pub most_lines : ℕ
+most_lines = 1000
+
+abbrev pub told_lines : List (List ℕ) → List ℕ
+told_lines lines = flat_map (λ line. line) (take most_lines lines) ++ (if nat_lt most_lines (length lines) then codes "and more\n" else [])
+
+-- lines that are told so far, and how many there are, of which one beyond is the last that is counted
+pub record IsTold (lines : List (List ℕ)) (t : Telling) : Type 0 where
+  pub text : t.text ≡ flat_map (λ line. line) (take most_lines lines)
+  pub count : t.lines ≡ min (length lines) (most_lines + 1)
+
+-- why a place has its value. It is followed, whatever place it is
+abbrev pub first_cause : Recorded → Place → Cause
+first_cause r place = record { extent = extent_of place; value = extent_words (machine_of (session_of r)) (extent_of place); origin = origin_of r place }
+
+-- so deep is a chain followed at most
+abbrev pub most_depth : ℕ
+most_depth = 100
+
+abbrev pub why_text : Recorded → Place → ℕ → List ℕ
+why_text r place depth = told_lines (cause_lines 0 (min depth most_depth) (with_standing r 0) (first_cause r place) (origin_of r place))

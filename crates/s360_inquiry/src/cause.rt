@@ -1,0 +1,173 @@
+//! A cause of a value: an extent with the value that it had, and the change that made that.
+ghost use Rattle.std.specs.Prelude.{◌≡◌, ◌-◌, IfOk, OnErr, OnOk, length, min};
+ghost use Rattle.s360_machine.specs.Machine.{seen};
+ghost use Rattle.s360_record.specs.Recorded.{with_standing};
+ghost use Rattle.s360_inquiry.specs.Causes.{IsMaking, cause_in, causes_next, causes_of, event_next, first_cause};
+ghost use Rattle.s360_inquiry.specs.Causes.{origin_in, origin_of, places_before};
+ghost use Rattle.indexmap.specs.IndexSet.{insert_all};
+ghost use Rattle.s360_store.specs.Places.{same_place};
+ghost use Rattle.s360_source.specs.Events.{sources};
+
+use crate::change::push_event_of;
+use crate::extent::{Extent, extents_of, places_of, words_of_extent};
+use crate::going::go_to;
+use indexmap::IndexSet;
+use s360_machine::{Event, Machine};
+use s360_record::Recording;
+use s360_source::sources;
+use s360_store::Place;
+use s360_text::Text;
+use std::alloc::{AllocError, Global};
+
+/// What made a value.
+#[derive(Clone, Copy, Debug, PartialEq, Eq)]
+pub(crate) enum Origin {
+    /// It is the PSW's, which is told and not followed.
+    NotFollowed,
+    /// No change that stands: it was there at the start.
+    Start,
+    /// The change of this number.
+    Change(u32),
+}
+
+/// An extent with its value in words, and what made that.
+#[derive(Debug, Drop)]
+pub(crate) struct Cause {
+    pub(crate) extent: Extent,
+    pub(crate) value: Text,
+    pub(crate) origin: Origin,
+}
+
+/// What a change made an extent of, and that change in words.
+#[derive(Debug, Drop)]
+pub(crate) struct Making {
+    pub(crate) number: u32,
+    pub(crate) extent: Extent,
+    pub(crate) words: Text,
+    pub(crate) causes: Vec<Cause>,
+}
+
+/// What made the value of a place.
+fn origin_of(recording: &Recording, place: Place) -> Origin
+    ensures { result ≡ origin_of recording.now place }
+{
+    match recording.last_change(place) {
+        Some(number) => Origin::Change(number),
+        None => Origin::Start,
+    }
+}
+
+/// What made the value of an extent, if it is to be followed.
+fn origin_in(recording: &Recording, extent: Extent) -> Origin
+    ensures { result ≡ origin_in recording.now extent }
+{
+    match extent {
+        Extent::Place(Place::Psw) => Origin::NotFollowed,
+        extent => origin_of(recording, extent.first()),
+    }
+}
+
+/// An extent as a cause, where the recording stands.
+fn cause_in(alloc: Global, recording: &Recording, extent: Extent) -> Result<Cause, AllocError>
+    ensures { IfOk result (λ cause. cause ≡ cause_in recording.now extent) }
+{
+    Ok(Cause {
+        extent,
+        value: words_of_extent(alloc, recording.machine(), extent)?,
+        origin: origin_in(recording, extent),
+    })
+}
+
+/// A place as the first cause of a chain, which is followed whatever place it is.
+pub(crate) fn first_cause(
+    alloc: Global,
+    recording: &Recording,
+    place: Place,
+) -> Result<Cause, AllocError>
+    ensures { IfOk result (λ cause. cause ≡ first_cause recording.now place) }
+{
+    let extent = Extent::of(place);
+    Ok(Cause {
+        extent,
+        value: words_of_extent(alloc, recording.machine(), extent)?,
+        origin: origin_of(recording, place),
+    })
+}
+
+/// The places that an event makes those of an extent of, each once.
+#[tactic(auto, unfolding(crate::specs::Causes::places_before))]
+fn places_before(
+    alloc: Global,
+    machine: &Machine,
+    event: &Event,
+    extent: Extent,
+) -> Result<IndexSet<Place>, AllocError>
+    ensures { IfOk result (λ places. places.keys ≡ places_before (seen machine.now.whole) event.now extent) }
+{
+    let mut places = IndexSet::new(alloc);
+    for place in places_of(alloc, extent)?.iter() {
+        insert_sources(alloc, &mut places, machine, event, *place)?;
+    }
+    Ok(places)
+}
+
+/// Adds the places that an event makes a place of, each once.
+fn insert_sources(
+    alloc: Global,
+    places: &mut IndexSet<Place>,
+    machine: &Machine,
+    event: &Event,
+    place: Place,
+) -> Result<(), AllocError>
+    ensures { OnOk result (places.new.keys ≡ insert_all same_place places.old.keys (sources (seen machine.now.whole) event.now place)) }
+{
+    for source in sources(alloc, machine, event, place)?.iter() {
+        places.insert(*source)?;
+    }
+    Ok(())
+}
+
+/// What the next event makes an extent of.
+fn causes_next(
+    alloc: Global,
+    recording: &Recording,
+    extent: Extent,
+) -> Result<Vec<Cause>, AllocError>
+    ensures { IfOk result (λ causes. causes.items ≡ causes_next recording.now extent) }
+{
+    let event = recording.next_event()?;
+    let places = places_before(alloc, recording.machine(), &event, extent)?;
+    let mut causes = Vec::new(alloc);
+    for extent in extents_of(alloc, recording, places.as_slice())?.iter() {
+        causes.push(cause_in(alloc, recording, *extent)?)?;
+    }
+    Ok(causes)
+}
+
+/// Goes to just before the change of a number, and answers what it made an extent of. Want of memory leaves the recording at
+/// some change.
+pub(crate) fn making_of(
+    alloc: Global,
+    recording: &mut Recording,
+    number: u32,
+    extent: Extent,
+) -> Result<Making, AllocError>
+    ensures making { IfOk result (λ making. IsMaking (with_standing recording.old 0) making) }
+    ensures number { IfOk result (λ making. making.number ≡ number) }
+    ensures extent { IfOk result (λ making. making.extent ≡ extent) }
+    ensures state { OnOk result (recording.new ≡ with_standing recording.old (min (number - 1) (length recording.old.events))) }
+    ensures memory { OnErr result (recording.new ≡ with_standing recording.old recording.new.standing) }
+{
+    go_to(recording, number)?;
+    let kind = recording.last_event();
+    let _stand = recording.back_to(number.saturating_sub(1));
+    let mut words = Text::new(alloc);
+    push_event_of(&mut words, number, recording.machine(), kind)?;
+    let causes = causes_next(alloc, recording, extent)?;
+    Ok(Making {
+        number,
+        extent,
+        words,
+        causes,
+    })
+}
