@@ -34,11 +34,11 @@ from second.machine import Machine
 from second.remote import Target
 from second.tapes import Tape, items_of
 
-# The operation codes of docs/INSTRUCTIONS.md.
+# The operation codes of docs/reference/instructions.md.
 INSTRUCTIONS = [*range(0x04, 0x0B), *range(0x10, 0x20), *range(0x40, 0x4D), 0x4E, 0x4F, 0x50]
 INSTRUCTIONS += [*range(0x54, 0x60), 0x80, 0x82, *range(0x86, 0x99), *range(0x9C, 0xA0)]
 INSTRUCTIONS += [*range(0xD1, 0xD8), 0xDC, 0xDD, *range(0xF1, 0xF4)]
-# The commands of docs/DEVICES.md. The tapes are alike.
+# The commands of docs/reference/devices.md. The tapes are alike.
 TAPE = "tape"
 DEVICES = {READER: "reader", PUNCH: "punch", PRINTER: "printer", CONSOLE: "console"}
 DEVICES |= {unit: TAPE for unit in TAPES}
@@ -51,7 +51,8 @@ COMMANDS = {
     "console": [0x01, 0x09, 0x0A, 0x0B],
     TAPE: [0x01, 0x1F, 0x17, 0x02, 0x0C, 0x37, 0x27, 0x3F, 0x2F, 0x07, 0x0F],
 }
-# The lines of docs/DEBUGGER.md: the first word, with each second word that makes it another line.
+# The lines of docs/reference/debugger.md: the first word, with each second word that makes it
+# another line.
 LINES = {
     "key": ["start", "stop", "reset", "interrupt", "request", "eof"],
     "patch": ["s", "r", "k", "f", "p"],
@@ -60,7 +61,7 @@ LINES = {
 }
 OTHER_LINES = ["step", "channel", "tick", "load", "enter", "run", "back", "until", "break", "clear"]
 OTHER_LINES += ["standing", "withdraw"]
-# The requests of docs/GDB.md: what their data is, or begins with.
+# The requests of docs/reference/gdb.md: what their data is, or begins with.
 REQUESTS = ["?", "g", "G", "p", "P", "m", "M", "X", "s", "c", "bs", "bc"]
 REQUESTS += [f"{letter}{point}," for letter in "Zz" for point in range(3)]
 REQUESTS += ["qSupported", "qXfer:features:read:target.xml:", "Hg", "Hc", "T", "qC", "qAttached"]

@@ -7,9 +7,9 @@ A session is two files of tests/gdb: NAME.gdb has gdb's commands, and NAME.trans
 terminal shows of them: each command behind gdb's prompt, and what gdb prints then. The first line
 of the commands is `# s360gdb WORD ..`: the words of the program's command line, with files named
 from the top. What comes before the first prompt is not compared. The screen of gdb in README.md has
-to be the transcript of `tour`, and those in docs/GDB.md parts of those of `guide` and `saved`. gdb
-is started in a folder of its own, where files can be saved. `--print` prints sessions and compares
-nothing. The status is 0 if each session prints what it has to.
+to be a part of the transcript of `tour`, and those in docs/reference/gdb.md parts of those of
+`guide` and `saved`. gdb is started in a folder of its own, where files can be saved. `--print`
+prints sessions and compares nothing. The status is 0 if each session prints what it has to.
 """
 import argparse
 import difflib
@@ -28,13 +28,13 @@ PROMPT = "(gdb) "
 # Of each screen of gdb its page, the line above it, and the session of which it is a part: from the
 # line that is its first to the one that is its last.
 SCREENS = [
-    ("README.md", "    ./gdb --reader examples/cards.deck", "tour"),
+    ("README.md", "After `monitor key eof`, `monitor load 00C` and `continue`:", "tour"),
     (
-        "docs/GDB.md",
+        "docs/reference/gdb.md",
         "With the deck of `examples/cards.deck`, after `key eof`, `load 00C` and `continue`:",
         "guide",
     ),
-    ("docs/GDB.md", "With the deck of `examples/cards.deck`, once it has run:", "saved"),
+    ("docs/reference/gdb.md", "With the deck of `examples/cards.deck`, once it has run:", "saved"),
 ]
 # What a session finds in the folder in which gdb is started.
 FOLDERS = ["examples", "tests"]

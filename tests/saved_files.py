@@ -3,9 +3,9 @@
 
     tests/saved_files.py [--program FILE]
 
-What a file has to be is written here by docs/GDB.md, docs/DEVICES.md and docs/IMAGES.md, and tape
-files are read by a reader of this script's own. Cards and tapes that were saved are loaded again,
-and shown. The status is 0 if each file and each answer is right.
+What a file has to be is written here by the pages gdb.md, devices.md and images.md of
+docs/reference, and tape files are read by a reader of this script's own. Cards and tapes that were
+saved are loaded again, and shown. The status is 0 if each file and each answer is right.
 """
 import argparse
 import os
@@ -69,7 +69,7 @@ def answers_of(program, words, lines):
 
 
 def items_of_tape(image):
-    """The blocks and marks (None) of a file of whole ones, by docs/IMAGES.md."""
+    """The blocks and marks (None) of a file of whole ones, by docs/reference/images.md."""
     items, before, at = [], 0, 0
     while at < len(image):
         count, previous = image[at] + 256 * image[at + 1], image[at + 2] + 256 * image[at + 3]

@@ -1,5 +1,5 @@
 # s360gdb --reader examples/cards.deck
-# The example examples/cards, whose program examples/cards.listing has, from the damage to its cause. README.md shows it.
+# The example examples/cards, whose program examples/cards.listing has, from the damage to its cause.
 # No card follows the deck; change 2 begins loading, which is 8 channel events. Changes 11 to 37 list the first card, and
 # with the second the channel refuses the command word at 388: change 40 is SIO, 41 BNZ, 42 LPSW 2A0, and 43 alters
 # nothing, since the PSW waits with the address BAD.

@@ -1,8 +1,9 @@
 # s360gdb --reader examples/cards.deck
-# The screen of docs/GDB.md. By examples/cards.listing changes 13, 14 and 16 are SIO, the card and TIO; who.gdb has why each is so.
+# The screen of docs/reference/gdb.md. By examples/cards.listing changes 13, 14 and 16 are SIO, the card and TIO; who.gdb has why each is so.
 monitor key eof
 monitor load 00C
 continue
+monitor why s 388
 monitor who s 388
 monitor where
 monitor who s 388

@@ -1,5 +1,5 @@
 # s360gdb --reader examples/cards.deck
-# Lines of the script language, with the answers that they have in a script (docs/DEBUGGER.md).
+# Lines of the script language, with the answers that they have in a script (docs/reference/debugger.md).
 monitor help
 monitor key eof
 monitor load 00C

@@ -23,6 +23,7 @@ TOP = pathlib.Path(__file__).resolve().parent.parent.parent
 sys.path.insert(0, str(TOP / "tests"))
 from packet_rows import framed
 from second.debugger import Debugger
+from second.remote import LINES
 from second.tapes import FIRST, LAST, LONGEST_BLOCK, MARK, TAPE_MARK, TapeFault
 from second.tapes import header, image_of, items_of, shown_image, shown_item
 
@@ -130,7 +131,11 @@ NO_SIZE = b"storage size must be a multiple of 2048 bytes from 8192 to 1048576"
 SIZE = told(NO_SIZE)
 OPTIONS = (b"--storage <BYTES>", b"65536", b"--reader <FILE>", b"80 bytes", b"--tape0 <FILE>",
            b"--tape1 <FILE>", b"--protect0", b"--protect1", b"[SCRIPT]")
-HELP = Has((b"Usage: s360dbg [OPTIONS] [SCRIPT]\n", *OPTIONS, b"standard input", b"Example:\n"))
+PAGES = (b"examples/", b"docs/guide.md")
+HELP = Has((b"Usage: s360dbg [OPTIONS] [SCRIPT]\n", *OPTIONS, b"standard input", b"Example:\n",
+            *(b"\n  %s\n" % line.encode() for line in LINES), *PAGES))
+VERSION = (b"%s 0.1.0\nDebugs programs of a simulated IBM System/360, forward and backward,"
+           b" by scripts or from gdb.\n")
 NUMBER = b"no decimal number below 4294967296\n"
 
 SCRIPTS = [
@@ -390,8 +395,8 @@ COMMAND_LINES = [
     Case("help in short", ["-h"], b"", 0, HELP),
     Case("help before what else is wrong", ["--help", "--reader", "absent.deck"], b"", 0, HELP),
     Case("help that cannot be written", ["--help"], b"", 1, None),
-    Case("the version", ["--version"], b"standing\n", 0, b"s360dbg 0.1.0\n"),
-    Case("the version in short", ["-V"], b"", 0, b"s360dbg 0.1.0\n"),
+    Case("the version", ["--version"], b"standing\n", 0, VERSION % b"s360dbg"),
+    Case("the version in short", ["-V"], b"", 0, VERSION % b"s360dbg"),
     Case("an unknown option", ["--quick"], b"", 2, b"", usage(b"'--quick'")),
     Case("an unknown option that standard error cannot tell of", ["--quick"], b"", 2, b"", None),
     Case("an option twice", ["--reader", "two.deck", "--reader", "two.deck"], b"", 2, b"",
@@ -430,13 +435,13 @@ def answered(*answers):
 
 SERVER_HELP = Has((b"Usage: s360gdb [OPTIONS] [SCRIPT]\n", *OPTIONS, b"gdb's remote protocol",
                    b"standard input and output", b"carried out first", b"standard error",
-                   b"Example:\n"))
+                   b"Example:\n", b"`monitor help`", *PAGES))
 # 5 goes to register 1, 3 in gdb's count, and the instruction at 200 is run and taken back.
 STEPPED_BACK = (b"M200,2:1a12", b"P1=00000200", b"P3=00000005", b"P4=00000007", b"s", b"bs")
 STEPS_BACK = (b"OK", b"OK", b"OK", b"OK", b"T05", b"T05")
 SERVING = [
     served("gdb: help", ["--help"], b"", 0, SERVER_HELP),
-    served("gdb: the version", ["--version"], sent(b"?"), 0, b"s360gdb 0.1.0\n"),
+    served("gdb: the version", ["--version"], sent(b"?"), 0, VERSION % b"s360gdb"),
     served("gdb: an unknown option", ["--quick"], b"", 2, b"", usage(b"'--quick'", program=SERVER)),
     served("gdb: two scripts", ["standing.s360", "standing.s360"], b"", 2, b"",
            usage(b"unexpected argument 'standing.s360'", program=SERVER)),

@@ -14,6 +14,10 @@ use clap::{Arg, ArgAction, Command, Error};
 use std::alloc::{AllocError, Global};
 use std::convert::AsStr;
 
+/// The version of both programs, and what they are.
+const VERSION: &str = "0.1.0\n\
+    Debugs programs of a simulated IBM System/360, forward and backward, by scripts or from gdb.";
+
 /// The size of storage where the command line gives none, in bytes.
 const STORAGE: u32 = 65_536;
 
@@ -73,7 +77,7 @@ fn command_line<'a>(alloc: Global, program: Program) -> Result<Command<'a>, Allo
 {
     let name: &'a str = program.name();
     Command::new(alloc, name)
-        .version("0.1.0")
+        .version(VERSION)
         .about(program.purpose())
         .after_help(program.notes())
         .arg(option(alloc, "storage", "BYTES", STORAGE_HELP))?

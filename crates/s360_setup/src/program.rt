@@ -25,15 +25,58 @@ const DEBUGGER_SCRIPT: &str = "Script of at most 1048576 bytes [default: standar
 
 const SERVER_SCRIPT: &str = "Script of at most 1048576 bytes, carried out first [default: none]";
 
-const DEBUGGER_NOTES: &str =
-    "Example:\n  s360dbg --reader cards.deck --tape0 master.tape --protect0 session.s360\n\n\
-    Status: 0 where the script was carried out to its end, 1 for a fault of a file, a stream or\n\
-    memory, and 2 for a fault of the command line or of the storage size.";
+/// Its lines are worded as those of `monitor help` are.
+const DEBUGGER_NOTES: &str = "\
+Lines of a script, in which N is decimal and each other number is hexadecimal:
+  step: a CPU event
+  channel U: a channel event of a unit
+  tick: a tick of the timer
+  key K: the operator presses start, stop, reset, interrupt, eof or request
+  enter TEXT: the operator enters a line at the console
+  load U: the operator presses the load key
+  patch s A BYTES: puts bytes into storage
+  patch r R W: puts a word into a register
+  patch k A K: gives the block of A a storage key
+  patch f A D: gives the block of A a fetch bit, 0 or 1
+  patch p Q: puts a doubleword into the PSW
+  run N: runs at most N events
+  back: takes back the last change
+  until: takes changes back to a breakpoint of `break`
+  withdraw N: withdraws the change of this number
+  break A: sets a breakpoint of `run` and `until`
+  clear A: takes one away
+  standing: counts the changes that stand
+  last s A, last r R, last k A, last p, last run, last ext, last u U, last d U: the last change of a place
+  show regs: the general registers
+  show psw: the PSW and the run state
+  show s A N: bytes of storage
+  show k A: a storage key
+  show ext: the pending external conditions
+  show u U: what the channel does for a unit
+  show d U: the sense bytes and the media of a unit
+  show m U N: an item of a unit's media
+  show image U: the file of a tape
 
-const SERVER_NOTES: &str =
-    "Example:\n  gdb-multiarch -x s360.gdb -ex 'file s360.elf' -ex 'target remote | s360gdb session.s360'\n\n\
-    Status: 0 where gdb has left or its input has ended, 1 for a fault of a file, a stream or\n\
-    memory, and 2 for a fault of the command line or of the storage size.";
+Example:
+  s360dbg --reader cards.deck --tape0 master.tape --protect0 session.s360
+
+In the repository, examples/ has scripts with their answers, docs/guide.md goes from a wrong value
+to its cause, and docs/reference/debugger.md has each line in full.
+
+Status: 0 where the script was carried out to its end, 1 for a fault of a file, a stream or
+memory, and 2 for a fault of the command line or of the storage size.";
+
+const SERVER_NOTES: &str = "\
+Lines: in gdb, `monitor LINE` carries a line of a script out, and `monitor help` lists all lines.
+
+Example:
+  gdb-multiarch -x s360.gdb -ex 'file s360.elf' -ex 'target remote | s360gdb session.s360'
+
+In the repository, examples/ has scripts, decks and tapes, docs/guide.md goes from a wrong value to
+its cause, and docs/reference/gdb.md tells what gdb sees and does.
+
+Status: 0 where gdb has left or its input has ended, 1 for a fault of a file, a stream or
+memory, and 2 for a fault of the command line or of the storage size.";
 
 impl Program {
     /// Its name, with which each line begins that it tells of itself.
@@ -62,7 +105,7 @@ impl Program {
         }
     }
 
-    /// An example and the statuses, with which its help ends.
+    /// Lines, an example, pages to read and the statuses, with which its help ends.
     pub(crate) fn notes<'a>(self) -> &'a str {
         match self {
             Program::Debugger => DEBUGGER_NOTES,

@@ -1,4 +1,4 @@
-//! The program: carries a script out over a machine. docs/DEBUGGER.md has its command line.
+//! The program: carries a script out over a machine. docs/reference/debugger.md has its command line.
 #![tactic(auto)]
 
 mod program;
