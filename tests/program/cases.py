@@ -130,7 +130,7 @@ TWO_CARDS = b"00C sense 00 next 0 of 2 eof off\n"
 NO_SIZE = b"storage size must be a multiple of 2048 bytes from 8192 to 1048576"
 SIZE = told(NO_SIZE)
 OPTIONS = (b"--storage <BYTES>", b"65536", b"--reader <FILE>", b"80 bytes", b"--tape0 <FILE>",
-           b"--tape1 <FILE>", b"--protect0", b"--protect1", b"[SCRIPT]")
+           b"--tape1 <FILE>", b"--protect0", b"--protect1", b"--fetch", b"[SCRIPT]")
 PAGES = (b"examples/", b"docs/guide.md")
 HELP = Has((b"Usage: s360dbg [OPTIONS] [SCRIPT]\n", *OPTIONS, b"standard input", b"Example:\n",
             *(b"\n  %s\n" % line.encode() for line in LINES), *PAGES))
