@@ -29,6 +29,14 @@ pub mod LawOfSources
 pub mod FoundLemmas
 pub mod WordLemmas
 pub mod StoredLemmas
+pub mod OperandLemmas
+pub mod AccessLemmas
+pub mod EndingLemmas
+pub mod RegisterEndings
+pub mod IndexedEndings
+pub mod ImmediateEndings
+pub mod FunctionLemmas
+pub mod StorageEndings
 pub mod DeciderLaws
 pub mod PartLemmas
 pub mod ByteLemmas

@@ -17,8 +17,10 @@ use Rattle.s360_fixed.specs.declared.form.Form.{Form}
 use Rattle.s360_fixed.specs.declared.form.Form.TheVariants.{Rr, Rx, Rs, Si, Ss}
 use Rattle.s360_fixed.specs.declared.operation.Operation.{Operation}
 use Rattle.s360_fixed.specs.declared.operation.Operation.TheVariants.{LoadComplement, LoadPositive, Add, AddHalfword}
-use Rattle.s360_fixed.specs.declared.operation.Operation.TheVariants.{Subtract, SubtractHalfword, ShiftLeftSingle, ShiftLeftDouble}
-use Rattle.s360_fixed.specs.declared.operation.Operation.TheVariants.{SetStorageKey, InsertStorageKey, Divide, ConvertToBinary}
+use Rattle.s360_fixed.specs.declared.operation.Operation.TheVariants.{Subtract, SubtractHalfword}
+use Rattle.s360_fixed.specs.declared.operation.Operation.TheVariants.{ShiftLeftSingle, ShiftLeftDouble}
+use Rattle.s360_fixed.specs.declared.operation.Operation.TheVariants.{SetStorageKey, InsertStorageKey}
+use Rattle.s360_fixed.specs.declared.operation.Operation.TheVariants.{Divide, ConvertToBinary}
 use Rattle.s360_fixed.specs.declared.operation.Operation.TheVariants.{LoadAddress, CompareLogical}
 use Rattle.s360_fixed.specs.declared.operation.Operation.TheVariants.{BranchOnCondition, BranchAndLink, BranchOnCount}
 use Rattle.s360_fixed.specs.declared.operation.Operation.TheVariants.{Store, StoreHalfword, StoreCharacter, ConvertToDecimal}
@@ -172,15 +174,19 @@ abbrev pub storage_keys : Storage → ℕ → Operation → ℕ → Operands →
 storage_keys s key MoveWithOffset l o = digit_keys s key l o
 storage_keys s key Pack l o = digit_keys s key l o
 storage_keys s key Unpack l o = digit_keys s key l o
-storage_keys s key Translate l o = access_keys s to_store key o.first (l + 1) ++ translated_keys s key o.second o.first 0 (l + 1)
-storage_keys s key TranslateAndTest l o = access_keys s Fetch key o.first (l + 1) ++ searched_keys s key o.second o.first 0 (l + 1)
+storage_keys s key Translate l o =
+    access_keys s to_store key o.first (l + 1) ++ translated_keys s key o.second o.first 0 (l + 1)
+storage_keys s key TranslateAndTest l o =
+    access_keys s Fetch key o.first (l + 1) ++ searched_keys s key o.second o.first 0 (l + 1)
 storage_keys s key other l o = access_keys s (first_access other) key o.first (l + 1) ++ access_keys s Fetch key o.second (l + 1)
 
 -- the keys that the accesses to the operands look at
 abbrev pub key_deciders : ℕ → Form → Operands → Storage → List Place
 key_deciders key (Rr operation r1 r2) o s = []
-key_deciders key (Rx operation r1 x2 b2 d2) o s = access_keys s (indexed_access operation) key o.first (indexed_bytes operation)
-key_deciders key (Rs operation r1 r3 b2 d2) o s = access_keys s (several_access operation) key o.first (several_bytes operation r1 r3)
+key_deciders key (Rx operation r1 x2 b2 d2) o s =
+    access_keys s (indexed_access operation) key o.first (indexed_bytes operation)
+key_deciders key (Rs operation r1 r3 b2 d2) o s =
+    access_keys s (several_access operation) key o.first (several_bytes operation r1 r3)
 key_deciders key (Si operation i2 b1 d1) o s =
     access_keys s (option_map_or immediate_access (immediate_row_of operation) Fetch) key o.first (immediate_bytes operation)
 key_deciders key (Ss operation l b1 d1 b2 d2) o s = storage_keys s key operation l o

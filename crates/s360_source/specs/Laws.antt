@@ -31,4 +31,5 @@ InstructionFollows =
 
 -- cores that are alike and have the same at the deciders of an instruction have one shape of it
 abbrev pub InstructionDecided : Type 0
-InstructionDecided = (m n : Core) → AreAlike m n → HaveAllSame m n (instruction_deciders m) → instruction_shape m ≡ instruction_shape n
+InstructionDecided =
+    (m n : Core) → AreAlike m n → HaveAllSame m n (instruction_deciders m) → instruction_shape m ≡ instruction_shape n

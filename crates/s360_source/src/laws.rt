@@ -14,8 +14,8 @@ pub fn events_follow_their_sources()
     ensures { EventFollows }
 {}
 
-/// Two machines of one size and profile that have the same at the deciders of an instruction perform the same instruction, on
-/// operands at the same places. That it ends alike in both is not promised.
+/// Two machines of one size and profile that have the same at the deciders of an instruction execute instructions of one shape:
+/// they perform the same one, on operands at the same places, and it ends alike.
 pub fn deciders_decide_the_instruction()
     ensures { InstructionDecided }
 {}
