@@ -43,4 +43,5 @@ pub mod PartLemmas
 pub mod ByteLemmas
 pub mod ShapeLemmas
 mod KnownSources
+mod KnownDeciders
 mod KnownChannelSources

@@ -8,7 +8,7 @@ ghost use Rattle.s360_source.specs.Deciders.{performed_deciders, result_deciders
 use crate::access_keys::{push_access_keys, push_key_deciders};
 use crate::instruction::push_completed;
 use crate::location::Location;
-use crate::part::{Part, push_bytes, push_parts};
+use crate::part::{Part, push_parts};
 use crate::shape::{Performance, operation_of, performed_of};
 use crate::storage::{byte_at, push_searched};
 use s360_fixed::{Form, Operation, View, length_of};
@@ -124,7 +124,7 @@ fn push_ending_deciders(
             operation: Operation::Translate,
             l,
             ..
-        } => push_bytes(found, operands.first.number(), u32::from(l) + 1),
+        } => push_parts(found, &[Part::Bytes(operands.first, u16::from(l) + 1)]),
         Form::Ss {
             operation: Operation::TranslateAndTest,
             l,
