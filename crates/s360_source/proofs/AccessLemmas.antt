@@ -91,19 +91,22 @@ first-of m n a zero l h = absurd (omega arith)
 first-of m n a (suc count) l h = h.0
 
 -- the bytes of an instruction, and what its fetch meets
+abbrev pub fetched : Core → ℕ → List Place
+fetched m a = fetched_places m.storage (protection_key_of m.psw) a
+
 abbrev fetch_bytes : Core → ℕ → List Place
 fetch_bytes m a = byte_places a (length_at m.storage a)
 
 abbrev fetch_keys : Core → ℕ → List Place
 fetch_keys m a = access_keys m.storage Fetch (protection_key_of m.psw) a (length_at m.storage a)
 
-pub length-same : (m n : Core) (a : ℕ) → HaveAllSame m n (fetched_places m a) → length_at m.storage a ≡ length_at n.storage a
+pub length-same : (m n : Core) (a : ℕ) → HaveAllSame m n (fetched m a) → length_at m.storage a ≡ length_at n.storage a
 length-same m n a h = ap instruction_length (first-of m n a (length_at m.storage a) (length-least (slice_index m.storage.bytes a)) (same-first m n (fetch_bytes m a) (fetch_keys m a) h))
 
-pub bytes-same : (m n : Core) (a : ℕ) → AreAlike m n → HaveAllSame m n (fetched_places m a) → instruction_bytes m.storage a ≡ instruction_bytes n.storage a
+pub bytes-same : (m n : Core) (a : ℕ) → AreAlike m n → HaveAllSame m n (fetched m a) → instruction_bytes m.storage a ≡ instruction_bytes n.storage a
 bytes-same m n a alike h = rw (← length-same m n a h) (range-same m n a (length_at m.storage a) alike (same-first m n (fetch_bytes m a) (fetch_keys m a) h))
 
-pub fetch-same : (m n : Core) (a : ℕ) → AreAlike m n → m.psw ≡ n.psw → HaveAllSame m n (fetched_places m a)
+pub fetch-same : (m n : Core) (a : ℕ) → AreAlike m n → m.psw ≡ n.psw → HaveAllSame m n (fetched m a)
     → fetch_conditions m.storage a (protection_key_of m.psw) ≡ fetch_conditions n.storage a (protection_key_of n.psw)
 fetch-same m n a alike psw h =
     let key : ℕ = protection_key_of m.psw

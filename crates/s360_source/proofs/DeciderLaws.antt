@@ -20,13 +20,13 @@ use Rattle.s360_logic.specs.Instruction.{conditions_at, fetched_outcome, instruc
 use Rattle.s360_logic.specs.Logic.{execute_outcome, outcome_of, row_outcome, subject_bytes, subject_of, subject_outcome, with_ored_byte}
 use Rattle.s360_logic.proofs.InstructionLemmas.{instruction_of-refused, outcome-of-form}
 use Rattle.s360_source.specs.Agreement.{AreAlike, HaveAllSame}
-use Rattle.s360_source.specs.Deciders.{address_deciders, ending_deciders, execute_deciders, fetched_places, form_deciders, key_deciders, performed_deciders}
+use Rattle.s360_source.specs.Deciders.{address_deciders, ending_deciders, execute_deciders, form_deciders, key_deciders, performed_deciders}
 use Rattle.s360_source.specs.Laws.{InstructionDecided}
 use Rattle.s360_source.specs.declared.shape.InstructionShape.{InstructionShape}
 use Rattle.s360_source.specs.declared.shape.Performance.{Performance}
 use Rattle.s360_source.specs.Shapes.{operands_of, performance_of, performed_at, performed_if, performed_of, shape_at, subject_performed, unless_execute}
 use Rattle.s360_source.specs.Sources.{register_part}
-use Rattle.s360_source.proofs.AccessLemmas.{bytes-same, fetch-same, length-same}
+use Rattle.s360_source.proofs.AccessLemmas.{bytes-same, fetch-same, fetched, length-same}
 use Rattle.s360_source.proofs.AgreementLemmas.{same-first, same-second}
 use Rattle.s360_source.proofs.BranchLemmas.{seen}
 use Rattle.s360_source.proofs.EndingLemmas.{EndsAlike}
@@ -97,13 +97,13 @@ execute-by m n next il r1 a None alike psw e f bytes h =
     (of-subject m n next il g alike psw (rw e at h)))
 execute-by m n next il r1 a (Some code) alike psw e f bytes h = rw (e, f) (refl, refl)
 
-of-execute : (m n : Core) (next : ℕ) (il : InstructionLength) (r1 a : ℕ) → AreAlike m n → m.psw ≡ n.psw → HaveAllSame m n (register_part r1 ++ fetched_places m a)
+of-execute : (m n : Core) (next : ℕ) (il : InstructionLength) (r1 a : ℕ) → AreAlike m n → m.psw ≡ n.psw → HaveAllSame m n (register_part r1 ++ fetched m a)
     → HaveAllSame m n (performed_deciders m (subject_performed (seen m next il) r1 a))
     → IsOne (subject_performed (seen m next il) r1 a) (subject_performed (seen n next il) r1 a) (execute_outcome (seen m next il) r1 a) (execute_outcome (seen n next il) r1 a)
 of-execute m n next il r1 a alike psw h p =
-    let subject : HaveAllSame m n (fetched_places m a) = same-second m n (register_part r1) (fetched_places m a) h
+    let subject : HaveAllSame m n (fetched m a) = same-second m n (register_part r1) (fetched m a) h
     in execute-by m n next il r1 a (program_code (fetch_conditions m.storage a (protection_key_of m.psw))) alike psw refl (ap program_code (sym (fetch-same m n a alike psw subject)))
-    (subject-bytes-same m n next il r1 a (bytes-same m n a alike subject) (same-first m n (register_part r1) (fetched_places m a) h)) p
+    (subject-bytes-same m n next il r1 a (bytes-same m n a alike subject) (same-first m n (register_part r1) (fetched m a) h)) p
 
 -- an instruction by its form: itself, or the subject of an execute
 none-is : (q : Option (ℕ × ℕ)) → is_none q ≡ true → q ≡ None
@@ -117,9 +117,9 @@ form-by m n next il form None alike psw e h p =
     let f : subject_of (seen n next il) form ≡ None = none-is (subject_of (seen n next il) form) (sym (is-no-subject m n next il form) ∙ ap is_none e)
     in rw (e, f) (by-row m n next il form alike psw (rw e at p))
 form-by m n next il form (Some x) alike psw e h p =
-    let known : HaveAllSame m n (address_deciders form ++ (register_part x.0 ++ fetched_places m x.1)) = rw e at h
-    in let f : subject_of (seen n next il) form ≡ Some x = sym (subject-same m n next il form (same-first m n (address_deciders form) (register_part x.0 ++ fetched_places m x.1) known)) ∙ e
-    in rw (e, f) (of-execute m n next il x.0 x.1 alike psw (same-second m n (address_deciders form) (register_part x.0 ++ fetched_places m x.1) known) (rw e at p))
+    let known : HaveAllSame m n (address_deciders form ++ (register_part x.0 ++ fetched m x.1)) = rw e at h
+    in let f : subject_of (seen n next il) form ≡ Some x = sym (subject-same m n next il form (same-first m n (address_deciders form) (register_part x.0 ++ fetched m x.1) known)) ∙ e
+    in rw (e, f) (of-execute m n next il x.0 x.1 alike psw (same-second m n (address_deciders form) (register_part x.0 ++ fetched m x.1) known) (rw e at p))
 
 of-form : (m n : Core) (next : ℕ) (il : InstructionLength) (g : Option Form) → AreAlike m n → m.psw ≡ n.psw → HaveAllSame m n (form_deciders (seen m next il) g)
     → IsOne (performed_if (seen m next il) g) (performed_if (seen n next il) g) (fetched_outcome (seen m next il) g) (fetched_outcome (seen n next il) g)
@@ -162,7 +162,7 @@ shape-refused m a code e =
     (rw e refl) (ap (λ (x : View). x.next_address) view) (ap (λ (x : View). x.instruction_length) view) (ap (λ (x : Outcome). x.ended) (instruction_of-refused m a g code e))
 
 shape-by : (m n : Core) (a : ℕ) (q : Option ProgramCode) → AreAlike m n → m.psw ≡ n.psw → program_code (conditions_at m a) ≡ q → program_code (conditions_at n a) ≡ q
-    → HaveAllSame m n (fetched_places m a)
+    → HaveAllSame m n (fetched m a)
     → HaveAllSame m n (if is_none (program_code (conditions_at m a)) then form_deciders (view_at m a) (form_of (instruction_bytes m.storage a)) else []) → shape_at m a ≡ shape_at n a
 shape-by m n a (Some code) alike psw e f h p = shape-refused m a code e ∙ sym (shape-refused n a code f)
 shape-by m n a None alike psw e f h p =
@@ -178,6 +178,6 @@ decider-law m n alike h =
     let a : ℕ = instruction_address_of m.psw
     in let psw : m.psw ≡ n.psw = h.0
     in let rest : List Place = if is_none (program_code (conditions_at m a)) then form_deciders (view_at m a) (form_of (instruction_bytes m.storage a)) else []
-    in let fetched : HaveAllSame m n (fetched_places m a) = same-first m n (fetched_places m a) rest h.1
-    in shape-by m n a (program_code (conditions_at m a)) alike psw refl (ap program_code (sym (fetch-same m n a alike psw fetched))) fetched (same-second m n (fetched_places m a) rest h.1)
+    in let bytes : HaveAllSame m n (fetched m a) = same-first m n (fetched m a) rest h.1
+    in shape-by m n a (program_code (conditions_at m a)) alike psw refl (ap program_code (sym (fetch-same m n a alike psw bytes))) bytes (same-second m n (fetched m a) rest h.1)
     ∙ ap (λ x. shape_at n (instruction_address_of x)) psw

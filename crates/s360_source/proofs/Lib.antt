@@ -38,8 +38,10 @@ pub mod ImmediateEndings
 pub mod FunctionLemmas
 pub mod StorageEndings
 pub mod DeciderLaws
+pub mod AccessKeyLemmas
 pub mod PartLemmas
 pub mod ByteLemmas
 pub mod ShapeLemmas
 mod KnownSources
+mod KnownDeciders
 mod KnownChannelSources

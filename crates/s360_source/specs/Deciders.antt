@@ -60,10 +60,9 @@ abbrev pub access_keys : Storage → Access → ℕ → ℕ → ℕ → List Pla
 access_keys s kind key address count = if not (is_protected s kind) || nat_eq key 0 then [] else key_places address count
 
 -- the bytes of the instruction at an address, and the keys that its fetch looks at
-abbrev pub fetched_places : Core → ℕ → List Place
-fetched_places m address =
-    let count : ℕ = length_at m.storage address
-    in byte_places address count ++ access_keys m.storage Fetch (protection_key_of m.psw) address count
+abbrev pub fetched_places : Storage → ℕ → ℕ → List Place
+fetched_places s key address =
+    byte_places address (length_at s address) ++ access_keys s Fetch key address (length_at s address)
 
 -- the registers that the addresses of an instruction are made of, and the one that names a block
 abbrev pub block_register : Operation → ℕ → List Place
@@ -203,7 +202,9 @@ abbrev pub execute_deciders : View → Form → List Place
 execute_deciders v form = of_subject (subject_of v form) where
   of_subject : Option (ℕ × ℕ) → List Place
   of_subject None = []
-  of_subject (Some subject) = address_deciders form ++ (register_part subject.0 ++ fetched_places v.core subject.1)
+  of_subject (Some subject) =
+      address_deciders form
+      ++ (register_part subject.0 ++ fetched_places v.core.storage (protection_key_of v.core.psw) subject.1)
 
 -- of an instruction with a form: what an execute adds, and those of what is performed
 abbrev pub form_deciders : View → Option Form → List Place
@@ -214,7 +215,7 @@ form_deciders v (Some form) = execute_deciders v form ++ performed_deciders v.co
 abbrev pub deciders_at : Core → ℕ → List Place
 deciders_at m address =
     Psw
-    ∷ (fetched_places m address
+    ∷ (fetched_places m.storage (protection_key_of m.psw) address
     ++ (
     if is_none (program_code (conditions_at m address))
     then form_deciders (view_at m address) (form_of (instruction_bytes m.storage address)) else []

@@ -4,9 +4,11 @@
 //! "Fixed-Point Arithmetic", "Logical Operations", "Decimal Arithmetic", "Branching" and "Status Switching".
 #![tactic(auto)]
 
+mod access_keys;
 mod channel;
 mod channel_moves;
 mod cpu;
+mod deciding;
 mod event;
 mod executed;
 mod instruction;
