@@ -37,8 +37,15 @@ pub mod IndexedEndings
 pub mod ImmediateEndings
 pub mod FunctionLemmas
 pub mod StorageEndings
+pub mod ChannelDecidingLemmas
+pub mod CpuDecidingLemmas
 pub mod DeciderLaws
 pub mod AccessKeyLemmas
+pub mod WordDeciderLaws
+pub mod ChannelDeciderLaws
+pub mod IoDeciderLaws
+pub mod CpuDeciderLaws
+pub mod LawOfDeciders
 pub mod PartLemmas
 pub mod ByteLemmas
 pub mod ShapeLemmas

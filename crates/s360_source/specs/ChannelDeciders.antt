@@ -1,15 +1,13 @@
 -- The deciders of a channel event: the places that its shape comes from (GA22-6821, "Input/Output Operations", execution of
 -- input/output operations, and "System Structure", protection feature).
-use Rattle.std.specs.Prelude.{ℕ, zero, suc, ◌+◌, ◌-◌, ◌/◌, not, ◌&&◌, nat_eq, if◌then◌else◌, Option, Some, None}
-use Rattle.std.specs.Prelude.{List, [], ◌∷◌, ◌++◌, length}
+use Rattle.std.specs.Prelude.{ℕ, ◌-◌, if◌then◌else◌, Option, Some, None, List, [], ◌∷◌, ◌++◌, length}
 use Rattle.std.specs.Option.{option_map_or}
-use Rattle.s360_model.specs.Storage.{Storage, block_size, is_inside}
+use Rattle.s360_model.specs.Storage.{Storage, is_inside}
 use Rattle.s360_word.specs.declared.unit.Unit.{Unit as UnitAddress}
 use Rattle.s360_store.specs.declared.place.Place.{Place}
-use Rattle.s360_store.specs.declared.place.Place.TheVariants.{Key, Run}
+use Rattle.s360_store.specs.declared.place.Place.TheVariants.{Run}
 use Rattle.s360_store.specs.declared.protection.Access.{Access}
 use Rattle.s360_store.specs.declared.protection.Access.TheVariants.{Fetch, Store}
-use Rattle.s360_store.specs.Protection.{is_protected}
 use Rattle.s360_device.specs.declared.device.Begin.{Begin}
 use Rattle.s360_device.specs.declared.device.Begin.TheVariants.{Input, Output}
 use Rattle.s360_channel.specs.declared.ccw.Ccw.{Ccw}
@@ -24,22 +22,13 @@ use Rattle.s360_machine.specs.ChannelEvents.{at_device, view_of}
 use Rattle.s360_machine.specs.Machine.{Machine, Media}
 use Rattle.s360_source.specs.ChannelShapes.{executed_word, target_of, word_of}
 use Rattle.s360_source.specs.ChannelSources.{bytes_of_word, media_place}
+use Rattle.s360_source.specs.Deciders.{access_keys}
 use Rattle.s360_source.specs.EventSources.{unit_place}
 
--- the keys of so many blocks from one on, and of the blocks that so many bytes lie in, each once
-abbrev pub block_keys : ℕ → ℕ → List Place
-block_keys block zero = []
-block_keys block (suc n) = Key block ∷ block_keys (block + 1) n
-
-abbrev pub keys_of_bytes : ℕ → ℕ → List Place
-keys_of_bytes address zero = []
-keys_of_bytes address (suc n) = block_keys (address / block_size) ((address + n) / block_size + 1 - address / block_size)
-
--- the keys that an access looks at: none where a byte is outside storage, nothing is protected, or the key is 0
+-- the keys that an access from an address on looks at: none where a byte is outside storage
 abbrev pub access_deciders : Storage → ℕ → Access → ℕ → Option ℕ → List Place
 access_deciders s key kind count None = []
-access_deciders s key kind count (Some address) =
-    if is_inside s address count && (is_protected s kind && not (nat_eq key 0)) then keys_of_bytes address count else []
+access_deciders s key kind count (Some address) = if is_inside s address count then access_keys s kind key address count else []
 
 -- the bytes of an input that a word stores
 abbrev pub stored_count : DeviceView → Program → Ccw → ℕ → ℕ

@@ -6,8 +6,10 @@
 
 mod access_keys;
 mod channel;
+mod channel_deciding;
 mod channel_moves;
 mod cpu;
+mod cpu_deciding;
 mod deciding;
 mod event;
 mod executed;
@@ -21,9 +23,10 @@ mod registers;
 mod shape;
 mod storage;
 
-pub use event::sources;
+pub use event::{deciders, sources};
 pub use laws::{
-    deciders_decide_the_instruction, events_follow_their_sources, instructions_follow_their_sources,
+    deciders_decide_the_event, deciders_decide_the_instruction, events_follow_their_sources,
+    instructions_follow_their_sources,
 };
 pub use location::Location;
 pub use shape::{InstructionShape, Operands, Performance};
