@@ -51,4 +51,5 @@ pub mod ByteLemmas
 pub mod ShapeLemmas
 mod KnownSources
 mod KnownDeciders
+mod KnownEventDeciders
 mod KnownChannelSources

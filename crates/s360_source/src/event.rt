@@ -1,6 +1,5 @@
 //! The sources of an event: what stands at a place after it was made of what stood at these places before it. And its deciders:
-//! what the event does, and where, comes from these. Source: GA22-6821, "System Structure", interval timer, and "System Control
-//! Panel".
+//! what it does, and where, comes from these. Source: GA22-6821, "System Structure", interval timer, and "System Control Panel".
 ghost use Rattle.std.specs.Prelude.{◌≡◌, ◌++◌, IfOk, OnOk, if◌then◌else◌, [], ◌∷◌};
 ghost use Rattle.s360_machine.specs.Machine.{seen};
 ghost use Rattle.s360_source.specs.Events.{deciders, sources};
@@ -42,10 +41,10 @@ pub fn sources(
     Ok(found)
 }
 
-/// The places that what an event does, and where, comes from, in the machine that meets it: in a machine of that size and profile
-/// that has the same at each of them the event has the same shape, though other values may move. The machine is only read. Nothing
-/// but the event decides what an operator does. A place may be found more than once, and one of a key more than is looked at. The
-/// one error is want of memory.
+/// The places that the shape of an event comes from, in the machine that meets it: what the event does, and where, but not the
+/// values that it moves. In a machine of that size and profile that has the same at each of them the event has the same shape. What
+/// an operator does comes from outside, and so from no place. The machine is only read. A place may be found more than once, and so
+/// may a key that would not matter. The one error is want of memory.
 pub fn deciders(alloc: Global, machine: &Machine, event: &Event) -> Result<Vec<Place>, AllocError>
     ensures { IfOk result (λ found. found.items ≡ deciders (seen machine.now.whole) event.now) }
 {

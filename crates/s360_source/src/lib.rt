@@ -1,4 +1,5 @@
-//! Where a value came from: of a place that an event altered, the places that its value was made of.
+//! Where a value came from: of a place that an event altered, the places that its value was made of. And what decided an event:
+//! the places that its shape came from.
 //!
 //! Sources, shapes and deciders are words of ours; the rows of instructions follow GA22-6821, "System Structure",
 //! "Fixed-Point Arithmetic", "Logical Operations", "Decimal Arithmetic", "Branching" and "Status Switching".
