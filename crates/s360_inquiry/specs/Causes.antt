@@ -37,8 +37,12 @@ abbrev pub origin_in : Recorded → Extent → Origin
 origin_in r (Alone Psw) = NotFollowed
 origin_in r extent = origin_of r (first_place extent)
 
+-- an extent with the value that it has, and what made that
+abbrev pub cause_with : Recorded → Extent → Origin → Cause
+cause_with r extent origin = record { extent = extent; value = extent_words (machine_of (session_of r)) extent; origin = origin }
+
 abbrev pub cause_in : Recorded → Extent → Cause
-cause_in r extent = record { extent = extent; value = extent_words (machine_of (session_of r)) extent; origin = origin_in r extent }
+cause_in r extent = cause_with r extent (origin_in r extent)
 
 -- the places that an event makes those of an extent of, each once
 unfoldable pub places_before : Machine → Event → Extent → List Place
@@ -87,17 +91,20 @@ pub record IsOf (c : Cause) (m : Making) : Type 0 where
 abbrev pub most_lines : ℕ
 most_lines = 1000
 
+abbrev pub first_lines : List (List ℕ) → List ℕ
+first_lines lines = flat_map (λ line. line) (take most_lines lines)
+
 abbrev pub told_lines : List (List ℕ) → List ℕ
-told_lines lines = flat_map (λ line. line) (take most_lines lines) ++ (if nat_lt most_lines (length lines) then codes "and more\n" else [])
+told_lines lines = first_lines lines ++ (if nat_lt most_lines (length lines) then codes "and more\n" else [])
 
 -- lines that are told so far, and how many there are, of which one beyond is the last that is counted
 pub record IsTold (lines : List (List ℕ)) (t : Telling) : Type 0 where
-  pub text : t.text ≡ flat_map (λ line. line) (take most_lines lines)
+  pub text : t.text ≡ first_lines lines
   pub count : t.lines ≡ min (length lines) (most_lines + 1)
 
 -- why a place has its value. It is followed, whatever place it is
 abbrev pub first_cause : Recorded → Place → Cause
-first_cause r place = record { extent = extent_of place; value = extent_words (machine_of (session_of r)) (extent_of place); origin = origin_of r place }
+first_cause r place = cause_with r (extent_of place) (origin_of r place)
 
 -- so deep is a chain followed at most
 abbrev pub most_depth : ℕ

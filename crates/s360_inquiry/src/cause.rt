@@ -2,7 +2,7 @@
 ghost use Rattle.std.specs.Prelude.{◌≡◌, ◌-◌, IfOk, OnErr, OnOk, length, min};
 ghost use Rattle.s360_machine.specs.Machine.{seen};
 ghost use Rattle.s360_record.specs.Recorded.{with_standing};
-ghost use Rattle.s360_inquiry.specs.Causes.{IsMaking, cause_in, causes_next, causes_of, event_next, first_cause};
+ghost use Rattle.s360_inquiry.specs.Causes.{IsMaking, cause_in, cause_with, causes_next, causes_of, event_next, first_cause};
 ghost use Rattle.s360_inquiry.specs.Causes.{origin_in, origin_of, places_before};
 ghost use Rattle.indexmap.specs.IndexSet.{insert_all};
 ghost use Rattle.s360_store.specs.Places.{same_place};
@@ -67,15 +67,27 @@ fn origin_in(recording: &Recording, extent: Extent) -> Origin
     }
 }
 
-/// An extent as a cause, where the recording stands.
-fn cause_in(alloc: Global, recording: &Recording, extent: Extent) -> Result<Cause, AllocError>
-    ensures { IfOk result (λ cause. cause ≡ cause_in recording.now extent) }
+/// An extent with the value that it has where the recording stands, and what made that.
+fn cause_with(
+    alloc: Global,
+    recording: &Recording,
+    extent: Extent,
+    origin: Origin,
+) -> Result<Cause, AllocError>
+    ensures { IfOk result (λ cause. cause ≡ cause_with recording.now extent origin) }
 {
     Ok(Cause {
         extent,
         value: words_of_extent(alloc, recording.machine(), extent)?,
-        origin: origin_in(recording, extent),
+        origin,
     })
+}
+
+/// An extent as a cause, where the recording stands.
+fn cause_in(alloc: Global, recording: &Recording, extent: Extent) -> Result<Cause, AllocError>
+    ensures { IfOk result (λ cause. cause ≡ cause_in recording.now extent) }
+{
+    cause_with(alloc, recording, extent, origin_in(recording, extent))
 }
 
 /// A place as the first cause of a chain, which is followed whatever place it is.
@@ -86,12 +98,12 @@ pub(crate) fn first_cause(
 ) -> Result<Cause, AllocError>
     ensures { IfOk result (λ cause. cause ≡ first_cause recording.now place) }
 {
-    let extent = Extent::of(place);
-    Ok(Cause {
-        extent,
-        value: words_of_extent(alloc, recording.machine(), extent)?,
-        origin: origin_of(recording, place),
-    })
+    cause_with(
+        alloc,
+        recording,
+        Extent::of(place),
+        origin_of(recording, place),
+    )
 }
 
 /// The places that an event makes those of an extent of, each once.

@@ -11,7 +11,6 @@ mod happening;
 mod history;
 mod inquiry;
 mod inquiry_reader;
-mod pending;
 mod situation;
 mod unit;
 mod value;

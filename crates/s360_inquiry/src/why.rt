@@ -88,7 +88,7 @@ fn noted(makings: &[Making], number: u32, extent: Extent) -> Option<&Making>
     ensures number { IfSome result (λ making. making.now.number ≡ number) }
     ensures extent { IfSome result (λ making. making.now.extent ≡ extent) }
 {
-    makings.iter().find(|making| making.number == number && making.extent.is(extent))
+    makings.iter().find(|making| making.number == number && making.extent == extent)
 }
 
 /// Tells a cause, and so deep what its change made it of, while lines may be told. What was not noted of a change is looked at
