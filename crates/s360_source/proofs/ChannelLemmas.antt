@@ -36,7 +36,7 @@ use Rattle.s360_source.proofs.EventLaws.{there-cores}
 use Rattle.s360_source.proofs.ExecutionLemmas.{Follows, StoresInside, begun-law, fetched, fetched_count, inside-law, words-law}
 
 -- the bytes of an output
-length-range : (xs ys : List ℕ) (a count : ℕ) → length xs ≡ length ys → length (slice_range xs a (a + count)) ≡ length (slice_range ys a (a + count))
+pub length-range : (xs ys : List ℕ) (a count : ℕ) → length xs ≡ length ys → length (slice_range xs a (a + count)) ≡ length (slice_range ys a (a + count))
 length-range xs ys a count e = rw (length-take (a + count - a) (drop a xs), length-take (a + count - a) (drop a ys), length-drop a xs, length-drop a ys, e) refl
 
 short-range : (xs : List ℕ) (a count i : ℕ) → i < length (slice_range xs a (a + count)) → i < count

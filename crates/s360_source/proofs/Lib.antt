@@ -29,9 +29,27 @@ pub mod LawOfSources
 pub mod FoundLemmas
 pub mod WordLemmas
 pub mod StoredLemmas
+pub mod OperandLemmas
+pub mod AccessLemmas
+pub mod EndingLemmas
+pub mod RegisterEndings
+pub mod IndexedEndings
+pub mod ImmediateEndings
+pub mod FunctionLemmas
+pub mod StorageEndings
+pub mod ChannelDecidingLemmas
+pub mod CpuDecidingLemmas
 pub mod DeciderLaws
+pub mod AccessKeyLemmas
+pub mod WordDeciderLaws
+pub mod ChannelDeciderLaws
+pub mod IoDeciderLaws
+pub mod CpuDeciderLaws
+pub mod LawOfDeciders
 pub mod PartLemmas
 pub mod ByteLemmas
 pub mod ShapeLemmas
 mod KnownSources
+mod KnownDeciders
+mod KnownEventDeciders
 mod KnownChannelSources

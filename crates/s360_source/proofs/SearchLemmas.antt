@@ -25,7 +25,7 @@ use Rattle.s360_source.proofs.EffectLemmas.{pair-keeps, pair-same, psw-keeps}
 use Rattle.s360_source.proofs.SuppressionLemmas.{suppression-law}
 
 -- the function byte that a byte selects, where both are the same
-function-same : (m n : Core) (table a : ℕ) → byte_at m.storage a ≡ byte_at n.storage a
+pub function-same : (m n : Core) (table a : ℕ) → byte_at m.storage a ≡ byte_at n.storage a
     → byte_at m.storage (function_address table (byte_at m.storage a)) ≡ byte_at n.storage (function_address table (byte_at m.storage a)) → function_byte table a m.storage ≡ function_byte table a n.storage
 function-same m n table a h i = i ∙ ap (λ x. byte_at n.storage (function_address table x)) h
 

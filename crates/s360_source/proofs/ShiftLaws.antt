@@ -34,10 +34,10 @@ use Rattle.s360_source.proofs.MultipleLemmas.{load-multiple-row, store-multiple-
 use Rattle.s360_source.proofs.RowLemmas.{double-row, single-row}
 
 -- a function of what is the same in both
-both-alike : {X : Type 0} (f : ℕ → ℕ → X) (a b c d : ℕ) → a ≡ b → c ≡ d → f a c ≡ f b d
+pub both-alike : {X : Type 0} (f : ℕ → ℕ → X) (a b c d : ℕ) → a ≡ b → c ≡ d → f a c ≡ f b d
 both-alike f a b c d p q = ap (λ x. f x c) p ∙ ap (f b) q
 
-all-alike : {X : Type 0} (f : ℕ → ℕ → ℕ → X) (a b c d i j : ℕ) → a ≡ b → c ≡ d → i ≡ j → f a c i ≡ f b d j
+pub all-alike : {X : Type 0} (f : ℕ → ℕ → ℕ → X) (a b c d i j : ℕ) → a ≡ b → c ≡ d → i ≡ j → f a c i ≡ f b d j
 all-alike f a b c d i j p q r = ap (λ x. f x c i) p ∙ ap (λ x. f b x i) q ∙ ap (f b d) r
 
 -- a register that is shifted by one count

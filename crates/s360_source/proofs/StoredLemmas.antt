@@ -82,7 +82,7 @@ length-ordered : (backward : Bool) (bytes : List ℕ) → length (in_order backw
 length-ordered true bytes = length-reverse bytes
 length-ordered false bytes = refl
 
-length-moved : (backward : Bool) (input : List ℕ) (moved total limit : ℕ) → length input ≡ total
+pub length-moved : (backward : Bool) (input : List ℕ) (moved total limit : ℕ) → length input ≡ total
     → length (in_order backward (take (min (total - moved) limit) (drop moved input))) ≡ min (total - moved) limit
 length-moved backward input moved total limit e =
     length-ordered backward (take (min (total - moved) limit) (drop moved input))

@@ -1,36 +1,68 @@
 -- Deciders: the places that the shape of an instruction comes from (GA22-6821, "System Structure", program execution, and
 -- "Branching", EXECUTE). They say which instruction was performed, on operands where, and how it ended; they do not say what
--- its results were made of, which is for the sources. Cores that agree on them perform one instruction; that it ends alike in
--- both is not proved.
-use Rattle.std.specs.Prelude.{ℕ, zero, suc, ◌+◌, ◌*◌, ◌/◌, ◌%◌, nat_eq, if◌then◌else◌, Option, Some, None, List, [], ◌∷◌, ◌++◌}
+-- its results were made of, which is for the sources. Cores that have the same at each of them have one shape.
+use Rattle.std.specs.Prelude.{ℕ, zero, suc, ◌+◌, ◌-◌, ◌*◌, ◌/◌, ◌%◌, Bool, true, false, not, ◌&&◌, ◌||◌, nat_eq, if◌then◌else◌}
+use Rattle.std.specs.Prelude.{Option, Some, None, is_none, List, [], ◌∷◌, ◌++◌}
+use Rattle.std.specs.Option.{option_map_or}
 use Rattle.s360_model.specs.Core.{Core}
-use Rattle.s360_model.specs.Psw.{instruction_address_of, protection_key_of}
+use Rattle.s360_model.specs.Psw.{fixed_point_overflow_mask_of, instruction_address_of, protection_key_of}
 use Rattle.s360_model.specs.Storage.{Storage, block_size}
 use Rattle.s360_store.specs.declared.place.Place.{Place}
 use Rattle.s360_store.specs.declared.place.Place.TheVariants.{Psw, Register, Key}
+use Rattle.s360_store.specs.declared.protection.Access.{Access}
+use Rattle.s360_store.specs.declared.protection.Access.TheVariants.{Fetch, Store as to_store}
+use Rattle.s360_store.specs.Protection.{is_protected}
 use Rattle.s360_store.specs.Spans.{byte_places}
 use Rattle.s360_fixed.specs.declared.form.Form.{Form}
 use Rattle.s360_fixed.specs.declared.form.Form.TheVariants.{Rr, Rx, Rs, Si, Ss}
 use Rattle.s360_fixed.specs.declared.operation.Operation.{Operation}
-use Rattle.s360_fixed.specs.declared.operation.Operation.TheVariants.{SetStorageKey, InsertStorageKey, Divide, ConvertToBinary}
-use Rattle.s360_fixed.specs.declared.operation.Operation.TheVariants.{LoadAddress}
+use Rattle.s360_fixed.specs.declared.operation.Operation.TheVariants.{LoadComplement, LoadPositive, Add, AddHalfword}
+use Rattle.s360_fixed.specs.declared.operation.Operation.TheVariants.{Subtract, SubtractHalfword}
+use Rattle.s360_fixed.specs.declared.operation.Operation.TheVariants.{ShiftLeftSingle, ShiftLeftDouble}
+use Rattle.s360_fixed.specs.declared.operation.Operation.TheVariants.{SetStorageKey, InsertStorageKey}
+use Rattle.s360_fixed.specs.declared.operation.Operation.TheVariants.{Divide, ConvertToBinary}
+use Rattle.s360_fixed.specs.declared.operation.Operation.TheVariants.{LoadAddress, CompareLogical}
 use Rattle.s360_fixed.specs.declared.operation.Operation.TheVariants.{BranchOnCondition, BranchAndLink, BranchOnCount}
-use Rattle.s360_fixed.specs.declared.operation.Operation.TheVariants.{StoreHalfword, StoreCharacter, ConvertToDecimal}
+use Rattle.s360_fixed.specs.declared.operation.Operation.TheVariants.{Store, StoreHalfword, StoreCharacter, ConvertToDecimal}
 use Rattle.s360_fixed.specs.declared.operation.Operation.TheVariants.{StoreMultiple, LoadMultiple, LoadPsw}
+use Rattle.s360_fixed.specs.declared.operation.Operation.TheVariants.{StartIo, TestIo, HaltIo, TestChannel}
 use Rattle.s360_fixed.specs.declared.operation.Operation.TheVariants.{MoveWithOffset, Pack, Unpack, Translate, TranslateAndTest}
 use Rattle.s360_fixed.specs.Fetching.{instruction_bytes, length_at}
+use Rattle.s360_fixed.specs.ProgramCodes.{program_code}
 use Rattle.s360_fixed.specs.Storing.{register_count}
 use Rattle.s360_fixed.specs.Table.{form_of}
-use Rattle.s360_logic.specs.Instruction.{view_at}
+use Rattle.s360_fixed.specs.View.{View}
 use Rattle.s360_logic.specs.Bytes.{byte_at}
+use Rattle.s360_logic.specs.Immediate.{immediate_access}
+use Rattle.s360_logic.specs.Instruction.{conditions_at, view_at}
 use Rattle.s360_logic.specs.LeftToRight.{function_address, function_byte}
 use Rattle.s360_logic.specs.Logic.{subject_of}
+use Rattle.s360_logic.specs.Rows.{immediate_row_of}
 use Rattle.s360_source.specs.InstructionSources.{completed_sources}
 use Rattle.s360_source.specs.RegisterSources.{bytes_of_second}
 use Rattle.s360_source.specs.declared.shape.Operands.{Operands}
 use Rattle.s360_source.specs.declared.shape.Performance.{Performance}
-use Rattle.s360_source.specs.Shapes.{instruction_shape}
+use Rattle.s360_source.specs.Shapes.{operation_of, performed_of}
 use Rattle.s360_source.specs.Sources.{address_parts, register_part}
+use Rattle.s360_source.specs.StorageSources.{searched_places}
+
+-- the keys of so many blocks from a number on, and those of the blocks that so many bytes lie in
+abbrev pub keys_from : ℕ → ℕ → List Place
+keys_from block zero = []
+keys_from block (suc n) = Key block ∷ keys_from (block + 1) n
+
+abbrev pub key_places : ℕ → ℕ → List Place
+key_places address zero = []
+key_places address (suc n) = keys_from (address / block_size) ((address + n) / block_size - address / block_size + 1)
+
+-- the keys that an access to so many bytes looks at: none where it is not protected, or under protection key 0
+abbrev pub access_keys : Storage → Access → ℕ → ℕ → ℕ → List Place
+access_keys s kind key address count = if not (is_protected s kind) || nat_eq key 0 then [] else key_places address count
+
+-- the bytes of the instruction at an address, and the keys that its fetch looks at
+abbrev pub fetched_places : Storage → ℕ → ℕ → List Place
+fetched_places s key address =
+    byte_places address (length_at s address) ++ access_keys s Fetch key address (length_at s address)
 
 -- the registers that the addresses of an instruction are made of, and the one that names a block
 abbrev pub block_register : Operation → ℕ → List Place
@@ -45,48 +77,48 @@ address_deciders (Rs operation r1 r3 b2 d2) = register_part b2
 address_deciders (Si operation i2 b1 d1) = register_part b1
 address_deciders (Ss operation l b1 d1 b2 d2) = register_part b1 ++ register_part b2
 
--- the keys of the blocks that so many bytes lie in: an operand has at most 256 bytes, and so lies in those of its first byte
--- and its last
-abbrev pub key_places : ℕ → ℕ → List Place
-key_places address zero = []
-key_places address (suc n) = Key (address / block_size) ∷ (Key ((address + n) / block_size) ∷ [])
+-- the result decides how an operation ends that may overflow, where an overflow interrupts; and where there may be no quotient,
+-- or what is converted to binary no number that fits a word
+abbrev pub may_overflow : Operation → Bool
+may_overflow LoadComplement = true
+may_overflow LoadPositive = true
+may_overflow Add = true
+may_overflow AddHalfword = true
+may_overflow Subtract = true
+may_overflow SubtractHalfword = true
+may_overflow ShiftLeftSingle = true
+may_overflow ShiftLeftDouble = true
+may_overflow other = false
 
--- no key is checked under protection key 0
-abbrev pub unless_key_zero : ℕ → List Place → List Place
-unless_key_zero key keys = if nat_eq key 0 then [] else keys
+abbrev pub ends_by_result : ℕ → Operation → Bool
+ends_by_result psw Divide = true
+ends_by_result psw ConvertToBinary = true
+ends_by_result psw other = may_overflow other && fixed_point_overflow_mask_of psw
 
--- an execute: the register whose low byte is ored into the subject, and the bytes of the subject with their keys
-abbrev pub subject_deciders : ℕ → Storage → Option (ℕ × ℕ) → List Place
-subject_deciders key s None = []
-subject_deciders key s (Some subject) =
-    register_part subject.0
-    ++ (byte_places subject.1 (length_at s subject.1) ++ unless_key_zero key (key_places subject.1 (length_at s subject.1)))
+-- what decides how an instruction ends, beside what its accesses meet: what R1 is made of, where the result does, and the bytes
+-- that select function bytes
+abbrev pub result_deciders : ℕ → Form → ℕ → Operands → Storage → List Place
+result_deciders psw form r1 o s = if ends_by_result psw (operation_of form) then completed_sources form o s (Register r1) else []
 
-abbrev pub fetch_deciders : Core → ℕ → Option Form → List Place
-fetch_deciders m address None = []
-fetch_deciders m address (Some form) =
-    address_deciders form ++ subject_deciders (protection_key_of m.psw) m.storage (subject_of (view_at m address) form)
+abbrev pub ending_deciders : ℕ → Form → Operands → Storage → List Place
+ending_deciders psw (Rr operation r1 r2) o s = result_deciders psw (Rr operation r1 r2) r1 o s
+ending_deciders psw (Rx operation r1 x2 b2 d2) o s = result_deciders psw (Rx operation r1 x2 b2 d2) r1 o s
+ending_deciders psw (Rs operation r1 r3 b2 d2) o s = result_deciders psw (Rs operation r1 r3 b2 d2) r1 o s
+ending_deciders psw (Ss Translate l b1 d1 b2 d2) o s = byte_places o.first (l + 1)
+ending_deciders psw (Ss TranslateAndTest l b1 d1 b2 d2) o s = searched_places o.second o.first 0 (l + 1) s
+ending_deciders psw form o s = []
 
--- the operands that decide how an instruction ends: those of its condition code, which may be an overflow, and those of a
--- quotient or of a number that is converted to binary, and the bytes that select function bytes
-abbrev pub ending_deciders : Form → Operands → Storage → List Place
-ending_deciders (Rr Divide r1 r2) o s = completed_sources (Rr Divide r1 r2) o s (Register r1)
-ending_deciders (Rx Divide r1 x2 b2 d2) o s = completed_sources (Rx Divide r1 x2 b2 d2) o s (Register r1)
-ending_deciders (Rx ConvertToBinary r1 x2 b2 d2) o s = completed_sources (Rx ConvertToBinary r1 x2 b2 d2) o s (Register r1)
-ending_deciders (Ss Translate l b1 d1 b2 d2) o s = byte_places o.first (l + 1)
-ending_deciders form o s = completed_sources form o s Psw
-
--- bytes of the operands: of the first, and of the second where there is one
-abbrev pub bytes_of_operand : Operation → ℕ
-bytes_of_operand LoadAddress = 0
-bytes_of_operand BranchOnCondition = 0
-bytes_of_operand BranchAndLink = 0
-bytes_of_operand BranchOnCount = 0
-bytes_of_operand StoreHalfword = 2
-bytes_of_operand StoreCharacter = 1
-bytes_of_operand ConvertToDecimal = 8
-bytes_of_operand ConvertToBinary = 8
-bytes_of_operand other = bytes_of_second other
+-- bytes of the first operand in storage
+abbrev pub indexed_bytes : Operation → ℕ
+indexed_bytes LoadAddress = 0
+indexed_bytes BranchOnCondition = 0
+indexed_bytes BranchAndLink = 0
+indexed_bytes BranchOnCount = 0
+indexed_bytes StoreHalfword = 2
+indexed_bytes StoreCharacter = 1
+indexed_bytes ConvertToDecimal = 8
+indexed_bytes ConvertToBinary = 8
+indexed_bytes other = bytes_of_second other
 
 abbrev pub several_bytes : Operation → ℕ → ℕ → ℕ
 several_bytes StoreMultiple r1 r3 = 4 * register_count r1 r3
@@ -94,53 +126,100 @@ several_bytes LoadMultiple r1 r3 = 4 * register_count r1 r3
 several_bytes other r1 r3 = 0
 
 abbrev pub immediate_bytes : Operation → ℕ
+immediate_bytes StartIo = 0
+immediate_bytes TestIo = 0
+immediate_bytes HaltIo = 0
+immediate_bytes TestChannel = 0
 immediate_bytes LoadPsw = 8
 immediate_bytes other = 1
 
--- the keys of the function bytes that the bytes of an operand select: of all, or up to the first that is not zero
-abbrev pub function_key : ℕ → ℕ → Storage → Place
-function_key table address s = Key (function_address table (byte_at s address) / block_size)
+-- whether it is stored or fetched
+abbrev pub indexed_access : Operation → Access
+indexed_access Store = to_store
+indexed_access StoreHalfword = to_store
+indexed_access StoreCharacter = to_store
+indexed_access ConvertToDecimal = to_store
+indexed_access other = Fetch
 
-abbrev pub translated_keys : ℕ → ℕ → ℕ → ℕ → Storage → List Place
-translated_keys table first i zero s = []
-translated_keys table first i (suc n) s = function_key table (first + i) s ∷ translated_keys table first (i + 1) n s
+abbrev pub several_access : Operation → Access
+several_access StoreMultiple = to_store
+several_access other = Fetch
 
-abbrev pub searched_keys : ℕ → ℕ → ℕ → ℕ → Storage → List Place
-searched_keys table first i zero s = []
-searched_keys table first i (suc n) s =
-    function_key table (first + i) s
-    ∷ (if nat_eq (function_byte table (first + i) s) 0 then searched_keys table first (i + 1) n s else [])
+abbrev pub first_access : Operation → Access
+first_access CompareLogical = Fetch
+first_access TranslateAndTest = Fetch
+first_access other = to_store
 
--- the keys that are checked of the operands
-abbrev pub storage_keys : Operation → ℕ → Operands → Storage → List Place
-storage_keys MoveWithOffset l o s = key_places o.first (l / 16 + 1) ++ key_places o.second (l % 16 + 1)
-storage_keys Pack l o s = key_places o.first (l / 16 + 1) ++ key_places o.second (l % 16 + 1)
-storage_keys Unpack l o s = key_places o.first (l / 16 + 1) ++ key_places o.second (l % 16 + 1)
-storage_keys Translate l o s = key_places o.first (l + 1) ++ translated_keys o.second o.first 0 (l + 1) s
-storage_keys TranslateAndTest l o s = key_places o.first (l + 1) ++ searched_keys o.second o.first 0 (l + 1) s
-storage_keys other l o s = key_places o.first (l + 1) ++ key_places o.second (l + 1)
+-- the keys that the fetches of the function bytes look at which the bytes of an operand select: of all, or up to the first that
+-- is not zero
+abbrev pub function_keys : Storage → ℕ → ℕ → ℕ → List Place
+function_keys s key table address = access_keys s Fetch key (function_address table (byte_at s address)) 1
 
-abbrev pub key_deciders : Form → Operands → Storage → List Place
-key_deciders (Rr operation r1 r2) o s = []
-key_deciders (Rx operation r1 x2 b2 d2) o s = key_places o.first (bytes_of_operand operation)
-key_deciders (Rs operation r1 r3 b2 d2) o s = key_places o.first (several_bytes operation r1 r3)
-key_deciders (Si operation i2 b1 d1) o s = key_places o.first (immediate_bytes operation)
-key_deciders (Ss operation l b1 d1 b2 d2) o s = storage_keys operation l o s
+abbrev pub translated_keys : Storage → ℕ → ℕ → ℕ → ℕ → ℕ → List Place
+translated_keys s key table first i zero = []
+translated_keys s key table first i (suc n) = function_keys s key table (first + i) ++ translated_keys s key table first (i + 1) n
 
-abbrev pub performed_deciders : ℕ → Option Performance → Storage → List Place
-performed_deciders key None s = []
-performed_deciders key (Some p) s =
-    address_deciders p.form ++ (ending_deciders p.form p.operands s ++ unless_key_zero key (key_deciders p.form p.operands s))
+abbrev pub searched_keys : Storage → ℕ → ℕ → ℕ → ℕ → ℕ → List Place
+searched_keys s key table first i zero = []
+searched_keys s key table first i (suc n) =
+    function_keys s key table (first + i)
+    ++ (if nat_eq (function_byte table (first + i) s) 0 then searched_keys s key table first (i + 1) n else [])
 
--- the deciders of the instruction at an address: the PSW, its bytes and their keys, what an execute adds, and those of what is
--- performed
+-- the keys that the accesses to two operands in storage look at
+abbrev pub digit_keys : Storage → ℕ → ℕ → Operands → List Place
+digit_keys s key l o = access_keys s to_store key o.first (l / 16 + 1) ++ access_keys s Fetch key o.second (l % 16 + 1)
+
+abbrev pub storage_keys : Storage → ℕ → Operation → ℕ → Operands → List Place
+storage_keys s key MoveWithOffset l o = digit_keys s key l o
+storage_keys s key Pack l o = digit_keys s key l o
+storage_keys s key Unpack l o = digit_keys s key l o
+storage_keys s key Translate l o =
+    access_keys s to_store key o.first (l + 1) ++ translated_keys s key o.second o.first 0 (l + 1)
+storage_keys s key TranslateAndTest l o =
+    access_keys s Fetch key o.first (l + 1) ++ searched_keys s key o.second o.first 0 (l + 1)
+storage_keys s key other l o = access_keys s (first_access other) key o.first (l + 1) ++ access_keys s Fetch key o.second (l + 1)
+
+-- the keys that the accesses to the operands look at
+abbrev pub key_deciders : ℕ → Form → Operands → Storage → List Place
+key_deciders key (Rr operation r1 r2) o s = []
+key_deciders key (Rx operation r1 x2 b2 d2) o s =
+    access_keys s (indexed_access operation) key o.first (indexed_bytes operation)
+key_deciders key (Rs operation r1 r3 b2 d2) o s =
+    access_keys s (several_access operation) key o.first (several_bytes operation r1 r3)
+key_deciders key (Si operation i2 b1 d1) o s =
+    access_keys s (option_map_or immediate_access (immediate_row_of operation) Fetch) key o.first (immediate_bytes operation)
+key_deciders key (Ss operation l b1 d1 b2 d2) o s = storage_keys s key operation l o
+
+-- the deciders of what is performed, on its operands
+abbrev pub performed_deciders : Core → Option Performance → List Place
+performed_deciders m None = []
+performed_deciders m (Some p) =
+    address_deciders p.form
+    ++ (ending_deciders m.psw p.form p.operands m.storage ++ key_deciders (protection_key_of m.psw) p.form p.operands m.storage)
+
+-- an execute: the registers of its address, the one whose low byte is ored into the subject, and the subject as it is fetched
+abbrev pub execute_deciders : View → Form → List Place
+execute_deciders v form = of_subject (subject_of v form) where
+  of_subject : Option (ℕ × ℕ) → List Place
+  of_subject None = []
+  of_subject (Some subject) =
+      address_deciders form
+      ++ (register_part subject.0 ++ fetched_places v.core.storage (protection_key_of v.core.psw) subject.1)
+
+-- of an instruction with a form: what an execute adds, and those of what is performed
+abbrev pub form_deciders : View → Option Form → List Place
+form_deciders v None = []
+form_deciders v (Some form) = execute_deciders v form ++ performed_deciders v.core (performed_of v form)
+
+-- the deciders of the instruction at an address: the PSW, its bytes and their keys, and those of its form where it can be fetched
 abbrev pub deciders_at : Core → ℕ → List Place
 deciders_at m address =
-    let key : ℕ = protection_key_of m.psw
-    in let bytes : List Place = byte_places address (length_at m.storage address)
-    in let keys : List Place = unless_key_zero key (key_places address (length_at m.storage address))
-    in let fetched : List Place = fetch_deciders m address (form_of (instruction_bytes m.storage address))
-    in Psw ∷ (bytes ++ (keys ++ (fetched ++ performed_deciders key (instruction_shape m).performed m.storage)))
+    Psw
+    ∷ (fetched_places m.storage (protection_key_of m.psw) address
+    ++ (
+    if is_none (program_code (conditions_at m address))
+    then form_deciders (view_at m address) (form_of (instruction_bytes m.storage address)) else []
+    ))
 
 abbrev pub instruction_deciders : Core → List Place
 instruction_deciders m = deciders_at m (instruction_address_of m.psw)

@@ -8,7 +8,6 @@ use Rattle.s360_logic.specs.Instruction.{instruction}
 use Rattle.s360_source.specs.Agreement.{Agree, AreAlike, HaveAllSame}
 use Rattle.s360_source.specs.Deciders.{instruction_deciders}
 use Rattle.s360_source.specs.InstructionSources.{instruction_sources}
-use Rattle.s360_source.specs.declared.shape.InstructionShape.{InstructionShape}
 use Rattle.s360_source.specs.Shapes.{instruction_shape, is_suppressed}
 use Rattle.s360_source.specs.Sources.{Sources, itself}
 
@@ -30,15 +29,7 @@ InstructionFollows =
     → HaveAllSame m n (instruction_sources (instruction_shape m) m.storage p)
     → Agree m n (instruction m).outcome.core (instruction n).outcome.core p
 
--- two shapes are of one instruction: performed on the same operands, with the same next address and length; how they end is not
--- compared
-pub record AreOfOneInstruction (x y : InstructionShape) : Type 0 where
-  pub performed : x.performed ≡ y.performed
-  pub next : x.next_address ≡ y.next_address
-  pub length : x.length ≡ y.length
-
--- cores that have the same at the deciders of an instruction perform one instruction
+-- cores that are alike and have the same at the deciders of an instruction have one shape of it
 abbrev pub InstructionDecided : Type 0
 InstructionDecided =
-    (m n : Core) → AreAlike m n → HaveAllSame m n (instruction_deciders m)
-    → AreOfOneInstruction (instruction_shape m) (instruction_shape n)
+    (m n : Core) → AreAlike m n → HaveAllSame m n (instruction_deciders m) → instruction_shape m ≡ instruction_shape n

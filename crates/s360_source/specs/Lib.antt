@@ -15,5 +15,7 @@ pub mod EventSources
 pub mod ChannelShapes
 pub mod ChannelSources
 pub mod StoredRuns
+pub mod ChannelDeciders
+pub mod EventDeciders
 pub mod Events
 pub mod MachineLaws

@@ -62,7 +62,7 @@ fn push_unit_sources(
 }
 
 /// What the channel does for a unit.
-fn state_of(machine: &Machine, unit: ConfiguredUnit) -> &UnitState
+pub(crate) fn state_of(machine: &Machine, unit: ConfiguredUnit) -> &UnitState
     ensures { result.now ≡ (control_of machine.now.whole.units unit).state }
 {
     match machine.unit(unit.unit()) {
@@ -208,7 +208,7 @@ fn push_words(found: &mut Vec<Place>, moves: &ChannelMoves) -> Result<(), AllocE
 }
 
 /// Adds the bytes of a word, if there is one.
-fn push_word(found: &mut Vec<Place>, word: Option<Location>) -> Result<(), AllocError>
+pub(crate) fn push_word(found: &mut Vec<Place>, word: Option<Location>) -> Result<(), AllocError>
     ensures { OnOk result (found.new.items ≡ found.old.items ++ bytes_of_word word) }
 {
     match word {

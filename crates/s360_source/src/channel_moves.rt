@@ -1,7 +1,7 @@
 //! Where a channel event finds and puts bytes of storage. Source: GA22-6821, "Input/Output Operations", execution of
 //! input/output operations, and channel program.
-ghost use Rattle.std.specs.Prelude.{◌≡◌, ◌<◌, ◌^◌};
-ghost use Rattle.s360_channel.specs.Execution.{moved_before};
+ghost use Rattle.std.specs.Prelude.{◌≡◌, ◌<◌, ◌-◌, ◌^◌, if◌then◌else◌};
+ghost use Rattle.s360_channel.specs.Execution.{input_transfer, lowest_address, moved_before};
 ghost use Rattle.s360_channel.specs.Words.{reads_backward};
 ghost use Rattle.s360_source.specs.ChannelShapes.{fetched_by, standing_at, target_of, word_of};
 ghost use Rattle.s360_source.specs.ChannelSources.{is_stored};
@@ -44,7 +44,7 @@ impl ChannelMoves {
 }
 
 /// The address of a word, if one stands there.
-fn standing_at(storage: &Storage, address: u32) -> Option<Location>
+pub(crate) fn standing_at(storage: &Storage, address: u32) -> Option<Location>
     ensures { result ≡ standing_at storage.now address }
 {
     ccw_at(storage, address)?;
@@ -92,8 +92,31 @@ pub(crate) fn fetched_by(progress: &Progress, ccw: &Ccw, begin: Begin) -> Option
     }
 }
 
-/// The bytes that a word of an input stores: as many of its count as are left of the record. They rise from the data address, or
-/// fall from it. There is none under skip.
+/// How many bytes a word of an input of so many stores: as many of its count as are left of the record. Under skip it stores none.
+pub(crate) fn stored_count(progress: &Progress, ccw: &Ccw, total: u32) -> u16
+    ensures { result ≡ (if ccw.now.flags.skip then 0 else (input_transfer ccw.now (total - moved_before progress.now)).count) }
+{
+    if ccw.flags.skip {
+        return 0;
+    }
+    let left = total.saturating_sub(moved_before(progress));
+    left.min(u32::from(ccw.count)) as u16
+}
+
+/// The lowest address of so many bytes of a word, which rise from the data address, or fall from it: none if they fall below 0.
+pub(crate) fn lowest_address(command: u8, ccw: &Ccw, count: u16) -> Option<Location>
+    requires short { ccw.now.address < 2 ^ 24 }
+    ensures { result ≡ lowest_address (reads_backward command) ccw.now.address count }
+{
+    let lowest = if reads_backward(command) {
+        ccw.address.checked_sub(u32::from(count.saturating_sub(1)))?
+    } else {
+        ccw.address
+    };
+    Some(Location::new(lowest))
+}
+
+/// The bytes that a word of an input stores. They begin at address 0 if they fall below it.
 pub(crate) fn stored_by(progress: &Progress, ccw: &Ccw, begin: Begin) -> Option<Extent>
     requires short { ccw.now.address < 2 ^ 24 }
     ensures { result ≡ stored_by progress.now ccw.now begin }
@@ -101,17 +124,12 @@ pub(crate) fn stored_by(progress: &Progress, ccw: &Ccw, begin: Begin) -> Option<
     let Begin::Input(total) = begin else {
         return None;
     };
-    let left = total.saturating_sub(moved_before(progress));
-    let count = left.min(u32::from(ccw.count)) as u16;
-    if ccw.flags.skip || count == 0 {
+    let count = stored_count(progress, ccw, total);
+    if count == 0 {
         return None;
     }
-    let lowest = if reads_backward(progress.command_with(ccw)) {
-        ccw.address.saturating_sub(u32::from(count) - 1)
-    } else {
-        ccw.address
-    };
-    Some((Location::new(lowest), count))
+    let lowest = lowest_address(progress.command_with(ccw), ccw, count);
+    Some((lowest.unwrap_or(Location::new(0)), count))
 }
 
 /// How many bytes of the record were moved by the words before.

@@ -1,12 +1,14 @@
-//! The sources of an event: what stands at a place after it was made of what stood at these places before it. Source: GA22-6821,
-//! "System Structure", interval timer, and "System Control Panel".
+//! The sources of an event: what stands at a place after it was made of what stood at these places before it. And its deciders:
+//! what it does, and where, comes from these. Source: GA22-6821, "System Structure", interval timer, and "System Control Panel".
 ghost use Rattle.std.specs.Prelude.{◌≡◌, ◌++◌, IfOk, OnOk, if◌then◌else◌, [], ◌∷◌};
 ghost use Rattle.s360_machine.specs.Machine.{seen};
-ghost use Rattle.s360_source.specs.Events.{sources};
+ghost use Rattle.s360_source.specs.Events.{deciders, sources};
 ghost use Rattle.s360_source.specs.EventSources.{key_sources, patch_sources, tick_sources};
 
 use crate::channel::push_channel_sources;
+use crate::channel_deciding::push_channel_deciders;
 use crate::cpu::push_cpu_sources;
+use crate::cpu_deciding::push_cpu_deciders;
 use crate::location::Location;
 use crate::made_of::{push_bytes_made_of, push_itself};
 use crate::part::{Part, push_parts};
@@ -35,6 +37,23 @@ pub fn sources(
         Event::Tick => push_tick_sources(&mut found, machine.run().is_operating(), place)?,
         Event::Key(key) => push_key_sources(&mut found, key, place)?,
         Event::Patch(patch) => push_patch_sources(&mut found, patch, place)?,
+    }
+    Ok(found)
+}
+
+/// The places that the shape of an event comes from, in the machine that meets it: what the event does, and where, but not the
+/// values that it moves. In a machine of that size and profile that has the same at each of them the event has the same shape. What
+/// an operator does comes from outside, and so from no place. The machine is only read. A place may be found more than once, and so
+/// may a key that would not matter. The one error is want of memory.
+pub fn deciders(alloc: Global, machine: &Machine, event: &Event) -> Result<Vec<Place>, AllocError>
+    ensures { IfOk result (λ found. found.items ≡ deciders (seen machine.now.whole) event.now) }
+{
+    let mut found = Vec::new(alloc);
+    match event {
+        Event::Cpu => push_cpu_deciders(alloc, &mut found, machine)?,
+        Event::Channel(unit) => push_channel_deciders(&mut found, machine, *unit)?,
+        Event::Tick => found.push(Place::Run)?,
+        Event::Key(_) | Event::Patch(_) => (),
     }
     Ok(found)
 }

@@ -129,7 +129,7 @@ fn is_checked(status: &Option<Csw>) -> bool
 }
 
 /// The word that is executed, unless what stands there meets a program check.
-fn executed_word(storage: &Storage, program: &Program) -> Option<Ccw>
+pub(crate) fn executed_word(storage: &Storage, program: &Program) -> Option<Ccw>
     ensures word { result ≡ executed_word storage.now program.now }
     ensures short { IfSome result (λ ccw. ccw.address < 2 ^ 24) }
 {

@@ -302,7 +302,7 @@ fn push_ss(
 }
 
 /// Adds the sources of a place, as an instruction that was completed made what stands there.
-fn push_completed(
+pub(crate) fn push_completed(
     found: &mut Vec<Place>,
     place: Place,
     form: &Form,

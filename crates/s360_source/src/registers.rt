@@ -153,7 +153,7 @@ pub(crate) fn push_index(
 }
 
 /// How many registers there are from R1 up to R3, 15 followed by 0.
-fn register_count(r1: RegisterNumber, r3: RegisterNumber) -> u32
+pub(crate) fn register_count(r1: RegisterNumber, r3: RegisterNumber) -> u32
     ensures count { result ≡ register_count r1 r3 }
     ensures some { 1 ≤ result }
     ensures few { result ≤ 16 }

@@ -117,7 +117,7 @@ fn subject_performed(view: &View, r1: RegisterNumber, address: u32) -> Option<Pe
 }
 
 /// What is performed of an instruction: itself, or the subject of an execute.
-fn performed_of(view: &View, form: &Form) -> Option<Performance>
+pub(crate) fn performed_of(view: &View, form: &Form) -> Option<Performance>
     ensures { result ≡ performed_of view.now form.now }
 {
     match subject_of(form, view) {

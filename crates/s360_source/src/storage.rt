@@ -26,7 +26,7 @@ pub(crate) enum ByteRow {
 }
 
 /// The byte at an address, and zero outside storage.
-fn byte_at(storage: &Storage, address: u32) -> u8
+pub(crate) fn byte_at(storage: &Storage, address: u32) -> u8
     ensures { result ≡ byte_at storage.now address }
 {
     if address < storage.size() {
@@ -37,7 +37,7 @@ fn byte_at(storage: &Storage, address: u32) -> u8
 }
 
 /// The address of the function byte that the byte at an address selects of a table.
-fn function_address(storage: &Storage, table: Location, address: u32) -> u32
+pub(crate) fn function_address(storage: &Storage, table: Location, address: u32) -> u32
     ensures { result ≡ function_address table (byte_at storage.now address) }
 {
     (table.number() + u32::from(byte_at(storage, address))) % ADDRESSES
