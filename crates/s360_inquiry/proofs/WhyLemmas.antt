@@ -4,7 +4,7 @@ use Rattle.std.proofs.lemmas.List.{append-nil, take-append-le, take_all, take_mo
 use Rattle.std.proofs.lemmas.Grind.{flat_map-append, fold-append}
 use Rattle.std.specs.List.{flat_map}
 use Rattle.std.specs.List.{list_any}
-use Rattle.std.specs.Prelude.{if◌then◌else◌, nat_lt}
+use Rattle.std.specs.Prelude.{if◌then◌else◌, nat_eq, nat_lt}
 use Rattle.std.proofs.lemmas.Bool.{le-ltb, lt-ltb}
 use Rattle.indexmap.specs.IndexSet.{insert_all, insert_key}
 use Rattle.s360_store.specs.declared.place.Place.{Place}
@@ -18,7 +18,7 @@ use Rattle.s360_inquiry.specs.declared.cause.Origin.TheVariants.{Change}
 use Rattle.s360_inquiry.specs.declared.cause.Making.{Making}
 use Rattle.s360_inquiry.specs.declared.extent.Extent.{Extent}
 use Rattle.s360_inquiry.specs.declared.why.Telling.{Telling}
-use Rattle.s360_inquiry.specs.Causes.{IsMaking, IsOf, IsTold, cause_line, cause_lines, causes_of, indent, told_lines}
+use Rattle.s360_inquiry.specs.Causes.{IsMaking, IsOf, IsTold, cause_line, cause_lines, causes_of, decided_line, decided_lines, decided_words, indent, told_lines}
 use Rattle.s360_inquiry.specs.Changes.{words_of_change}
 
 abbrev joined_lines : List (List ℕ) → List ℕ
@@ -123,7 +123,8 @@ told-full lines more t full told =
 pub lines-followed : (level depth number : ℕ) (r : Recorded) (c : Cause) → 0 < depth
     → cause_lines level depth r c (Change number)
     ≡ cause_line level c (codes " by " ++ words_of_change r number)
-    ∷ flat_map (λ (x : Cause). cause_lines (level + 1) (depth - 1) r x x.origin) (causes_of r number c.extent)
+    ∷ (decided_lines (level + 1) (decided_words r number)
+    ++ flat_map (λ (x : Cause). cause_lines (level + 1) (depth - 1) r x x.origin) (causes_of r number c.extent))
 lines-followed level zero number r c some = absurd (omega (arith, some))
 lines-followed level (suc depth) number r c some =
     let less : suc depth - 1 ≡ depth = omega arith
@@ -132,15 +133,19 @@ lines-followed level (suc depth) number r c some =
 -- what a change made, where it was noted
 pub making-told : (level depth : ℕ) (r : Recorded) (c : Cause) (m : Making) (lines : List (List ℕ)) (made : List ℕ) → 0 < depth → IsMaking r m → IsOf c m
     → made ≡ codes " by " ++ m.words
-    → (lines ++ cause_line level c made ∷ []) ++ flat_map (λ (x : Cause). cause_lines (level + 1) (depth - 1) r x x.origin) m.causes.items
+    → ((lines ++ cause_line level c made ∷ []) ++ decided_lines (level + 1) m.decided)
+    ++ flat_map (λ (x : Cause). cause_lines (level + 1) (depth - 1) r x x.origin) m.causes.items
     ≡ lines ++ cause_lines level depth r c c.origin
 making-told level depth r c m lines made some making of told =
     let below : List Cause → List (List ℕ) = λ (xs : List Cause). flat_map (λ (x : Cause). cause_lines (level + 1) (depth - 1) r x x.origin) xs
+    in let decided : List ℕ → List (List ℕ) = λ (w : List ℕ). decided_lines (level + 1) w
     in let words : made ≡ codes " by " ++ words_of_change r m.number = told ∙ ap (λ (w : List ℕ). codes " by " ++ w) making.words
     in let causes : m.causes.items ≡ causes_of r m.number c.extent = making.causes ∙ ap (λ (e : Extent). causes_of r m.number e) (sym of.extent)
-    in append_assoc lines (cause_line level c made ∷ []) (below m.causes.items)
-    ∙ ap (λ (w : List ℕ). lines ++ cause_line level c w ∷ below m.causes.items) words
-    ∙ ap (λ (xs : List Cause). lines ++ cause_line level c (codes " by " ++ words_of_change r m.number) ∷ below xs) causes
+    in append_assoc (lines ++ cause_line level c made ∷ []) (decided m.decided) (below m.causes.items)
+    ∙ append_assoc lines (cause_line level c made ∷ []) (decided m.decided ++ below m.causes.items)
+    ∙ ap (λ (w : List ℕ). lines ++ cause_line level c w ∷ (decided m.decided ++ below m.causes.items)) words
+    ∙ ap (λ (w : List ℕ). lines ++ cause_line level c (codes " by " ++ words_of_change r m.number) ∷ (decided w ++ below m.causes.items)) making.decided
+    ∙ ap (λ (xs : List Cause). lines ++ cause_line level c (codes " by " ++ words_of_change r m.number) ∷ (decided (decided_words r m.number) ++ below xs)) causes
     ∙ ap (λ (ls : List (List ℕ)). lines ++ ls) (sym (lines-followed level depth m.number r c some))
     ∙ ap (λ (o : Origin). lines ++ cause_lines level depth r c o) (sym of.number)
 
@@ -165,3 +170,10 @@ kept-more r x y n here there =
 
 pub same-record : (r x : Recorded) → x ≡ with_standing r x.standing → with_standing x 0 ≡ with_standing r 0
 same-record r x here = ap (λ (z : Recorded). with_standing z 0) here
+
+-- ---- the line of what decided a change
+
+pub decided-some : (level : ℕ) (words line : List ℕ) → nat_eq (length words) 0 ≡ false → line ≡ decided_line level words
+    → decided_lines level words ≡ line ∷ []
+decided-some level [] line some is = absurd (cc)
+decided-some level (w ∷ ws) line some is = ap (λ (l : List ℕ). l ∷ []) (sym is)

@@ -1,6 +1,6 @@
--- The chain of causes of a value (own profile): the change that made it, the places that its event made it of, with the values that
--- they had, and so on with each of these.
-use Rattle.std.specs.Prelude.{◌≡◌, ℕ, zero, suc, ◌+◌, ◌-◌, nat_lt, if◌then◌else◌, Option, Some, None, List, [], ◌∷◌, ◌++◌, codes, length, map, min, take}
+-- The chain of causes of a value (own profile): the change that made it, the places that its event was decided by, those that it
+-- made the value of, with the values that they had, and so on with each of these.
+use Rattle.std.specs.Prelude.{◌≡◌, ℕ, zero, suc, ◌+◌, nat_lt, if◌then◌else◌, Option, Some, None, List, [], ◌∷◌, ◌++◌, codes, length, map, min, take}
 use Rattle.std.specs.List.{flat_map}
 use Rattle.std.specs.Option.{unwrap_or}
 use Rattle.indexmap.specs.IndexSet.{insert_all}
@@ -13,7 +13,7 @@ use Rattle.s360_machine.specs.Machine.{Machine}
 use Rattle.s360_journal.specs.Running.{next_event}
 use Rattle.s360_journal.specs.Standing.{machine_of}
 use Rattle.s360_record.specs.Recorded.{Recorded, next_recorded, session_of, with_standing}
-use Rattle.s360_source.specs.Events.{sources}
+use Rattle.s360_source.specs.Events.{deciders, sources}
 use Rattle.s360_inquiry.specs.declared.cause.Cause.{Cause}
 use Rattle.s360_inquiry.specs.declared.cause.Making.{Making}
 use Rattle.s360_inquiry.specs.declared.cause.Origin.{Origin}
@@ -21,7 +21,7 @@ use Rattle.s360_inquiry.specs.declared.cause.Origin.TheVariants.{NotFollowed, St
 use Rattle.s360_inquiry.specs.declared.extent.Extent.{Extent}
 use Rattle.s360_inquiry.specs.declared.extent.Extent.TheVariants.{Place as Alone}
 use Rattle.s360_inquiry.specs.declared.why.Telling.{Telling}
-use Rattle.s360_inquiry.specs.Changes.{last_change_in, words_of_change}
+use Rattle.s360_inquiry.specs.Changes.{just_before, last_change_in, words_of_change}
 use Rattle.s360_inquiry.specs.Extents.{first_place, places_of_extent, extent_name, extent_of, extent_words, extents_of}
 
 -- the last change that stands, or none: then it has its value from the start
@@ -37,24 +37,53 @@ abbrev pub origin_in : Recorded → Extent → Origin
 origin_in r (Alone Psw) = NotFollowed
 origin_in r extent = origin_of r (first_place extent)
 
-abbrev pub cause_in : Recorded → Extent → Cause
-cause_in r extent = record { extent = extent; value = extent_words (machine_of (session_of r)) extent; origin = origin_in r extent }
+-- an extent with the value that it has, and what made that
+abbrev pub cause_with : Recorded → Extent → Origin → Cause
+cause_with r extent origin = record { extent = extent; value = extent_words (machine_of (session_of r)) extent; origin = origin }
 
--- the places that an event makes those of an extent of, each once
+abbrev pub cause_in : Recorded → Extent → Cause
+cause_in r extent = cause_with r extent (origin_in r extent)
+
+-- the places that an event makes those of an extent of, each once; and those that decide the event
 unfoldable pub places_before : Machine → Event → Extent → List Place
 places_before m e extent = insert_all same_place [] (flat_map (sources m e) (places_of_extent extent))
+
+unfoldable pub places_deciding : Machine → Event → List Place
+places_deciding m e = insert_all same_place [] (deciders m e)
 
 -- the event that comes next in a record
 abbrev pub event_next : Recorded → Event
 event_next r = unwrap_or (next_recorded r) (next_event (machine_of (session_of r)))
 
--- what the next event makes an extent of
-abbrev pub causes_next : Recorded → Extent → List Cause
-causes_next r extent = map (cause_in r) (extents_of r (places_before (machine_of (session_of r)) (event_next r) extent))
+-- what an event makes an extent of; what the next one does; and what the change of a number has made it of
+abbrev pub causes_by : Recorded → Event → Extent → List Cause
+causes_by r e extent = map (cause_in r) (extents_of r (places_before (machine_of (session_of r)) e extent))
 
--- and what the change of a number has made it of
+abbrev pub causes_next : Recorded → Extent → List Cause
+causes_next r extent = causes_by r (event_next r) extent
+
 abbrev pub causes_of : Recorded → ℕ → Extent → List Cause
-causes_of r number extent = causes_next (with_standing r (number - 1)) extent
+causes_of r number extent = causes_next (just_before r number) extent
+
+-- a decider has the number of its last change, if one made it; the PSW has its value
+abbrev pub decider_words : Recorded → Extent → Origin → List ℕ
+decider_words r extent NotFollowed = extent_words (machine_of (session_of r)) extent
+decider_words r extent Start = []
+decider_words r extent (Change number) = codes " (" ++ decimal number ++ codes ")"
+
+-- after its name
+abbrev pub named_decider : Recorded → Extent → List ℕ
+named_decider r extent = codes " " ++ extent_name extent ++ decider_words r extent (origin_in r extent)
+
+-- what decides an event; the next one; and what decided the change of a number
+abbrev pub decided_by : Recorded → Event → List ℕ
+decided_by r e = flat_map (named_decider r) (extents_of r (places_deciding (machine_of (session_of r)) e))
+
+abbrev pub decided_next : Recorded → List ℕ
+decided_next r = decided_by r (event_next r)
+
+abbrev pub decided_words : Recorded → ℕ → List ℕ
+decided_words r number = decided_next (just_before r number)
 
 -- two blanks further in at each level
 abbrev pub indent : ℕ → List ℕ
@@ -64,18 +93,28 @@ indent (suc level) = codes "  " ++ indent level
 abbrev pub cause_line : ℕ → Cause → List ℕ → List ℕ
 cause_line level c made = indent level ++ extent_name c.extent ++ c.value ++ made ++ codes "\n"
 
--- the lines of a cause: its own, and so deep those of what its change has made it of
+-- the line of what decided a change, if anything did
+abbrev pub decided_line : ℕ → List ℕ → List ℕ
+decided_line level words = indent level ++ codes "decided by" ++ words ++ codes "\n"
+
+abbrev pub decided_lines : ℕ → List ℕ → List (List ℕ)
+decided_lines level [] = []
+decided_lines level (w ∷ ws) = decided_line level (w ∷ ws) ∷ []
+
+-- the lines of a cause: its own, and so deep that of what decided its change, and those of what that has made it of
 abbrev pub cause_lines : ℕ → ℕ → Recorded → Cause → Origin → List (List ℕ)
 cause_lines level depth r c NotFollowed = cause_line level c [] ∷ []
 cause_lines level depth r c Start = cause_line level c (codes " from the start") ∷ []
 cause_lines level zero r c (Change number) = cause_line level c (codes " by " ++ decimal number) ∷ []
 cause_lines level (suc depth) r c (Change number) =
     cause_line level c (codes " by " ++ words_of_change r number)
-    ∷ flat_map (λ (x : Cause). cause_lines (level + 1) depth r x x.origin) (causes_of r number c.extent)
+    ∷ (decided_lines (level + 1) (decided_words r number)
+    ++ flat_map (λ (x : Cause). cause_lines (level + 1) depth r x x.origin) (causes_of r number c.extent))
 
--- what was noted of a change: that change in words, and what it made an extent of
+-- what was noted of a change: that change in words, what decided it, and what it made an extent of
 pub record IsMaking (r : Recorded) (m : Making) : Type 0 where
   pub words : m.words ≡ words_of_change r m.number
+  pub decided : m.decided ≡ decided_words r m.number
   pub causes : m.causes.items ≡ causes_of r m.number m.extent
 
 -- it was noted of the change that made a cause's value
@@ -87,17 +126,20 @@ pub record IsOf (c : Cause) (m : Making) : Type 0 where
 abbrev pub most_lines : ℕ
 most_lines = 1000
 
+abbrev pub first_lines : List (List ℕ) → List ℕ
+first_lines lines = flat_map (λ line. line) (take most_lines lines)
+
 abbrev pub told_lines : List (List ℕ) → List ℕ
-told_lines lines = flat_map (λ line. line) (take most_lines lines) ++ (if nat_lt most_lines (length lines) then codes "and more\n" else [])
+told_lines lines = first_lines lines ++ (if nat_lt most_lines (length lines) then codes "and more\n" else [])
 
 -- lines that are told so far, and how many there are, of which one beyond is the last that is counted
 pub record IsTold (lines : List (List ℕ)) (t : Telling) : Type 0 where
-  pub text : t.text ≡ flat_map (λ line. line) (take most_lines lines)
+  pub text : t.text ≡ first_lines lines
   pub count : t.lines ≡ min (length lines) (most_lines + 1)
 
 -- why a place has its value. It is followed, whatever place it is
 abbrev pub first_cause : Recorded → Place → Cause
-first_cause r place = record { extent = extent_of place; value = extent_words (machine_of (session_of r)) (extent_of place); origin = origin_of r place }
+first_cause r place = cause_with r (extent_of place) (origin_of r place)
 
 -- so deep is a chain followed at most
 abbrev pub most_depth : ℕ

@@ -1,6 +1,6 @@
 -- The changes of a place (own profile): each is told by its number and its event, and by the place with its value before
 -- and after.
-use Rattle.std.specs.Prelude.{ℕ, ◌-◌, Option, Some, None, List, [], ◌∷◌, ◌++◌, codes, drop, length}
+use Rattle.std.specs.Prelude.{ℕ, ◌-◌, Option, Some, None, List, [], ◌∷◌, ◌++◌, codes, drop, length, min}
 use Rattle.std.specs.List.{flat_map}
 use Rattle.s360_model.specs.Text.{decimal}
 use Rattle.s360_store.specs.declared.place.Place.{Place}
@@ -12,6 +12,10 @@ use Rattle.s360_record.specs.Recorded.{Recorded, session_of, standing_events, wi
 use Rattle.s360_language.specs.Names.{place_name}
 use Rattle.s360_inquiry.specs.Happenings.{happening_words}
 use Rattle.s360_inquiry.specs.Values.{value_words}
+
+-- a record of which the changes before that of a number stand
+abbrev pub just_before : Recorded → ℕ → Recorded
+just_before r number = with_standing r (min (number - 1) (length r.events))
 
 -- the machine just after the change of a number, and what that change's event is
 abbrev pub machine_after : Recorded → ℕ → Machine

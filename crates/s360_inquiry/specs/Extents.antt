@@ -5,7 +5,6 @@ use Rattle.s360_model.specs.Storage.{Storage}
 use Rattle.s360_model.specs.Text.{hex_bytes, hex_text}
 use Rattle.s360_store.specs.declared.place.Place.{Place}
 use Rattle.s360_store.specs.declared.place.Place.TheVariants.{Byte}
-use Rattle.s360_store.specs.Places.{same_place}
 use Rattle.s360_store.specs.Spans.{byte_places}
 use Rattle.s360_machine.specs.Machine.{Machine}
 use Rattle.s360_record.specs.Recorded.{Recorded}
@@ -54,12 +53,6 @@ with_place r place (next ∷ extents) = put_before place (joined r place next) n
 abbrev pub extents_of : Recorded → List Place → List Extent
 extents_of r [] = []
 extents_of r (p ∷ ps) = with_place r p (extents_of r ps)
-
--- two extents are one
-abbrev pub same_extent : Extent → Extent → Bool
-same_extent (Bytes first last) (Bytes other_first other_last) = nat_eq first other_first && nat_eq last other_last
-same_extent (Alone place) (Alone other) = same_place place other
-same_extent extent other = false
 
 -- the name of an extent: of several bytes the first address and the last
 abbrev pub extent_name : Extent → List ℕ

@@ -1,20 +1,17 @@
 //! A cause of a value: an extent with the value that it had, and the change that made that.
 ghost use Rattle.std.specs.Prelude.{◌≡◌, ◌-◌, IfOk, OnErr, OnOk, length, min};
-ghost use Rattle.s360_machine.specs.Machine.{seen};
 ghost use Rattle.s360_record.specs.Recorded.{with_standing};
-ghost use Rattle.s360_inquiry.specs.Causes.{IsMaking, cause_in, causes_next, causes_of, event_next, first_cause};
-ghost use Rattle.s360_inquiry.specs.Causes.{origin_in, origin_of, places_before};
-ghost use Rattle.indexmap.specs.IndexSet.{insert_all};
-ghost use Rattle.s360_store.specs.Places.{same_place};
-ghost use Rattle.s360_source.specs.Events.{sources};
+ghost use Rattle.s360_inquiry.specs.Causes.{IsMaking, cause_in, cause_with, causes_by, causes_next, causes_of, decided_next};
+ghost use Rattle.s360_inquiry.specs.Causes.{decided_words, event_next, first_cause, origin_in, origin_of};
+ghost use Rattle.s360_inquiry.specs.Changes.{just_before};
 
 use crate::change::push_event_of;
-use crate::extent::{Extent, extents_of, places_of, words_of_extent};
+use crate::decider::decided_by;
+use crate::extent::{Extent, extents_of, words_of_extent};
 use crate::going::go_to;
-use indexmap::IndexSet;
-use s360_machine::{Event, Machine};
+use crate::place_set::places_before;
+use s360_machine::Event;
 use s360_record::Recording;
-use s360_source::sources;
 use s360_store::Place;
 use s360_text::Text;
 use std::alloc::{AllocError, Global};
@@ -38,12 +35,13 @@ pub(crate) struct Cause {
     pub(crate) origin: Origin,
 }
 
-/// What a change made an extent of, and that change in words.
+/// What a change made an extent of, that change in words, and what decided it.
 #[derive(Debug, Drop)]
 pub(crate) struct Making {
     pub(crate) number: u32,
     pub(crate) extent: Extent,
     pub(crate) words: Text,
+    pub(crate) decided: Text,
     pub(crate) causes: Vec<Cause>,
 }
 
@@ -58,7 +56,7 @@ fn origin_of(recording: &Recording, place: Place) -> Origin
 }
 
 /// What made the value of an extent, if it is to be followed.
-fn origin_in(recording: &Recording, extent: Extent) -> Origin
+pub(crate) fn origin_in(recording: &Recording, extent: Extent) -> Origin
     ensures { result ≡ origin_in recording.now extent }
 {
     match extent {
@@ -67,15 +65,27 @@ fn origin_in(recording: &Recording, extent: Extent) -> Origin
     }
 }
 
-/// An extent as a cause, where the recording stands.
-fn cause_in(alloc: Global, recording: &Recording, extent: Extent) -> Result<Cause, AllocError>
-    ensures { IfOk result (λ cause. cause ≡ cause_in recording.now extent) }
+/// An extent with the value that it has where the recording stands, and what made that.
+fn cause_with(
+    alloc: Global,
+    recording: &Recording,
+    extent: Extent,
+    origin: Origin,
+) -> Result<Cause, AllocError>
+    ensures { IfOk result (λ cause. cause ≡ cause_with recording.now extent origin) }
 {
     Ok(Cause {
         extent,
         value: words_of_extent(alloc, recording.machine(), extent)?,
-        origin: origin_in(recording, extent),
+        origin,
     })
+}
+
+/// An extent as a cause, where the recording stands.
+fn cause_in(alloc: Global, recording: &Recording, extent: Extent) -> Result<Cause, AllocError>
+    ensures { IfOk result (λ cause. cause ≡ cause_in recording.now extent) }
+{
+    cause_with(alloc, recording, extent, origin_in(recording, extent))
 }
 
 /// A place as the first cause of a chain, which is followed whatever place it is.
@@ -86,57 +96,24 @@ pub(crate) fn first_cause(
 ) -> Result<Cause, AllocError>
     ensures { IfOk result (λ cause. cause ≡ first_cause recording.now place) }
 {
-    let extent = Extent::of(place);
-    Ok(Cause {
-        extent,
-        value: words_of_extent(alloc, recording.machine(), extent)?,
-        origin: origin_of(recording, place),
-    })
+    cause_with(
+        alloc,
+        recording,
+        Extent::of(place),
+        origin_of(recording, place),
+    )
 }
 
-/// The places that an event makes those of an extent of, each once.
-#[tactic(auto, unfolding(crate::specs::Causes::places_before))]
-fn places_before(
-    alloc: Global,
-    machine: &Machine,
-    event: &Event,
-    extent: Extent,
-) -> Result<IndexSet<Place>, AllocError>
-    ensures { IfOk result (λ places. places.keys ≡ places_before (seen machine.now.whole) event.now extent) }
-{
-    let mut places = IndexSet::new(alloc);
-    for place in places_of(alloc, extent)?.iter() {
-        insert_sources(alloc, &mut places, machine, event, *place)?;
-    }
-    Ok(places)
-}
-
-/// Adds the places that an event makes a place of, each once.
-fn insert_sources(
-    alloc: Global,
-    places: &mut IndexSet<Place>,
-    machine: &Machine,
-    event: &Event,
-    place: Place,
-) -> Result<(), AllocError>
-    ensures { OnOk result (places.new.keys ≡ insert_all same_place places.old.keys (sources (seen machine.now.whole) event.now place)) }
-{
-    for source in sources(alloc, machine, event, place)?.iter() {
-        places.insert(*source)?;
-    }
-    Ok(())
-}
-
-/// What the next event makes an extent of.
-fn causes_next(
+/// What an event makes an extent of that the recording meets where it stands.
+fn causes_by(
     alloc: Global,
     recording: &Recording,
+    event: &Event,
     extent: Extent,
 ) -> Result<Vec<Cause>, AllocError>
-    ensures { IfOk result (λ causes. causes.items ≡ causes_next recording.now extent) }
+    ensures { IfOk result (λ causes. causes.items ≡ causes_by recording.now event.now extent) }
 {
-    let event = recording.next_event()?;
-    let places = places_before(alloc, recording.machine(), &event, extent)?;
+    let places = places_before(alloc, recording.machine(), event, extent)?;
     let mut causes = Vec::new(alloc);
     for extent in extents_of(alloc, recording, places.as_slice())?.iter() {
         causes.push(cause_in(alloc, recording, *extent)?)?;
@@ -144,8 +121,23 @@ fn causes_next(
     Ok(causes)
 }
 
-/// Goes to just before the change of a number, and answers what it made an extent of. Want of memory leaves the recording at
-/// some change.
+/// What decides the next event, and what it makes an extent of.
+fn of_next(
+    alloc: Global,
+    recording: &Recording,
+    extent: Extent,
+) -> Result<(Text, Vec<Cause>), AllocError>
+    ensures decided { IfOk result (λ r. r.0 ≡ decided_next recording.now) }
+    ensures causes { IfOk result (λ r. r.1.items ≡ causes_next recording.now extent) }
+{
+    let event = recording.next_event()?;
+    let decided = decided_by(alloc, recording, &event)?;
+    let causes = causes_by(alloc, recording, &event, extent)?;
+    Ok((decided, causes))
+}
+
+/// Goes to just before the change of a number, and answers what decided it, and what it made an extent of. Want of memory leaves
+/// the recording at some change.
 pub(crate) fn making_of(
     alloc: Global,
     recording: &mut Recording,
@@ -155,7 +147,7 @@ pub(crate) fn making_of(
     ensures making { IfOk result (λ making. IsMaking (with_standing recording.old 0) making) }
     ensures number { IfOk result (λ making. making.number ≡ number) }
     ensures extent { IfOk result (λ making. making.extent ≡ extent) }
-    ensures state { OnOk result (recording.new ≡ with_standing recording.old (min (number - 1) (length recording.old.events))) }
+    ensures state { OnOk result (recording.new ≡ just_before recording.old number) }
     ensures memory { OnErr result (recording.new ≡ with_standing recording.old recording.new.standing) }
 {
     go_to(recording, number)?;
@@ -163,11 +155,12 @@ pub(crate) fn making_of(
     let _stand = recording.back_to(number.saturating_sub(1));
     let mut words = Text::new(alloc);
     push_event_of(&mut words, number, recording.machine(), kind)?;
-    let causes = causes_next(alloc, recording, extent)?;
+    let (decided, causes) = of_next(alloc, recording, extent)?;
     Ok(Making {
         number,
         extent,
         words,
+        decided,
         causes,
     })
 }

@@ -2,7 +2,7 @@
 ghost use Rattle.std.specs.Prelude.{◌≡◌, ◌++◌, ◌-◌, length, min, IfOk, OnErr, OnOk};
 ghost use Rattle.s360_machine.specs.Machine.{seen};
 ghost use Rattle.s360_record.specs.Recorded.{with_standing};
-ghost use Rattle.s360_inquiry.specs.Changes.{change_text, changes_text, event_words, kind_words, last_change_in};
+ghost use Rattle.s360_inquiry.specs.Changes.{change_text, changes_text, event_words, just_before, kind_words, last_change_in};
 ghost use Rattle.s360_inquiry.specs.Changes.{kind_of_change, last_of, machine_after, stands_after_who, told_changes};
 ghost use Rattle.s360_inquiry.specs.Changes.{told_text, who_text};
 ghost use Rattle.s360_inquiry.specs.Values.{value_words};
@@ -92,7 +92,7 @@ fn push_change(
     number: u32,
 ) -> Result<(), AllocError>
     ensures text { OnOk result (text.new ≡ text.old ++ change_text recording.old place number) }
-    ensures state { OnOk result (recording.new ≡ with_standing recording.old (min (number - 1) (length recording.old.events))) }
+    ensures state { OnOk result (recording.new ≡ just_before recording.old number) }
     ensures memory { OnErr result (recording.new ≡ with_standing recording.old recording.new.standing) }
 {
     let (after, kind) = value_after(alloc, recording, place, number)?;

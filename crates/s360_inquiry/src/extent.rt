@@ -3,7 +3,7 @@ ghost use Rattle.std.specs.Prelude.{◌≡◌, ◌+◌, ◌-◌, ◌++◌, IfOk,
 ghost use Rattle.s360_store.specs.Spans.{byte_places};
 ghost use Rattle.s360_machine.specs.Machine.{seen};
 ghost use Rattle.s360_inquiry.specs.Extents.{extent_name, extent_of, extent_words, extents_of, first_place, joined};
-ghost use Rattle.s360_inquiry.specs.Extents.{is_joined, places_of_extent, run_words_of, same_change, same_extent, with_place};
+ghost use Rattle.s360_inquiry.specs.Extents.{is_joined, places_of_extent, run_words_of, same_change, with_place};
 
 use crate::value::push_value;
 use s360_language::{push_digits, push_place};
@@ -46,23 +46,6 @@ impl Extent {
         match self {
             Extent::Bytes { first, .. } => Place::Byte(first),
             Extent::Place(place) => place,
-        }
-    }
-
-    /// Whether it is the other extent.
-    pub(crate) fn is(self, other: Extent) -> bool
-        ensures { result ≡ same_extent self other }
-    {
-        match (self, other) {
-            (
-                Extent::Bytes { first, last },
-                Extent::Bytes {
-                    first: other_first,
-                    last: other_last,
-                },
-            ) => first == other_first && last == other_last,
-            (Extent::Place(place), Extent::Place(other)) => place.is(other),
-            _ => false,
         }
     }
 }

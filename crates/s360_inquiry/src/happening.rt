@@ -2,17 +2,16 @@
 //! "System Structure", program execution; "Input/Output Operations", channel command word.
 ghost use Rattle.std.specs.Prelude.{◌≡◌, ◌++◌, ◌<◌, OnOk, length};
 ghost use Rattle.s360_channel.specs.ConfiguredUnits.{state_at};
-ghost use Rattle.s360_channel.specs.Programs.{is_loading};
 ghost use Rattle.s360_machine.specs.Machine.{seen};
 ghost use Rattle.s360_inquiry.specs.Happenings.{command_word_at, command_words, cpu_words, fetched_bytes};
 ghost use Rattle.s360_inquiry.specs.Happenings.{happening_words, instruction_words, program_words};
 ghost use Rattle.s360_inquiry.specs.Happenings.{channel_words, class_words, state_words, transfer_words, turn_words, word_behind, words_of_unit};
 
-use crate::pending::interruption_in;
-use s360_channel::{Ccw, Program, Progress, UnitState};
+use crate::value::push_run;
+use s360_channel::{Ccw, Program, UnitState, ccw_at};
 use s360_fixed::length_of;
-use s360_language::{push_digits, push_event, push_run_state};
-use s360_machine::{EventKind, Machine};
+use s360_language::{push_digits, push_event};
+use s360_machine::{CpuCase, EventKind, Machine};
 use s360_psw::Class;
 use s360_store::Storage;
 use s360_text::Text;
@@ -50,17 +49,14 @@ pub(crate) fn push_cpu(text: &mut Text, machine: &Machine) -> Result<(), AllocEr
 fn push_turn(text: &mut Text, machine: &Machine) -> Result<(), AllocError>
     ensures { OnOk result (text.new ≡ text.old ++ turn_words (seen machine.now.whole)) }
 {
-    if !machine.run().is_operating() {
-        text.push_text(" ")?;
-        return push_run_state(text, machine.run());
+    match machine.cpu_case() {
+        CpuCase::Halted => push_run(text, machine.run()),
+        CpuCase::Interrupted(class) => text.push_text(class_words(class)),
+        CpuCase::Waiting => text.push_text(" waits"),
+        CpuCase::Executing => {
+            push_instruction(text, machine.storage(), machine.psw().instruction_address())
+        }
     }
-    if let Some(class) = interruption_in(machine) {
-        return text.push_text(class_words(class));
-    }
-    if machine.psw().wait() {
-        return text.push_text(" waits");
-    }
-    push_instruction(text, machine.storage(), machine.psw().instruction_address())
 }
 
 /// By which class the CPU is interrupted.
@@ -127,24 +123,13 @@ fn push_state(text: &mut Text, storage: &Storage, state: &UnitState) -> Result<(
 fn push_program(text: &mut Text, storage: &Storage, program: &Program) -> Result<(), AllocError>
     ensures { OnOk result (text.new ≡ text.old ++ program_words storage.now program.now) }
 {
-    if is_loading(&program.progress) {
+    if program.progress.is_loading() {
         return text.push_text(" loading");
     }
     text.push_text(" at ")?;
     push_command_word(text, storage, program.next_address())?;
-    push_transfer(
-        text,
-        storage,
-        command_word_at(storage, program.next_address()),
-    )?;
+    push_transfer(text, storage, ccw_at(storage, program.next_address()))?;
     Ok(())
-}
-
-/// Whether a program goes on with the word with which loading begins.
-fn is_loading(progress: &Progress) -> bool
-    ensures { result ≡ is_loading progress.now }
-{
-    matches!(progress, Progress::Loading)
 }
 
 /// Adds an address, and the command word that stands there, if one does.
@@ -169,13 +154,12 @@ fn push_word(text: &mut Text, word: Option<u64>) -> Result<(), AllocError>
 }
 
 /// Adds where a transfer in channel leads to, if the command word is one.
-fn push_transfer(text: &mut Text, storage: &Storage, word: Option<u64>) -> Result<(), AllocError>
-    ensures { OnOk result (text.new ≡ text.old ++ transfer_words storage.now word) }
+fn push_transfer(text: &mut Text, storage: &Storage, ccw: Option<Ccw>) -> Result<(), AllocError>
+    ensures { OnOk result (text.new ≡ text.old ++ transfer_words storage.now ccw) }
 {
-    let Some(word) = word else {
+    let Some(ccw) = ccw else {
         return Ok(());
     };
-    let ccw = Ccw::from_u64(word);
     if !ccw.is_transfer() {
         return Ok(());
     }
@@ -184,15 +168,10 @@ fn push_transfer(text: &mut Text, storage: &Storage, word: Option<u64>) -> Resul
     Ok(())
 }
 
-/// The command word at an address, if that is the address of a doubleword inside storage.
+/// The command word at an address in whole, if one stands there.
 fn command_word_at(storage: &Storage, at: u32) -> Option<u64>
     ensures { result ≡ command_word_at storage.now at }
 {
-    if at % 8 != 0 {
-        return None;
-    }
-    if u64::from(at) + 8 > u64::from(storage.size()) {
-        return None;
-    }
+    let _ccw = ccw_at(storage, at)?;
     Some(storage.double(at))
 }

@@ -4,6 +4,7 @@
 mod answering;
 mod cause;
 mod change;
+mod decider;
 mod dump;
 mod extent;
 mod going;
@@ -11,7 +12,7 @@ mod happening;
 mod history;
 mod inquiry;
 mod inquiry_reader;
-mod pending;
+mod place_set;
 mod situation;
 mod unit;
 mod value;

@@ -90,8 +90,8 @@ fn push_key(text: &mut Text, storage: &Storage, block: u32) -> Result<(), AllocE
     Ok(())
 }
 
-/// Adds the name of a run state.
-fn push_run(text: &mut Text, state: RunState) -> Result<(), AllocError>
+/// Adds the name of a run state after a blank.
+pub(crate) fn push_run(text: &mut Text, state: RunState) -> Result<(), AllocError>
     ensures { OnOk result (text.new ≡ text.old ++ run_words state) }
 {
     text.push_text(" ")?;

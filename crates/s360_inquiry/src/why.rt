@@ -5,7 +5,8 @@ ghost use Rattle.std.specs.Bool.{IsTrue};
 ghost use Rattle.std.specs.List.{IsAmong};
 ghost use Rattle.s360_model.specs.Text.{decimal};
 ghost use Rattle.s360_record.specs.Recorded.{with_standing};
-ghost use Rattle.s360_inquiry.specs.Causes.{IsMaking, IsOf, IsTold, cause_line, cause_lines, indent, told_lines, why_text};
+ghost use Rattle.s360_inquiry.specs.Causes.{IsMaking, IsOf, IsTold, cause_line, cause_lines, decided_line, decided_lines};
+ghost use Rattle.s360_inquiry.specs.Causes.{indent, told_lines, why_text};
 
 use crate::cause::{Cause, Making, Origin, first_cause, making_of};
 use crate::extent::{Extent, push_extent};
@@ -37,16 +38,45 @@ impl Telling {
         self.lines > MOST_LINES
     }
 
-    /// Adds the line of a cause, and what made it, if one more may be told.
-    fn push_cause(&mut self, level: u32, cause: &Cause, made: &[u8]) -> Result<(), AllocError>
-        requires { self.old.lines ≤ 1000 }
-        ensures { OnOk result ((lines : List (List ℕ)) → IsTold lines self.old → IsTold (lines ++ cause_line level cause.now made.now ∷ []) self.new) }
+    /// Adds a line, if one more may be told or counted.
+    fn push(&mut self, line: &[u8]) -> Result<(), AllocError>
+        ensures { OnOk result ((lines : List (List ℕ)) → IsTold lines self.old → IsTold (lines ++ line.now ∷ []) self.new) }
     {
+        if self.is_full() {
+            return Ok(());
+        }
         if self.lines < MOST_LINES {
-            push_line(&mut self.text, level, cause, made)?;
+            self.text.push_bytes(line)?;
         }
         self.lines += 1;
         Ok(())
+    }
+
+    /// Adds the line of a cause, and what made it.
+    fn push_cause(
+        &mut self,
+        alloc: Global,
+        level: u32,
+        cause: &Cause,
+        made: &[u8],
+    ) -> Result<(), AllocError>
+        ensures { OnOk result ((lines : List (List ℕ)) → IsTold lines self.old → IsTold (lines ++ cause_line level cause.now made.now ∷ []) self.new) }
+    {
+        let mut line = Text::new(alloc);
+        push_line(&mut line, level, cause, made)?;
+        self.push(line.as_bytes())
+    }
+
+    /// Adds the line of what decided a change, if anything did.
+    fn push_decided(&mut self, alloc: Global, level: u32, decided: &[u8]) -> Result<(), AllocError>
+        ensures { OnOk result ((lines : List (List ℕ)) → IsTold lines self.old → IsTold (lines ++ decided_lines level decided.now) self.new) }
+    {
+        if decided.is_empty() {
+            return Ok(());
+        }
+        let mut line = Text::new(alloc);
+        push_decided_line(&mut line, level, decided)?;
+        self.push(line.as_bytes())
     }
 
     /// The text, and that there is more if there is.
@@ -72,6 +102,17 @@ fn push_line(text: &mut Text, level: u32, cause: &Cause, made: &[u8]) -> Result<
     Ok(())
 }
 
+/// Adds the line of what decided a change.
+fn push_decided_line(text: &mut Text, level: u32, decided: &[u8]) -> Result<(), AllocError>
+    ensures { OnOk result (text.new ≡ text.old ++ decided_line level decided.now) }
+{
+    push_indent(text, level)?;
+    text.push_text("decided by")?;
+    text.push_bytes(decided)?;
+    text.push_text("\n")?;
+    Ok(())
+}
+
 /// Goes two blanks further in at each level.
 fn push_indent(text: &mut Text, level: u32) -> Result<(), AllocError>
     ensures { OnOk result (text.new ≡ text.old ++ indent level) }
@@ -88,10 +129,10 @@ fn noted(makings: &[Making], number: u32, extent: Extent) -> Option<&Making>
     ensures number { IfSome result (λ making. making.now.number ≡ number) }
     ensures extent { IfSome result (λ making. making.now.extent ≡ extent) }
 {
-    makings.iter().find(|making| making.number == number && making.extent.is(extent))
+    makings.iter().find(|making| making.number == number && making.extent == extent)
 }
 
-/// Tells a cause, and so deep what its change made it of, while lines may be told. What was not noted of a change is looked at
+/// Tells a cause, and so deep what decided its change and what that made it of, while lines may be told. What was not noted of a change is looked at
 /// now. The recording is left at some change.
 #[cycle(telling)]
 fn tell(
@@ -112,13 +153,13 @@ fn tell(
         return Ok(());
     }
     let number = match cause.origin {
-        Origin::NotFollowed => return telling.push_cause(level, cause, b""),
-        Origin::Start => return telling.push_cause(level, cause, b" from the start"),
+        Origin::NotFollowed => return telling.push_cause(alloc, level, cause, b""),
+        Origin::Start => return telling.push_cause(alloc, level, cause, b" from the start"),
         Origin::Change(number) => number,
     };
     if depth == 0 {
         let made = made_by(alloc, number)?;
-        return telling.push_cause(level, cause, made.as_bytes());
+        return telling.push_cause(alloc, level, cause, made.as_bytes());
     }
     match noted(makings, number, cause.extent) {
         Some(making) => tell_making(
@@ -133,7 +174,7 @@ fn tell(
     }
 }
 
-/// Tells a cause and what its change made it of, which is this.
+/// Tells a cause, what decided its change, and what that made it of, which is this.
 #[cycle(telling)]
 fn tell_making(
     alloc: Global,
@@ -150,14 +191,14 @@ fn tell_making(
     requires of { IsOf cause.now making.now }
     requires some { 0 < depth }
     requires deep { level + depth ≤ 100 }
-    requires room { telling.old.lines ≤ 1000 }
     ensures told { OnOk result ((lines : List (List ℕ)) → IsTold lines telling.old → IsTold (lines ++ cause_lines level depth (with_standing recording.old 0) cause.now cause.now.origin) telling.new) }
     ensures state { recording.new ≡ with_standing recording.old recording.new.standing }
 {
     let mut made = Text::new(alloc);
     made.push_text(" by ")?;
     made.push_bytes(making.words.as_bytes())?;
-    telling.push_cause(level, cause, made.as_bytes())?;
+    telling.push_cause(alloc, level, cause, made.as_bytes())?;
+    telling.push_decided(alloc, level + 1, making.decided.as_bytes())?;
     for source in making.causes.iter() {
         tell(
             alloc,

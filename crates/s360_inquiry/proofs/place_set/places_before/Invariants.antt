@@ -4,7 +4,7 @@ use Rattle.indexmap.specs.IndexSet.{insert_all}
 use Rattle.s360_store.specs.Places.{same_place}
 use Rattle.s360_machine.specs.Machine.{seen}
 use Rattle.s360_source.specs.Events.{sources}
-use Rattle.s360_inquiry.proofs.cause.places_before.Given as goal
+use Rattle.s360_inquiry.proofs.place_set.places_before.Given as goal
 
 abbrev pub invariant-loop-place : goal.invariant-loop-place
 invariant-loop-place l =

@@ -1,0 +1,71 @@
+//! What decided an event: places that say which event it was, and where, but no value that it moved.
+ghost use Rattle.std.specs.Prelude.{◌≡◌, ◌++◌, IfOk, OnOk};
+ghost use Rattle.s360_inquiry.specs.Causes.{decided_by, decider_words, named_decider};
+
+use crate::cause::{Origin, origin_in};
+use crate::extent::{Extent, extents_of, push_extent, words_of_extent};
+use crate::place_set::places_deciding;
+use s360_machine::Event;
+use s360_record::Recording;
+use s360_text::Text;
+use std::alloc::{AllocError, Global};
+
+/// What decides an event that the recording meets where it stands.
+pub(crate) fn decided_by(
+    alloc: Global,
+    recording: &Recording,
+    event: &Event,
+) -> Result<Text, AllocError>
+    ensures { IfOk result (λ words. words ≡ decided_by recording.now event.now) }
+{
+    let places = places_deciding(alloc, recording.machine(), event)?;
+    let mut words = Text::new(alloc);
+    for extent in extents_of(alloc, recording, places.as_slice())?.iter() {
+        push_decider(alloc, &mut words, recording, *extent)?;
+    }
+    Ok(words)
+}
+
+/// Adds the name of a decider after a blank, and what is told of it.
+fn push_decider(
+    alloc: Global,
+    words: &mut Text,
+    recording: &Recording,
+    extent: Extent,
+) -> Result<(), AllocError>
+    ensures { OnOk result (words.new ≡ words.old ++ named_decider recording.now extent) }
+{
+    words.push_text(" ")?;
+    push_extent(words, extent)?;
+    push_told(
+        alloc,
+        words,
+        recording,
+        extent,
+        origin_in(recording, extent),
+    )
+}
+
+/// Adds the number of a decider's last change, if one made it; or the value of the PSW.
+fn push_told(
+    alloc: Global,
+    words: &mut Text,
+    recording: &Recording,
+    extent: Extent,
+    origin: Origin,
+) -> Result<(), AllocError>
+    ensures { OnOk result (words.new ≡ words.old ++ decider_words recording.now extent origin) }
+{
+    match origin {
+        Origin::NotFollowed => {
+            let value = words_of_extent(alloc, recording.machine(), extent)?;
+            words.push_bytes(value.as_bytes())
+        }
+        Origin::Start => Ok(()),
+        Origin::Change(number) => {
+            words.push_text(" (")?;
+            words.push_decimal(u64::from(number))?;
+            words.push_text(")")
+        }
+    }
+}
