@@ -1,17 +1,18 @@
 #!/usr/bin/env python3
-"""Tries the sources that s360gdb tells of a value, by events that are run again after patches.
+"""Tries the sources and the deciders that `why` tells, by events that are run again after patches.
 
     tests/why_by_experiment.py [--program FILE | --second] [--sessions N] [--seed N]
 
 A session is a random script, of which most cases are one instruction. Its changes are taken in
 falling order of their numbers, since a patch in the past drops what was recorded after it. Of
-change K, `why P 1` tells the sources of a place P that K altered. From just before K, the event of
-K is run again
+change K, `why P 1` tells the deciders, and the sources of a place P that K altered. From just
+before K, the event of K is run again
 
   - after patches of one or more places that are no sources: P has to get the same value, if the
     event has the same shape;
   - after a patch of a source: over all sessions at least one of the patches has to alter the value
-    that P gets, for each operation that can show it and that was tried so many times.
+    that P gets, for each operation that can show it and that was tried so many times;
+  - after patches of one or more places that are no deciders: the event has to have the same shape.
 
 The second target leads the way: it is asked all this, and finds the shape of an event
 (`second/shapes.py`). s360gdb then gets all packets of the session at once, and each of its answers
@@ -32,16 +33,17 @@ from typing import NamedTuple
 
 from packet_rows import PROGRAM, STOP_ACKNOWLEDGING, first_difference, framed, items_of
 from second.channels import CAW, CSW
-from second.core import BLOCK
+from second.core import ADDRESSES, BLOCK
 from second.machine import OPERATING
 from second.remote import OK, Target
-from second.scripts import Script
+from second.scripts import END, Script
 from second.shapes import Instruction, Word, shape
-from second.sources import byte, bytes_at, register
+from second.sources import EXECUTE, byte, register
 from second_opinion import command_line
 
 SECONDS = 600
 CASES, INSTRUCTION = 60, 0x200
+TABLES = (0xDC, 0xDD)
 # Of each change that is tried so many places, and so many times for a place what is no source, and
 # what is; and so many places near to those that an event has to do with.
 PLACES, TRIES, MOST_NEAR = 4, 5, 12
@@ -49,12 +51,19 @@ PLACES, TRIES, MOST_NEAR = 4, 5, 12
 TRIED = {"patch": 0.02, "tick": 0.05, "interruption": 0.1, "key": 0.2, "load": 0.2, "9C": 0.3}
 SKIPPED = ("show", "last", "standing")
 # So often an operation is tried at least before a patch of a source has to have altered a value.
-# TIO and HIO store what stands of the unit, of which a patch alters nothing.
+# HIO stores zeros, and a key puts the same whatever stands there.
 ENOUGH = 100
-SHOW_NOTHING = ("9D", "9E")
+SHOW_NOTHING = ("9E", "key")
 # Of the PSW: the mode, the condition code, the program mask; and the registers of gdb before r0.
 PSW_FIELDS, WORDS_OF_PSW = (1 << 51, 3 << 28, 15 << 24), 2
+CHANNEL_MASKS, EXTERNAL_MASK, KEY = 3 << 62, 1 << 56, 5
+# What alters a place that no patch does.
+KEYS = {"run": "key stop", "ext": "key interrupt", "u01F": "key request"}
+KEYS |= {"d00C": "key eof", "d01F": "enter A"}
 CAUSE = re.compile(r" *(\S+?)(?:-(\S+))?(?: (.*?))?(?: by (\d+)\b.*| from the start)?")
+DECIDED = re.compile(r"  decided by (.*)")
+# A decider: a place, the first and the last of some bytes, or the PSW with its value.
+DECIDER = re.compile(r"(?:p [0-9A-F]{16}|(\S+?)(?:-(\S+))?(?: \(\d+\))?)(?: |$)")
 
 
 class Cases(Script):
@@ -76,20 +85,35 @@ class Cases(Script):
         for number in some.sample(range(16), 4):
             self.say(f"patch r {number:X} {self.word():X}")
         mode, code_and_mask = some.getrandbits(1) << 51, some.getrandbits(6) << 24
-        self.say(f"patch p {mode | code_and_mask | INSTRUCTION:016X}")
+        key, masks = some.choice([0, 0, KEY]), some.choice([0, 0, 0, CHANNEL_MASKS, EXTERNAL_MASK])
+        self.say(f"patch p {masks | key << 52 | mode | code_and_mask | INSTRUCTION:016X}")
         instruction = self.instruction()
+        if instruction[0] in TABLES and some.random() < 0.5:
+            # Some function bytes are outside storage.
+            instruction = instruction[:4] + bytes([END << 4, 0])
+            self.say(f"patch r {END:X} {self.machine.size - some.randrange(257):X}")
         self.patch_operands(instruction)
         self.patch_inside(INSTRUCTION, instruction)
+        if key:
+            self.patch_keys([INSTRUCTION, *self.addresses(instruction)])
         self.say("step")
+
+    def patch_keys(self, addresses):
+        """Most blocks get the key of the PSW, some of them with a fetch bit."""
+        for at in (at for at in addresses if at < self.machine.size):
+            if self.random.random() < 0.9:
+                self.say(f"patch k {at:X} {KEY:X}")
+            self.say(f"patch f {at:X} {self.random.randrange(2)}")
 
 
 class Tried(NamedTuple):
     """What a session tried: runs after patches of other places that passed, those in which the event
-    had another shape, and what failed; by operation the patches of sources, and those that altered
-    a value."""
+    had another shape, shapes after patches of other places that passed, and what failed; by operation
+    the patches of sources, and those that altered a value."""
 
     passed: int
     excused: int
+    shapes: int
     faults: list
     of_sources: collections.Counter
     altered: collections.Counter
@@ -102,7 +126,7 @@ class Experiments:
         self.seed, self.random = seed, random.Random(seed)
         self.target, self.machine = target, target.machine
         self.sent, self.answers = [], []
-        self.passed = self.excused = 0
+        self.passed = self.excused = self.shapes = 0
         self.faults = []
         self.of_sources, self.altered = collections.Counter(), collections.Counter()
 
@@ -142,7 +166,8 @@ class Experiments:
             if self.random.random() < TRIED.get(found.name.split()[0], 1):
                 for place in self.random.sample(change.places, min(PLACES, len(change.places))):
                     self.try_place(number, change, place, found)
-        return Tried(self.passed, self.excused, self.faults, self.of_sources, self.altered)
+        counts = self.passed, self.excused, self.shapes
+        return Tried(*counts, self.faults, self.of_sources, self.altered)
 
     def try_place(self, number, change, place, found):
         """Of a change that altered a place, by an event of a shape."""
@@ -151,17 +176,19 @@ class Experiments:
         self.say(line)
         value = self.value(place)
         self.say(f"why {words(place)} {1 + self.random.randrange(6)}")
-        first, *below = [CAUSE.fullmatch(cause) for cause in self.say(f"why {words(place)} 1")]
+        told, *below = self.say(f"why {words(place)} 1")
+        first = CAUSE.fullmatch(told)
         if (first[1], first[4]) != (place, str(number)):
-            self.faults.append(f"seed {self.seed}: of {place} and change {number}: {first[0]}")
+            self.faults.append(f"seed {self.seed}: of {place} and change {number}: {told}")
             return
-        sources = [source for cause in below for source in places_of(cause)]
+        deciders = deciders_of(below.pop(0)) if below and DECIDED.fullmatch(below[0]) else []
+        causes = [CAUSE.fullmatch(line) for line in below]
+        sources = [source for cause in causes for source in places_between(cause[1], cause[2])]
         near = [place, *sources, *change.places, *self.operands(found, place)]
-        others = set(self.beside(near)) - set(sources)
+        beside = set(self.beside(near))
         for _ in range(TRIES):
-            patches, shape_then, value_then = self.run_again(
-                number, change.event, place, self.some_others(others, found)
-            )
+            others = self.some_of(beside - set(sources), deciders)
+            patches, shape_then, value_then = self.run_again(number, change.event, place, others)
             if shape_then != found:
                 self.excused += 1
             elif value_then == value:
@@ -170,6 +197,17 @@ class Experiments:
                 self.faults.append(
                     f"seed {self.seed}: change {number}, {found.name}: {place} is told to be made"
                     f" of {' '.join(sources) or 'nothing'}; it was {value}, and is {value_then}"
+                    f" after {', '.join(patches)}"
+                )
+        beside = set(self.beside([*near, *deciders])) - set(deciders)
+        for _ in range(TRIES):
+            patches, shape_then = self.patched(number, change.event, self.some_of(beside))
+            if shape_then == found:
+                self.shapes += 1
+            else:
+                self.faults.append(
+                    f"seed {self.seed}: change {number}, {found.name}, is told to be decided by"
+                    f" {' '.join(deciders) or 'nothing'}; it was {found}, and is {shape_then}"
                     f" after {', '.join(patches)}"
                 )
         patched = list(filter(self.can_be_patched, sources))
@@ -181,13 +219,17 @@ class Experiments:
     def run_again(self, number, event, place, others):
         """An event is run again after patches of other places: the patches, the shape of the event,
         and the value of a place."""
+        patches, then = self.patched(number, event, others)
+        self.say(line_of(event))
+        return patches, then, self.value(place)
+
+    def patched(self, number, event, others):
+        """Patches of other places before an event, and the shape that it then has."""
         self.go_to(number - 1)
         patches = list(map(self.patch, others))
         for patch in patches:
             self.say(patch)
-        then = shape(self.machine, event[0])
-        self.say(line_of(event))
-        return patches, then, self.value(place)
+        return patches, shape(self.machine, event[0])
 
     def value(self, place):
         """What is shown of a place, with the last item of a unit's media."""
@@ -207,7 +249,7 @@ class Experiments:
 
     def can_be_patched(self, place):
         is_inside = place[0] in "sk" and int(place[1:], 16) < self.machine.size
-        return is_inside or place == "p" or place[0] == "r" and place != "run"
+        return is_inside or place[0] in "pr" or place in KEYS
 
     def operands(self, found, place):
         """Some places that an event of a shape may look at, as it makes a place."""
@@ -216,57 +258,68 @@ class Experiments:
         if isinstance(found, Word):
             data, count = (found.ccw.data, found.ccw.count) if found.ccw else (0, 1)
             places += [byte(data + i) for i in (0, some.randrange(80), count - 1)]
-            places.append(byte(CAW + some.randrange(4)))
+            places += [byte(CAW + some.randrange(4)), key_at(data), key_at(data + count)]
         if isinstance(found, Instruction):
+            subject = self.subject(found.fetched)
             places += [byte(at + some.choice([0, some.randrange(8)])) for at in found.operands]
-            places += [f"k{at // BLOCK * BLOCK:06X}" for at in found.operands]
-        if len(getattr(found, "operands", [])) == 2 and place[0] == "s":
-            # The byte of the other operand, and the function byte, if it translates.
+            places += [byte(at + some.randrange(6)) for at in (found.at, *subject)]
+            places += map(key_at, (found.at, *subject, *found.operands))
+        if getattr(found, "by_channels", {}):
+            first_word = self.machine.number(CAW, 4) % ADDRESSES
+            places += [byte(CAW + some.randrange(4)), byte(first_word + some.randrange(8))]
+        if len(getattr(found, "operands", [])) == 2:
+            # The byte of the other operand, and the function byte, if it translates, with its key.
             first, second = found.operands
-            number = int(place[1:], 16) - first
-            places += [byte(second + i) for i in (number, self.machine.byte(first + number))]
+            is_byte = place[0] == "s"
+            number = int(place[1:], 16) - first if is_byte else some.randrange(256)
+            function = second + self.machine.byte(first + number)
+            places += [byte(first + number), byte(second + number)]
+            places += [byte(function), key_at(function)]
         return places
 
+    def subject(self, instruction):
+        """The address of the subject of an execute, if the instruction is one."""
+        if instruction[:1] != bytes([EXECUTE]):
+            return ()
+        return (self.machine.address(instruction[2:4], instruction[1] & 15),)
+
     def beside(self, near):
-        """The PSW, the registers, some of the places that an event has to do with, some beside
-        these, and any."""
+        """The PSW, the registers, what keys alter, some of the places that an event has to do with,
+        some beside these, and any."""
         some = self.random
-        yield "p"
+        yield from ("p", *KEYS)
         yield from map(register, range(16))
         yield from some.sample(near, min(len(near), MOST_NEAR))
         for place in some.choices(near, k=MOST_NEAR):
             if place[0] == "s":
                 yield byte(max(int(place[1:], 16) + some.choice([-1, 1, some.randrange(-8, 9)]), 0))
         yield byte(some.randrange(self.machine.size))
-        yield f"k{some.randrange(0, self.machine.size, BLOCK):06X}"
+        yield key_at(some.randrange(self.machine.size))
 
-    def some_others(self, others, found):
-        """One of these places, or a few, or all: mostly without those that say where operands are,
-        or are the words of a channel program."""
-        some, places = self.random, set(filter(self.can_be_patched, others))
+    def some_of(self, places, deciders=()):
+        """One of these places, or a few, or all: mostly without the deciders."""
+        some, places = self.random, set(filter(self.can_be_patched, places))
         if some.random() < 0.8:
-            places -= set(deciders(found))
+            places -= set(deciders)
         return some.sample(sorted(places), min(some.choice([1, 4, len(places)]), len(places)))
 
     def patch(self, place):
         """A line that puts another value into a place."""
         some, value = self.random, self.machine.value(place)
+        if place in KEYS:
+            return "key start" if place == "run" and value != OPERATING else KEYS[place]
         if place == "p":
             return f"patch p {value ^ some.choice(PSW_FIELDS) & some.getrandbits(64):016X}"
+        if place[0] == "k" and some.random() < 0.3:
+            return f"patch f {place[1:]} {1 - (value >> 4)}"
         bits = {"s": 8, "r": 32, "k": 4}[place[0]]
         other = value ^ some.choice([1 << some.randrange(bits), some.randrange(1, 1 << bits)])
         return f"patch {words(place)} {other % (1 << bits):0{bits // 4}X}"
 
 
-def deciders(found):
-    """Places that give an event its shape, and no values."""
-    if isinstance(found, Word):
-        return bytes_at(found.program.at, 8) + bytes_at(found.ccw.data if found.target else 0, 8)
-    if isinstance(found, Instruction):
-        index = [found.performed[1] & 15] if b"\x40" <= found.performed[:1] < b"\x80" else []
-        bases = [part >> 4 for part in found.performed[2::2]]
-        return [*map(register, bases + index), *bytes_at(found.at, 6)]
-    return []
+def key_at(address):
+    """The key of the block of an address."""
+    return f"k{address // BLOCK * BLOCK:06X}"
 
 
 def words(place):
@@ -274,9 +327,14 @@ def words(place):
     return place if place in ("p", "run", "ext") else f"{place[0]} {place[1:]}"
 
 
-def places_of(cause):
-    """The places of a line that tells a cause."""
-    first, last = cause[1], cause[2]
+def deciders_of(line):
+    """The places of a line that tells deciders."""
+    found = DECIDER.finditer(DECIDED.fullmatch(line)[1])
+    return [place for each in found for place in places_between(each[1] or "p", each[2])]
+
+
+def places_between(first, last):
+    """A place, or bytes from one to another."""
     if last is None:
         return [first]
     return [f"s{at:06X}" for at in range(int(first[1:], 16), int(last, 16) + 1)]
@@ -308,7 +366,7 @@ def tried(seed, program):
         with tempfile.TemporaryDirectory() as folder:
             fault = experiments.fault_of([program, *command_line(script, folder)])
         if fault is not None:
-            return Tried(0, 0, [fault], collections.Counter(), collections.Counter())
+            return Tried(0, 0, 0, [fault], collections.Counter(), collections.Counter())
     return found
 
 
@@ -328,16 +386,17 @@ def main():
     of_sources = sum((session.of_sources for session in found), collections.Counter())
     altered = sum((session.altered for session in found), collections.Counter())
     faults = [fault for session in found for fault in session.faults]
-    passed, excused = (sum(counts) for counts in zip(*(session[:2] for session in found)))
+    passed, excused, shapes = (sum(counts) for counts in zip(*(session[:3] for session in found)))
     for operation, count in sorted(of_sources.items()):
         print(f"{operation}: {altered[operation]} of {count} patches of a source altered the value")
         if altered[operation]:
             passed += 1
         elif count >= ENOUGH and operation not in SHOW_NOTHING:
             faults.append(f"{operation}: no patch of a source altered a value")
-    print(f"{excused} times patches of other places gave the event another shape")
+    print(f"{passed} values passed; {excused} times patches gave the event another shape")
+    print(f"{shapes} shapes passed")
     print(*faults, sep="\n", end="\n" * bool(faults))
-    print(f"{passed} passed, {len(faults)} failed")
+    print(f"{passed + shapes} passed, {len(faults)} failed")
     return 1 if faults or not passed else 0
 
 

@@ -4,10 +4,13 @@ import functools
 from typing import NamedTuple
 
 from .channels import UNITS
+from .deciders import deciders
 from .sources import sources
 
 BYTES_SHOWN = 16
 PSW = "p"
+# A name has so many of the last digits of its number.
+DIGITS = {"s": 6, "k": 6, "r": 1, "u": 3, "d": 3}
 
 
 class Cause(NamedTuple):
@@ -20,9 +23,14 @@ class Cause(NamedTuple):
 
     @property
     def name(self):
-        first, *others = self.places
-        # The name of a byte has the last six digits of its address.
-        return f"{first[0]}{first[1:][-6:]}{f'-{others[-1][1:][-6:]}' if others else ''}"
+        return "-".join([named(self.places[0]), *(named(p)[1:] for p in self.places[1:][-1:])])
+
+    @property
+    def as_decider(self):
+        """What is told of it where it decides: the PSW is not followed, and has its value."""
+        if self.places == (PSW,):
+            return f"{self.name} {self.value}"
+        return self.name if self.number is None else f"{self.name} ({self.number})"
 
 
 class Causes:
@@ -49,22 +57,28 @@ class Causes:
         elif depth == 0:
             yield f"{line} by {cause.number}"
         else:
-            event, causes = self.made(cause.number, cause.places)
+            event, decided, causes = self.made(cause.number, cause.places)
             yield f"{line} by {cause.number} {event}"
+            if decided:
+                yield f"{'  ' * (level + 1)}decided by {' '.join(decided)}"
             for below in causes:
                 is_psw = below.places == (PSW,)
                 yield from self.lines_of(below, depth - 1, level + 1, is_followed=not is_psw)
 
     def made(self, number, places):
-        """The event of a change in words, and the causes of places that it made."""
+        """The event of a change in words, what decided it, and the causes of places that it made."""
         inquiries = self.inquiries
         inquiries.go_to(number)
         name, fields = inquiries.recording.changes[-1].event
         inquiries.go_to(number - 1)
         found = sources(inquiries.machine, name, fields)
         each = dict.fromkeys(source for place in places for source in found.get(place, [place]))
-        causes = [self.cause(together, number) for together in self.runs(each, number)]
-        return inquiries.happening(name), causes
+        decided = self.causes(deciders(inquiries.machine, name), number)
+        decided = [cause.as_decider for cause in decided]
+        return inquiries.happening(name), decided, self.causes(each, number)
+
+    def causes(self, places, before):
+        return [self.cause(together, before) for together in self.runs(places, before)]
 
     def runs(self, places, before):
         """Bytes with rising addresses that one change, or none, made last before this one stand
@@ -100,6 +114,12 @@ class Causes:
         count = min(len(places), BYTES_SHOWN, max(machine.size - number, 0))
         shown = machine.run_of_bytes(number, count).hex().upper()
         return f"{shown}.." if count and len(places) > BYTES_SHOWN else shown
+
+
+def named(place):
+    """The name of a place, as an answer tells it."""
+    kind, number = place[0], place[1:]
+    return place if place in (PSW, "run", "ext") else kind + number[-DIGITS[kind] :]
 
 
 def is_next(place, following):

@@ -11,7 +11,7 @@ Source: docs/DECISIONS.md, "Sources".
 """
 from typing import NamedTuple
 
-from .channels import DATA_CHAIN, HALT, START, TEST, TEST_CHANNEL, Ccw, Program
+from .channels import DATA_CHAIN, HALT, LOAD, START, TEST, TEST_CHANNEL, Ccw, Program
 from .core import ADDRESSES, BLOCK, Interruption
 from .devices import INPUT, begun
 from .machine import OPERATING
@@ -103,7 +103,7 @@ def operands(machine, instruction):
 
 def of_channel(machine, unit):
     program = machine.unit(unit)
-    ccw = machine.ccw_at(program.at)
+    ccw = machine.ccw_at(program.at) if program.after != LOAD else None
     target = machine.ccw_at(ccw.data) if ccw and ccw.transfers else None
     with trial(machine) as put:
         machine.channel(unit)
