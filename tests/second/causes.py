@@ -66,7 +66,7 @@ class Causes:
                 yield from self.lines_of(below, depth - 1, level + 1, is_followed=not is_psw)
 
     def made(self, number, places):
-        """The event of a change in words, what decided it, and the causes of places that it made."""
+        """The event of a change in words, its deciders, and the causes of places that it made."""
         inquiries = self.inquiries
         inquiries.go_to(number)
         name, fields = inquiries.recording.changes[-1].event

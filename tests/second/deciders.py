@@ -19,7 +19,8 @@ MAY_OVERFLOW = (0x10, 0x13, 0x1A, 0x1B, 0x4A, 0x4B, 0x5A, 0x5B, 0x8B, 0x8F)
 NO_OPERAND, HALFWORDS = (0x41, 0x45, 0x46, 0x47), (0x40, 0x48, 0x49, 0x4A, 0x4B, 0x4C)
 BYTES, DOUBLEWORDS = (0x42, 0x43), (0x4E, 0x4F)
 STORES = (0x40, 0x42, 0x4E, 0x50, 0x90, 0x92, 0x93, 0x94, 0x96, 0x97)
-STORE_MULTIPLE, LOAD_MULTIPLE, LOAD_PSW, COMPARE, TRANSLATE, SEARCH = 0x90, 0x98, 0x82, 0xD5, 0xDC, 0xDD
+SET_MASK, LOAD_PSW, STORE_MULTIPLE, LOAD_MULTIPLE = 0x80, 0x82, 0x90, 0x98
+COMPARE, TRANSLATE, SEARCH = 0xD5, 0xDC, 0xDD
 DIGITS = (0xF1, 0xF2, 0xF3)
 
 
@@ -143,11 +144,11 @@ def bytes_of(code, r1, other):
         return 4 * ((other - r1) % 16 + 1)
     if code == LOAD_PSW:
         return 8
-    return 1 if code == 0x80 or 0x91 <= code <= 0x97 else 0
+    return 1 if code == SET_MASK or 0x91 <= code <= 0x97 else 0
 
 
 def of_runs(machine, key, code, lengths, first, second):
-    """Of two operands in storage. The bytes that are translated or searched select function bytes."""
+    """Of two operands in storage. Bytes that are translated or searched select function bytes."""
     count, other = lengths + 1, lengths + 1
     if code in DIGITS:
         count, other = (lengths >> 4) + 1, (lengths & 15) + 1

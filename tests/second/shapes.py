@@ -19,6 +19,9 @@ from .sources import performed_at, trial
 
 INPUT_OUTPUT = (START, TEST, HALT, TEST_CHANNEL)
 STORAGE_KEYS = (b"\x08", b"\x09")
+# The codes of an operation that there is not, and of an execute that is executed.
+NOTHING_PERFORMED = (1, 3)
+
 
 class Instruction(NamedTuple):
     """One that is performed, or the interruption in its place."""
@@ -85,6 +88,7 @@ def of_instruction(machine):
             machine.execute(fetched, 0, 0)
         except Interruption as raised:
             code = raised.code
+            performed = b"" if code in NOTHING_PERFORMED else performed
         else:
             if performed[0] in INPUT_OUTPUT:
                 by_channels = {place: machine.value(place) for place in put if place != "p"}
