@@ -4,12 +4,15 @@
     tests/saved_files.py [--program FILE]
 
 What a file has to be is written here by the pages gdb.md, devices.md and images.md of
-docs/reference, and tape files are read by a reader of this script's own. Cards and tapes that were
-saved are loaded again, and shown. The status is 0 if each file and each answer is right.
+docs/reference, and tape files are read by a reader of this script's own. `hetmap` and `hetget` of
+Hercules, another emulator, read them too, if they are installed. Cards and tapes that were saved
+are loaded again, and shown. The status is 0 if each file and each answer is right.
 """
 import argparse
 import os
 import pathlib
+import re
+import shutil
 import subprocess
 import sys
 import tempfile
@@ -80,6 +83,22 @@ def items_of_tape(image):
         items.append(block if flags == WHOLE else None)
         before, at = count, at + HEADER + count
     return items
+
+
+def map_of_tape(tape):
+    """What `hetmap` finds between the marks of a tape file: the number of blocks, and the sizes of the
+    smallest and of the greatest."""
+    done = subprocess.run(["hetmap", "-t", tape], capture_output=True, text=True, timeout=SECONDS)
+    line = r"File \d+: Blocks=(\d+), block size min=(\d+), max=(\d+)"
+    return [tuple(map(int, found)) for found in re.findall(line, done.stdout)]
+
+
+def bytes_on_tape(tape, number, size):
+    """What `hetget` reads of the file of this number, whose blocks are at most of this size."""
+    to = tape.with_suffix(".read")
+    words = ["hetget", "-n", "-u", tape, to, str(number), "U", "0", str(size)]
+    subprocess.run(words, capture_output=True, timeout=SECONDS, check=True)
+    return to.read_bytes()
 
 
 class Cases:
@@ -178,6 +197,17 @@ class Cases:
         self.answers(["save tape1 @whole"], "--tape1", self.folder / "parts")
         whole = bytes([3, 0, 0, 0, 0xA0, 0, 0xC1, 0xC2, 0xC3])
         self.expect("a block of parts", whole, self.file("whole"))
+        if shutil.which("hetmap") and shutil.which("hetget"):
+            self.tapes_by_hercules(long)
+        else:
+            print("no hetmap and hetget: another emulator does not read the tapes")
+
+    def tapes_by_hercules(self, long):
+        tape, whole = self.folder / "tape", self.folder / "whole"
+        self.expect("the map of the tape", [(1, 3, 3), (1, 512, 512), (0, 0, 0)], map_of_tape(tape))
+        self.expect("its first file", ebcdic("ABC"), bytes_on_tape(tape, 1, 3))
+        self.expect("its second file", long, bytes_on_tape(tape, 2, 512))
+        self.expect("a block of parts by hetget", ebcdic("ABC"), bytes_on_tape(whole, 1, 3))
 
     def faults(self):
         kept = b"as it was, and longer than what is saved"

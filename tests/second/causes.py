@@ -9,8 +9,6 @@ from .sources import sources
 
 BYTES_SHOWN = 16
 PSW = "p"
-# A name has so many of the last digits of its number.
-DIGITS = {"s": 6, "k": 6, "r": 1, "u": 3, "d": 3}
 
 
 class Cause(NamedTuple):
@@ -23,7 +21,8 @@ class Cause(NamedTuple):
 
     @property
     def name(self):
-        return "-".join([named(self.places[0]), *(named(p)[1:] for p in self.places[1:][-1:])])
+        first, *others = self.places
+        return f"{named(first)}{f'-{named(others[-1])[1:]}' if others else ''}"
 
     @property
     def as_decider(self):
@@ -117,9 +116,8 @@ class Causes:
 
 
 def named(place):
-    """The name of a place, as an answer tells it."""
-    kind, number = place[0], place[1:]
-    return place if place in (PSW, "run", "ext") else kind + number[-DIGITS[kind] :]
+    """The name of a place. That of a byte or a key has the last six digits of its address."""
+    return place[0] + place[1:][-6:]
 
 
 def is_next(place, following):

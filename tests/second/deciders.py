@@ -15,6 +15,7 @@ from .sources import EXECUTE, byte, bytes_at, of_performed, performed_at, regist
 # Codes of instructions.
 STORAGE_KEYS = (0x08, 0x09)
 ALWAYS_BY_RESULT = (0x1D, 0x4F, 0x5D)
+PAIRS_BY_RESULT = (0x1D, 0x5D, 0x8F)
 MAY_OVERFLOW = (0x10, 0x13, 0x1A, 0x1B, 0x4A, 0x4B, 0x5A, 0x5B, 0x8B, 0x8F)
 NO_OPERAND, HALFWORDS = (0x41, 0x45, 0x46, 0x47), (0x40, 0x48, 0x49, 0x4A, 0x4B, 0x4C)
 BYTES, DOUBLEWORDS = (0x42, 0x43), (0x4E, 0x4F)
@@ -121,7 +122,10 @@ def operands(machine, instruction, put):
     accesses look at."""
     code, second = instruction[:2]
     one = register(second >> 4)
-    if code in ALWAYS_BY_RESULT or code in MAY_OVERFLOW and machine.psw_field(27, 1):
+    # A pair that begins with an odd register is refused.
+    is_refused = code in PAIRS_BY_RESULT and second >> 4 & 1
+    is_by_result = code in ALWAYS_BY_RESULT or code in MAY_OVERFLOW and machine.psw_field(27, 1)
+    if is_by_result and not is_refused:
         yield from of_performed(machine, instruction, put).get(one, [one])
     if code < 0x40:
         return

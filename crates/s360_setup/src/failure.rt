@@ -45,7 +45,7 @@ pub enum Fault {
     /// A part of a block, a whole block or a mark does not follow what is before it, or the file ends
     /// inside a block.
     PartOutOfPlace(usize),
-    /// Less bytes are left than the part has.
+    /// Fewer bytes are left than the part has.
     ShortBlock(usize),
     /// The block has more than 65,535 bytes with this part.
     BlockTooLong(usize),

@@ -1,6 +1,6 @@
 -- How an outcome ends: by the code of the first condition that it meets, else as what is completed does.
-use Rattle.std.proofs.Common.{◌≡◌, ◌∙◌, ℕ, ℤ, Bool, true, false, List, [], refl, ap, sym, Option, Some, None, nat_eq}
-use Rattle.std.specs.Prelude.{if◌then◌else◌}
+use Rattle.std.proofs.Common.{◌≡◌, ◌∙◌, ℕ, ℤ, Bool, true, false, List, [], refl, ap, subst, sym, Option, Some, None, nat_eq}
+use Rattle.std.specs.Prelude.{if◌then◌else◌, not, ◌&&◌}
 use Rattle.s360_model.specs.Core.{Core}
 use Rattle.s360_model.specs.Numbers.{fits_word}
 use Rattle.s360_model.specs.Psw.{fixed_point_overflow_mask_of, protection_key_of}
@@ -11,10 +11,10 @@ use Rattle.s360_fixed.specs.declared.ended.Ended.{Ended}
 use Rattle.s360_fixed.specs.declared.ended.Ended.TheVariants.{Done, Program}
 use Rattle.s360_fixed.specs.declared.form.Form.{Form}
 use Rattle.s360_fixed.specs.declared.program_code.ProgramCode.{ProgramCode}
-use Rattle.s360_fixed.specs.declared.program_code.ProgramCode.TheVariants.{Data, FixedPointDivide}
+use Rattle.s360_fixed.specs.declared.program_code.ProgramCode.TheVariants.{Data, FixedPointDivide, Specification}
 use Rattle.s360_fixed.specs.declared.setting.Setting.TheVariants.{SignedCode}
 use Rattle.s360_fixed.specs.Operands.{access_conditions}
-use Rattle.s360_fixed.specs.Outcomes.{division_effect, unless_met}
+use Rattle.s360_fixed.specs.Outcomes.{division_effect, is_odd, unless_met}
 use Rattle.s360_fixed.specs.ProgramCodes.{Conditions, program_code}
 use Rattle.s360_fixed.specs.Settings.{ended_with}
 use Rattle.s360_fixed.specs.View.{Outcome, View}
@@ -44,6 +44,26 @@ unless-ends c m x = ap (λ (o : Outcome). o.ended) (unless_met-is c m x) ∙ ref
 -- two outcomes that meet the same
 pub unless-same : (c d : Conditions) (m n : Core) (x y : Outcome) → c ≡ d → x.ended ≡ y.ended → (unless_met c m x).ended ≡ (unless_met d n y).ended
 unless-same c d m n x y e f = unless-ends c m x ∙ ap (λ q. ended_by (program_code q) x.ended) e ∙ ap (ended_by (program_code d)) f ∙ sym (unless-ends d n y)
+
+-- two that meet one code
+unless-code : (c d : Conditions) (m n : Core) (x y : Outcome) (code : ProgramCode) → program_code c ≡ Some code → program_code d ≡ Some code
+    → (unless_met c m x).ended ≡ (unless_met d n y).ended
+unless-code c d m n x y code e f =
+    unless-ends c m x ∙ ap (λ q. ended_by q x.ended) e ∙ sym (unless-ends d n y ∙ ap (λ q. ended_by q y.ended) f)
+
+-- two of a pair of registers, which is refused if it begins with an odd one
+pub pair-ends : (r1 : ℕ) (c d : Conditions) (m n : Core) (x y : Outcome)
+    → (is_odd r1 ≡ true → (program_code c ≡ Some Specification) × (program_code d ≡ Some Specification))
+    → (is_odd r1 ≡ false → (unless_met c m x).ended ≡ (unless_met d n y).ended) → (unless_met c m x).ended ≡ (unless_met d n y).ended
+pair-ends r1 c d m n x y odd even = by (is_odd r1) refl where
+  by : (b : Bool) → is_odd r1 ≡ b → (unless_met c m x).ended ≡ (unless_met d n y).ended
+  by true e = unless-code c d m n x y Specification (odd e).0 (odd e).1
+  by false e = even e
+
+-- the places that decide how one ends that is not refused
+pub unless-refused : (m n : Core) (r1 : ℕ) (b : Bool) (used : List Place) → is_odd r1 ≡ false → HaveAllSame m n (if not (is_odd r1) && b then used else [])
+    → HaveAllSame m n (if b then used else [])
+unless-refused m n r1 b used e h = subst (λ o. HaveAllSame m n (if not o && b then used else [])) e h
 
 -- two that access an operand at one address
 pub accessed-same : (m n : Core) (a b boundary count : ℕ) (kind : Access) (x y : Outcome) → AreAlike m n → m.psw ≡ n.psw → a ≡ b

@@ -1,5 +1,5 @@
 -- How the instructions of the format RX end: alike in cores that have the same at their deciders.
-use Rattle.std.proofs.Common.{◌≡◌, ◌+◌, ◌∙◌, ◌||◌, ℕ, Bool, false, [], ◌∷◌, refl, ap, sym, Option, is_none, nat_eq}
+use Rattle.std.proofs.Common.{◌≡◌, ◌+◌, ◌∙◌, ◌||◌, ℕ, Bool, false, true, List, [], ◌∷◌, refl, ap, sym, Option, is_none, nat_eq}
 use Rattle.std.specs.Prelude.{slice_index}
 use Rattle.s360_model.specs.Arithmetic.{absolute_value, signed_complement, signed_difference, signed_sum}
 use Rattle.s360_model.specs.ConditionCodes.{signed_code}
@@ -8,6 +8,7 @@ use Rattle.s360_model.specs.Packed.{packed_value}
 use Rattle.s360_model.specs.Products.{division}
 use Rattle.s360_model.specs.Psw.{protection_key_of}
 use Rattle.s360_model.specs.Storage.{doubleword_at, word_at}
+use Rattle.s360_store.specs.declared.place.Place.{Place}
 use Rattle.s360_store.specs.declared.place.Place.TheVariants.{Register}
 use Rattle.s360_store.specs.declared.protection.Access.{Access}
 use Rattle.s360_store.specs.declared.protection.Access.TheVariants.{Fetch, Store as to_store}
@@ -30,7 +31,7 @@ use Rattle.s360_source.proofs.AgreementLemmas.{number_at-same, same-if}
 use Rattle.s360_source.proofs.BranchLemmas.{seen}
 use Rattle.s360_source.proofs.CombinationLemmas.{half-same, word-same}
 use Rattle.s360_source.proofs.EffectLemmas.{is-one}
-use Rattle.s360_source.proofs.EndingLemmas.{EndsAlike, accessed-same, converted-same, division-ends, overflow-same, unless-same}
+use Rattle.s360_source.proofs.EndingLemmas.{EndsAlike, accessed-same, converted-same, division-ends, overflow-same, pair-ends, unless-refused, unless-same}
 use Rattle.s360_source.proofs.OperandLemmas.{address-same}
 use Rattle.s360_source.proofs.ShiftLaws.{all-alike, both-alike}
 
@@ -95,11 +96,15 @@ rx-ends Multiply r1 x b d m n next il alike psw a h k =
 rx-ends Divide r1 x b d m n next il alike psw a h k =
     let q : Option (ℕ × ℕ) = division (slice_index m.registers r1) (slice_index m.registers (r1 + 1)) (word_at m.storage.bytes (at m x b d))
     in let r : Option (ℕ × ℕ) = division (slice_index n.registers r1) (slice_index n.registers (r1 + 1)) (word_at n.storage.bytes (at n x b d))
-    in let g : HaveAllSame m n (Register r1 ∷ (Register (r1 + 1) ∷ byte_places (at m x b d) 4)) = same-if (nat_eq r1 r1) m n (Register r1 ∷ (Register (r1 + 1) ∷ byte_places (at m x b d) 4)) _ h (is-one r1 r1 refl)
-    in let words : q ≡ r = all-alike division _ _ _ _ _ _ g.0 g.1.0 (word-same m n (at m x b d) (at n x b d) (address-same m n x b d a) g.1.1)
-    in unless-same (pair_met r1 (access_conditions m (at m x b d) 4 4 Fetch) (is_none q)) (pair_met r1 (access_conditions n (at n x b d) 4 4 Fetch) (is_none r)) m n _ _
-    (ap (λ c. pair_met r1 c (is_none q)) (met m n x b d alike psw a k) ∙ ap (λ z. pair_met r1 (access_conditions n (at n x b d) 4 4 Fetch) (is_none z)) words)
-    (division-ends m.psw q ∙ sym (division-ends n.psw r))
+    in let used : List Place = Register r1 ∷ (Register (r1 + 1) ∷ byte_places (at m x b d) 4)
+    in let c : Conditions = pair_met r1 (access_conditions m (at m x b d) 4 4 Fetch) (is_none q)
+    in let f : Conditions = pair_met r1 (access_conditions n (at n x b d) 4 4 Fetch) (is_none r)
+    in let same : is_odd r1 ≡ false → HaveAllSame m n used = λ e. same-if (nat_eq r1 r1) m n used _ (unless-refused m n r1 true _ e h) (is-one r1 r1 refl)
+    in let words : is_odd r1 ≡ false → q ≡ r
+    = λ e. all-alike division _ _ _ _ _ _ (same e).0 (same e).1.0 (word-same m n (at m x b d) (at n x b d) (address-same m n x b d a) (same e).1.1)
+    in pair-ends r1 c f m n _ _ (λ e. (rw e refl, rw e refl)) (λ e. unless-same c f m n _ _
+    (ap (λ c. pair_met r1 c (is_none q)) (met m n x b d alike psw a k) ∙ ap (λ z. pair_met r1 (access_conditions n (at n x b d) 4 4 Fetch) (is_none z)) (words e))
+    (division-ends m.psw q ∙ sym (division-ends n.psw r)))
 rx-ends Store r1 x b d m n next il alike psw a h k = accessed m n x b d 4 to_store _ _ alike psw a k refl
 rx-ends StoreHalfword r1 x b d m n next il alike psw a h k = accessed m n x b d 2 to_store _ _ alike psw a k refl
 rx-ends StoreCharacter r1 x b d m n next il alike psw a h k = accessed m n x b d 1 to_store _ _ alike psw a k refl

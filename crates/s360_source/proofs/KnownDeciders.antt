@@ -23,6 +23,14 @@ masked_sum = refl
 pub quotient : instruction_deciders (known 0 false 0 7 (0x1D ∷ 0x21 ∷ [])) ≡ Psw ∷ (Byte 0 ∷ (Byte 1 ∷ (Register 2 ∷ (Register 3 ∷ (Register 1 ∷ [])))))
 quotient = refl
 
+-- DR 3,1, and SLDA 3,1 where an overflow interrupts: a pair that begins with an odd register is refused, and nothing is made of it
+pub refused_quotient : instruction_deciders (known 0 false 0 7 (0x1D ∷ 0x31 ∷ [])) ≡ Psw ∷ (Byte 0 ∷ (Byte 1 ∷ []))
+refused_quotient = refl
+
+pub refused_shift : instruction_deciders (known (2 ^ 27) false 0 7 (0x8F ∷ 0x30 ∷ 0x00 ∷ 0x01 ∷ []))
+    ≡ Psw ∷ (Byte 0 ∷ (Byte 1 ∷ (Byte 2 ∷ (Byte 3 ∷ []))))
+refused_shift = refl
+
 -- EX 1,4 of MVC 10(1),16: the register that is ored into it, and its bytes
 pub executed : instruction_deciders (known 0 false 1 0 (0x44 ∷ 0x10 ∷ 0x00 ∷ 0x04 ∷ 0xD2 ∷ 0x00 ∷ 0x00 ∷ 0x0A ∷ 0x00 ∷ 0x10 ∷ []))
     ≡ Psw ∷ (Byte 0 ∷ (Byte 1 ∷ (Byte 2 ∷ (Byte 3 ∷ (Register 1 ∷ (Byte 4 ∷ (Byte 5 ∷ (Byte 6 ∷ (Byte 7 ∷ (Byte 8 ∷ (Byte 9 ∷ [])))))))))))

@@ -28,6 +28,7 @@ use Rattle.s360_fixed.specs.declared.operation.Operation.TheVariants.{StoreMulti
 use Rattle.s360_fixed.specs.declared.operation.Operation.TheVariants.{StartIo, TestIo, HaltIo, TestChannel}
 use Rattle.s360_fixed.specs.declared.operation.Operation.TheVariants.{MoveWithOffset, Pack, Unpack, Translate, TranslateAndTest}
 use Rattle.s360_fixed.specs.Fetching.{instruction_bytes, length_at}
+use Rattle.s360_fixed.specs.Outcomes.{is_odd}
 use Rattle.s360_fixed.specs.ProgramCodes.{program_code}
 use Rattle.s360_fixed.specs.Storing.{register_count}
 use Rattle.s360_fixed.specs.Table.{form_of}
@@ -95,10 +96,18 @@ ends_by_result psw Divide = true
 ends_by_result psw ConvertToBinary = true
 ends_by_result psw other = may_overflow other && fixed_point_overflow_mask_of psw
 
+-- a pair of registers that begins with an odd one is refused, and nothing is made of it
+abbrev pub is_refused_pair : Operation → ℕ → Bool
+is_refused_pair Divide r1 = is_odd r1
+is_refused_pair ShiftLeftDouble r1 = is_odd r1
+is_refused_pair other r1 = false
+
 -- what decides how an instruction ends, beside what its accesses meet: what R1 is made of, where the result does, and the bytes
 -- that select function bytes
 abbrev pub result_deciders : ℕ → Form → ℕ → Operands → Storage → List Place
-result_deciders psw form r1 o s = if ends_by_result psw (operation_of form) then completed_sources form o s (Register r1) else []
+result_deciders psw form r1 o s =
+    if not (is_refused_pair (operation_of form) r1) && ends_by_result psw (operation_of form)
+    then completed_sources form o s (Register r1) else []
 
 abbrev pub ending_deciders : ℕ → Form → Operands → Storage → List Place
 ending_deciders psw (Rr operation r1 r2) o s = result_deciders psw (Rr operation r1 r2) r1 o s

@@ -2,7 +2,7 @@
 //! execution, and "Branching", EXECUTE.
 ghost use Rattle.std.specs.Prelude.{◌≡◌, ◌++◌, OnOk};
 ghost use Rattle.s360_source.specs.Deciders.{address_deciders, ending_deciders, ends_by_result, execute_deciders};
-ghost use Rattle.s360_source.specs.Deciders.{fetched_places, form_deciders, instruction_deciders, may_overflow};
+ghost use Rattle.s360_source.specs.Deciders.{fetched_places, form_deciders, instruction_deciders, is_refused_pair, may_overflow};
 ghost use Rattle.s360_source.specs.Deciders.{performed_deciders, result_deciders};
 
 use crate::access_keys::{push_access_keys, push_key_deciders};
@@ -82,6 +82,16 @@ fn ends_by_result(psw: Psw, operation: Operation) -> bool
     }
 }
 
+/// Whether an operation takes a pair of registers that begins with an odd one, and is refused.
+fn is_refused_pair(operation: Operation, r1: RegisterNumber) -> bool
+    ensures { result ≡ is_refused_pair operation r1 }
+{
+    match operation {
+        Operation::Divide | Operation::ShiftLeftDouble => r1.number() % 2 == 1,
+        _ => false,
+    }
+}
+
 /// Adds what R1 is made of, if that decides how the instruction ends.
 fn push_result_deciders(
     found: &mut Vec<Place>,
@@ -92,7 +102,8 @@ fn push_result_deciders(
 ) -> Result<(), AllocError>
     ensures { OnOk result (found.new.items ≡ found.old.items ++ result_deciders psw performed.now.form r1 performed.now.operands storage.now) }
 {
-    if !ends_by_result(psw, operation_of(&performed.form)) {
+    let operation = operation_of(&performed.form);
+    if is_refused_pair(operation, r1) || !ends_by_result(psw, operation) {
         return Ok(());
     }
     let register = Place::Register(r1.number());

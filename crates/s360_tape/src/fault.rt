@@ -19,7 +19,7 @@ pub enum TapeFault {
     /// part outside of one, or the file ends inside a block.
     #[error("part out of place at {0}")]
     PartOutOfPlace(usize),
-    /// Less bytes are left than the part has.
+    /// Fewer bytes are left than the part has.
     #[error("short block at {0}")]
     ShortBlock(usize),
     /// The block has more than 65,535 bytes with this part.
