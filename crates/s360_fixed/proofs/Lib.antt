@@ -1,2 +1,3 @@
 pub mod PutLemmas
 pub mod OperandLemmas
+pub mod AlteredLemmas

@@ -12,3 +12,4 @@ pub mod Made
 pub mod Shifting
 pub mod Fetching
 pub mod Fixed
+pub mod Plain

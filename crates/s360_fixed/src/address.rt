@@ -20,6 +20,7 @@ fn address_part(view: &View, register: RegisterNumber) -> Word
 }
 
 /// An operand's address: index plus base plus displacement, modulo 2^24.
+#[inline(always)]
 pub fn operand_address(
     view: &View,
     index: RegisterNumber,

@@ -43,6 +43,7 @@ fn bits(word: Word) -> Effect
 }
 
 /// What is made of the word in R1 and the second operand.
+#[inline(always)]
 fn effect_on(combination: Combination, first: Word, second: Word) -> Effect
     ensures effect { result ≡ effect_of (meaning_of combination) first second }
     ensures single { IsNone result.second }
@@ -70,6 +71,7 @@ fn effect_on(combination: Combination, first: Word, second: Word) -> Effect
 }
 
 /// What is made of R1 and a second operand that can be used.
+#[inline(always)]
 pub(crate) fn combined(
     view: &View,
     combination: Combination,

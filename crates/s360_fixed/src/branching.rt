@@ -16,6 +16,7 @@ use crate::view::View;
 use s360_word::{Cc, RegisterNumber, Word, add_signed, compare_signed};
 
 /// The branch address in a register; none in register 0.
+#[inline(always)]
 pub(crate) fn register_target(view: &View, r2: RegisterNumber) -> Option<u32>
     ensures { result ≡ register_target view.now r2 }
 {
@@ -52,6 +53,7 @@ fn link_of(view: &View) -> Word
 }
 
 /// A branch on condition, a branch and link or a branch on count.
+#[inline(always)]
 pub(crate) fn branched(view: &View, branch: Branch, r1: RegisterNumber, target: Option<u32>) -> Made
     ensures outcome { outcome_of_made view.now result ≡ branch_outcome branch view.now r1 target }
     ensures within { IsWithin view.now.core result }

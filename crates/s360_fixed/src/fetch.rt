@@ -24,6 +24,7 @@ fn refusal(storage: &Storage, address: u32, count: u32, key: ProtectionKey) -> O
 /// The bytes of the instruction at an address, fetched with a protection key: as many as its first
 /// byte tells. An odd address is program code 6. Its first halfword, and then the whole, is 5 if it is
 /// outside storage, and 4 if it is protected from fetches.
+#[inline(always)]
 pub fn fetch_instruction(
     storage: &Storage,
     address: u32,

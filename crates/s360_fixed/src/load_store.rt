@@ -41,6 +41,7 @@ fn word_in(view: &View, width: Width, address: u32) -> Word
 }
 
 /// The second operand at an address, or what keeps it from being used.
+#[inline(always)]
 pub(crate) fn fetch(view: &View, operand: SecondOperand, address: u32) -> Result<Word, ProgramCode>
     ensures { result ≡ fetched (storage_operand view.now.core operand address) }
 {

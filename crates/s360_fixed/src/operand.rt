@@ -12,6 +12,7 @@ use s360_store::Access;
 /// What keeps an operand of so many bytes from being used with the key of the PSW: it is off its
 /// boundary, a multiple of so many bytes, or it is outside storage, or it is protected, found in this
 /// order.
+#[inline(always)]
 pub fn operand_exception(
     view: &View,
     address: u32,

@@ -29,7 +29,8 @@ use s360_word::RegisterNumber;
 use std::alloc::AllocError;
 
 /// What a row makes in the format RR, if it has the row.
-fn made_rr(view: &View, row: Row, r1: RegisterNumber, r2: RegisterNumber) -> Option<Made>
+#[inline(always)]
+pub(crate) fn made_rr(view: &View, row: Row, r1: RegisterNumber, r2: RegisterNumber) -> Option<Made>
     ensures outcome { option_map (λ m. outcome_of_made view.now m) result ≡ option_map (λ outcome. outcome view.now r1 r2) (rr_outcome row) }
     ensures within { IfSome result (λ m. IsWithin view.now.core m) }
 {
@@ -42,6 +43,7 @@ fn made_rr(view: &View, row: Row, r1: RegisterNumber, r2: RegisterNumber) -> Opt
 }
 
 /// What is made of R1 and a second operand in storage, or an address.
+#[inline(always)]
 fn combined_at(
     view: &View,
     second: SecondOperand,
@@ -87,7 +89,8 @@ fn register_stored(view: &View, width: Width, r1: RegisterNumber, address: u32) 
 }
 
 /// What a row makes in the format RX, if it has the row.
-fn made_rx(view: &View, row: Row, r1: RegisterNumber, address: u32) -> Option<Made>
+#[inline(always)]
+pub(crate) fn made_rx(view: &View, row: Row, r1: RegisterNumber, address: u32) -> Option<Made>
     ensures outcome { option_map (λ m. outcome_of_made view.now m) result ≡ option_map (λ outcome. outcome view.now r1 address) (rx_outcome row) }
     ensures within { IfSome result (λ m. IsWithin view.now.core m) }
 {

@@ -322,19 +322,15 @@ pub record IsLastOf (ys : List Change) (k : ℕ) (x : Change) : Type 0 where
   pub split : ys ≡ take (k - 1) ys ++ x ∷ []
   pub count : k ≡ length (take (k - 1) ys) + 1
   pub found : slice_get ys (k - 1) ≡ Some x
+  pub found_last : slice_get ys (length ys - 1) ≡ Some x
 
 pub last-of : (ys : List Change) (k : ℕ) → 0 < k → k ≡ length ys → (x : Change) × IsLastOf ys k x
 last-of ys k some is =
     let parts : (x : Change) × (ys ≡ take (k - 1) ys ++ x ∷ []) = split-last ys (k - 1) (omega (arith, some, is))
     in let before : length (take (k - 1) ys) ≡ k - 1 = length-take-le (k - 1) ys (omega (arith, is))
-    in (
-      parts.0,
-      record {
-        split = parts.1;
-        count = omega (arith, some, before);
-        found = ap (λ zs. slice_get zs (k - 1)) parts.1 ∙ ap (slice_get (take (k - 1) ys ++ parts.0 ∷ [])) (sym before) ∙ last-there (take (k - 1) ys) parts.0;
-      },
-    )
+    in let there : slice_get ys (k - 1) ≡ Some parts.0
+    = ap (λ zs. slice_get zs (k - 1)) parts.1 ∙ ap (slice_get (take (k - 1) ys ++ parts.0 ∷ [])) (sym before) ∙ last-there (take (k - 1) ys) parts.0
+    in (parts.0, record { split = parts.1; count = omega (arith, some, before); found = there; found_last = ap (λ n. slice_get ys (n - 1)) (sym is) ∙ there })
 
 pub err-there : {A E : Type 0} (r : Result A E) (P : Type 0) → is_err r ≡ true → OnErr r P → P
 err-there (Ok a) P h p = absurd (let no : false ≡ true = h in cc)
@@ -454,28 +450,28 @@ unindexing-all g h xs x k all left none count spans may i =
     in index-before g h xs x i.past (sym end ∙ spans.places) may (rw count at i.loses)
 
 -- an index beside changes that get one more, lose it again, and have it exchanged
-pub kept-appended : (xs ys zs : List Change) (x : Change) (k : ℕ) → ys ≡ xs ++ x ∷ [] → k ≡ length ys → zs ≡ take (k - 1) ys → zs ≡ xs
-kept-appended xs ys zs x k is count cut =
-    let last : length xs ≡ k - 1 = omega (arith, count, ap length is, length-append xs (x ∷ []))
-    in cut ∙ ap (take (k - 1)) is ∙ take_at xs (x ∷ []) (k - 1) last
+pub kept-appended : (xs ys zs : List Change) (x : Change) → ys ≡ xs ++ x ∷ [] → zs ≡ take (length ys - 1) ys → zs ≡ xs
+kept-appended xs ys zs x is cut =
+    let last : length xs ≡ length ys - 1 = omega (arith, ap length is, length-append xs (x ∷ []))
+    in cut ∙ ap (take (length ys - 1)) is ∙ take_at xs (x ∷ []) (length ys - 1) last
 
-pub index-appended : (h : Histories) (xs ys : List Change) (x : Change) (k : ℕ) → ys ≡ xs ++ x ∷ [] → k ≡ length ys → IsIndexOf h xs → IsIndexOf h (take (k - 1) ys)
-index-appended h xs ys x k is count whole = rw (kept-appended xs ys (take (k - 1) ys) x k is count refl) whole
+pub index-appended : (h : Histories) (xs ys : List Change) (x : Change) → ys ≡ xs ++ x ∷ [] → IsIndexOf h xs → IsIndexOf h (take (length ys - 1) ys)
+index-appended h xs ys x is whole = rw (kept-appended xs ys (take (length ys - 1) ys) x is refl) whole
 
 pub may-index-last : (h : Histories) (ys : List Change) (k : ℕ) → 0 < k → k ≡ length ys → IsIndexOf h ys → IfSome (slice_get ys (k - 1)) (λ x. MayIndex h (take (k - 1) ys) x)
 may-index-last h ys k some count whole =
     let last : (x : Change) × IsLastOf ys k x = last-of ys k some count
     in rw last.1.found (index-last h (take (k - 1) ys) last.0 (subst (λ zs. IsIndexOf h zs) last.1.split whole))
 
-pub index-swapped : (h : Histories) (w : Whole) (ys zs : List Change) (k : ℕ) → 0 < k → k ≡ length ys
-    → IfSome (slice_get ys (k - 1)) (λ x. zs ≡ set ys (k - 1) (change_after_swap w x)) → IsIndexOf h ys → IsIndexOf h zs
-index-swapped h w ys zs k some count swapped whole =
-    let last : (x : Change) × IsLastOf ys k x = last-of ys k some count
-    in let new : zs ≡ set ys (k - 1) (change_after_swap w last.0) = rw last.1.found at swapped
-    in rw new (index-set h ys (k - 1) last.0 (change_after_swap w last.0) last.1.found (places_of_change-after w last.0) whole)
+pub index-swapped : (h : Histories) (w : Whole) (ys zs : List Change) → 0 < length ys
+    → IfSome (slice_get ys (length ys - 1)) (λ x. zs ≡ set ys (length ys - 1) (change_after_swap w x)) → IsIndexOf h ys → IsIndexOf h zs
+index-swapped h w ys zs some swapped whole =
+    let last : (x : Change) × IsLastOf ys (length ys) x = last-of ys (length ys) some refl
+    in let new : zs ≡ set ys (length ys - 1) (change_after_swap w last.0) = rw last.1.found at swapped
+    in rw new (index-set h ys (length ys - 1) last.0 (change_after_swap w last.0) last.1.found (places_of_change-after w last.0) whole)
 
-pub length-swapped : (w : Whole) (ys zs : List Change) (k : ℕ) → 0 < k → k ≡ length ys → IfSome (slice_get ys (k - 1)) (λ x. zs ≡ set ys (k - 1) (change_after_swap w x)) → k ≡ length zs
-length-swapped w ys zs k some count swapped =
-    let last : (x : Change) × IsLastOf ys k x = last-of ys k some count
-    in let new : zs ≡ set ys (k - 1) (change_after_swap w last.0) = rw last.1.found at swapped
-    in count ∙ sym (ap length new ∙ length-set ys (k - 1) (change_after_swap w last.0))
+pub length-swapped : (w : Whole) (ys zs : List Change) → 0 < length ys → IfSome (slice_get ys (length ys - 1)) (λ x. zs ≡ set ys (length ys - 1) (change_after_swap w x)) → length zs ≡ length ys
+length-swapped w ys zs some swapped =
+    let last : (x : Change) × IsLastOf ys (length ys) x = last-of ys (length ys) some refl
+    in let new : zs ≡ set ys (length ys - 1) (change_after_swap w last.0) = rw last.1.found at swapped
+    in ap length new ∙ length-set ys (length ys - 1) (change_after_swap w last.0)

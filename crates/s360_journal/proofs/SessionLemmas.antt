@@ -1,21 +1,22 @@
 -- Events and changes of a session, side by side as entries.
-use Rattle.std.proofs.Common.{◌≡◌, ◌<◌, ◌+◌, ◌-◌, ◌++◌, ◌∙◌, ℕ, zero, suc, List, [], ◌∷◌, Some, None, refl, ap, sym, subst, map, reverse, length, take, set, arith}
+use Rattle.std.proofs.Common.{◌≡◌, ◌<◌, ◌≤◌, ◌+◌, ◌-◌, ◌++◌, ◌∙◌, ℕ, zero, suc, List, [], ◌∷◌, Some, None, refl, ap, sym, subst, map, reverse, length, take, set, arith}
 use Rattle.std.specs.List.{slice_get}
 use Rattle.std.specs.Prelude.{IfSome}
 use Rattle.std.proofs.lemmas.List.{length-append, length-map, reverse-append, take_at}
 use Rattle.std.proofs.lemmas.Option.{slice_get-get_or}
 use Rattle.s360_machine.specs.declared.event.Event.{Event}
-use Rattle.s360_machine.specs.Machine.{Whole, seen}
+use Rattle.s360_machine.specs.Machine.{Machine, Whole, seen}
 use Rattle.s360_machine.specs.Change.{CanSwap, Change, NeedsNoRoom, after_swap, change_after_swap, places_of_change}
 use Rattle.s360_machine.specs.Packed.{IsSwapOf}
 use Rattle.s360_machine.specs.Planned.{IsChangeTo}
 use Rattle.s360_machine.specs.Refusals.{refusal_of}
 use Rattle.s360_machine.specs.Machine.{storage_size}
 use Rattle.s360_machine.specs.Step.{after}
+use Rattle.s360_journal.specs.Advances.{IsMade}
 use Rattle.s360_journal.specs.History.{AreHistory, Entry, IsHistory, entries_of, unwound}
 use Rattle.s360_journal.specs.Rerun.{AreAccepted, rerun}
-use Rattle.s360_journal.specs.Standing.{IsAfter, Standing, alteration, machine_of}
-use Rattle.s360_journal.proofs.ForwardLemmas.{IsHistory-forward}
+use Rattle.s360_journal.specs.Standing.{IsAfter, Standing, alteration, machine_of, refusal_in}
+use Rattle.s360_journal.proofs.ForwardLemmas.{IsHistory-forward, or_full-None, or_full-room}
 use Rattle.s360_journal.proofs.HistoryLemmas.{AreAccepted-unwound, alteration-last, machine_of-view, rerun-unwound}
 
 pub events-of : (es : List Event) (xs : List Change) → length es ≡ length xs → map (λ (x : Entry). x.event) (entries_of es xs) ≡ es
@@ -163,43 +164,69 @@ last-change w es xs n h some count =
     in let last : (x : Change) × Last w es xs (take (n - 1) es) parts.0 x = last-session w es xs (take (n - 1) es) parts.0 h parts.1
     in (last.0, record { found = found-last (take (length xs - 1) xs) xs last.0 n last.1.changes count; can = last.1.can; no_room = last.1.no_room })
 
+-- a change that was appended, as it stands at the end
+pub some-appended : (xs ys : List Change) (x : Change) → ys ≡ xs ++ x ∷ [] → 0 < length ys
+some-appended xs ys x is = omega (arith, ap length is, length-append xs (x ∷ []))
+
+pub if-appended : (xs ys : List Change) (x : Change) (P : Change → Type 0) → ys ≡ xs ++ x ∷ [] → P x → IfSome (slice_get ys (length ys - 1)) P
+if-appended xs ys x P is p = rw (found-last xs ys x (length ys) is refl) p
+
 -- a session after an event that was accepted
-pub advanced : (w u v : Whole) (es : List Event) (xs ys zs : List Change) (e : Event) (x : Change) (n : ℕ) → AreHistory w es xs → refusal_of (storage_size (seen w)) e ≡ None
-    → IsChangeTo w x (after (seen w) e) → u ≡ w → ys ≡ xs ++ x ∷ [] → n ≡ length ys
-    → IfSome (slice_get ys (n - 1)) (λ z. IsSwapOf u z v) → IfSome (slice_get ys (n - 1)) (λ z. zs ≡ set ys (n - 1) (change_after_swap u z))
+advanced : (w u v : Whole) (es : List Event) (xs ys zs : List Change) (e : Event) (x : Change) → AreHistory w es xs → refusal_of (storage_size (seen w)) e ≡ None
+    → IsChangeTo w x (after (seen w) e) → u ≡ w → ys ≡ xs ++ x ∷ [] → IsMade u v ys zs
     → AreHistory v (es ++ e ∷ []) zs × (unwound v (reverse (entries_of (es ++ e ∷ []) zs)) ≡ unwound w (reverse (entries_of es xs)))
-advanced w u v es xs ys zs e x n h accepted change same is count swaps changes =
-    let found : slice_get ys (n - 1) ≡ Some x = found-last xs ys x n is count
-    in let last : n - 1 ≡ length xs = omega (arith, count, ap length is, length-append xs (x ∷ []))
+advanced w u v es xs ys zs e x h accepted change same is made =
+    let found : slice_get ys (length ys - 1) ≡ Some x = found-last xs ys x (length ys) is refl
+    in let last : length ys - 1 ≡ length xs = omega (arith, ap length is, length-append xs (x ∷ []))
     in let y : Change = change_after_swap w x
-    in let swap : IsSwapOf w x v = subst (λ (k : Whole). IsSwapOf k x v) same (rw found at swaps)
-    in let new : zs ≡ set ys (n - 1) (change_after_swap u x) = rw found at changes
+    in let swap : IsSwapOf w x v = subst (λ (k : Whole). IsSwapOf k x v) same (rw found at made.machine)
+    in let new : zs ≡ set ys (length ys - 1) (change_after_swap u x) = rw found at made.changes
     in let all : zs ≡ xs ++ y ∷ []
-    = new ∙ ap (λ (k : Whole). set ys (n - 1) (change_after_swap k x)) same ∙ ap (λ (l : List Change). set l (n - 1) y) is ∙ ap (λ k. set (xs ++ x ∷ []) k y) last ∙ set-last xs x y
+    = new ∙ ap (λ (k : Whole). set ys (length ys - 1) (change_after_swap k x)) same ∙ ap (λ k. set ys k y) last ∙ ap (λ (l : List Change). set l (length xs) y) is ∙ set-last xs x y
     in (
       subst (λ (l : List Change). AreHistory v (es ++ e ∷ []) l) (sym all) (AreHistory-forward w v es xs e x y h accepted change swap.machine refl swap.again change.back swap.restores_machine),
       ap (λ (l : List Change). unwound v (reverse (entries_of (es ++ e ∷ []) l))) all ∙ unwound-forward w v es xs e y h.1 swap.restores_machine,
     )
 
--- and after the last change was taken back
-take-set-last : {X : Type 0} (xs : List X) (x y : X) → take (length xs) (set (xs ++ x ∷ []) (length xs) y) ≡ xs
-take-set-last xs x y = ap (λ l. take (length xs) l) (set-last xs x y) ∙ take_at xs (y ∷ []) (length xs) refl
+-- a session in which an event came to stand after others
+pub record HasAdvanced (v : Whole) (es : List Event) (xs : List Change) (limit : ℕ) (s : Standing) (e : Event) : Type 0 where
+  pub history : AreHistory v es xs
+  pub few : length es ≤ limit
+  pub view : IsAfter (record { start = unwound v (reverse (entries_of es xs)); events = es; limit = limit }) s e
 
-pub gone-back : (w v : Whole) (es fs : List Event) (xs ys zs : List Change) (e : Event) (n : ℕ) → AreHistory w es xs → es ≡ fs ++ e ∷ [] → n ≡ length xs
-    → IfSome (slice_get xs (n - 1)) (λ x. IsSwapOf w x v) → IfSome (slice_get xs (n - 1)) (λ x. ys ≡ set xs (n - 1) (change_after_swap w x)) → zs ≡ take (n - 1) ys
+pub session-advanced : (w u v : Whole) (es fs : List Event) (xs ys zs : List Change) (limit : ℕ) (s : Standing) (e : Event) (x : Change) → AreHistory w es xs
+    → record { start = unwound w (reverse (entries_of es xs)); events = es; limit = limit } ≡ s → refusal_in s e ≡ None
+    → IsChangeTo w x (after (seen w) e) → u ≡ w → ys ≡ xs ++ x ∷ [] → IsMade u v ys zs → fs ≡ es ++ e ∷ [] → HasAdvanced v fs zs limit s e
+session-advanced w u v es fs xs ys zs limit s e x h view none change same is made events =
+    let accepted : refusal_of (storage_size (seen w)) e ≡ None
+    = subst (λ (k : Machine). refusal_of (storage_size k) e ≡ None) (sym (machine_of-session w es xs limit s h view)) (or_full-None _ (length s.events) s.limit none)
+    in let room : length s.events < s.limit = or_full-room _ (length s.events) s.limit none
+    in let parts : AreHistory v (es ++ e ∷ []) zs × (unwound v (reverse (entries_of (es ++ e ∷ []) zs)) ≡ unwound w (reverse (entries_of es xs)))
+    = advanced w u v es xs ys zs e x h accepted change same is made
+    in rw events (record {
+      history = parts.0;
+      few = omega (arith, room, ap (λ (t : Standing). length t.events) view, ap (λ (t : Standing). t.limit) view, length-append es (e ∷ []));
+      view = ap (λ (k : Whole). record { start = k; events = es ++ e ∷ []; limit = limit }) parts.1 ∙ ap (λ (t : Standing). record t { events = t.events ++ e ∷ [] }) view;
+    })
+
+-- and after the last change was taken back
+pub gone-back : (w v : Whole) (es fs : List Event) (xs ys zs : List Change) (e : Event) → AreHistory w es xs → es ≡ fs ++ e ∷ []
+    → IfSome (slice_get xs (length xs - 1)) (λ x. IsSwapOf w x v) → IfSome (slice_get xs (length xs - 1)) (λ x. ys ≡ set xs (length xs - 1) (change_after_swap w x)) → zs ≡ take (length ys - 1) ys
     → AreHistory v fs zs × (unwound w (reverse (entries_of es xs)) ≡ unwound v (reverse (entries_of fs zs)))
-gone-back w v es fs xs ys zs e n h is count swaps changes kept =
+gone-back w v es fs xs ys zs e h is swaps changes kept =
     let last : (x : Change) × Last w es xs fs e x = last-session w es xs fs e h is
     in let x : Change = last.0
     in let some : length xs ≡ length fs + 1 = omega (arith, h.1, ap length is, length-append fs (e ∷ []))
     in let us : List Change = take (length xs - 1) xs
-    in let many : length us ≡ n - 1 = omega (arith, ap length last.1.changes, length-append us (x ∷ []), count, some)
-    in let found : slice_get xs (n - 1) ≡ Some x = found-last us xs x n last.1.changes count
+    in let many : length us ≡ length xs - 1 = omega (arith, ap length last.1.changes, length-append us (x ∷ []), some)
+    in let found : slice_get xs (length xs - 1) ≡ Some x = found-last us xs x (length xs) last.1.changes refl
     in let swap : IsSwapOf w x v = rw found at swaps
-    in let new : ys ≡ set xs (n - 1) (change_after_swap w x) = rw found at changes
+    in let y : Change = change_after_swap w x
+    in let exchanged : ys ≡ set xs (length xs - 1) y = rw found at changes
+    in let new : ys ≡ us ++ y ∷ []
+    = exchanged ∙ ap (λ k. set xs k y) (sym many) ∙ ap (λ (l : List Change). set l (length us) y) last.1.changes ∙ set-last us x y
     in let left : zs ≡ us
-    = kept ∙ ap (λ (l : List Change). take (n - 1) l) (new ∙ ap (λ (l : List Change). set l (n - 1) (change_after_swap w x)) last.1.changes)
-    ∙ ap (λ k. take k (set (us ++ x ∷ []) k (change_after_swap w x))) (sym many) ∙ take-set-last us x (change_after_swap w x)
+    = kept ∙ ap (λ (l : List Change). take (length l - 1) l) new ∙ take_at us (y ∷ []) (length (us ++ y ∷ []) - 1) (omega (arith, length-append us (y ∷ [])))
     in (
       subst (λ (l : List Change). AreHistory v fs l) (sym left) (subst (λ (k : Whole). AreHistory k fs us) (sym swap.machine) last.1.before),
       last.1.start ∙ ap (λ (k : Whole). unwound k (reverse (entries_of fs us))) (sym swap.machine) ∙ ap (λ (l : List Change). unwound v (reverse (entries_of fs l))) (sym left),

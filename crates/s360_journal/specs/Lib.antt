@@ -6,6 +6,7 @@ pub mod Breakpoints
 pub mod Stops
 pub mod Laws
 pub mod Standing
+pub mod Advances
 pub mod Offers
 pub mod Running
 pub mod Stacks

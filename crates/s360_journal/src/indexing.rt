@@ -43,7 +43,7 @@ fn put_last(index: &mut Index, changes: &Packed, number: u32) -> Result<(), Allo
     ensures ok { OnOk result (IsIndexOf index.new changes.now) }
     ensures err { OnErr result (IfSome (slice_get changes.now (number - 1)) (λ x. MayIndex index.new (take (number - 1) changes.now) x)) }
 {
-    match changes.spans(number) {
+    match changes.last_spans() {
         ChangeSpans::Within(first, second) => {
             put_if_any(index, first, number)?;
             put_if_any(index, second, number)
@@ -65,7 +65,7 @@ pub(crate) fn unindex_last(index: &mut Index, changes: &Packed, number: u32)
     requires index { IfSome (slice_get changes.now (number - 1)) (λ x. MayIndex index.old (take (number - 1) changes.now) x) }
     ensures { IsIndexOf index.new (take (number - 1) changes.now) }
 {
-    match changes.spans(number) {
+    match changes.last_spans() {
         ChangeSpans::Within(first, second) => {
             take_if_any(index, first, number);
             take_if_any(index, second, number);
@@ -79,7 +79,7 @@ pub(crate) fn unindex_last(index: &mut Index, changes: &Packed, number: u32)
 }
 
 /// Puts the number of the last change at the places that it alters. Want of memory leaves it at none of them.
-#[inline(never)]
+#[inline(always)]
 pub(crate) fn index_last(index: &mut Index, changes: &Packed, number: u32) -> Result<(), AllocError>
     requires some { 0 < number }
     requires last { number ≡ length changes.now }

@@ -18,6 +18,7 @@ mod reversible;
 mod running;
 mod same;
 mod session;
+mod standing;
 mod withdrawing;
 
 pub use breaks::Breaks;

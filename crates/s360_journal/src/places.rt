@@ -95,16 +95,12 @@ impl Places {
         ensures memory { OnErr result (IfSome (slice_get changes.now (length changes.now - 1)) (λ x. places_of_change x ≢ [])) }
     {
         let number = changes.len();
-        let count = if number == 0 {
-            0
-        } else {
-            changes.count(number)
-        };
+        let count = if number == 0 { 0 } else { changes.last_count() };
         if count == 0 {
             let spans = SpanList::Within(None, None);
             return Ok(Places { spans, count });
         }
-        let spans = SpanList::of(alloc, changes.spans(number))?;
+        let spans = SpanList::of(alloc, changes.last_spans())?;
         Ok(Places { spans, count })
     }
 

@@ -21,7 +21,7 @@ pub(crate) fn is_idle(changes: &Packed) -> bool
     ensures { IfSome (slice_get changes.now (length changes.now - 1)) (λ x. IsTrue result ↔ (places_of_change x ≡ [])) }
 {
     let number = changes.len();
-    number == 0 || changes.count(number) == 0
+    number == 0 || changes.last_count() == 0
 }
 
 impl Report {

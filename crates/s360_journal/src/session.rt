@@ -2,6 +2,7 @@
 ghost use Rattle.std.specs.Prelude.{◌≡◌, ◌↔◌, ◌++◌, ◌∷◌, ◌≤◌, [], length, take, OnOk, OnErr, IfOk, IsTrue, Err};
 ghost use Rattle.std.specs.Prelude.{IsOkUnless, MatchOption, min};
 ghost use Rattle.s360_machine.specs.Machine.{seen, storage_size};
+ghost use Rattle.s360_machine.specs.declared.event.Event.TheVariants.{Cpu};
 ghost use Rattle.s360_machine.specs.declared.refusal.Refusal.TheVariants.{Memory};
 ghost use Rattle.s360_journal.specs.Stacks.{Fits, IsAsLarge};
 ghost use Rattle.s360_journal.specs.Reports.{IsReport};
@@ -13,8 +14,9 @@ ghost use Rattle.s360_journal.specs.Withdrawals.{AreAllowed, is_standing};
 use crate::breaks::Breaks;
 use crate::event_stack::EventStack;
 use crate::events::Events;
-use crate::indexing::{index_last, unindex_last};
+use crate::indexing::unindex_last;
 use crate::report::{Report, is_idle};
+use crate::standing::stand;
 use s360_index::Index;
 use s360_machine::{Event, EventKind, Machine, Packed, Refusal};
 use s360_store::Place;
@@ -206,13 +208,39 @@ impl Session {
         ensures size { storage_size (machine_of self.old) ≡ storage_size (seen self.old.start) }
     {
         match event {
-            Event::Cpu => self.accept(Event::Cpu),
+            Event::Cpu => self.advance_cpu(),
             other => self.accept(other),
         }
     }
 
-    /// What `advance` does. It stands within it twice, so that the compiler has it for a CPU event alone, as most are.
-    #[inline(always)]
+    /// What `advance` does with a CPU event. Most alter little, which stands with no plan.
+    fn advance_cpu(&mut self) -> Result<(), Refusal>
+        ensures ok { OnOk result (IsAfter self.new self.old Cpu) }
+        ensures err { OnErr result (self.new ≡ self.old) }
+        ensures refused { MatchOption (refusal_in self.old Cpu) (IsOkUnless result Memory) (λ r. result ≡ Err r) }
+        ensures size { storage_size (machine_of self.old) ≡ storage_size (seen self.old.start) }
+    {
+        if self.standing() >= self.limit {
+            return Err(Refusal::JournalFull);
+        }
+        match self.machine.altered() {
+            Some(plain) => {
+                self.changes.append_plain(plain)?;
+                stand(
+                    &mut self.machine,
+                    &mut self.events,
+                    &mut self.changes,
+                    &mut self.index,
+                    Event::Cpu,
+                )?;
+                Ok(())
+            }
+            None => self.accept(Event::Cpu),
+        }
+    }
+
+    /// What `advance` does with an event that is planned.
+    #[inline(never)]
     fn accept(&mut self, event: Event) -> Result<(), Refusal>
         ensures ok { OnOk result (IsAfter self.new self.old event) }
         ensures err { OnErr result (self.new ≡ self.old) }
@@ -225,23 +253,14 @@ impl Session {
         let changes = self.machine.plan(&event)?;
         self.machine.room(&changes)?;
         self.changes.append(changes)?;
-        let count = self.changes.len();
-        if index_last(&mut self.index, &self.changes, count).is_err() {
-            self.changes.keep(count - 1);
-            return Err(Refusal::Memory);
-        }
-        match self.events.push(event) {
-            Err(AllocError) => {
-                unindex_last(&mut self.index, &self.changes, count);
-                self.changes.keep(count - 1);
-                Err(Refusal::Memory)
-            }
-            Ok(()) => {
-                // Nothing can fail from here on.
-                self.changes.swap(count, &mut self.machine);
-                Ok(())
-            }
-        }
+        stand(
+            &mut self.machine,
+            &mut self.events,
+            &mut self.changes,
+            &mut self.index,
+            event,
+        )?;
+        Ok(())
     }
 
     /// Runs an event, which then stands, also where it alters nothing. A refused one changes nothing.
@@ -270,9 +289,9 @@ impl Session {
         if number == 0 {
             return Err(NothingStands);
         }
-        self.changes.swap(number, &mut self.machine);
+        self.changes.swap_last(&mut self.machine);
         unindex_last(&mut self.index, &self.changes, number);
-        self.changes.keep(number - 1);
+        self.changes.drop_last();
         // It is taken last, so that it need not be held meanwhile.
         match self.events.pop() {
             Some(event) => Ok(event),

@@ -1,7 +1,8 @@
 //! Status switching: the PSW and its masks, the storage keys and the supervisor call. Source:
 //! GA22-6821, "Status Switching", and "System Structure", protection feature.
-ghost use Rattle.std.specs.Prelude.{◌≡◌, ◌<◌, [], IfNone, IfOk};
-ghost use Rattle.s360_model.specs.Storage.{key_limit};
+ghost use Rattle.std.specs.Prelude.{◌≡◌, ◌<◌, [], IfErr, IfNone, IfOk, None, Some};
+ghost use Rattle.s360_model.specs.Psw.{current_psw};
+ghost use Rattle.s360_model.specs.Storage.{doubleword_at, key_limit};
 ghost use Rattle.s360_store.specs.Plans.{HasBlock, HasBytes};
 ghost use Rattle.s360_fixed.specs.Plans.{PlansOutcome};
 ghost use Rattle.s360_fixed.specs.ProgramCodes.{program_code};
@@ -149,6 +150,7 @@ pub(crate) fn plan_register_status(
 
 /// What keeps a privileged instruction from fetching an operand, on the boundary of the number of
 /// its bytes: the problem state comes before what the operand meets.
+#[inline(always)]
 fn fetch_exception(view: &View, address: u32, count: u32) -> Option<ProgramCode>
     requires some { 0 < count }
     ensures code { result ≡ program_code (privileged_fetch view.now address count) }
@@ -175,14 +177,26 @@ fn plan_system_mask(view: &View, address: u32, plan: &mut Plan) -> Result<Ended,
     }
 }
 
+/// The PSW that is the doubleword at an address, or what keeps it from being loaded.
+#[inline(always)]
+pub(crate) fn loaded_psw(view: &View, address: u32) -> Result<Psw, ProgramCode>
+    ensures ok { IfOk result (λ psw. (program_code (privileged_fetch view.now address 8) ≡ None) × (psw ≡ current_psw (doubleword_at view.now.core.storage.bytes address))) }
+    ensures err { IfErr result (λ code. program_code (privileged_fetch view.now address 8) ≡ Some code) }
+{
+    match fetch_exception(view, address, DOUBLEWORD) {
+        Some(code) => Err(code),
+        None => Ok(Psw::from_u64(view.storage().double(address))),
+    }
+}
+
 /// Plans the PSW that is the doubleword at an address.
 fn plan_load_psw(view: &View, address: u32, plan: &mut Plan) -> Result<Ended, AllocError>
     requires empty { plan.old ≡ [] }
     ensures { IfOk result (PlansOutcome view.now.core plan.new (storage_status_outcome LoadPsw view.now address)) }
 {
-    match fetch_exception(view, address, DOUBLEWORD) {
-        Some(code) => Ok(Ended::Program(code)),
-        None => plan_psw(view, Psw::from_u64(view.storage().double(address)), plan),
+    match loaded_psw(view, address) {
+        Ok(psw) => plan_psw(view, psw, plan),
+        Err(code) => Ok(Ended::Program(code)),
     }
 }
 

@@ -55,3 +55,10 @@ IsPlanOf-interruption m p q r class psw code il new at-old bytes h i eo en eb u 
     in let all : IsPlanOf m r (core_with_bytes at-old bytes (core_with_psw new n))
     = w.makes m (core_with_psw new n) inside (u.makes m n tt (record { cells = h; makes = refl }))
     in rw (eo, en, eb) at all
+
+-- the core after an interruption, by what it stores and what it loads
+pub interrupted-core : (m : Core) (class : Class) (psw code : ℕ) (il : InstructionLength) (next at-old : ℕ) (bytes : List ℕ) → at-old ≡ old_location_of class
+    → next ≡ current_psw (doubleword_at m.storage.bytes (new_location_of class)) → bytes ≡ bytes_high_first 8 (stored_psw psw code (length_code_of il))
+    → core_with_bytes at-old bytes (core_with_psw next m) ≡ after_interruption class code il (core_with_psw psw m)
+unfolding after_interruption
+interrupted-core m class psw code il next at-old bytes eo en eb = rw (eo, en, eb) refl

@@ -1,5 +1,5 @@
 -- Which bytes of a run that is planned are kept, run by run.
-use Rattle.std.proofs.Common.{◌≡◌, ◌≢◌, ◌<◌, ◌≤◌, ◌+◌, ◌-◌, ◌++◌, ◌∙◌, ℕ, List, [], ◌∷◌, refl, ap, sym, take, drop, get_or, length, append-nil, arith, subst}
+use Rattle.std.proofs.Common.{◌≡◌, ◌≢◌, ◌<◌, ◌≤◌, ◌+◌, ◌-◌, ◌++◌, ◌∙◌, ℕ, zero, suc, List, [], ◌∷◌, refl, ap, sym, take, drop, get_or, length, append-nil, arith, subst}
 use Rattle.std.proofs.lemmas.List.{append_assoc, append_cancel_right, drop-append-le, drop-take, drop_all, drop_more, length-append, length-drop, length-take-le, take-append-drop, take_all, take_more, get_or-take, get_or-drop}
 use Rattle.s360_model.specs.Core.{Core}
 use Rattle.s360_store.specs.declared.place.Place.{Place}
@@ -51,12 +51,14 @@ waiting a new start at = byte_cells (a + start) (drop start (take at new))
 
 pub record Keeping (m : Core) (old now : List Cell) (a : ℕ) (new : List ℕ) (start at : ℕ) : Type 0 where
   pub begun : start ≤ at
+  pub within : at ≤ length new
   pub few : length now + (at - start) ≤ length old + at
   pub kept : (plan : List Cell) → AreCellsOf m (plan ++ byte_cells a new) → AreKept m plan old → AreKept m (compared plan a new at) (now ++ waiting a new start at)
 
 pub keeping-none : (m : Core) (old : List Cell) (a : ℕ) (new : List ℕ) → Keeping m old old a new 0 0
 keeping-none m old a new = record {
   begun = omega arith;
+  within = omega arith;
   few = omega arith;
   kept = λ plan h k. rw (append-nil plan, append-nil old) k;
 }
@@ -84,6 +86,7 @@ keeping-same m old now next a new start at l k same e =
     = length-byte_cells (a + start) (drop start (take at new)) ∙ length-drop start (take at new) ∙ ap (λ n. n - start) (length-take-le at new (omega arith))
     in record {
       begun = omega arith;
+      within = omega (arith, l);
       few = omega (arith, ap length e, length-append now (waiting a new start at), count, k.few);
       kept = λ plan h p. rw (compared-more plan a new at l, none-waits a new (at + 1) (omega arith), append-nil, e)
           (AreKept-same m (compared plan a new at) (now ++ waiting a new start at) (byte_cell a new at) (k.kept plan h p) (compared-cell m plan a new at l h).fresh same);
@@ -94,10 +97,20 @@ pub keeping-other : (m : Core) (old now : List Cell) (a : ℕ) (new : List ℕ) 
     → Keeping m old now a new start (at + 1)
 keeping-other m old now a new start at l k other = record {
   begun = omega (arith, k.begun);
+  within = omega (arith, l);
   few = omega (arith, k.few, k.begun);
   kept = λ plan h p. rw (compared-more plan a new at l, waits-more a new start at k.begun l, ← append_assoc now (waiting a new start at) (byte_cell a new at ∷ []))
       (AreKept-other m (compared plan a new at) (now ++ waiting a new start at) (byte_cell a new at) (k.kept plan h p) (compared-cell m plan a new at l h) other);
 }
+
+-- so many bytes that do not
+pub keeping-others : (m : Core) (old now : List Cell) (a : ℕ) (new : List ℕ) (start at n : ℕ) → at + n ≤ length new → Keeping m old now a new start at
+    → ((i : ℕ) → i < n → get_or m.storage.bytes (a + (at + i)) 0 ≢ get_or new (at + i) 0) → Keeping m old now a new start (at + n)
+keeping-others m old now a new start at zero l k h = let none : at ≡ at + 0 = omega arith in subst (λ j. Keeping m old now a new start j) none k
+keeping-others m old now a new start at (suc n) l k h =
+    let before : Keeping m old now a new start (at + n) = keeping-others m old now a new start at n (omega (arith, l)) k (λ i j. h i (omega (arith, j)))
+    in let on : at + n + 1 ≡ at + suc n = omega arith
+    in subst (λ j. Keeping m old now a new start j) on (keeping-other m old now a new start (at + n) (omega (arith, l)) before (h n (omega arith)))
 
 -- all were compared, and what waits is added
 pub keeps-bytes : (m : Core) (old now next : List Cell) (a : ℕ) (new : List ℕ) (start at : ℕ) → length new ≤ at → Keeping m old now a new start at → next ≡ now ++ byte_cells (a + start) (drop start new)

@@ -1,7 +1,12 @@
 -- Changes in rows, with lists of what stands apart.
 use Rattle.std.proofs.Common.{subst, ◌≡◌, ◌<◌, ◌≤◌, ◌+◌, ◌-◌, ◌++◌, ◌∙◌, ℕ, zero, suc, List, [], ◌∷◌, refl, ap, sym, take, drop, set, get_or, length, reverse, arith, Some, None, append-nil, Option, Bool, true, false}
-use Rattle.std.proofs.lemmas.List.{append_assoc, drop-append-le, drop-drop, drop-take, drop_at, length-append, length-drop, length-reverse, length-take-le, reverse-append, take-append-drop, take-take, take_at, take_more}
+use Rattle.std.proofs.lemmas.List.{append_assoc, drop-append-le, drop-drop, drop-take, drop_all, drop_at, length-append, length-drop, length-reverse, length-take-le, reverse-append, take-append-drop, take-take, take_all, take_at, take_more}
 use Rattle.std.specs.List.{slice_get}
+use Rattle.std.specs.Prelude.{Err, IfOk, IfSome, Ok, Result}
+use Rattle.std.specs.declared.alloc.AllocError.{AllocError}
+use Rattle.s360_fixed.specs.declared.plain.Plain.{Plain}
+use Rattle.s360_fixed.specs.declared.plain.Plain.TheVariants.{Nothing as nothing, Psw as psw_alone, Register as with_register, Bytes as with_bytes}
+use Rattle.s360_fixed.specs.Plain.{IsFit, bytes_of_plain, cells_of_plain}
 use Rattle.s360_machine.specs.declared.packed.End.{End}
 use Rattle.s360_machine.specs.declared.row.Row.{Row}
 use Rattle.s360_machine.specs.declared.row.Row.TheVariants.{Nothing, Psw, Register, Bytes, More}
@@ -19,7 +24,7 @@ use Rattle.s360_machine.specs.Change.{CanSwap, Change, after_swap, change_after_
 use Rattle.s360_machine.specs.Machine.{Whole}
 use Rattle.s360_machine.specs.Changes.{change_of, change_of_core, change_with}
 use Rattle.s360_machine.specs.Packed.{ArePacked, HasBefore, HasOwn, IsAppended, IsSwapOf, byte_values, bytes_of_changes, value_if_byte, changes_of_rows, lists, IsEnd, IsWithin, Lists, change_of_row, end_before, joined, lists_from, lists_to, newest, older, others, own, unpacked}
-use Rattle.s360_machine.specs.Rows.{HasSameCounts, IsOver, IsPlain, beside_of_row, bytes_of_row, cells_of_row, items_of_row}
+use Rattle.s360_machine.specs.Rows.{HasNoMore, HasSameCounts, IsOver, beside_of_row, bytes_of_row, cells_of_row, items_of_row, row_of_plain}
 use Rattle.s360_machine.proofs.SwapLemmas.{IsSwap, IsSwap-from, same-change}
 
 -- the end of a list that had more put to it
@@ -36,7 +41,7 @@ older-joined n xs ys l =
 older-newest : {X : Type 0} (n : ℕ) (xs : List X) → older n xs ++ newest n xs ≡ xs
 older-newest n xs = take-append-drop (length xs - n) xs
 
-length-newest : {X : Type 0} (n : ℕ) (xs : List X) → n ≤ length xs → length (newest n xs) ≡ n
+pub length-newest : {X : Type 0} (n : ℕ) (xs : List X) → n ≤ length xs → length (newest n xs) ≡ n
 length-newest n xs l = omega (arith, l, length-drop (length xs - n) xs)
 
 -- a row more
@@ -294,47 +299,53 @@ bytes-few (Run a n ∷ is) bs e =
     let front : length (take n bs) ≡ n = length-take-le n bs (omega (arith, e))
     in omega (arith, e, bytes-few is (drop n bs) (omega (arith, e, length-drop n bs)), length-append (byte_cells a (take n bs)) (cells_of_items is (drop n bs)), length-byte_cells a (take n bs), front, length-drop n bs)
 
--- a row with all parts within has few bytes
-pub plain-few : (r : Row) → IsPlain r → bytes_of_row r ≤ 8
-plain-few Nothing h = omega arith
-plain-few (Psw psw) h = omega arith
-plain-few (Register n word psw) h = omega arith
-plain-few (Bytes count address psw) h = omega (arith, h.1)
-plain-few (More beside items bytes count) h = absurd h
+-- a change of the PSW and little beside it, as its row has it
+pub over-plain : (x : Plain) → IsFit x → IsOver (row_of_plain x) [] (bytes_of_plain x)
+over-plain nothing h = (refl, refl)
+over-plain (psw_alone psw) h = (refl, refl)
+over-plain (with_register r word psw) h = (refl, refl)
+over-plain (with_bytes address psw run) h = (refl, refl, h.0, h.1)
 
--- a change of little is appended
-over-plain : (r : Row) (bs : List ℕ) → IsPlain r → length bs ≡ 8 → IsOver r [] (take (bytes_of_row r) bs)
-over-plain Nothing bs h l = (refl, refl)
-over-plain (Psw psw) bs h l = (refl, refl)
-over-plain (Register n word psw) bs h l = (refl, refl)
-over-plain (Bytes count address psw) bs h l = (refl, length-take-le count bs (omega (arith, h.1, l)), h.0, h.2)
-over-plain (More beside items bytes count) bs h l = absurd h
+pub cells-plain : (x : Plain) → cells_of_row (row_of_plain x) [] (bytes_of_plain x) ≡ cells_of_plain x
+cells-plain nothing = refl
+cells-plain (psw_alone psw) = refl
+cells-plain (with_register r word psw) = refl
+cells-plain (with_bytes address psw run) = refl
 
-plain-items : (r : Row) → IsPlain r → items_of_row r ≡ 0
-plain-items Nothing h = refl
-plain-items (Psw psw) h = refl
-plain-items (Register n word psw) h = refl
-plain-items (Bytes count address psw) h = refl
-plain-items (More beside items bytes count) h = absurd h
+plain-items : (x : Plain) → items_of_row (row_of_plain x) ≡ 0
+plain-items nothing = refl
+plain-items (psw_alone psw) = refl
+plain-items (with_register r word psw) = refl
+plain-items (with_bytes address psw run) = refl
 
-plain-beside : (r : Row) → IsPlain r → beside_of_row r ≡ 0
-plain-beside Nothing h = refl
-plain-beside (Psw psw) h = refl
-plain-beside (Register n word psw) h = refl
-plain-beside (Bytes count address psw) h = refl
-plain-beside (More beside items bytes count) h = absurd h
+plain-bytes : (x : Plain) → bytes_of_row (row_of_plain x) ≡ length (bytes_of_plain x)
+plain-bytes nothing = refl
+plain-bytes (psw_alone psw) = refl
+plain-bytes (with_register r word psw) = refl
+plain-bytes (with_bytes address psw run) = refl
 
-pub appended-plain : (old : Lists) (new : List ℕ) (r : Row) (bs : List ℕ) → IsPlain r → length bs ≡ 8 → new ≡ old.bytes ++ take (bytes_of_row r) bs
-    → IsAppended old (lists old.items new old.beside) r (change_of_core (cells_of_row r [] (take (bytes_of_row r) bs)))
-appended-plain old new r bs h l e = record {
-  own_lists = lists [] (take (bytes_of_row r) bs) [];
-  lists_are = same-lists (lists old.items new old.beside) (joined old (lists [] (take (bytes_of_row r) bs) [])) (sym (append-nil old.items)) e (sym (append-nil old.beside));
-  items = sym (plain-items r h);
-  bytes = length-take-le (bytes_of_row r) bs (omega (arith, plain-few r h, l));
-  beside = sym (plain-beside r h);
-  over = over-plain r bs h l;
-  change = refl;
+plain-beside : (x : Plain) → beside_of_row (row_of_plain x) ≡ 0
+plain-beside nothing = refl
+plain-beside (psw_alone psw) = refl
+plain-beside (with_register r word psw) = refl
+plain-beside (with_bytes address psw run) = refl
+
+pub appended-plain : (old : Lists) (new : List ℕ) (x : Plain) → IsFit x → new ≡ old.bytes ++ bytes_of_plain x
+    → IsAppended old (lists old.items new old.beside) (row_of_plain x) (change_of_core (cells_of_plain x))
+appended-plain old new x h e = record {
+  own_lists = lists [] (bytes_of_plain x) [];
+  lists_are = same-lists (lists old.items new old.beside) (joined old (lists [] (bytes_of_plain x) [])) (sym (append-nil old.items)) e (sym (append-nil old.beside));
+  items = sym (plain-items x);
+  bytes = sym (plain-bytes x);
+  beside = sym (plain-beside x);
+  over = over-plain x h;
+  change = ap change_of_core (cells-plain x);
 }
+
+pub appended-bytes : (old : Lists) (new : List ℕ) (x : Plain) (o : Result Row AllocError) → IsFit x → IfOk o (λ row. row ≡ row_of_plain x) → IfOk o (λ row. new ≡ old.bytes ++ bytes_of_plain x)
+    → IfOk o (λ row. IsAppended old (lists old.items new old.beside) row (change_of_core (cells_of_plain x)))
+appended-bytes old new x (Ok row) h e b = rw e (appended-plain old new x h b)
+appended-bytes old new x (Err failed) h e b = tt
 
 -- and one of more
 pub appended-full : (oi ni : List Item) (ob nb : List ℕ) (ol nl : List Beside) (cells : List Cell) (b : Beside) (done : Bool) (items bytes count : ℕ)
@@ -388,6 +399,14 @@ changes-appended rows old new r x a =
     = ap (λ (rs : List Row). unpacked rs new) (reverse-append rows (r ∷ [])) ∙ ap (λ ls. unpacked (r ∷ reverse rows) ls) a.lists_are
     ∙ unpacked-joined r (reverse rows) old a.own_lists (record { items = a.items; bytes = a.bytes; beside = a.beside }) ∙ ap (λ y. y ∷ unpacked (reverse rows) old) a.change
     in ap (λ xs. reverse xs) newest_first ∙ reverse-cons x (unpacked (reverse rows) old)
+
+-- so both stand where a row is pushed
+pub after-append : (rows more : List Row) (old new : Lists) (r : Row) (x : Change) → ArePacked (reverse rows) old → IsAppended old new r x → more ≡ rows ++ r ∷ []
+    → ArePacked (reverse more) new × (changes_of_rows more new ≡ changes_of_rows rows old ++ x ∷ [])
+after-append rows more old new r x h a e = (
+  subst (λ (l : List Row). ArePacked (reverse l) new) (sym e) (packed-appended rows old new r x h a),
+  ap (λ (l : List Row). changes_of_rows l new) e ∙ changes-appended rows old new r x a,
+)
 
 -- what the lists have of the last of the first changes, as slices
 slice-own : {X : Type 0} (n e : ℕ) (xs : List X) → n ≤ e → e ≤ length xs → take (e - (e - n)) (drop (e - n) xs) ≡ newest n (take e xs)
@@ -492,6 +511,172 @@ pub swap-there : (w v : Whole) (x y : Change) → CanSwap w x → v ≡ after_sw
 swap-there w v x y can ev ey fit =
     let back : IsSwap w x v (change_after_swap w x) = IsSwap-from w x v (change_after_swap w x) can ev refl (subst (λ (z : Change). AllFit v.core.storage.fetch_protection z.cells) ey fit)
     in record { machine = ev; again = back.again; restores_machine = back.whole; restores_change = back.change }
+
+-- one row stands there
+pub same-got : (rows : List Row) (n : ℕ) (r s : Row) → n < length rows → r ≡ get_or rows n r → s ≡ get_or rows n s → r ≡ s
+same-got [] n r s l a b = absurd (omega (arith, l))
+same-got (x ∷ rows) zero r s l a b = a ∙ sym b
+same-got (x ∷ rows) (suc n) r s l a b = same-got rows n r s (omega (arith, l)) a b
+
+-- what is so of the last of the changes
+pub of-last : (rows : List Row) (ls : Lists) (xs : List Change) (P : Change → Type 0) (y : Change) → changes_of_rows rows ls ≡ xs → slice_get (changes_of_rows rows ls) (length rows - 1) ≡ Some y → P y
+    → IfSome (slice_get xs (length xs - 1)) P
+of-last rows ls xs P y e h p = rw (← e, length-changes rows ls, h) p
+
+pub at-last : (rows : List Row) (ls : Lists) (xs : List Change) (P : Change → Type 0) (y : Change) → changes_of_rows rows ls ≡ xs → slice_get (changes_of_rows rows ls) (length rows - 1) ≡ Some y
+    → IfSome (slice_get xs (length xs - 1)) P → P y
+at-last rows ls xs P y e h p = rw h at (rw (length-changes rows ls) at (rw (← e) at p))
+
+-- the last bytes, as they are lent
+pub lent-behind : {X : Type 0} (n : ℕ) (lent other xs : List X) → lent ≡ xs → other ≡ xs → take (length lent - (length other - n)) (drop (length other - n) lent) ≡ newest n xs
+lent-behind n lent other xs e f = rw (e, f) (take_all (length xs - (length xs - n)) (newest n xs) (omega (arith, length-drop (length xs - n) xs)))
+
+-- bytes behind which others were written
+pub written-behind : {X : Type 0} (n start : ℕ) (lent old new : List X) → n ≡ length old → lent ≡ old → start ≤ length old → length new ≡ length (take (length lent - start) (drop start lent))
+    → take n (written start (length lent - start) lent new ++ drop (length (written start (length lent - start) lent new)) old) ≡ take start old ++ new
+written-behind n start lent old new e same l count =
+    let rest : start + (length old - start) ≡ length old = omega (arith, l)
+    in let many : length new ≡ length old - start
+    = count ∙ ap (λ xs. length (take (length xs - start) (drop start xs))) same ∙ length-take-le (length old - start) (drop start old) (omega (arith, length-drop start old))
+    in rw same (written-whole n start (length old - start) old new e (omega (arith, l)) many ∙ ap (λ j. (take start old ++ new) ++ drop j old) rest ∙ ap (λ xs. (take start old ++ new) ++ xs) (drop_all (length old) old (omega arith))
+    ∙ append-nil (take start old ++ new))
+
+-- the lists end there of all changes
+abbrev pub end_of_all : List Row → Lists → End
+end_of_all rows ls = record { rows = length rows; items = length ls.items; bytes = length ls.bytes; beside = length ls.beside }
+
+none-behind : {X : Type 0} (xs : List X) → drop (length xs) xs ≡ []
+none-behind xs = drop_all (length xs) xs (omega arith)
+
+all-before : {X : Type 0} (xs : List X) → take (length xs) xs ≡ xs
+all-before xs = take_all (length xs) xs (omega arith)
+
+pub IsEnd-all : (rows : List Row) (ls : Lists) → ArePacked (reverse rows) ls → IsEnd rows ls (end_of_all rows ls)
+IsEnd-all rows ls h =
+    let e : End = end_of_all rows ls
+    in let to : lists_to e ls ≡ ls = same-lists (lists_to e ls) ls (all-before ls.items) (all-before ls.bytes) (all-before ls.beside)
+    in let from : lists_from e ls ≡ lists [] [] [] = same-lists (lists_from e ls) (lists [] [] []) (none-behind ls.items) (none-behind ls.bytes) (none-behind ls.beside)
+    in let none : length rows - length rows ≡ 0 = omega arith
+    in let alone : (ms : Lists) → joined ms (lists [] [] []) ≡ ms = λ ms. same-lists (joined ms (lists [] [] [])) ms (append-nil ms.items) (append-nil ms.bytes) (append-nil ms.beside)
+    in record {
+      within = record { rows = omega arith; items = omega arith; bytes = omega arith; beside = omega arith };
+      packed = subst (λ (l : List Row). ArePacked (reverse l) (lists_to e ls)) (sym (all-before rows)) (subst (λ k. ArePacked (reverse rows) k) (sym to) h);
+      changes = ap (λ (l : List Row). unpacked (reverse l) (lists_to e ls)) (all-before rows) ∙ ap (λ k. unpacked (reverse rows) k) to ∙ sym (ap (λ n. drop n (unpacked (reverse rows) ls)) none);
+      rest = λ rs ms.
+          ap (λ (l : List Row). unpacked (reverse l ++ rs) (joined ms (lists_from e ls))) (none-behind rows) ∙ ap (λ k. unpacked rs (joined ms k)) from ∙ ap (λ k. unpacked rs k) (alone ms)
+          ∙ sym (ap (λ n. take n (unpacked (reverse rows) ls) ++ unpacked rs ms) none);
+      rest_packed = λ rs ms k.
+          subst (λ (l : List Row). ArePacked (reverse l ++ rs) (joined ms (lists_from e ls))) (sym (none-behind rows)) (subst (λ j. ArePacked rs (joined ms j)) (sym from) (subst (λ j. ArePacked rs j) (sym (alone ms)) k));
+    }
+
+-- a row that has all but its bytes within itself
+within-items : (r : Row) → HasNoMore r → items_of_row r ≡ 0
+within-items Nothing h = refl
+within-items (Psw psw) h = refl
+within-items (Register n word psw) h = refl
+within-items (Bytes count address psw) h = refl
+within-items (More beside items bytes count) h = absurd h
+
+pub within-beside : (r : Row) → HasNoMore r → beside_of_row r ≡ 0
+within-beside Nothing h = refl
+within-beside (Psw psw) h = refl
+within-beside (Register n word psw) h = refl
+within-beside (Bytes count address psw) h = refl
+within-beside (More beside items bytes count) h = absurd h
+
+newest-none : {X : Type 0} (n : ℕ) (xs : List X) → n ≡ 0 → newest n (take (length xs) xs) ≡ []
+newest-none n xs e = rw (e, all-before xs) (drop_all (length xs - 0) xs (omega arith))
+
+kept-whole : {X : Type 0} (n : ℕ) (xs : List X) → n ≡ 0 → take (length xs - n) xs ≡ xs
+kept-whole n xs z = take_all (length xs - n) xs (omega (arith, z))
+
+unchanged : {X : Type 0} (n : ℕ) (xs : List X) → n ≡ 0 → xs ≡ (take (length xs - n) xs ++ []) ++ drop (length xs) xs
+unchanged n xs z =
+    sym (ap (λ ys. (take (length xs - n) xs ++ []) ++ ys) (none-behind xs) ∙ append-nil (take (length xs - n) xs ++ []) ∙ append-nil (take (length xs - n) xs) ∙ kept-whole n xs z)
+
+-- what the lists have of the last change, whose row is such a one
+abbrev pub last_own : Row → Lists → Lists
+last_own r ls = lists [] (newest (bytes_of_row r) ls.bytes) []
+
+own-last : (rows : List Row) (ls : Lists) (r : Row) → HasNoMore r → own r (lists_to (end_of_all rows ls) ls) ≡ last_own r ls
+own-last rows ls r h =
+    same-lists (own r (lists_to (end_of_all rows ls) ls)) (last_own r ls) (newest-none (items_of_row r) ls.items (within-items r h))
+    (ap (λ xs. newest (bytes_of_row r) xs) (all-before ls.bytes)) (newest-none (beside_of_row r) ls.beside (within-beside r h))
+
+pub record LastThere (rows : List Row) (ls : Lists) (r : Row) : Type 0 where
+  pub has : bytes_of_row r ≤ length ls.bytes
+  pub over : IsOver r [] (newest (bytes_of_row r) ls.bytes)
+  pub change : slice_get (changes_of_rows rows ls) (length rows - 1) ≡ Some (change_of_core (cells_of_row r [] (newest (bytes_of_row r) ls.bytes)))
+
+pub last-there : (rows : List Row) (ls : Lists) (r : Row) → ArePacked (reverse rows) ls → 0 < length rows → r ≡ get_or rows (length rows - 1) r → HasNoMore r → LastThere rows ls r
+last-there rows ls r h some is within =
+    let e : End = end_of_all rows ls
+    in let end : IsEnd rows ls e = IsEnd-all rows ls h
+    in let last : last_row rows e r = last-row rows e r some end.within.rows is
+    in let here : IsLast rows ls e r = IsEnd-before rows ls e r end some last
+    in let same : own r (lists_to e ls) ≡ last_own r ls = own-last rows ls r within
+    in record {
+      has = here.has.bytes;
+      over = subst (λ k. IsOver r k.items k.bytes) same here.over;
+      change = change-there rows ls e r end last here ∙ ap (λ k. Some (change_of_row r k)) same;
+    }
+
+pub record LastIs (rows : List Row) (ls : Lists) (r : Row) (number : ℕ) : Type 0 where
+  pub count : number ≡ length rows
+  pub some : 0 < length rows
+  pub is : r ≡ get_or rows (length rows - 1) r
+  pub there : LastThere rows ls r
+
+pub some-rows : (rows lent : List Row) (ls : Lists) (xs : List Change) → changes_of_rows rows ls ≡ xs → 0 < length xs → lent ≡ rows → 0 < length lent
+some-rows rows lent ls xs e some same = omega (arith, some, ap length (sym e), length-changes rows ls, ap length same)
+
+pub last-is : (rows lent : List Row) (ls : Lists) (xs : List Change) (r : Row) → changes_of_rows rows ls ≡ xs → ArePacked (reverse rows) ls → 0 < length xs → lent ≡ rows
+    → r ≡ get_or rows (length lent - 1) r → HasNoMore r → LastIs rows ls r (length lent)
+last-is rows lent ls xs r e h some same is within =
+    let many : length lent ≡ length rows = ap length same
+    in let more : 0 < length rows = omega (arith, many, some-rows rows lent ls xs e some same)
+    in let here : r ≡ get_or rows (length rows - 1) r = subst (λ k. r ≡ get_or rows (k - 1) r) many is
+    in record { count = many; some = more; is = here; there = last-there rows ls r h more here within }
+
+-- an exchange of it leaves all else
+pub swapped-last : (rows : List Row) (ls : Lists) (r s : Row) (bs : List ℕ) → ArePacked (reverse rows) ls → 0 < length rows → r ≡ get_or rows (length rows - 1) r → HasNoMore r
+    → HasSameCounts r s → IsOver s [] bs → length bs ≡ bytes_of_row r
+    → Swapped rows ls (lists ls.items (older (bytes_of_row r) ls.bytes ++ bs) ls.beside) (end_of_all rows ls) s (lists [] bs [])
+swapped-last rows ls r s bs h some is within same over count =
+    let e : End = end_of_all rows ls
+    in let end : IsEnd rows ls e = IsEnd-all rows ls h
+    in let last : last_row rows e r = last-row rows e r some end.within.rows is
+    in let here : IsLast rows ls e r = IsEnd-before rows ls e r end some last
+    in let ms : Lists = lists [] bs []
+    in let after : Lists = lists ls.items (older (bytes_of_row r) ls.bytes ++ bs) ls.beside
+    in let counts : IsOwn s ms = record { items = sym (same.items ∙ within-items r within); bytes = count ∙ sym same.bytes; beside = sym (same.beside ∙ within-beside r within) }
+    in let lists_are : after ≡ replaced ls e r ms
+    = same-lists after (replaced ls e r ms) (unchanged (items_of_row r) ls.items (within-items r within))
+    (sym (ap (λ xs. (older (bytes_of_row r) ls.bytes ++ bs) ++ xs) (none-behind ls.bytes) ∙ append-nil (older (bytes_of_row r) ls.bytes ++ bs)))
+    (unchanged (beside_of_row r) ls.beside (within-beside r within))
+    in record {
+      packed = subst (λ l. ArePacked (reverse (set rows (e.rows - 1) s)) l) (sym lists_are) (ArePacked-replaced rows ls ms e r s end last here counts over);
+      changes = ap (λ l. changes_of_rows (set rows (e.rows - 1) s) l) lists_are ∙ changes-replaced rows ls ms e r s end last here counts;
+    }
+
+-- and all but it stay where it is dropped
+pub record Dropped (rows : List Row) (ls : Lists) (r : Row) : Type 0 where
+  pub packed : ArePacked (reverse (take (length rows - 1) rows)) (lists ls.items (older (bytes_of_row r) ls.bytes) ls.beside)
+  pub changes : changes_of_rows (take (length rows - 1) rows) (lists ls.items (older (bytes_of_row r) ls.bytes) ls.beside) ≡ take (length rows - 1) (changes_of_rows rows ls)
+
+pub dropped-last : (rows : List Row) (ls : Lists) (r : Row) → ArePacked (reverse rows) ls → 0 < length rows → r ≡ get_or rows (length rows - 1) r → HasNoMore r → Dropped rows ls r
+dropped-last rows ls r h some is within =
+    let e : End = end_of_all rows ls
+    in let end : IsEnd rows ls e = IsEnd-all rows ls h
+    in let last : last_row rows e r = last-row rows e r some end.within.rows is
+    in let here : IsLast rows ls e r = IsEnd-before rows ls e r end some last
+    in let before : End = end_before e r
+    in let left : lists_to before ls ≡ lists ls.items (older (bytes_of_row r) ls.bytes) ls.beside
+    = same-lists (lists_to before ls) (lists ls.items (older (bytes_of_row r) ls.bytes) ls.beside) (kept-whole (items_of_row r) ls.items (within-items r within)) refl (kept-whole (beside_of_row r) ls.beside (within-beside r within))
+    in record {
+      packed = subst (λ k. ArePacked (reverse (take (length rows - 1) rows)) k) left here.before.packed;
+      changes = ap (λ k. changes_of_rows (take (length rows - 1) rows) k) (sym left) ∙ first-changes rows ls before here.before;
+    }
 
 -- the bytes of the changes are those of the list
 values-of-bytes : (a : ℕ) (bs : List ℕ) → byte_values (byte_cells a bs) ≡ bs

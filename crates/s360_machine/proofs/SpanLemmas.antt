@@ -1,5 +1,5 @@
 -- The places of a change as spans.
-use Rattle.std.proofs.Common.{◌≡◌, ◌<◌, ◌≤◌, ◌+◌, ◌++◌, ◌∙◌, ℕ, zero, suc, Bool, Option, Some, None, List, [], ◌∷◌, refl, ap, sym, map, drop, length, append-nil, arith}
+use Rattle.std.proofs.Common.{◌≡◌, ◌<◌, ◌≤◌, ◌+◌, ◌++◌, ◌∙◌, ℕ, zero, suc, Bool, Option, Some, None, List, [], ◌∷◌, refl, ap, sym, map, drop, length, arith}
 use Rattle.std.specs.List.{slice_get}
 use Rattle.std.proofs.lemmas.List.{append_assoc, drop-map, length-drop, map-append}
 use Rattle.s360_store.specs.declared.place.Place.{Place}
@@ -8,7 +8,7 @@ use Rattle.s360_store.specs.declared.place.Cell.{Cell}
 use Rattle.s360_store.specs.declared.items.Item.{Item}
 use Rattle.s360_store.specs.declared.items.Item.TheVariants.{Single, Run}
 use Rattle.s360_store.specs.declared.span.Span.{Span}
-use Rattle.s360_store.specs.declared.span.Span.TheVariants.{Place as OnePlace, Bytes as byte_span}
+use Rattle.s360_store.specs.declared.span.Span.TheVariants.{Place as OnePlace}
 use Rattle.s360_store.specs.Cells.{places_of_cells}
 use Rattle.s360_store.specs.Items.{AreItems, bytes_of_item, bytes_of_items, cells_of_item, cells_of_items}
 use Rattle.s360_store.specs.Spans.{AreSpans, byte_places, places_of_span, places_of_spans, span_of_item}
@@ -21,7 +21,7 @@ use Rattle.s360_machine.specs.Change.{Change}
 use Rattle.s360_machine.specs.ChangeSpans.{AreSpansOf, spans_beside, spans_of_row}
 use Rattle.s360_machine.specs.Changes.{change_with}
 use Rattle.s360_machine.specs.Packed.{change_of_row, lists}
-use Rattle.s360_machine.specs.Rows.{IsOver, beside_of_row}
+use Rattle.s360_machine.specs.Rows.{HasNoMore, IsOver, beside_of_row}
 
 -- spans joined
 pub AreSpans-append : (ss ts : List Span) → AreSpans ss → AreSpans ts → AreSpans (ss ++ ts)
@@ -60,10 +60,12 @@ places-of-places : (ps : List Place) → places_of_spans (map (λ p. OnePlace p)
 places-of-places [] = refl
 places-of-places (p ∷ ps) = ap (λ (qs : List Place). p ∷ qs) (places-of-places ps)
 
--- all its parts but its bytes stand within the row
-abbrev pub HasNoMore : Row → Type 0
-HasNoMore (More beside items bytes count) = ⊥
-HasNoMore r = Unit {0}
+pub no-more : (r : Row) → ((beside : Bool) (items bytes count : ℕ) → r ≡ More beside items bytes count → ⊥) → HasNoMore r
+no-more Nothing h = tt
+no-more (Psw psw) h = tt
+no-more (Register number word psw) h = tt
+no-more (Bytes count address psw) h = tt
+no-more (More beside items bytes count) h = absurd (h beside items bytes count refl)
 
 -- those of a change that stands within its row
 pub within-own : (r : Row) (is : List Item) (bs : List ℕ) (xs : List Beside) (x : Change) → HasNoMore r → IsOver r is bs → length xs ≡ beside_of_row r → change_of_row r (lists is bs xs) ≡ x → AreSpansOf (spans_of_row r) x

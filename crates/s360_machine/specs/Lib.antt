@@ -16,7 +16,6 @@ pub mod IoChanges
 pub mod Beside
 pub mod Change
 pub mod Rows
-pub mod PlainRows
 pub mod ChangeSpans
 pub mod Stretches
 pub mod Changes

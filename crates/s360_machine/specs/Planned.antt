@@ -4,6 +4,9 @@ use Rattle.s360_model.specs.Exchanges.{CanIfAny, after_if_any, back_if_any, need
 use Rattle.s360_store.specs.declared.place.Cell.{Cell}
 use Rattle.s360_store.specs.Plans.{IsPlanOf}
 use Rattle.s360_machine.specs.ControlCells.{ControlCell}
+use Rattle.s360_fixed.specs.declared.plain.Plain.{Plain}
+use Rattle.s360_fixed.specs.Plain.{IsFit, cells_of_plain}
+use Rattle.s360_machine.specs.Changes.{change_of_core}
 use Rattle.s360_machine.specs.declared.machine.PlannedEvent.{PlannedEvent}
 use Rattle.s360_machine.specs.declared.media.MediaChange.{MediaChange}
 use Rattle.s360_channel.specs.declared.unit_change.UnitChange.{UnitChange}
@@ -57,3 +60,8 @@ pub record IsChangeTo (w : Whole) (x : Change) (n : Machine) : Type 0 where
   pub makes : seen (after_swap w x) ≡ n
   pub lists : places_of_change x ≡ differences (seen w) n
   pub back : NeedsNoRoom (change_after_swap w x)
+
+-- so does one of the PSW and little beside it
+pub record IsPlainChangeTo (w : Whole) (x : Plain) (n : Machine) : Type 0 where
+  pub fit : IsFit x
+  pub change : IsChangeTo w (change_of_core (cells_of_plain x)) n

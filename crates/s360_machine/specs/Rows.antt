@@ -2,19 +2,14 @@
 -- stands in lists apart.
 use Rattle.std.specs.Prelude.{◌≡◌, ◌<◌, ◌≤◌, ◌+◌, ◌^◌, ℕ, true, List, [], ◌∷◌, length}
 use Rattle.s360_store.specs.declared.place.Cell.{Cell}
-use Rattle.s360_store.specs.declared.place.Place.TheVariants.{Psw as psw_place, Register as register_place}
 use Rattle.s360_store.specs.declared.items.Item.{Item}
 use Rattle.s360_store.specs.Cells.{AllFit, byte_cells}
 use Rattle.s360_store.specs.Items.{AreItems, bytes_of_items, cells_of_items}
+use Rattle.s360_fixed.specs.declared.plain.Plain.{Plain}
+use Rattle.s360_fixed.specs.declared.plain.Plain.TheVariants.{Nothing as nothing, Psw as psw_alone, Register as with_register, Bytes as with_bytes}
+use Rattle.s360_fixed.specs.Plain.{psw_cell, register_cell}
 use Rattle.s360_machine.specs.declared.row.Row.{Row}
 use Rattle.s360_machine.specs.declared.row.Row.TheVariants.{Nothing, Psw, Register, Bytes, More}
-
--- the cell of a PSW, and of a register
-abbrev pub psw_cell : ℕ → Cell
-psw_cell psw = record { place = psw_place; value = psw }
-
-abbrev pub register_cell : ℕ → ℕ → Cell
-register_cell r word = record { place = register_place r; value = word }
 
 -- how many single cells and runs, how many bytes, and how many changes beside the core stand apart
 abbrev pub items_of_row : Row → ℕ
@@ -45,27 +40,26 @@ pub record ArePartsOf (is : List Item) (bs : List ℕ) : Type 0 where
   pub fit : AllFit true (cells_of_items is bs)
   pub few : length (cells_of_items is bs) ≤ 1000000
 
--- all its parts stand within it
-abbrev pub IsPlain : Row → Type 0
-IsPlain (Bytes count address psw) = (0 < count) × (count ≤ 8) × (address + count ≤ 2 ^ 32)
-IsPlain (More beside items bytes count) = ⊥
-IsPlain r = Unit {0}
+-- all its parts but its bytes stand within it
+abbrev pub HasNoMore : Row → Type 0
+HasNoMore (More beside items bytes count) = ⊥
+HasNoMore r = Unit {0}
+
+-- the row of a change of the PSW and little beside it
+abbrev pub row_of_plain : Plain → Row
+row_of_plain nothing = Nothing
+row_of_plain (psw_alone psw) = Psw psw
+row_of_plain (with_register r word psw) = Register r word psw
+row_of_plain (with_bytes address psw run) = Bytes (length run) address psw
 
 -- as much of two rows stands apart
 pub record HasSameCounts (r s : Row) : Type 0 where
   pub items : items_of_row s ≡ items_of_row r
   pub bytes : bytes_of_row s ≡ bytes_of_row r
   pub beside : beside_of_row s ≡ beside_of_row r
-  pub plain : IsPlain r → IsPlain s
 
 -- it stands over these items and bytes, which are as many as it says: a run has bytes, with addresses of 32 bits
 abbrev pub IsOver : Row → List Item → List ℕ → Type 0
 IsOver (Bytes count address psw) is bs = (is ≡ []) × (length bs ≡ count) × (0 < count) × (address + count ≤ 2 ^ 32)
 IsOver (More beside items bytes count) is bs = (length is ≡ items) × (length bs ≡ bytes) × (length (cells_of_items is bs) ≡ count) × ArePartsOf is bs
 IsOver r is bs = (is ≡ []) × (bs ≡ [])
-
--- no bytes of it stand apart
-abbrev pub HasNoneApart : Row → Type 0
-HasNoneApart (Bytes count address psw) = ⊥
-HasNoneApart (More beside items bytes count) = ⊥
-HasNoneApart r = Unit {0}

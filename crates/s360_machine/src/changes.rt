@@ -1,47 +1,24 @@
 //! What an event alters, ready to be exchanged with the machine.
-ghost use Rattle.std.specs.Prelude.{◌≡◌, ◌<◌, ◌≤◌, ◌+◌, ◌^◌, ◌∷◌, [], length, slice_get, true, Some, IfOk, IfSome};
+ghost use Rattle.std.specs.Prelude.{◌≡◌, ◌∷◌, [], length, slice_get, true, IfOk, IfSome};
 ghost use Rattle.std.specs.Option.{option_copied};
-ghost use Rattle.s360_store.specs.Cells.{AllFit, byte_cells};
+ghost use Rattle.s360_store.specs.Cells.{AllFit};
 ghost use Rattle.s360_store.specs.Places.{Fits};
 ghost use Rattle.s360_machine.specs.Change.{places_of_change};
-ghost use Rattle.s360_machine.specs.Changes.{BeginsWithPsw, change_of_core};
+ghost use Rattle.s360_fixed.specs.Plain.{IsFit, cells_of_plain, psw_cell};
+ghost use Rattle.s360_machine.specs.Changes.{BeginsWithPsw, IsPlainOf, change_of_core};
 ghost use Rattle.s360_machine.specs.ControlCells.{control_cells};
-ghost use Rattle.s360_machine.specs.Rows.{HasNoneApart, cells_of_row, psw_cell, register_cell};
 
 use crate::beside::Beside;
 use crate::control_change::ControlChange;
 use crate::media::MediaChange;
-use crate::plain_row::PlainRow;
 use crate::row::Row;
-use crate::short_run::{SHORT, ShortRun};
 use s360_channel::UnitChange;
+use s360_fixed::{Plain, ShortRun};
 use s360_psw::Psw;
 use s360_store::{Cell, Cells, Part, Place};
-use s360_word::{RegisterNumber, Word};
+use s360_word::RegisterNumber;
 use std::alloc::{AllocError, Global};
 use std::marker::Model;
-
-/// What an event alters of the core where that is the PSW and little beside it, which takes no memory. A contract sees
-/// the list of its cells.
-#[derive(Debug, Drop)]
-pub(crate) struct Plain {
-    pub(crate) parts: PlainRow,
-    /// The bytes of storage, where the row has any: the first ones.
-    pub(crate) bytes: [u8; SHORT],
-}
-
-impl Model for Plain {
-    ghost use Rattle.std.specs.Prelude.{◌≡◌, [], List, length, take};
-    ghost use Rattle.s360_store.specs.declared.place.Cell.{Cell};
-    ghost use Rattle.s360_machine.specs.PlainRows.{row_of};
-    ghost use Rattle.s360_machine.specs.Rows.{IsPlain, bytes_of_row, cells_of_row};
-
-    ghost Value = { List Cell };
-
-    ghost view = { λ p. cells_of_row (row_of p.parts) [] (take (bytes_of_row (row_of p.parts)) p.bytes) };
-
-    ghost invariant = { λ p. IsPlain (row_of p.parts) × (length p.bytes ≡ 8) };
-}
 
 /// What an event alters of the core and beside it.
 #[derive(Debug, Drop)]
@@ -78,107 +55,53 @@ impl Model for Changes {
     ghost invariant = { λ c. AreFit c.parts };
 }
 
-impl Plain {
-    /// A row that has no bytes apart.
-    fn of_row(row: Row) -> Plain
-        requires { HasNoneApart row }
-        ensures { result ≡ cells_of_row row [] [] }
-    {
-        Plain {
-            parts: PlainRow::of(row),
-            bytes: [0; SHORT],
+/// The value of cells that are none, or the PSW and little beside it.
+fn plain_of(cells: &Cells) -> Option<Plain>
+    requires fit { AllFit true cells.now }
+    ensures { IfSome result (λ x. IsPlainOf x cells.now) }
+{
+    if cells.is_empty() {
+        return Some(Plain::Nothing);
+    }
+    let first = cells.cell(0);
+    match first.place {
+        Place::Psw => after_psw(Psw::from_u64(first.value), cells),
+        _ => None,
+    }
+}
+
+/// The value of cells that begin with a PSW, if little is beside it.
+fn after_psw(psw: Psw, cells: &Cells) -> Option<Plain>
+    requires fit { AllFit true cells.now }
+    requires first { BeginsWithPsw psw cells.now }
+    ensures { IfSome result (λ x. IsPlainOf x cells.now) }
+{
+    let count = cells.len() as usize;
+    if count == 1 {
+        return Some(Plain::Psw(psw));
+    }
+    match cells.part_at(1) {
+        Part::Cell(cell) if count == 2 => with_cell(psw, cell),
+        Part::Bytes(address, bytes) if count == 1 + bytes.len() => {
+            let run = ShortRun::of(bytes)?;
+            Some(Plain::Bytes { address, psw, run })
         }
+        _ => None,
     }
+}
 
-    /// Nothing.
-    pub(crate) fn nothing() -> Plain
-        ensures { result ≡ [] }
-    {
-        Plain::of_row(Row::Nothing)
-    }
-
-    /// The PSW.
-    pub(crate) fn of_psw(psw: Psw) -> Plain
-        ensures { result ≡ psw_cell psw ∷ [] }
-    {
-        Plain::of_row(Row::Psw(psw))
-    }
-
-    /// The PSW and a general register.
-    pub(crate) fn of_register(psw: Psw, register: RegisterNumber, word: Word) -> Plain
-        ensures { result ≡ psw_cell psw ∷ (register_cell register word ∷ []) }
-    {
-        Plain::of_row(Row::Register {
-            register,
-            word,
+/// The value of a PSW and the cell of a register, if it is one.
+fn with_cell(psw: Psw, cell: Cell) -> Option<Plain>
+    requires fits { Fits true cell.place cell.value }
+    ensures { IfSome result (λ x. IsPlainOf x (psw_cell psw ∷ (cell ∷ []))) }
+{
+    match cell.place {
+        Place::Register(number) if number < 16 => Some(Plain::Register {
+            register: RegisterNumber::new(number),
+            word: cell.value as u32,
             psw,
-        })
-    }
-
-    /// The PSW and few bytes from an address on.
-    pub(crate) fn of_bytes(psw: Psw, address: u32, run: &ShortRun) -> Plain
-        requires some { 0 < length run.now }
-        requires inside { address + length run.now ≤ 2 ^ 32 }
-        ensures { result ≡ psw_cell psw ∷ byte_cells address run.now }
-    {
-        let row = Row::Bytes {
-            count: run.len() as u16,
-            address,
-            psw,
-        };
-        Plain {
-            parts: PlainRow::of(row),
-            bytes: run.bytes(),
-        }
-    }
-
-    /// What cells alter that are none, or the PSW and little beside it.
-    fn within(cells: &Cells) -> Option<Plain>
-        requires fit { AllFit true cells.now }
-        ensures { IfSome result (λ x. x ≡ cells.now) }
-    {
-        if cells.is_empty() {
-            return Some(Plain::nothing());
-        }
-        let first = cells.cell(0);
-        match first.place {
-            Place::Psw => Plain::after_psw(Psw::from_u64(first.value), cells),
-            _ => None,
-        }
-    }
-
-    /// What cells alter that begin with a PSW, if little is beside it.
-    fn after_psw(psw: Psw, cells: &Cells) -> Option<Plain>
-        requires fit { AllFit true cells.now }
-        requires first { BeginsWithPsw psw cells.now }
-        ensures { IfSome result (λ x. x ≡ cells.now) }
-    {
-        let count = cells.len() as usize;
-        if count == 1 {
-            return Some(Plain::of_psw(psw));
-        }
-        match cells.part_at(1) {
-            Part::Cell(cell) if count == 2 => Plain::with_cell(psw, cell),
-            Part::Bytes(address, bytes) if count == 1 + bytes.len() => {
-                let run = ShortRun::of(bytes)?;
-                Some(Plain::of_bytes(psw, address, &run))
-            }
-            _ => None,
-        }
-    }
-
-    /// The PSW and the cell of a register, if it is one.
-    fn with_cell(psw: Psw, cell: Cell) -> Option<Plain>
-        requires fits { Fits true cell.place cell.value }
-        ensures { IfSome result (λ x. x ≡ psw_cell psw ∷ (cell ∷ [])) }
-    {
-        match cell.place {
-            Place::Register(number) if number < 16 => {
-                let register = RegisterNumber::new(number);
-                Some(Plain::of_register(psw, register, cell.value as u32))
-            }
-            _ => None,
-        }
+        }),
+        _ => None,
     }
 }
 
@@ -200,7 +123,7 @@ impl Changes {
             media,
         };
         if beside.is_empty() {
-            if let Some(plain) = Plain::within(&cells) {
+            if let Some(plain) = plain_of(&cells) {
                 return Ok(Changes::of_core(plain));
             }
         }
@@ -212,7 +135,8 @@ impl Changes {
 
     /// A change of the PSW and little beside it.
     pub(crate) fn of_core(plain: Plain) -> Changes
-        ensures { result ≡ change_of_core plain }
+        requires { IsFit plain }
+        ensures { result ≡ change_of_core (cells_of_plain plain) }
     {
         Changes {
             parts: Parts::Plain(plain),
@@ -234,7 +158,7 @@ impl Changes {
         ensures { result ≡ length (places_of_change self.now) }
     {
         match &self.parts {
-            Parts::Plain(plain) => plain.parts.row().len(),
+            Parts::Plain(plain) => Row::of(plain).len(),
             Parts::Full(full) => full.cells.len() + full.beside.places().len() as u32,
         }
     }
@@ -244,12 +168,14 @@ impl Changes {
         ensures { result ≡ slice_get (places_of_change self.now) i }
     {
         match &self.parts {
-            Parts::Plain(plain) if i < plain.parts.row().len() => {
-                let row = plain.parts.row();
-                let bytes = &plain.bytes[..row.bytes()];
-                Some(row.place(&[], bytes, i))
+            Parts::Plain(plain) => {
+                let row = Row::of(plain);
+                if i < row.len() {
+                    Some(row.place(&[], plain.bytes(), i))
+                } else {
+                    None
+                }
             }
-            Parts::Plain(_) => None,
             Parts::Full(full) if i < full.cells.len() => Some(full.cells.cell(i).place),
             Parts::Full(full) => {
                 let places = full.beside.places();

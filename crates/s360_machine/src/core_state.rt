@@ -1,6 +1,6 @@
 //! What an instruction works on: the current PSW, the general registers and main storage. Source:
 //! GA22-6821, "System Structure".
-ghost use Rattle.std.specs.Prelude.{◌≡◌, ◌≢◌, ◌<◌, ◌≤◌, ◌+◌, ◌^◌, [], length, slice_index, true, IfErr, IfOk, OnOk, Some};
+ghost use Rattle.std.specs.Prelude.{◌≡◌, ◌≢◌, ◌<◌, ◌≤◌, ◌+◌, ◌^◌, ℕ, [], length, slice_index, true, IfErr, IfOk, IfSome, IsTrue, OnOk, OnSome, Some};
 ghost use Rattle.std.specs.Bool.{MatchBool};
 ghost use Rattle.s360_model.specs.Core.{zero_core_with, core_with_bytes, core_with_psw, core_with_word};
 ghost use Rattle.s360_model.specs.Psw.{IsCurrentPsw, instruction_address_of};
@@ -9,16 +9,16 @@ ghost use Rattle.s360_store.specs.Items.{cells_of_part};
 ghost use Rattle.s360_store.specs.Places.{IsPlaceOf, value_at};
 ghost use Rattle.s360_store.specs.Differences.{AreKept, IsCoreChangeTo, KeepsAltering};
 ghost use Rattle.s360_store.specs.Plans.{HasBytes, IsPlanOf};
+ghost use Rattle.s360_fixed.specs.Plain.{IsFit, IsPlainChange, cells_of_plain};
 ghost use Rattle.s360_fixed.specs.ProgramCodes.{program_code};
 ghost use Rattle.s360_logic.specs.Instruction.{PlansInstruction, conditions_at, instruction};
+ghost use Rattle.s360_machine.specs.Cpu.{IsOfCore, core_after_ended};
 ghost use Rattle.s360_machine.specs.Rows.{HasSameCounts, IsOver, cells_of_row};
 
-use crate::changes::Plain;
-use crate::plain_row::PlainRow;
 use crate::row::Row;
-use s360_fixed::ProgramCode;
-use s360_logic::{Fetched, PlannedInstruction};
-use s360_psw::{InstructionLength, Psw};
+use s360_fixed::{Plain, ProgramCode, ShortRun, View};
+use s360_logic::{Fetched, PlannedInstruction, Simple};
+use s360_psw::{Class, InstructionLength, Psw};
 use s360_store::{Cell, Cells, GREATEST_SIZE, Item, Part, Place, Plan, Storage, exchange_items};
 use s360_word::{RegisterNumber, Word};
 use std::alloc::{AllocError, Global};
@@ -42,6 +42,23 @@ impl Model for Core {
     ghost view = { λ c. record { psw = c.psw; registers = c.registers; storage = c.storage } };
 
     ghost invariant = { λ c. length c.registers ≡ 16 };
+}
+
+/// So many bytes are compared at once.
+const STRIDE: usize = 16;
+
+/// Whether each byte differs from that of the other list. All are compared, which the compiler does at once.
+#[inline(always)]
+fn all_differ(bytes: &[u8], others: &[u8]) -> bool
+    requires few { length bytes.now ≡ 16 }
+    requires as_many { length others.now ≡ 16 }
+    ensures { IsTrue result → (i : ℕ) → i < 16 → slice_index bytes.now i ≢ slice_index others.now i }
+{
+    let mut is_any_same = false;
+    for i in 0..STRIDE {
+        is_any_same |= bytes[i] == others[i];
+    }
+    !is_any_same
 }
 
 impl Core {
@@ -90,12 +107,38 @@ impl Core {
         &self.storage
     }
 
+    /// It as an instruction sees it.
+    #[inline(always)]
+    pub(crate) fn view(&self) -> View<'_>
+        ensures { result.core ≡ self.now }
+    {
+        let length = InstructionLength::NotAvailable;
+        View::new(self.psw, &self.registers, &self.storage, 0, length)
+    }
+
     /// Fetches the instruction at the instruction address.
     pub(crate) fn fetch(&self) -> Result<Fetched<'_>, ProgramCode>
         ensures ok { IfOk result (λ f. f.view.core ≡ self.now) }
         ensures err { IfErr result (λ code. program_code (conditions_at self.now (instruction_address_of self.now.psw)) ≡ Some code) }
     {
         s360_logic::fetch(self.psw, &self.registers, &self.storage)
+    }
+
+    /// What the instruction at the instruction address alters with the interruption that it causes, if it is a frequent one.
+    /// None is also where that is not the PSW and little beside it.
+    #[inline(always)]
+    pub(crate) fn altered(&self) -> Option<Plain>
+        ensures change { IfSome result (λ x. IsPlainChange self.now x (core_after_ended (instruction self.now).outcome.ended (instruction self.now))) }
+        ensures core { OnSome result (IsOfCore (instruction self.now).outcome.ended) }
+    {
+        match s360_logic::frequent_instruction(self.psw, &self.registers, &self.storage)? {
+            Simple::Completed(plain) => Some(plain),
+            Simple::Call { code, next_address } => {
+                let psw = self.psw.with_instruction_address(next_address);
+                let length = InstructionLength::OneHalfword;
+                self.altered_by_interruption(Class::Supervisor, psw, u16::from(code), length)
+            }
+        }
     }
 
     /// Plans the instruction at the instruction address, if it was fetched or not.
@@ -164,12 +207,19 @@ impl Core {
         // So no address of the run passes 32 bits.
         prove!(self.storage.size() <= GREATEST_SIZE);
         let stored = self.storage.bytes(address, new.len() as u32);
-        let mut start = 0;
-        for at in 0..new.len() {
+        let (mut start, mut at) = (0, 0);
+        while at < new.len() {
+            if at + STRIDE <= new.len()
+                && all_differ(&new[at..at + STRIDE], &stored[at..at + STRIDE])
+            {
+                at += STRIDE;
+                continue;
+            }
             if new[at] == stored[at] {
                 kept.push_bytes(address + start as u32, &new[start..at])?;
                 start = at + 1;
             }
+            at += 1;
         }
         kept.push_bytes(address + start as u32, &new[start..])
     }
@@ -219,6 +269,7 @@ impl Core {
     }
 
     /// Exchanges the PSW with another.
+    #[inline(always)]
     fn exchange_psw(&mut self, psw: &mut Psw)
         ensures core { self.new ≡ core_with_psw psw.old self.old }
         ensures psw { psw.new ≡ self.old.psw }
@@ -263,21 +314,36 @@ impl Core {
 
     /// Exchanges what stands at the places of a change with its values.
     pub(crate) fn exchange_plain(&mut self, plain: &mut Plain)
-        requires can { AreCellsOf self.old plain.old }
-        ensures core { self.new ≡ after_exchange self.old plain.old }
-        ensures cells { plain.new ≡ cells_after_exchange self.old plain.old }
-        ensures fit { AllFit self.new.storage.fetch_protection plain.new }
+        requires fit { IsFit plain.old }
+        requires can { AreCellsOf self.old (cells_of_plain plain.old) }
+        ensures core { self.new ≡ after_exchange self.old (cells_of_plain plain.old) }
+        ensures cells { cells_of_plain plain.new ≡ cells_after_exchange self.old (cells_of_plain plain.old) }
+        ensures fit { AllFit self.new.storage.fetch_protection (cells_of_plain plain.new) }
+        ensures plain { IsFit plain.new }
     {
-        let mut row = plain.parts.row();
-        let count = row.bytes();
-        let mut bytes = plain.bytes;
-        self.exchange_row(&mut row, &mut [], &mut bytes[..count]);
-        plain.parts = PlainRow::of(row);
-        plain.bytes = bytes;
+        match plain {
+            Plain::Nothing => {}
+            Plain::Psw(psw) => self.exchange_psw(psw),
+            Plain::Register {
+                register,
+                word,
+                psw,
+            } => {
+                self.exchange_psw(psw);
+                self.exchange_register(*register, word);
+            }
+            Plain::Bytes { address, psw, run } => {
+                self.exchange_psw(psw);
+                let (mut bytes, count) = (run.bytes(), run.len());
+                self.exchange_run(&mut bytes[..count], *address);
+                *run = ShortRun::first(bytes, count);
+            }
+        }
     }
 
     /// Exchanges what stands at the places of a row with its values. The single cells and the runs are its own, and the
     /// bytes.
+    #[inline(always)]
     pub(crate) fn exchange_row(&mut self, row: &mut Row, items: &mut [Item], bytes: &mut [u8])
         requires over { IsOver row.old items.old bytes.old }
         requires can { AreCellsOf self.old (cells_of_row row.old items.old bytes.old) }

@@ -5,16 +5,15 @@ ghost use Rattle.s360_model.specs.Psw.{instruction_address_of};
 ghost use Rattle.s360_fixed.specs.ProgramCodes.{program_code};
 ghost use Rattle.s360_logic.specs.Instruction.{PlansInstruction, conditions_at, instruction};
 ghost use Rattle.s360_psw.specs.Pending.{next_interruption_of};
-ghost use Rattle.s360_machine.specs.Changes.{change_of_core};
 ghost use Rattle.s360_machine.specs.Cpu.{after_case, after_cpu, after_external, after_instruction};
 ghost use Rattle.s360_machine.specs.Cpu.{cpu_case, pending_of};
 ghost use Rattle.s360_machine.specs.Machine.{seen};
-ghost use Rattle.s360_machine.specs.Planned.{IsChangeTo, IsPlanOfMachine};
+ghost use Rattle.s360_machine.specs.Planned.{IsChangeTo, IsPlainChangeTo, IsPlanOfMachine};
 ghost use Rattle.s360_machine.specs.declared.cpu.CpuCase.TheVariants.{Interrupted};
 
-use crate::changes::{Changes, Plain};
+use crate::changes::Changes;
 use crate::machine::{Machine, PlannedEvent};
-use s360_fixed::{Ended, ProgramCode};
+use s360_fixed::{Ended, Plain, ProgramCode};
 use s360_logic::{Fetched, PlannedInstruction};
 use s360_psw::{Class, InstructionLength, Pending, next_interruption};
 use s360_store::Plan;
@@ -49,6 +48,7 @@ impl Machine {
 
     /// The class of the interruption that happens before the next instruction, if one does. No unit is asked for a
     /// condition that the PSW does not let interrupt.
+    #[inline(always)]
     fn interruption(&self) -> Option<Class>
         ensures { result ≡ next_interruption_of self.now.whole.core.psw (pending_of self.now.whole.control self.now.whole.units) }
     {
@@ -60,6 +60,7 @@ impl Machine {
     }
 
     /// What a CPU event is.
+    #[inline(always)]
     pub fn cpu_case(&self) -> CpuCase
         ensures { result ≡ cpu_case (seen self.now.whole) }
     {
@@ -81,6 +82,18 @@ impl Machine {
         self.core.fetch()
     }
 
+    /// What a CPU event alters, if that is a frequent instruction that is completed with no interruption. None is also
+    /// where that is not the PSW and little beside it. It takes no memory.
+    #[inline(always)]
+    pub fn altered(&self) -> Option<Plain>
+        ensures { IfSome result (λ x. IsPlainChangeTo self.now.whole x (after_cpu (seen self.now.whole))) }
+    {
+        match self.cpu_case() {
+            CpuCase::Executing => self.core.altered(),
+            CpuCase::Halted | CpuCase::Interrupted(_) | CpuCase::Waiting => None,
+        }
+    }
+
     /// What a CPU event alters.
     #[inline(always)]
     pub(crate) fn changes_of_cpu(&self) -> Result<Changes, AllocError>
@@ -90,7 +103,7 @@ impl Machine {
             CpuCase::Executing => self.changes_of_instruction(),
             // Put together anew, as below.
             CpuCase::Interrupted(class) => Ok(self.changes_of_interruption(class)?),
-            CpuCase::Halted | CpuCase::Waiting => Ok(Changes::of_core(Plain::nothing())),
+            CpuCase::Halted | CpuCase::Waiting => Ok(Changes::of_core(Plain::Nothing)),
         }
     }
 
@@ -161,14 +174,12 @@ impl Machine {
     /// What an instruction alters, where it is completed with no interruption and its change has that within itself.
     fn altered_by(&self, fetched: &Result<Fetched<'_>, ProgramCode>) -> Option<Plain>
         requires fetched { IfOk fetched.now (λ f. f.view.core ≡ self.now.whole.core) }
-        ensures { IfSome result (λ x. IsChangeTo self.now.whole (change_of_core x) (after_instruction (seen self.now.whole))) }
+        ensures { IfSome result (λ x. IsPlainChangeTo self.now.whole x (after_instruction (seen self.now.whole))) }
     {
         let Ok(fetched) = fetched else {
             return None;
         };
-        // Lent and not moved, which costs less.
-        let made = fetched.made();
-        self.core.altered_by(fetched.view(), made.as_ref()?)
+        fetched.altered()
     }
 
     /// Plans the end of an instruction that was planned, with the program or the supervisor call interruption that it

@@ -1,13 +1,15 @@
 //! Interruptions: the PSW that one stores, and the PSW that it loads. Source: GA22-6821,
 //! "Interruptions".
-ghost use Rattle.std.specs.Prelude.{◌≡◌, ◌<◌, ◌≤◌, ◌+◌, OnOk, length, slice_index};
+ghost use Rattle.std.specs.Prelude.{◌≡◌, ◌<◌, ◌≤◌, ◌+◌, IfSome, OnOk, length, slice_index};
 ghost use Rattle.s360_model.specs.Core.{core_with_psw};
 ghost use Rattle.s360_model.specs.Storage.{doubleword_at};
 ghost use Rattle.s360_store.specs.Cells.{AreCellsOf, after_exchange};
 ghost use Rattle.s360_store.specs.Plans.{HasBytes, IsPlanOf};
+ghost use Rattle.s360_fixed.specs.Plain.{IsPlainChange};
 ghost use Rattle.s360_machine.specs.Interruptions.{after_interruption};
 
 use crate::core_state::Core;
+use s360_fixed::{Plain, altered_bytes};
 use s360_psw::{Class, InstructionLength, Psw};
 use s360_store::{LEAST_SIZE, Place, Plan};
 use std::alloc::AllocError;
@@ -53,6 +55,30 @@ impl Core {
             self.planned_byte(plan, address + 6),
             self.planned_byte(plan, address + 7),
         ])
+    }
+
+    /// What an interruption alters, with this PSW in place of its own. None is where that is not the PSW and little beside
+    /// it.
+    #[inline(always)]
+    pub(crate) fn altered_by_interruption(
+        &self,
+        class: Class,
+        psw: Psw,
+        code: u16,
+        instruction_length: InstructionLength,
+    ) -> Option<Plain>
+        ensures { IfSome result (λ x. IsPlainChange self.now x (after_interruption class code instruction_length (core_with_psw psw self.now))) }
+    {
+        // So the permanent locations are inside storage.
+        prove!(self.storage().size() >= LEAST_SIZE);
+        let next = Psw::from_u64(self.storage().double(class.new_location()));
+        let stored = psw.stored(code, instruction_length);
+        altered_bytes(
+            &self.view(),
+            next,
+            class.old_location(),
+            &stored.to_be_bytes(),
+        )
     }
 
     /// Plans an interruption of the core as the plan leaves it, with this PSW in place of its own:

@@ -5,7 +5,6 @@
 //! Operations" and "System Control Panel".
 #![tactic(auto)]
 
-mod altering;
 mod beside;
 mod change_spans;
 mod changes;
@@ -24,11 +23,9 @@ mod machine;
 mod media;
 mod operator;
 mod packed;
-mod plain_row;
 mod refusal;
 mod row;
 mod run_state;
-mod short_run;
 mod timer;
 
 pub use change_spans::{ChangeSpans, SpansApart};

@@ -9,10 +9,10 @@ ghost use Rattle.s360_machine.specs.Machine.{Machine as SeenMachine, machine_wit
 ghost use Rattle.s360_store.specs.Cells.{AllFit, AreCellsOf};
 ghost use Rattle.s360_machine.specs.Change.{CanSwap, after_swap, change_after_swap};
 ghost use Rattle.s360_machine.specs.Change.{HasRoom, NeedsNoRoom, NeedsRoom};
-ghost use Rattle.s360_machine.specs.Changes.{AreFit, change_of, change_of_parts};
+ghost use Rattle.s360_machine.specs.Changes.{AreFit, change_of, change_of_core, change_of_parts};
 ghost use Rattle.s360_machine.specs.IoChanges.{CanSwapMedia, media_needs, unit_of_change};
 ghost use Rattle.s360_machine.specs.Packed.{change_of_row, lists};
-ghost use Rattle.s360_machine.specs.Rows.{HasSameCounts, IsOver};
+ghost use Rattle.s360_machine.specs.Rows.{HasSameCounts, IsOver, cells_of_row};
 ghost use Rattle.s360_model.specs.Exchanges.{CanIfAny};
 ghost use Rattle.s360_machine.specs.Step.{after, after_patch};
 ghost use Rattle.s360_device.specs.DeviceChanges.{bare};
@@ -365,6 +365,7 @@ impl Machine {
 
     /// Exchanges the values at the places of a change with its own.
     fn exchange_parts(&mut self, parts: &mut Parts)
+        requires parts { AreFit parts.old }
         requires can { CanSwap self.old.whole (change_of_parts parts.old) }
         requires room { HasRoom self.old.spare (change_of_parts parts.old) }
         ensures machine { self.new.whole ≡ after_swap self.old.whole (change_of_parts parts.old) }
@@ -420,5 +421,20 @@ impl Machine {
         if !beside.is_empty() {
             self.exchange_beside(&mut beside[0]);
         }
+    }
+
+    /// Exchanges the values at the places of a row that has all but its bytes within itself with its own.
+    #[inline(always)]
+    pub(crate) fn exchange_within(&mut self, row: &mut Row, bytes: &mut [u8])
+        requires over { IsOver row.old [] bytes.old }
+        requires can { CanSwap self.old.whole (change_of_core (cells_of_row row.old [] bytes.old)) }
+        ensures machine { self.new.whole ≡ after_swap self.old.whole (change_of_core (cells_of_row row.old [] bytes.old)) }
+        ensures change { change_of_core (cells_of_row row.new [] bytes.new) ≡ change_after_swap self.old.whole (change_of_core (cells_of_row row.old [] bytes.old)) }
+        ensures over { IsOver row.new [] bytes.new }
+        ensures same { HasSameCounts row.old row.new }
+        ensures count { length bytes.new ≡ length bytes.old }
+        ensures fit { AllFit self.new.whole.core.storage.fetch_protection (cells_of_row row.new [] bytes.new) }
+    {
+        self.core.exchange_row(row, &mut [], bytes);
     }
 }

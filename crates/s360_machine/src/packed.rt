@@ -5,16 +5,18 @@ ghost use Rattle.s360_store.specs.Cells.{AllFit};
 ghost use Rattle.s360_machine.specs.Beside.{IsNothing};
 ghost use Rattle.s360_machine.specs.Change.{CanSwap, Change, HasRoom, change_after_swap, places_of_change};
 ghost use Rattle.s360_machine.specs.ChangeSpans.{AreSpansOf, spans_of};
-ghost use Rattle.s360_machine.specs.Changes.{AreFit, change_of, change_of_parts};
+ghost use Rattle.s360_fixed.specs.Plain.{IsFit, bytes_of_plain, cells_of_plain};
+ghost use Rattle.s360_machine.specs.Changes.{AreFit, change_of, change_of_core, change_of_parts};
 ghost use Rattle.s360_machine.specs.Packed.{ArePacked, HasBefore, IsAppended, IsEnd, IsOwnOf, IsSwapOf, bytes_of_changes, end_before, last_stretches, lists};
-ghost use Rattle.s360_machine.specs.Rows.{IsOver};
+ghost use Rattle.s360_machine.specs.Rows.{IsOver, row_of_plain};
 
 use crate::beside::Beside;
 use crate::change_spans::{ChangeSpans, SpansApart};
 use crate::changes::{Changes, Full, Parts};
 use crate::machine::Machine;
 use crate::row::Row;
-use s360_store::{Item, Place, Span};
+use s360_fixed::Plain;
+use s360_store::{Item, Place};
 use std::alloc::{AllocError, Global};
 use std::marker::Model;
 
@@ -90,21 +92,11 @@ impl<'a> Own<'a> {
     fn spans(&self) -> ChangeSpans<'a>
         ensures { (x : Change) → IsOwnOf self.now x → AreSpansOf (spans_of result) x }
     {
-        let psw = Some(Span::Place(Place::Psw));
         match self.row {
-            Row::Nothing => ChangeSpans::Within(None, None),
-            Row::Psw(_) => ChangeSpans::Within(psw, None),
-            Row::Register { register, .. } => {
-                let register = Span::Place(Place::Register(register.number()));
-                ChangeSpans::Within(psw, Some(register))
-            }
-            Row::Bytes { count, address, .. } => {
-                let count = u32::from(count);
-                ChangeSpans::Within(psw, Some(Span::Bytes { address, count }))
-            }
             Row::More { .. } => {
                 ChangeSpans::Apart(SpansApart::of(self.items, self.beside.first()))
             }
+            row => row.spans(),
         }
     }
 }
@@ -184,6 +176,22 @@ fn append_full(
     })
 }
 
+/// Adds what a change of the PSW and little beside it has beside its row to a list, and answers its row. Want of memory leaves
+/// the list as it was.
+#[inline(always)]
+fn append_bytes(plain: &Plain, bytes: &mut Vec<u8>) -> Result<Row, AllocError>
+    requires { IsFit plain.now }
+    ensures ok { IfOk result (λ row. row ≡ row_of_plain plain.now) }
+    ensures bytes { IfOk result (λ row. bytes.new.items ≡ bytes.old.items ++ bytes_of_plain plain.now) }
+    ensures err { OnErr result (bytes.new.items ≡ bytes.old.items) }
+{
+    // Most have none, and a copy of none is a call.
+    if let Plain::Bytes { run, .. } = plain {
+        bytes.extend_from_slice(run.as_slice())?;
+    }
+    Ok(Row::of(plain))
+}
+
 /// Adds what a change has beside its row to the lists, and answers its row. Want of memory leaves the lists as they were.
 #[inline(always)]
 fn append_parts(
@@ -199,15 +207,7 @@ fn append_parts(
     ensures err_list { OnErr result (list.new.items ≡ list.old.items) }
 {
     match parts {
-        Parts::Plain(plain) => {
-            let row = plain.parts.row();
-            if row.bytes() == 0 {
-                // Most have none, and a copy of none is a call.
-                return Ok(row);
-            }
-            bytes.extend_from_slice(&plain.bytes[..row.bytes()])?;
-            Ok(row)
-        }
+        Parts::Plain(plain) => append_bytes(&plain, bytes),
         Parts::Full(full) => append_full(full, items, bytes, list),
     }
 }
@@ -265,6 +265,87 @@ impl Packed {
         )?;
         self.rows.push_reserved(row);
         Ok(())
+    }
+
+    /// Adds a change of the PSW and little beside it at the end. Want of memory leaves the list as it was.
+    #[inline(always)]
+    pub fn append_plain(&mut self, plain: Plain) -> Result<(), AllocError>
+        requires few { length self.old < 10000000 }
+        requires fit { IsFit plain }
+        ensures ok { OnOk result (self.new ≡ self.old ++ change_of_core (cells_of_plain plain) ∷ []) }
+        ensures err { OnErr result (self.new ≡ self.old) }
+    {
+        self.rows.reserve(1)?;
+        let row = append_bytes(&plain, &mut self.bytes)?;
+        self.rows.push_reserved(row);
+        Ok(())
+    }
+
+    /// Exchanges the values of the last change with those at its places, for which the machine has room. It takes no
+    /// memory.
+    #[inline(always)]
+    pub fn swap_last(&mut self, machine: &mut Machine)
+        requires some { 0 < length self.old }
+        requires can { IfSome (slice_get self.old (length self.old - 1)) (λ x. CanSwap machine.old.whole x) }
+        requires room { IfSome (slice_get self.old (length self.old - 1)) (λ x. HasRoom machine.old.spare x) }
+        ensures machine { IfSome (slice_get self.old (length self.old - 1)) (λ x. IsSwapOf machine.old.whole x machine.new.whole) }
+        ensures changes { IfSome (slice_get self.old (length self.old - 1)) (λ x. self.new ≡ slice_set self.old (length self.old - 1) (change_after_swap machine.old.whole x)) }
+    {
+        let number = self.rows.as_slice().len();
+        if self.rows[number - 1].is_within() {
+            let row = &mut self.rows[number - 1];
+            let start = self.bytes.as_slice().len() - row.bytes();
+            machine.exchange_within(row, &mut self.bytes[start..]);
+        } else {
+            self.swap(number as u32, machine);
+        }
+    }
+
+    /// Keeps all changes but the last. It takes no memory.
+    #[inline(always)]
+    pub fn drop_last(&mut self)
+        requires { 0 < length self.old }
+        ensures { self.new ≡ take (length self.old - 1) self.old }
+    {
+        let number = self.rows.as_slice().len();
+        let row = self.rows[number - 1];
+        if row.is_within() {
+            let start = self.bytes.as_slice().len() - row.bytes();
+            self.bytes.truncate(start);
+            let _ = self.rows.pop();
+        } else {
+            self.keep(number as u32 - 1);
+        }
+    }
+
+    /// The number of places of the last change. It takes no memory.
+    #[inline(always)]
+    pub fn last_count(&self) -> u32
+        requires some { 0 < length self.now }
+        ensures { IfSome (slice_get self.now (length self.now - 1)) (λ x. result ≡ length (places_of_change x)) }
+    {
+        let number = self.rows.as_slice().len();
+        let row = &self.rows[number - 1];
+        if row.is_within() {
+            row.len()
+        } else {
+            self.count(number as u32)
+        }
+    }
+
+    /// The places of the last change as spans. It takes no memory.
+    #[inline(always)]
+    pub fn last_spans(&self) -> ChangeSpans<'_>
+        requires some { 0 < length self.now }
+        ensures { IfSome (slice_get self.now (length self.now - 1)) (λ x. AreSpansOf (spans_of result) x) }
+    {
+        let number = self.rows.as_slice().len();
+        let row = &self.rows[number - 1];
+        if row.is_within() {
+            row.spans()
+        } else {
+            self.spans(number as u32)
+        }
     }
 
     /// Keeps the first changes, so many, and drops all others. It takes no memory.

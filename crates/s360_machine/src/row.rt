@@ -1,14 +1,18 @@
 //! Rows of 16 bytes: what an event alters of the core where that is the PSW and little beside it, and
 //! else how much of it stands in lists apart.
-ghost use Rattle.std.specs.Prelude.{None, ◌≡◌, ◌<◌, ◌≤◌, ℕ, List, length, slice_get, Some};
+ghost use Rattle.std.specs.Prelude.{None, ◌≡◌, ◌<◌, ◌≤◌, ℕ, [], IsTrue, List, length, slice_get, Some};
 ghost use Rattle.s360_store.specs.Cells.{places_of_cells};
 ghost use Rattle.s360_store.specs.declared.items.Item.{Item as AnItem};
-ghost use Rattle.s360_machine.specs.Rows.{ArePartsOf, IsOver, beside_of_row, bytes_of_row, cells_of_row, items_of_row};
+ghost use Rattle.s360_fixed.specs.Plain.{IsFit, bytes_of_plain};
+ghost use Rattle.s360_machine.specs.ChangeSpans.{spans_of, spans_of_row};
+ghost use Rattle.s360_machine.specs.Rows.{ArePartsOf, HasNoMore, IsOver, row_of_plain, beside_of_row, bytes_of_row, cells_of_row, items_of_row};
 ghost use Rattle.s360_store.specs.Items.{cells_of_items};
 ghost use Rattle.s360_machine.specs.Stretches.{begun_by, next_after, stretches};
 
+use crate::change_spans::ChangeSpans;
+use s360_fixed::Plain;
 use s360_psw::Psw;
-use s360_store::{Item, Place, part_at};
+use s360_store::{Item, Place, Span, part_at};
 use s360_word::{RegisterNumber, Word};
 
 /// What an event alters. Each variant has its smallest fields first, so that none takes more than 16 bytes.
@@ -41,6 +45,63 @@ pub(crate) enum Row {
 }
 
 impl Row {
+    /// The row of a change of the PSW and little beside it.
+    #[inline(always)]
+    pub(crate) fn of(plain: &Plain) -> Row
+        requires { IsFit plain.now }
+        ensures row { result ≡ row_of_plain plain.now }
+        ensures over { IsOver result [] (bytes_of_plain plain.now) }
+    {
+        match plain {
+            Plain::Nothing => Row::Nothing,
+            Plain::Psw(psw) => Row::Psw(*psw),
+            Plain::Register {
+                register,
+                word,
+                psw,
+            } => Row::Register {
+                register: *register,
+                word: *word,
+                psw: *psw,
+            },
+            Plain::Bytes { address, psw, run } => Row::Bytes {
+                count: run.len() as u16,
+                address: *address,
+                psw: *psw,
+            },
+        }
+    }
+
+    /// Whether all but its bytes stands within it.
+    #[inline(always)]
+    pub(crate) fn is_within(&self) -> bool
+        ensures within { IsTrue result → HasNoMore self.now }
+    {
+        !matches!(self, Row::More { .. })
+    }
+
+    /// Its places as spans.
+    #[inline(always)]
+    pub(crate) fn spans(&self) -> ChangeSpans<'static>
+        requires { HasNoMore self.now }
+        ensures { spans_of result ≡ spans_of_row self.now }
+    {
+        let psw = Some(Span::Place(Place::Psw));
+        match self {
+            Row::Nothing => ChangeSpans::Within(None, None),
+            Row::Psw(_) => ChangeSpans::Within(psw, None),
+            Row::Register { register, .. } => {
+                let register = Span::Place(Place::Register(register.number()));
+                ChangeSpans::Within(psw, Some(register))
+            }
+            Row::Bytes { count, address, .. } => {
+                let (address, count) = (*address, u32::from(*count));
+                ChangeSpans::Within(psw, Some(Span::Bytes { address, count }))
+            }
+            Row::More { .. } => unreachable!(),
+        }
+    }
+
     /// The number of single cells and runs that stand apart.
     pub(crate) fn items(&self) -> usize
         ensures { result ≡ items_of_row self.now }

@@ -8,7 +8,7 @@ use Rattle.s360_journal.proofs.indexing.unindex_last.Goals as goal
 pub returns-in-Within : goal.returns-in-Within
 returns-in-Within c =
     let last : (x : Change) × IsLastOf c.args.changes.now c.args.number x = last-of c.args.changes.now c.args.number c.requires.some c.requires.last
-    in let spans : AreSpansOf (span_if_any c.in-Within.first ++ span_if_any c.in-Within.second) last.0 = rw last.1.found at c.in-Within.ensures
+    in let spans : AreSpansOf (span_if_any c.in-Within.first ++ span_if_any c.in-Within.second) last.0 = rw last.1.found_last at c.in-Within.ensures
     in let may : MayIndex c.args.index.now (take (c.args.number - 1) c.args.changes.now) last.0 = rw last.1.found at c.requires.index
     in unindex-within c.args.index.now c.take_if_any.new.index c.take_if_any-in-Within.new.index (take (c.args.number - 1) c.args.changes.now) last.0 c.args.number (span_if_any c.in-Within.first) (span_if_any c.in-Within.second)
     last.1.count spans may c.take_if_any.ensures c.take_if_any-in-Within.ensures
@@ -16,7 +16,7 @@ returns-in-Within c =
 pub loop-span-init : goal.loop-span-init
 loop-span-init c =
     let last : (x : Change) × IsLastOf c.args.changes.now c.args.number x = last-of c.args.changes.now c.args.number c.requires.some c.requires.last
-    in let spans : AreSpansOf (spans_apart c.into_iter-span-iterator.result) last.0 = rw c.into_iter-span-iterator.ensures.into_iter_gives (rw last.1.found at c.in-Apart.ensures)
+    in let spans : AreSpansOf (spans_apart c.into_iter-span-iterator.result) last.0 = rw c.into_iter-span-iterator.ensures.into_iter_gives (rw last.1.found_last at c.in-Apart.ensures)
     in unindexing-begun c.args.number c.args.index.now (spans_apart c.into_iter-span-iterator.result) spans.whole
 
 pub loop-span-preserved : goal.loop-span-preserved
@@ -29,7 +29,7 @@ loop-span-preserved c =
 pub returns-in-None : goal.returns-in-None
 returns-in-None c =
     let last : (x : Change) × IsLastOf c.args.changes.now c.args.number x = last-of c.args.changes.now c.args.number c.requires.some c.requires.last
-    in let spans : AreSpansOf (spans_apart c.into_iter-span-iterator.result) last.0 = rw c.into_iter-span-iterator.ensures.into_iter_gives (rw last.1.found at c.in-Apart.ensures)
+    in let spans : AreSpansOf (spans_apart c.into_iter-span-iterator.result) last.0 = rw c.into_iter-span-iterator.ensures.into_iter_gives (rw last.1.found_last at c.in-Apart.ensures)
     in let may : MayIndex c.args.index.now (take (c.args.number - 1) c.args.changes.now) last.0 = rw last.1.found at c.requires.index
     in unindexing-all c.args.index.now c.loop-span.index (take (c.args.number - 1) c.args.changes.now) last.0 c.args.number (spans_apart c.into_iter-span-iterator.result) (spans_apart c.loop-span.span-iterator)
     c.in-None.ensures.steps.0 last.1.count spans may c.loop-span.invariant

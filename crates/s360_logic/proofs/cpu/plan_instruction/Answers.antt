@@ -1,4 +1,4 @@
-use Rattle.std.proofs.Common.{◌≡◌, Some, rules}
+use Rattle.std.proofs.Common.{◌≡◌, Some}
 use Rattle.s360_model.specs.Psw.{instruction_address_of}
 use Rattle.s360_fixed.specs.ProgramCodes.{program_code}
 use Rattle.s360_fixed.specs.View.{core_with}

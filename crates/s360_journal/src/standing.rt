@@ -1,0 +1,48 @@
+//! How an event comes to stand whose change was appended.
+ghost use Rattle.std.specs.Prelude.{◌≡◌, ◌<◌, ◌-◌, ◌++◌, ◌∷◌, [], length, slice_get, take, IfSome, OnErr, OnOk};
+ghost use Rattle.s360_machine.specs.Change.{CanSwap, HasRoom};
+ghost use Rattle.s360_journal.specs.Indexed.{IsIndexOf};
+ghost use Rattle.s360_journal.specs.Advances.{IsMade};
+
+use crate::events::Events;
+use crate::indexing::{index_last, unindex_last};
+use s360_index::Index;
+use s360_machine::{Event, Machine, Packed};
+use std::alloc::AllocError;
+
+/// Lets an event stand whose change is the last of the changes, for which the machine has room, and makes the change. Want
+/// of memory takes the change out of the list again.
+#[inline(always)]
+pub(crate) fn stand(
+    machine: &mut Machine,
+    events: &mut Events,
+    changes: &mut Packed,
+    index: &mut Index,
+    event: Event,
+) -> Result<(), AllocError>
+    requires some { 0 < length changes.old }
+    requires index { IsIndexOf index.old (take (length changes.old - 1) changes.old) }
+    requires can { IfSome (slice_get changes.old (length changes.old - 1)) (λ x. CanSwap machine.old.whole x) }
+    requires room { IfSome (slice_get changes.old (length changes.old - 1)) (λ x. HasRoom machine.old.spare x) }
+    ensures events { OnOk result (events.new ≡ events.old ++ event ∷ []) }
+    ensures index { OnOk result (IsIndexOf index.new changes.new) }
+    ensures made { OnOk result (IsMade machine.old.whole machine.new.whole changes.old changes.new) }
+    ensures err_machine { OnErr result (machine.new ≡ machine.old) }
+    ensures err_events { OnErr result (events.new ≡ events.old) }
+    ensures err_changes { OnErr result (changes.new ≡ take (length changes.old - 1) changes.old) }
+    ensures err_index { OnErr result (IsIndexOf index.new changes.new) }
+{
+    let count = changes.len();
+    if index_last(index, changes, count).is_err() {
+        changes.drop_last();
+        return Err(AllocError);
+    }
+    if events.push(event).is_err() {
+        unindex_last(index, changes, count);
+        changes.drop_last();
+        return Err(AllocError);
+    }
+    // Nothing can fail from here on.
+    changes.swap_last(machine);
+    Ok(())
+}
