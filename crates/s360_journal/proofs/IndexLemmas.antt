@@ -386,6 +386,15 @@ AreSpans-parts (s ∷ ss) ts h = let parts : AreSpans ss × AreSpans ts = AreSpa
 pub within-spans : (ss ts : List Span) (x : Change) → AreSpansOf (ss ++ ts) x → AreSpans ss × AreSpans ts
 within-spans ss ts x h = AreSpans-parts ss ts h.whole
 
+pub index-all : (g h : Histories) (xs ys : List Change) (x : Change) (k : ℕ) (ss : List Span) → ys ≡ xs ++ x ∷ [] → k ≡ length xs + 1 → AreSpansOf ss x → IsIndexOf g xs → Gains k (places_of_spans ss) g h → IsIndexOf h ys
+index-all g h xs ys x k ss is count spans whole a = rw is (index-whole g h xs x (places_of_spans ss) spans.places whole (rw count at a))
+
+pub index-some : (g h : Histories) (xs : List Change) (x : Change) (k : ℕ) (ss : List Span) → k ≡ length xs + 1 → AreSpansOf ss x → IsIndexOf g xs → GainsInPart k (places_of_spans ss) g h → MayIndex h xs x
+index-some g h xs x k ss count spans whole a = index-part g h xs x (places_of_spans ss) [] (append-nil (places_of_spans ss) ∙ spans.places) whole (rw count at a)
+
+pub unindex-all : (g h : Histories) (xs : List Change) (x : Change) (k : ℕ) (ss : List Span) → k ≡ length xs + 1 → AreSpansOf ss x → MayIndex g xs x → Loses k (places_of_spans ss) g h → IsIndexOf h xs
+unindex-all g h xs x k ss count spans may a = index-before g h xs x (places_of_spans ss) spans.places may (rw count at a)
+
 pub index-within : (g h i : Histories) (xs ys : List Change) (x : Change) (k : ℕ) (ss ts : List Span) → ys ≡ xs ++ x ∷ [] → k ≡ length xs + 1 → AreSpansOf (ss ++ ts) x → IsIndexOf g xs
     → Gains k (places_of_spans ss) g h → Gains k (places_of_spans ts) h i → IsIndexOf i ys
 index-within g h i xs ys x k ss ts is count spans whole a b =

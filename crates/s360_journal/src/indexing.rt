@@ -2,35 +2,35 @@
 ghost use Rattle.std.specs.Prelude.{◌≡◌, ◌<◌, ◌-◌, length, slice_get, take, IfSome, OnErr, OnOk};
 ghost use Rattle.s360_store.specs.Spans.{AreSpans, places_of_spans};
 ghost use Rattle.s360_index.specs.Histories.{Gains, GainsInPart, Loses};
-ghost use Rattle.s360_machine.specs.ChangeSpans.{span_if_any};
+ghost use Rattle.s360_machine.specs.ChangeSpans.{spans_within};
 ghost use Rattle.s360_journal.specs.Indexed.{IsIndexOf, MayIndex};
 
 use s360_index::Index;
-use s360_machine::{ChangeSpans, Packed};
-use s360_store::Span;
+use s360_machine::{ChangeSpans, Packed, SpansWithin};
+use s360_store::{Place, Span};
 use std::alloc::AllocError;
 
-/// Puts a number at the places of a span, if there is one. Want of memory leaves it at some of them.
-#[inline(always)]
-fn put_if_any(index: &mut Index, span: Option<Span>, number: u32) -> Result<(), AllocError>
-    requires { AreSpans (span_if_any span) }
-    ensures ok { OnOk result (Gains number (places_of_spans (span_if_any span)) index.old index.new) }
-    ensures err { OnErr result (GainsInPart number (places_of_spans (span_if_any span)) index.old index.new) }
-{
-    match span {
-        Some(span) => index.put(span, number),
-        None => Ok(()),
-    }
-}
+/// The span of the PSW.
+pub(crate) const PSW: Span = Span::Place(Place::Psw);
 
-/// Takes a number from the places of a span, if there is one, where it stands there. It takes no memory.
+/// Puts a number at the places of a change that stands within its row. Want of memory leaves it at some of them.
 #[inline(always)]
-fn take_if_any(index: &mut Index, span: Option<Span>, number: u32)
-    requires { AreSpans (span_if_any span) }
-    ensures { Loses number (places_of_spans (span_if_any span)) index.old index.new }
+fn put_within(index: &mut Index, spans: SpansWithin, number: u32) -> Result<(), AllocError>
+    requires { AreSpans (spans_within spans) }
+    ensures ok { OnOk result (Gains number (places_of_spans (spans_within spans)) index.old index.new) }
+    ensures err { OnErr result (GainsInPart number (places_of_spans (spans_within spans)) index.old index.new) }
 {
-    if let Some(span) = span {
-        index.take(span, number);
+    match spans {
+        SpansWithin::Nothing => Ok(()),
+        SpansWithin::Psw => index.put(PSW, number),
+        SpansWithin::Register(register) => {
+            index.put(PSW, number)?;
+            index.put(Span::Place(Place::Register(register)), number)
+        }
+        SpansWithin::Bytes { address, count } => {
+            index.put(PSW, number)?;
+            index.put(Span::Bytes { address, count }, number)
+        }
     }
 }
 
@@ -44,10 +44,7 @@ fn put_last(index: &mut Index, changes: &Packed, number: u32) -> Result<(), Allo
     ensures err { OnErr result (IfSome (slice_get changes.now (number - 1)) (λ x. MayIndex index.new (take (number - 1) changes.now) x)) }
 {
     match changes.last_spans() {
-        ChangeSpans::Within(first, second) => {
-            put_if_any(index, first, number)?;
-            put_if_any(index, second, number)
-        }
+        ChangeSpans::Within(spans) => put_within(index, spans, number),
         ChangeSpans::Apart(spans) => {
             for span in spans {
                 index.put(span, number)?;
@@ -66,9 +63,15 @@ pub(crate) fn unindex_last(index: &mut Index, changes: &Packed, number: u32)
     ensures { IsIndexOf index.new (take (number - 1) changes.now) }
 {
     match changes.last_spans() {
-        ChangeSpans::Within(first, second) => {
-            take_if_any(index, first, number);
-            take_if_any(index, second, number);
+        ChangeSpans::Within(SpansWithin::Nothing) => {}
+        ChangeSpans::Within(SpansWithin::Psw) => index.take(PSW, number),
+        ChangeSpans::Within(SpansWithin::Register(register)) => {
+            index.take(PSW, number);
+            index.take(Span::Place(Place::Register(register)), number);
+        }
+        ChangeSpans::Within(SpansWithin::Bytes { address, count }) => {
+            index.take(PSW, number);
+            index.take(Span::Bytes { address, count }, number);
         }
         ChangeSpans::Apart(spans) => {
             for span in spans {

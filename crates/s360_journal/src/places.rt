@@ -8,7 +8,8 @@ ghost use Rattle.s360_machine.specs.ChangeSpans.{spans_of};
 ghost use Rattle.s360_store.specs.Spans.{AreSpans, places_of_spans};
 ghost use Rattle.s360_journal.specs.SpanLists.{spans_listed};
 
-use s360_machine::{ChangeSpans, Packed};
+use crate::indexing::PSW;
+use s360_machine::{ChangeSpans, Packed, SpansWithin};
 use s360_store::{Place, Span};
 use std::alloc::{AllocError, Global};
 use std::marker::Model;
@@ -16,8 +17,8 @@ use std::marker::Model;
 /// Spans, in their order.
 #[derive(Debug, Drop)]
 enum SpanList {
-    /// Two, one or none, as most changes have.
-    Within(Option<Span>, Option<Span>),
+    /// Those of a change that stands within its row, as most do.
+    Within(SpansWithin),
     /// Any number.
     Apart(Vec<Span>),
 }
@@ -66,7 +67,7 @@ impl SpanList {
         ensures { IfOk result (λ list. spans_listed list ≡ spans_of spans.entry) }
     {
         match spans {
-            ChangeSpans::Within(first, second) => Ok(SpanList::Within(first, second)),
+            ChangeSpans::Within(spans) => Ok(SpanList::Within(spans)),
             ChangeSpans::Apart(apart) => Ok(SpanList::Apart(apart.collect(alloc)?)),
         }
     }
@@ -77,11 +78,16 @@ impl SpanList {
         ensures { result ≡ slice_get (places_of_spans (spans_listed self.now)) i }
     {
         match self {
-            SpanList::Within(None, None) => None,
-            SpanList::Within(Some(span), None) | SpanList::Within(None, Some(span)) => {
-                place_at(&[*span], i)
+            SpanList::Within(SpansWithin::Nothing) => None,
+            SpanList::Within(SpansWithin::Psw) => place_at(&[PSW], i),
+            SpanList::Within(SpansWithin::Register(register)) => {
+                let register = Span::Place(Place::Register(*register));
+                place_at(&[PSW, register], i)
             }
-            SpanList::Within(Some(first), Some(second)) => place_at(&[*first, *second], i),
+            SpanList::Within(SpansWithin::Bytes { address, count }) => {
+                let (address, count) = (*address, *count);
+                place_at(&[PSW, Span::Bytes { address, count }], i)
+            }
             SpanList::Apart(spans) => place_at(spans, i),
         }
     }
@@ -97,7 +103,7 @@ impl Places {
         let number = changes.len();
         let count = if number == 0 { 0 } else { changes.last_count() };
         if count == 0 {
-            let spans = SpanList::Within(None, None);
+            let spans = SpanList::Within(SpansWithin::Nothing);
             return Ok(Places { spans, count });
         }
         let spans = SpanList::of(alloc, changes.last_spans())?;

@@ -250,9 +250,7 @@ impl Session {
         if let Some(refusal) = self.refusal(&event) {
             return Err(refusal);
         }
-        let changes = self.machine.plan(&event)?;
-        self.machine.room(&changes)?;
-        self.changes.append(changes)?;
+        self.changes.append_event(&mut self.machine, &event)?;
         stand(
             &mut self.machine,
             &mut self.events,

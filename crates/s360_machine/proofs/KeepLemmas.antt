@@ -63,7 +63,7 @@ keeping-none m old a new = record {
   kept = λ plan h k. rw (append-nil plan, append-nil old) k;
 }
 
-none-waits : (a : ℕ) (new : List ℕ) (at : ℕ) → at ≤ length new → waiting a new at at ≡ []
+pub none-waits : (a : ℕ) (new : List ℕ) (at : ℕ) → at ≤ length new → waiting a new at at ≡ []
 none-waits a new at l =
     let count : length (take at new) ≡ at = length-take-le at new l
     in let none : drop at (take at new) ≡ [] = drop_all at (take at new) (omega (arith, count))

@@ -9,6 +9,7 @@ pub mod InterruptionLemmas
 pub mod LoadingLemmas
 mod KnownEvents
 pub mod KeepLemmas
+pub mod RunLemmas
 pub mod SpanLemmas
 pub mod PackedLemmas
 pub mod StretchLemmas

@@ -1,12 +1,12 @@
 -- Changes in rows, with lists of what stands apart.
-use Rattle.std.proofs.Common.{subst, ◌≡◌, ◌<◌, ◌≤◌, ◌+◌, ◌-◌, ◌++◌, ◌∙◌, ℕ, zero, suc, List, [], ◌∷◌, refl, ap, sym, take, drop, set, get_or, length, reverse, arith, Some, None, append-nil, Option, Bool, true, false}
+use Rattle.std.proofs.Common.{subst, ◌≡◌, ◌<◌, ◌≤◌, ◌+◌, ◌-◌, ◌^◌, ◌++◌, ◌∙◌, ℕ, zero, suc, List, [], ◌∷◌, refl, ap, sym, take, drop, set, get_or, length, reverse, arith, Some, None, append-nil, Option, Bool, true, false}
 use Rattle.std.proofs.lemmas.List.{append_assoc, drop-append-le, drop-drop, drop-take, drop_all, drop_at, length-append, length-drop, length-reverse, length-take-le, reverse-append, take-append-drop, take-take, take_all, take_at, take_more}
 use Rattle.std.specs.List.{slice_get}
 use Rattle.std.specs.Prelude.{Err, IfOk, IfSome, Ok, Result}
 use Rattle.std.specs.declared.alloc.AllocError.{AllocError}
 use Rattle.s360_fixed.specs.declared.plain.Plain.{Plain}
 use Rattle.s360_fixed.specs.declared.plain.Plain.TheVariants.{Nothing as nothing, Psw as psw_alone, Register as with_register, Bytes as with_bytes}
-use Rattle.s360_fixed.specs.Plain.{IsFit, bytes_of_plain, cells_of_plain}
+use Rattle.s360_fixed.specs.Plain.{IsFit, bytes_of_plain, cells_of_plain, psw_cell}
 use Rattle.s360_machine.specs.declared.packed.End.{End}
 use Rattle.s360_machine.specs.declared.row.Row.{Row}
 use Rattle.s360_machine.specs.declared.row.Row.TheVariants.{Nothing, Psw, Register, Bytes, More}
@@ -340,6 +340,19 @@ appended-plain old new x h e = record {
   beside = sym (plain-beside x);
   over = over-plain x h;
   change = ap change_of_core (cells-plain x);
+}
+
+-- and one of the PSW and a run
+pub appended-run : (old : Lists) (new : List ℕ) (address psw : ℕ) (bs : List ℕ) → 0 < length bs → address + length bs ≤ 2 ^ 32 → new ≡ old.bytes ++ bs
+    → IsAppended old (lists old.items new old.beside) (Bytes (length bs) address psw) (change_of_core (psw_cell psw ∷ byte_cells address bs))
+appended-run old new address psw bs some inside e = record {
+  own_lists = lists [] bs [];
+  lists_are = same-lists (lists old.items new old.beside) (joined old (lists [] bs [])) (sym (append-nil old.items)) e (sym (append-nil old.beside));
+  items = refl;
+  bytes = refl;
+  beside = refl;
+  over = (refl, refl, some, inside);
+  change = refl;
 }
 
 pub appended-bytes : (old : Lists) (new : List ℕ) (x : Plain) (o : Result Row AllocError) → IsFit x → IfOk o (λ row. row ≡ row_of_plain x) → IfOk o (λ row. new ≡ old.bytes ++ bytes_of_plain x)

@@ -9,6 +9,8 @@ use Rattle.s360_machine.specs.declared.beside.Beside.{Beside}
 use Rattle.s360_machine.specs.declared.change_spans.ChangeSpans.{ChangeSpans}
 use Rattle.s360_machine.specs.declared.change_spans.ChangeSpans.TheVariants.{Within, Apart}
 use Rattle.s360_machine.specs.declared.change_spans.SpansApart.{SpansApart}
+use Rattle.s360_machine.specs.declared.change_spans.SpansWithin.{SpansWithin}
+use Rattle.s360_machine.specs.declared.change_spans.SpansWithin.TheVariants.{Nothing as nothing, Psw as psw_alone, Register as with_register, Bytes as with_bytes}
 use Rattle.s360_machine.specs.declared.row.Row.{Row}
 use Rattle.s360_machine.specs.declared.row.Row.TheVariants.{Nothing, Psw, Register, Bytes, More}
 use Rattle.s360_machine.specs.Beside.{places_of_beside}
@@ -22,9 +24,11 @@ spans_of_row (Register r word psw) = OnePlace psw_place ∷ (OnePlace (register_
 spans_of_row (Bytes count address psw) = OnePlace psw_place ∷ (ByteSpan address count ∷ [])
 spans_of_row (More beside items bytes count) = []
 
-abbrev pub span_if_any : Option Span → List Span
-span_if_any None = []
-span_if_any (Some s) = s ∷ []
+abbrev pub spans_within : SpansWithin → List Span
+spans_within nothing = []
+spans_within psw_alone = OnePlace psw_place ∷ []
+spans_within (with_register r) = OnePlace psw_place ∷ (OnePlace (register_place r) ∷ [])
+spans_within (with_bytes address count) = OnePlace psw_place ∷ (ByteSpan address count ∷ [])
 
 -- those beside the core, from one on, each a place
 abbrev pub spans_beside : Option Beside → ℕ → List Span
@@ -36,7 +40,7 @@ abbrev pub spans_apart : SpansApart → List Span
 spans_apart s = map (λ i. span_of_item i) s.items.now ++ spans_beside (option_copied s.beside) s.past
 
 abbrev pub spans_of : ChangeSpans → List Span
-spans_of (Within first second) = span_if_any first ++ span_if_any second
+spans_of (Within w) = spans_within w
 spans_of (Apart s) = spans_apart s
 
 -- they have just the places of the change

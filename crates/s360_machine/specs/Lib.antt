@@ -16,6 +16,7 @@ pub mod IoChanges
 pub mod Beside
 pub mod Change
 pub mod Rows
+pub mod AlteredRuns
 pub mod ChangeSpans
 pub mod Stretches
 pub mod Changes

@@ -1,5 +1,5 @@
 -- What a plan and a change make of a machine.
-use Rattle.std.specs.Prelude.{◌≡◌, Option, List}
+use Rattle.std.specs.Prelude.{◌≡◌, ◌++◌, ◌∷◌, [], Option, List}
 use Rattle.s360_model.specs.Exchanges.{CanIfAny, after_if_any, back_if_any, need_if_any}
 use Rattle.s360_store.specs.declared.place.Cell.{Cell}
 use Rattle.s360_store.specs.Plans.{IsPlanOf}
@@ -12,9 +12,9 @@ use Rattle.s360_machine.specs.declared.media.MediaChange.{MediaChange}
 use Rattle.s360_channel.specs.declared.unit_change.UnitChange.{UnitChange}
 use Rattle.s360_channel.specs.UnitChanges.{IsUnitsChangeTo}
 use Rattle.s360_machine.specs.Differences.{control_differences, differences, media_differences}
-use Rattle.s360_machine.specs.Machine.{Machine, Media, Whole, WholeMedia, Control, seen, seen_media}
+use Rattle.s360_machine.specs.Machine.{Machine, Media, Spare, Whole, WholeMedia, Control, seen, seen_media}
 use Rattle.s360_machine.specs.ControlCells.{HasEachControlOnce, control_after_exchange, places_of_control}
-use Rattle.s360_machine.specs.Change.{Change, CanSwap, NeedsNoRoom, after_swap, change_after_swap, places_of_change}
+use Rattle.s360_machine.specs.Change.{Change, CanSwap, HasRoom, NeedsNoRoom, after_swap, change_after_swap, places_of_change}
 use Rattle.s360_machine.specs.IoChanges.{CanSwapMedia, media_after_swap, media_change_after_swap}
 use Rattle.s360_machine.specs.IoChanges.{media_needs, places_of_media}
 
@@ -65,3 +65,10 @@ pub record IsChangeTo (w : Whole) (x : Change) (n : Machine) : Type 0 where
 pub record IsPlainChangeTo (w : Whole) (x : Plain) (n : Machine) : Type 0 where
   pub fit : IsFit x
   pub change : IsChangeTo w (change_of_core (cells_of_plain x)) n
+
+-- a list has one change more, which makes a machine of which the second is seen, and has room for it
+pub record AppendsChangeTo (w : Whole) (s : Spare) (xs ys : List Change) (n : Machine) : Type 0 where
+  pub change : Change
+  pub appended : ys ≡ xs ++ change ∷ []
+  pub change_to : IsChangeTo w change n
+  pub room : HasRoom s change

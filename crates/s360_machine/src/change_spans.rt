@@ -2,16 +2,29 @@
 ghost use Rattle.std.specs.Prelude.{◌≡◌, ◌++◌, map};
 ghost use Rattle.std.specs.Option.{option_copied};
 ghost use Rattle.s360_store.specs.Spans.{span_of_item};
-ghost use Rattle.s360_machine.specs.ChangeSpans.{spans_beside, spans_apart};
+ghost use Rattle.s360_machine.specs.ChangeSpans.{spans_apart, spans_beside};
 
 use crate::beside::Beside;
 use s360_store::{Item, Span};
 
+/// The places of a change that stands within its row.
+#[derive(Clone, Copy, Debug)]
+pub enum SpansWithin {
+    /// None.
+    Nothing,
+    /// The PSW.
+    Psw,
+    /// The PSW and a general register, by its number.
+    Register(u8),
+    /// The PSW and so many bytes from an address on, at least one.
+    Bytes { address: u32, count: u32 },
+}
+
 /// The places of a change as spans, in their order.
 #[derive(Clone, Copy, Debug)]
 pub enum ChangeSpans<'a> {
-    /// Two, one or none, as most changes have.
-    Within(Option<Span>, Option<Span>),
+    /// Those of a change that stands within its row, as most do.
+    Within(SpansWithin),
     /// Those of what stands apart from the rows.
     Apart(SpansApart<'a>),
 }

@@ -45,11 +45,11 @@ impl Model for Core {
 }
 
 /// So many bytes are compared at once.
-const STRIDE: usize = 16;
+pub(crate) const STRIDE: usize = 16;
 
 /// Whether each byte differs from that of the other list. All are compared, which the compiler does at once.
 #[inline(always)]
-fn all_differ(bytes: &[u8], others: &[u8]) -> bool
+pub(crate) fn all_differ(bytes: &[u8], others: &[u8]) -> bool
     requires few { length bytes.now ≡ 16 }
     requires as_many { length others.now ≡ 16 }
     ensures { IsTrue result → (i : ℕ) → i < 16 → slice_index bytes.now i ≢ slice_index others.now i }

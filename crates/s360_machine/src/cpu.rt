@@ -82,6 +82,13 @@ impl Machine {
         self.core.fetch()
     }
 
+    /// An empty plan. It takes no memory.
+    pub(crate) fn new_plan(&self) -> Plan
+        ensures { result ≡ [] }
+    {
+        Plan::new(self.alloc)
+    }
+
     /// What a CPU event alters, if that is a frequent instruction that is completed with no interruption. None is also
     /// where that is not the PSW and little beside it. It takes no memory.
     #[inline(always)]
@@ -144,35 +151,35 @@ impl Machine {
     }
 
     /// What an instruction alters, with the program or the supervisor call interruption that it causes.
-    #[inline(always)]
     fn changes_of_instruction(&self) -> Result<Changes, AllocError>
         ensures { IfOk result (λ changes. IsChangeTo self.now.whole changes (after_instruction (seen self.now.whole))) }
     {
         let fetched = self.core.fetch();
-        match self.altered_by(&fetched) {
-            Some(plain) => Ok(Changes::of_core(plain)),
-            // Put together anew, so that what a call stores to is not where a plain change is: that stays in registers.
-            None => Ok(self.changes_of_plan(&fetched)?),
+        if let Some(plain) = self.altered_by(&fetched) {
+            return Ok(Changes::of_core(plain));
         }
-    }
-
-    /// What an instruction alters that is planned. It stands apart, since few instructions are.
-    #[inline(never)]
-    fn changes_of_plan(
-        &self,
-        fetched: &Result<Fetched<'_>, ProgramCode>,
-    ) -> Result<Changes, AllocError>
-        requires fetched { IfOk fetched.now (λ f. f.view.core ≡ self.now.whole.core) }
-        ensures { IfOk result (λ changes. IsChangeTo self.now.whole changes (after_instruction (seen self.now.whole))) }
-    {
         let mut plan = Plan::new(self.alloc);
-        let planned = self.core.plan_fetched(fetched, &mut plan)?;
-        let planned = self.plan_ended(planned, &mut plan)?;
+        let planned = self.plan_fetched(&fetched, &mut plan)?;
         self.changes_planned(&plan, planned)
     }
 
+    /// The plan of an instruction, if it was fetched or not, and of the program or the supervisor call interruption that it
+    /// causes.
+    pub(crate) fn plan_fetched(
+        &self,
+        fetched: &Result<Fetched<'_>, ProgramCode>,
+        plan: &mut Plan,
+    ) -> Result<PlannedEvent, AllocError>
+        requires fetched { IfOk fetched.now (λ f. f.view.core ≡ self.now.whole.core) }
+        requires empty { plan.old ≡ [] }
+        ensures { IfOk result (λ planned. IsPlanOfMachine self.now.whole plan.new planned (after_instruction (seen self.now.whole))) }
+    {
+        let planned = self.core.plan_fetched(fetched, plan)?;
+        self.plan_ended(planned, plan)
+    }
+
     /// What an instruction alters, where it is completed with no interruption and its change has that within itself.
-    fn altered_by(&self, fetched: &Result<Fetched<'_>, ProgramCode>) -> Option<Plain>
+    pub(crate) fn altered_by(&self, fetched: &Result<Fetched<'_>, ProgramCode>) -> Option<Plain>
         requires fetched { IfOk fetched.now (λ f. f.view.core ≡ self.now.whole.core) }
         ensures { IfSome result (λ x. IsPlainChangeTo self.now.whole x (after_instruction (seen self.now.whole))) }
     {

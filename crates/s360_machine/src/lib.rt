@@ -5,6 +5,7 @@
 //! Operations" and "System Control Panel".
 #![tactic(auto)]
 
+mod altered_run;
 mod beside;
 mod change_spans;
 mod changes;
@@ -28,7 +29,7 @@ mod row;
 mod run_state;
 mod timer;
 
-pub use change_spans::{ChangeSpans, SpansApart};
+pub use change_spans::{ChangeSpans, SpansApart, SpansWithin};
 pub use changes::Changes;
 pub use cpu::CpuCase;
 pub use event::{Event, Patch};

@@ -278,7 +278,7 @@ impl Machine {
 
     /// What an event alters, unless it is refused for its own sake (refusals 2 to 5).
     #[inline(always)]
-    fn changes_of(&self, event: &Event) -> Result<Changes, AllocError>
+    pub(crate) fn changes_of(&self, event: &Event) -> Result<Changes, AllocError>
         requires accepted { refusal_of (storage_size (seen self.now.whole)) event.now ≡ None }
         ensures { IfOk result (λ changes. IsChangeTo self.now.whole changes (after (seen self.now.whole) event.now)) }
     {

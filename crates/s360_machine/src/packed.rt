@@ -1,6 +1,6 @@
 //! The changes of the journal, in little memory: a row of 16 bytes for each, all bytes of storage that they alter in one
 //! buffer, and what is rarer in lists apart.
-ghost use Rattle.std.specs.Prelude.{◌≡◌, ◌<◌, ◌≤◌, ◌-◌, ◌++◌, ◌∷◌, [], false, true, length, reverse, slice_get, slice_set, take, vec_capacity, vec_len, IfOk, IfSome, IsTrue, OnErr, OnOk, box_value};
+ghost use Rattle.std.specs.Prelude.{◌≡◌, ◌<◌, ◌≤◌, ◌-◌, ◌++◌, ◌∷◌, [], false, true, length, reverse, slice_get, slice_set, take, vec_capacity, vec_len, Err, IfOk, IfSome, IsOkUnless, IsTrue, MatchOption, OnErr, OnOk, box_value};
 ghost use Rattle.s360_store.specs.Cells.{AllFit};
 ghost use Rattle.s360_machine.specs.Beside.{IsNothing};
 ghost use Rattle.s360_machine.specs.Change.{CanSwap, Change, HasRoom, change_after_swap, places_of_change};
@@ -9,11 +9,22 @@ ghost use Rattle.s360_fixed.specs.Plain.{IsFit, bytes_of_plain, cells_of_plain};
 ghost use Rattle.s360_machine.specs.Changes.{AreFit, change_of, change_of_core, change_of_parts};
 ghost use Rattle.s360_machine.specs.Packed.{ArePacked, HasBefore, IsAppended, IsEnd, IsOwnOf, IsSwapOf, bytes_of_changes, end_before, last_stretches, lists};
 ghost use Rattle.s360_machine.specs.Rows.{IsOver, row_of_plain};
+ghost use Rattle.s360_machine.specs.AlteredRuns.{IsRunFit, cells_of_run};
+ghost use Rattle.s360_machine.specs.Cpu.{after_instruction};
+ghost use Rattle.s360_machine.specs.Machine.{seen, storage_size};
+ghost use Rattle.s360_machine.specs.Planned.{AppendsChangeTo};
+ghost use Rattle.s360_machine.specs.Refusals.{refusal_of};
+ghost use Rattle.s360_machine.specs.Step.{after};
+ghost use Rattle.s360_machine.specs.declared.refusal.Refusal.TheVariants.{Memory};
 
+use crate::altered_run::AlteredRun;
 use crate::beside::Beside;
 use crate::change_spans::{ChangeSpans, SpansApart};
 use crate::changes::{Changes, Full, Parts};
+use crate::cpu::CpuCase;
+use crate::event::Event;
 use crate::machine::Machine;
+use crate::refusal::Refusal;
 use crate::row::Row;
 use s360_fixed::Plain;
 use s360_store::{Item, Place};
@@ -96,7 +107,7 @@ impl<'a> Own<'a> {
             Row::More { .. } => {
                 ChangeSpans::Apart(SpansApart::of(self.items, self.beside.first()))
             }
-            row => row.spans(),
+            row => ChangeSpans::Within(row.spans()),
         }
     }
 }
@@ -281,6 +292,82 @@ impl Packed {
         Ok(())
     }
 
+    /// Adds a change of the PSW and one run of bytes at the end. Want of memory leaves the list as it was.
+    #[inline(always)]
+    fn append_run(&mut self, run: AlteredRun<'_>) -> Result<(), AllocError>
+        requires few { length self.old < 10000000 }
+        requires fit { IsRunFit run }
+        ensures ok { OnOk result (self.new ≡ self.old ++ change_of_core (cells_of_run run.entry) ∷ []) }
+        ensures err { OnErr result (self.new ≡ self.old) }
+    {
+        self.rows.reserve(1)?;
+        self.bytes.extend_from_slice(run.bytes)?;
+        self.rows.push_reserved(Row::Bytes {
+            count: run.bytes.len() as u16,
+            address: run.address,
+            psw: run.psw,
+        });
+        Ok(())
+    }
+
+    /// Adds what a machine plans and makes room for at the end. Want of memory leaves the list as it was.
+    fn append_changes(&mut self, machine: &mut Machine, changes: Changes) -> Result<(), AllocError>
+        requires few { length self.old < 10000000 }
+        ensures ok { OnOk result (self.new ≡ self.old ++ changes ∷ []) }
+        ensures room { OnOk result (HasRoom machine.new.spare changes) }
+        ensures err { OnErr result (self.new ≡ self.old) }
+        ensures whole { machine.new.whole ≡ machine.old.whole }
+    {
+        machine.room(&changes)?;
+        self.append(changes)
+    }
+
+    /// Adds what an instruction alters at the end, with the interruption that it causes. Want of memory leaves the list as
+    /// it was.
+    fn append_instruction(&mut self, machine: &mut Machine) -> Result<(), AllocError>
+        requires few { length self.old < 10000000 }
+        ensures ok { OnOk result (AppendsChangeTo machine.old.whole machine.new.spare self.old self.new (after_instruction (seen machine.old.whole))) }
+        ensures err { OnErr result (self.new ≡ self.old) }
+        ensures whole { machine.new.whole ≡ machine.old.whole }
+    {
+        let fetched = machine.fetch();
+        if let Some(plain) = machine.altered_by(&fetched) {
+            return self.append_plain(plain);
+        }
+        let mut plan = machine.new_plan();
+        let planned = machine.plan_fetched(&fetched, &mut plan)?;
+        // Most are such, of which no change is made.
+        if let Some(run) = machine.altered_run(&plan, &planned) {
+            return self.append_run(run);
+        }
+        let changes = machine.changes_planned(&plan, planned)?;
+        self.append_changes(machine, changes)
+    }
+
+    /// Adds what an event alters at the end, for which it makes room in the machine, or says why it is refused. Want of
+    /// memory leaves the list as it was.
+    pub fn append_event(&mut self, machine: &mut Machine, event: &Event) -> Result<(), Refusal>
+        requires few { length self.old < 10000000 }
+        ensures ok { OnOk result (AppendsChangeTo machine.old.whole machine.new.spare self.old self.new (after (seen machine.old.whole) event.now)) }
+        ensures refused { MatchOption (refusal_of (storage_size (seen machine.old.whole)) event.now) (IsOkUnless result Memory) (λ r. result ≡ Err r) }
+        ensures err { OnErr result (self.new ≡ self.old) }
+        ensures whole { machine.new.whole ≡ machine.old.whole }
+    {
+        if let Some(refusal) = machine.refusal(event) {
+            return Err(refusal);
+        }
+        match event {
+            Event::Cpu if machine.cpu_case() == CpuCase::Executing => {
+                self.append_instruction(machine)?;
+            }
+            _ => {
+                let changes = machine.changes_of(event)?;
+                self.append_changes(machine, changes)?;
+            }
+        }
+        Ok(())
+    }
+
     /// Exchanges the values of the last change with those at its places, for which the machine has room. It takes no
     /// memory.
     #[inline(always)]
@@ -342,7 +429,7 @@ impl Packed {
         let number = self.rows.as_slice().len();
         let row = &self.rows[number - 1];
         if row.is_within() {
-            row.spans()
+            ChangeSpans::Within(row.spans())
         } else {
             self.spans(number as u32)
         }

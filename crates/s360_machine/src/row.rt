@@ -4,15 +4,15 @@ ghost use Rattle.std.specs.Prelude.{None, ◌≡◌, ◌<◌, ◌≤◌, ℕ, []
 ghost use Rattle.s360_store.specs.Cells.{places_of_cells};
 ghost use Rattle.s360_store.specs.declared.items.Item.{Item as AnItem};
 ghost use Rattle.s360_fixed.specs.Plain.{IsFit, bytes_of_plain};
-ghost use Rattle.s360_machine.specs.ChangeSpans.{spans_of, spans_of_row};
+ghost use Rattle.s360_machine.specs.ChangeSpans.{spans_of_row, spans_within};
 ghost use Rattle.s360_machine.specs.Rows.{ArePartsOf, HasNoMore, IsOver, row_of_plain, beside_of_row, bytes_of_row, cells_of_row, items_of_row};
 ghost use Rattle.s360_store.specs.Items.{cells_of_items};
 ghost use Rattle.s360_machine.specs.Stretches.{begun_by, next_after, stretches};
 
-use crate::change_spans::ChangeSpans;
+use crate::change_spans::SpansWithin;
 use s360_fixed::Plain;
 use s360_psw::Psw;
-use s360_store::{Item, Place, Span, part_at};
+use s360_store::{Item, Place, part_at};
 use s360_word::{RegisterNumber, Word};
 
 /// What an event alters. Each variant has its smallest fields first, so that none takes more than 16 bytes.
@@ -80,24 +80,20 @@ impl Row {
         !matches!(self, Row::More { .. })
     }
 
-    /// Its places as spans.
+    /// Its places.
     #[inline(always)]
-    pub(crate) fn spans(&self) -> ChangeSpans<'static>
+    pub(crate) fn spans(&self) -> SpansWithin
         requires { HasNoMore self.now }
-        ensures { spans_of result ≡ spans_of_row self.now }
+        ensures { spans_within result ≡ spans_of_row self.now }
     {
-        let psw = Some(Span::Place(Place::Psw));
         match self {
-            Row::Nothing => ChangeSpans::Within(None, None),
-            Row::Psw(_) => ChangeSpans::Within(psw, None),
-            Row::Register { register, .. } => {
-                let register = Span::Place(Place::Register(register.number()));
-                ChangeSpans::Within(psw, Some(register))
-            }
-            Row::Bytes { count, address, .. } => {
-                let (address, count) = (*address, u32::from(*count));
-                ChangeSpans::Within(psw, Some(Span::Bytes { address, count }))
-            }
+            Row::Nothing => SpansWithin::Nothing,
+            Row::Psw(_) => SpansWithin::Psw,
+            Row::Register { register, .. } => SpansWithin::Register(register.number()),
+            Row::Bytes { count, address, .. } => SpansWithin::Bytes {
+                address: *address,
+                count: u32::from(*count),
+            },
             Row::More { .. } => unreachable!(),
         }
     }

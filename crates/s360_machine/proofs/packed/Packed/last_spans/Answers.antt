@@ -1,6 +1,6 @@
 use Rattle.std.proofs.Common.{◌≡◌, ◌-◌, [], List, refl, sym, ap, subst, arith, length}
 use Rattle.s360_machine.specs.declared.row.Row.{Row}
-use Rattle.s360_machine.specs.ChangeSpans.{AreSpansOf, spans_of}
+use Rattle.s360_machine.specs.ChangeSpans.{AreSpansOf, spans_of, spans_within}
 use Rattle.s360_machine.specs.Changes.{change_of_core}
 use Rattle.s360_machine.specs.Packed.{Lists, lists, newest}
 use Rattle.s360_machine.specs.Rows.{HasNoMore, bytes_of_row, cells_of_row}
@@ -22,7 +22,7 @@ returns-then-is_within c =
     in let here : LastIs rows ls r (length c.as_slice-number.result.now)
     = last-is rows c.as_slice-number.result.now ls c.args.self.now r c.self.view_is c.self.invariant.0 c.requires.some c.as_slice-number.ensures.value c.index-row.ensures within
     in let bs = newest (bytes_of_row r) ls.bytes
-    in of-last rows ls c.args.self.now (λ x. AreSpansOf (spans_of c.spans.result) x) (change_of_core (cells_of_row r [] bs)) c.self.view_is here.there.change
+    in of-last rows ls c.args.self.now (λ x. AreSpansOf (spans_within c.spans.result) x) (change_of_core (cells_of_row r [] bs)) c.self.view_is here.there.change
     (rw c.spans.ensures (within-own r [] bs [] (change_of_core (cells_of_row r [] bs)) within here.there.over (sym (within-beside r within)) refl))
 
 pub spans-requires-else-is_within-clause-inside : goal.spans-requires-else-is_within-clause-inside

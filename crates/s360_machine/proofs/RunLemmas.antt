@@ -1,0 +1,124 @@
+-- Bytes that differ from what stands there in one run.
+use Rattle.std.proofs.Common.{◌≡◌, ◌≢◌, ◌<◌, ◌≤◌, ◌+◌, ◌-◌, ◌++◌, ◌∙◌, ◌⊎◌, ℕ, zero, suc, inl, inr, List, [], ◌∷◌, refl, ap, sym, subst, take, drop, get_or, length, append-nil, arith}
+use Rattle.std.proofs.lemmas.Bool.{cases_lt}
+use Rattle.std.proofs.lemmas.List.{drop_all, get_or-drop, get_or-take, length-drop, take_all}
+use Rattle.s360_model.specs.Core.{Core}
+use Rattle.s360_store.specs.declared.place.Cell.{Cell}
+use Rattle.s360_store.specs.Cells.{AreCellsOf, after_exchange, byte_cells, places_of_cells}
+use Rattle.s360_store.specs.Differences.{AreKept, IsCoreChangeTo, KeepsAltering}
+use Rattle.s360_store.specs.Order.{IsAscending}
+use Rattle.s360_store.proofs.ByteCellLemmas.{IsAscending-bytes, length-byte_cells}
+use Rattle.s360_store.proofs.SortLemmas.{IsCoreChangeTo-ascending}
+use Rattle.s360_fixed.specs.Plain.{psw_cell}
+use Rattle.s360_machine.specs.AlteredRuns.{IsOneRun}
+use Rattle.s360_machine.proofs.KeepLemmas.{Keeping, keeping-none, keeping-others, keeping-same, keeps-bytes, none-waits, waiting, waiting-slice}
+
+-- as many first bytes stand there
+pub record SameBefore (stored new : List ℕ) (start : ℕ) : Type 0 where
+  pub within : start ≤ length new
+  pub same : (i : ℕ) → i < start → get_or stored i 0 ≡ get_or new i 0
+
+pub same-none : (stored new : List ℕ) → SameBefore stored new 0
+same-none stored new = record { within = omega arith; same = λ i l. absurd (omega (arith, l)) }
+
+same-at : (stored new : List ℕ) (start i : ℕ) → SameBefore stored new start → get_or stored start 0 ≡ get_or new start 0 → i < start + 1 → (i < start) ⊎ (start ≤ i) → get_or stored i 0 ≡ get_or new i 0
+same-at stored new start i h e l (inl m) = h.same i m
+same-at stored new start i h e l (inr m) = let here : start ≡ i = omega (arith, l, m) in subst (λ k. get_or stored k 0 ≡ get_or new k 0) here e
+
+pub same-more : (stored new : List ℕ) (start : ℕ) → start < length new → SameBefore stored new start → get_or stored start 0 ≡ get_or new start 0 → SameBefore stored new (start + 1)
+same-more stored new start l h e = record { within = omega (arith, l); same = λ i m. same-at stored new start i h e m (cases_lt i start) }
+
+-- those from one place up to another do not
+pub record DifferWithin (stored new : List ℕ) (start end : ℕ) : Type 0 where
+  pub order : start ≤ end
+  pub within : end ≤ length new
+  pub other : (i : ℕ) → start ≤ i → i < end → get_or stored i 0 ≢ get_or new i 0
+
+pub differ-none : (stored new : List ℕ) (start : ℕ) → start ≤ length new → DifferWithin stored new start start
+differ-none stored new start l = record { order = omega arith; within = l; other = λ i m n. absurd (omega (arith, m, n)) }
+
+differ-at : (stored new : List ℕ) (start end n i : ℕ) → DifferWithin stored new start end → ((j : ℕ) → end ≤ j → j < end + n → get_or stored j 0 ≢ get_or new j 0) → start ≤ i → i < end + n
+    → (i < end) ⊎ (end ≤ i) → get_or stored i 0 ≢ get_or new i 0
+differ-at stored new start end n i h more l m (inl k) = h.other i l k
+differ-at stored new start end n i h more l m (inr k) = more i k m
+
+pub differ-more : (stored new : List ℕ) (start end n : ℕ) → end + n ≤ length new → DifferWithin stored new start end → ((j : ℕ) → end ≤ j → j < end + n → get_or stored j 0 ≢ get_or new j 0)
+    → DifferWithin stored new start (end + n)
+differ-more stored new start end n l h more =
+    record { order = omega (arith, h.order); within = l; other = λ i a b. differ-at stored new start end n i h more a b (cases_lt i end) }
+
+pub differ-one : (stored new : List ℕ) (start end : ℕ) → end < length new → DifferWithin stored new start end → get_or stored end 0 ≢ get_or new end 0 → DifferWithin stored new start (end + 1)
+differ-one stored new start end l h other =
+    differ-more stored new start end 1 (omega (arith, l)) h (λ j a b e. let here : j ≡ end = omega (arith, a, b) in other (rw here at e))
+
+-- what is behind both is the same
+pub same-behind : (stored new : List ℕ) (end i : ℕ) → length stored ≡ length new → take (length new - end) (drop end new) ≡ take (length stored - end) (drop end stored) → end ≤ i → i < length new
+    → get_or stored i 0 ≡ get_or new i 0
+same-behind stored new end i count same l m =
+    let sum : end + (i - end) ≡ i = omega (arith, l)
+    in let a : get_or (take (length new - end) (drop end new)) (i - end) 0 ≡ get_or new i 0
+    = get_or-take (length new - end) (drop end new) (i - end) 0 (omega (arith, l, m)) ∙ get_or-drop end new (i - end) 0 ∙ ap (λ k. get_or new k 0) sum
+    in let b : get_or (take (length stored - end) (drop end stored)) (i - end) 0 ≡ get_or stored i 0
+    = get_or-take (length stored - end) (drop end stored) (i - end) 0 (omega (arith, l, m, count)) ∙ get_or-drop end stored (i - end) 0 ∙ ap (λ k. get_or stored k 0) sum
+    in sym b ∙ ap (λ xs. get_or xs (i - end) 0) (sym same) ∙ a
+
+-- the bytes before the run are left
+before-run : (m : Core) (old : List Cell) (a : ℕ) (new : List ℕ) (s e : ℕ) → IsOneRun m.storage.bytes a new s e → (n : ℕ) → n ≤ s → Keeping m old old a new n n
+before-run m old a new s e h zero l = keeping-none m old a new
+before-run m old a new s e h (suc n) l =
+    let on : n + 1 ≡ suc n = omega arith
+    in let nothing : old ≡ old ++ waiting a new n n = sym (ap (λ (cs : List Cell). old ++ cs) (none-waits a new n (omega (arith, l, h.order, h.within))) ∙ append-nil old)
+    in subst (λ k. Keeping m old old a new k k) on
+    (keeping-same m old old old a new n n (omega (arith, l, h.order, h.within)) (before-run m old a new s e h n (omega (arith, l))) (h.before n (omega (arith, l))) nothing)
+
+-- and so are those behind it
+behind-run : (m : Core) (old next : List Cell) (a : ℕ) (new : List ℕ) (s e : ℕ) → IsOneRun m.storage.bytes a new s e → Keeping m old next a new (e + 1) (e + 1) → (n : ℕ) → e + 1 + n ≤ length new
+    → Keeping m old next a new (e + 1 + n) (e + 1 + n)
+behind-run m old next a new s e h k zero l = let none : e + 1 ≡ e + 1 + 0 = omega arith in subst (λ j. Keeping m old next a new j j) none k
+behind-run m old next a new s e h k (suc n) l =
+    let on : e + 1 + n + 1 ≡ e + 1 + suc n = omega arith
+    in let nothing : next ≡ next ++ waiting a new (e + 1 + n) (e + 1 + n) = sym (ap (λ (cs : List Cell). next ++ cs) (none-waits a new (e + 1 + n) (omega (arith, l))) ∙ append-nil next)
+    in subst (λ j. Keeping m old next a new j j) on
+    (keeping-same m old next next a new (e + 1 + n) (e + 1 + n) (omega (arith, l)) (behind-run m old next a new s e h k n (omega (arith, l))) (h.behind (e + 1 + n) (omega arith) (omega (arith, l))) nothing)
+
+abbrev pub run_of : List ℕ → ℕ → ℕ → List ℕ
+run_of new s e = take (e - s) (drop s new)
+
+run-kept : (m : Core) (old : List Cell) (a : ℕ) (new : List ℕ) (s e : ℕ) → IsOneRun m.storage.bytes a new s e → Keeping m old old a new s e → (e < length new) ⊎ (length new ≤ e)
+    → KeepsAltering m (byte_cells a new) old (old ++ byte_cells (a + s) (run_of new s e))
+run-kept m old a new s e h k (inr l) =
+    let all : run_of new s e ≡ drop s new = take_all (e - s) (drop s new) (omega (arith, l, length-drop s new))
+    in keeps-bytes m old old (old ++ byte_cells (a + s) (run_of new s e)) a new s e l k (ap (λ bs. old ++ byte_cells (a + s) bs) all)
+run-kept m old a new s e h k (inl l) =
+    let next : List Cell = old ++ byte_cells (a + s) (run_of new s e)
+    in let added : next ≡ old ++ waiting a new s e = ap (λ bs. old ++ byte_cells (a + s) bs) (waiting-slice new s e h.order)
+    in let one : Keeping m old next a new (e + 1) (e + 1) = keeping-same m old old next a new s e l k (h.behind e (omega arith) l) added
+    in let end : e + 1 + (length new - (e + 1)) ≡ length new = omega (arith, l)
+    in let all : Keeping m old next a new (length new) (length new) = subst (λ j. Keeping m old next a new j j) end (behind-run m old next a new s e h one (length new - (e + 1)) (omega (arith, l)))
+    in let none : drop (length new) new ≡ [] = drop_all (length new) new (omega arith)
+    in keeps-bytes m old next next a new (length new) (length new) (omega arith) all (sym (ap (λ bs. next ++ byte_cells (a + length new) bs) none ∙ append-nil next))
+
+-- so the PSW and the run are the change
+pub alters-run : (m : Core) (psw a : ℕ) (new : List ℕ) (s e : ℕ) → m.psw ≢ psw → AreCellsOf m (psw_cell psw ∷ byte_cells a new) → IsOneRun m.storage.bytes a new s e
+    → IsCoreChangeTo m (psw_cell psw ∷ byte_cells (a + s) (run_of new s e)) (after_exchange m (psw_cell psw ∷ byte_cells a new))
+alters-run m psw a new s e p cells h =
+    let first : List Cell = psw_cell psw ∷ []
+    in let sum : s + (e - s) ≡ e = omega (arith, h.order)
+    in let within : Keeping m first first a new s e
+    = subst (λ k. Keeping m first first a new s k) sum
+    (keeping-others m first first a new s s (e - s) (omega (arith, h.order, h.within)) (before-run m first a new s e h s (omega arith)) (λ i l. h.inside (s + i) (omega arith) (omega (arith, l))))
+    in let psw_kept : AreKept m first first = record { cells = (cells.0, cells.1, tt, tt); makes = refl; among = λ q f. f; alter = (p, tt) }
+    in let kept : AreKept m (psw_cell psw ∷ byte_cells a new) (psw_cell psw ∷ byte_cells (a + s) (run_of new s e)) = run-kept m first a new s e h within (cases_lt e (length new)) first cells psw_kept
+    in let ascending : IsAscending (places_of_cells (psw_cell psw ∷ byte_cells (a + s) (run_of new s e))) = IsAscending-bytes first (a + s) (run_of new s e) (tt, tt) (inl (omega arith), tt)
+    in IsCoreChangeTo-ascending m (psw_cell psw ∷ byte_cells a new) _ kept ascending
+
+-- a plan that is a cell and a run
+plan-rest : (c first : Cell) (cs : List Cell) (a : ℕ) (new : List ℕ) → c ∷ cs ≡ first ∷ cs → cs ≡ byte_cells a new ++ drop (1 + length (byte_cells a new)) (c ∷ cs) → length new ≡ length cs → c ∷ cs ≡ first ∷ byte_cells a new
+plan-rest c first cs a new here rest count =
+    let none : drop (1 + length (byte_cells a new)) (c ∷ cs) ≡ [] = drop_all (1 + length (byte_cells a new)) (c ∷ cs) (omega (arith, count, length-byte_cells a new))
+    in here ∙ ap (λ ds. first ∷ ds) (rest ∙ ap (λ ds. byte_cells a new ++ ds) none ∙ append-nil (byte_cells a new))
+
+pub plan-of-run : (plan : List Cell) (first : Cell) (a : ℕ) (new : List ℕ) → drop 0 plan ≡ first ∷ drop 1 plan → drop 1 plan ≡ byte_cells a new ++ drop (1 + length (byte_cells a new)) plan → length new + 1 ≡ length plan
+    → plan ≡ first ∷ byte_cells a new
+plan-of-run [] first a new here rest count = absurd (omega (arith, count))
+plan-of-run (c ∷ cs) first a new here rest count = plan-rest c first cs a new here rest (omega (arith, count))
