@@ -51,9 +51,7 @@ fn measure_session<R: Clock + Files>(
     let forward_time = begun.elapsed(rt)?;
     let after = resident_bytes(rt, alloc);
     let begun = Instant::now(rt)?;
-    for _ in 0..events {
-        let _ = session.back();
-    }
+    let _ = session.back_to(session.standing().saturating_sub(events));
     let back_time = begun.elapsed(rt)?;
     let moved_bytes = workload.moved_bytes(events);
     Ok(Measured {

@@ -5,7 +5,7 @@ use Rattle.std.specs.Prelude.{IfSome, OnErr, OnOk}
 use Rattle.std.specs.Result.{is_err}
 use Rattle.std.specs.List.{list_any, slice_get}
 use Rattle.std.proofs.lemmas.List.Folds.{list_any-append}
-use Rattle.std.proofs.lemmas.List.{append_assoc, length-append, length-map, length-reverse, length-set, length-take-le, map_push, reverse-append, reverse-reverse, take_at}
+use Rattle.std.proofs.lemmas.List.{append_assoc, length-append, length-map, length-reverse, length-set, length-take-le, map_push, reverse-append, reverse-reverse, take-set, take_at}
 use Rattle.s360_store.specs.declared.place.Place.{Place}
 use Rattle.s360_store.specs.Places.{same_place}
 use Rattle.s360_store.specs.declared.span.Span.{Span}
@@ -484,3 +484,11 @@ length-swapped w ys zs some swapped =
     let last : (x : Change) × IsLastOf ys (length ys) x = last-of ys (length ys) some refl
     in let new : zs ≡ set ys (length ys - 1) (change_after_swap w last.0) = rw last.1.found at swapped
     in ap length new ∙ length-set ys (length ys - 1) (change_after_swap w last.0)
+
+-- and all changes but the last stay as they were
+pub kept-swapped : (w : Whole) (ys zs : List Change) → 0 < length ys → IfSome (slice_get ys (length ys - 1)) (λ x. zs ≡ set ys (length ys - 1) (change_after_swap w x))
+    → take (length zs - 1) zs ≡ take (length ys - 1) ys
+kept-swapped w ys zs some swapped =
+    let last : (x : Change) × IsLastOf ys (length ys) x = last-of ys (length ys) some refl
+    in let new : zs ≡ set ys (length ys - 1) (change_after_swap w last.0) = rw last.1.found at swapped
+    in ap (λ n. take (n - 1) zs) (length-swapped w ys zs some swapped) ∙ ap (take (length ys - 1)) new ∙ take-set ys (length ys - 1) (change_after_swap w last.0)

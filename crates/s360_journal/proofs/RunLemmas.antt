@@ -1,6 +1,5 @@
 -- A run of calls leaves the start and the limit, and the events that stand by its calls and answers.
-use Rattle.std.proofs.Common.{◌≡◌, ◌-◌, ◌++◌, List, [], ◌∷◌, refl, ap, sym, ◌∙◌, length, length-append, take, arith, Ok, Err, Option, Some, None, Result}
-use Rattle.std.proofs.lemmas.List.{take_at}
+use Rattle.std.proofs.Common.{◌≡◌, ◌-◌, ◌++◌, List, [], ◌∷◌, refl, ap, sym, ◌∙◌, length, take, arith, Ok, Err, Option, Some, None, Result}
 use Rattle.s360_machine.specs.declared.event.Event.{Event}
 use Rattle.s360_journal.specs.declared.calls.Call.{Call}
 use Rattle.s360_journal.specs.declared.calls.Call.TheVariants.{Forward, Back, BackUntil, BackTo, Withdraw, Standing as standing, LastChange}
@@ -13,17 +12,12 @@ use Rattle.s360_journal.specs.declared.report.Report.{Report}
 use Rattle.s360_journal.specs.Reports.{IsReport}
 use Rattle.s360_journal.specs.Standing.{Standing, alteration, refusal_in}
 use Rattle.s360_journal.specs.Calls.{events_after, standing_events, IsAnswer, IsRun}
+use Rattle.s360_journal.proofs.StackLemmas.{take-push}
 
 pub record Leads (s t : Standing) (events : List Event) : Type 0 where
   pub start : t.start ≡ s.start
   pub limit : t.limit ≡ s.limit
   pub stands : t.events ≡ events
-
-take-push : (xs : List Event) (e : Event) → take (length (xs ++ e ∷ []) - 1) (xs ++ e ∷ []) ≡ xs
-take-push xs e =
-    let count : length (xs ++ e ∷ []) - 1 ≡ length xs = omega (arith, length-append xs (e ∷ []))
-    in let same : length xs ≡ length xs = refl
-    in rw count (rw take_at refl)
 
 pub empty_from : (cs : List Call) → length cs ≡ 0 → cs ≡ []
 empty_from [] h = refl

@@ -2,11 +2,11 @@
 use Rattle.std.proofs.Common.{◌≡◌, ◌<◌, ◌≤◌, ◌+◌, ◌-◌, ◌++◌, ◌∙◌, ℕ, zero, suc, List, [], ◌∷◌, Some, None, refl, ap, sym, subst, map, reverse, length, take, set, arith}
 use Rattle.std.specs.List.{slice_get}
 use Rattle.std.specs.Prelude.{IfSome}
-use Rattle.std.proofs.lemmas.List.{length-append, length-map, reverse-append, take_at}
+use Rattle.std.proofs.lemmas.List.{length-append, length-map, reverse-append}
 use Rattle.std.proofs.lemmas.Option.{slice_get-get_or}
 use Rattle.s360_machine.specs.declared.event.Event.{Event}
 use Rattle.s360_machine.specs.Machine.{Machine, Whole, seen}
-use Rattle.s360_machine.specs.Change.{CanSwap, Change, NeedsNoRoom, after_swap, change_after_swap, places_of_change}
+use Rattle.s360_machine.specs.Change.{CanSwap, Change, HasRoom, NeedsNoRoom, after_swap, change_after_swap, places_of_change}
 use Rattle.s360_machine.specs.Packed.{IsSwapOf}
 use Rattle.s360_machine.specs.Planned.{IsChangeTo}
 use Rattle.s360_machine.specs.Refusals.{refusal_of}
@@ -209,25 +209,23 @@ session-advanced w u v es fs xs ys zs limit s e x h view none change same is mad
       view = ap (λ (k : Whole). record { start = k; events = es ++ e ∷ []; limit = limit }) parts.1 ∙ ap (λ (t : Standing). record t { events = t.events ++ e ∷ [] }) view;
     })
 
+-- the last change can be exchanged with the machine, for which nothing is wanted
+pub last-can : (w : Whole) (es : List Event) (xs : List Change) → AreHistory w es xs → 0 < length xs → IfSome (slice_get xs (length xs - 1)) (λ x. CanSwap w x)
+last-can w es xs h some = let last : (x : Change) × IsLastChange w xs (length xs) x = last-change w es xs (length xs) h some refl in rw last.1.found last.1.can
+
+pub last-room : (w : Whole) (es : List Event) (xs : List Change) (spare : _) → AreHistory w es xs → 0 < length xs → IfSome (slice_get xs (length xs - 1)) (λ x. HasRoom spare x)
+last-room w es xs spare h some = let last : (x : Change) × IsLastChange w xs (length xs) x = last-change w es xs (length xs) h some refl in rw last.1.found (last.1.no_room spare)
+
 -- and after the last change was taken back
-pub gone-back : (w v : Whole) (es fs : List Event) (xs ys zs : List Change) (e : Event) → AreHistory w es xs → es ≡ fs ++ e ∷ []
-    → IfSome (slice_get xs (length xs - 1)) (λ x. IsSwapOf w x v) → IfSome (slice_get xs (length xs - 1)) (λ x. ys ≡ set xs (length xs - 1) (change_after_swap w x)) → zs ≡ take (length ys - 1) ys
+pub gone-back : (w v : Whole) (es fs : List Event) (xs zs : List Change) (e : Event) → AreHistory w es xs → es ≡ fs ++ e ∷ []
+    → IfSome (slice_get xs (length xs - 1)) (λ x. IsSwapOf w x v) → zs ≡ take (length xs - 1) xs
     → AreHistory v fs zs × (unwound w (reverse (entries_of es xs)) ≡ unwound v (reverse (entries_of fs zs)))
-gone-back w v es fs xs ys zs e h is swaps changes kept =
+gone-back w v es fs xs zs e h is swaps kept =
     let last : (x : Change) × Last w es xs fs e x = last-session w es xs fs e h is
-    in let x : Change = last.0
-    in let some : length xs ≡ length fs + 1 = omega (arith, h.1, ap length is, length-append fs (e ∷ []))
     in let us : List Change = take (length xs - 1) xs
-    in let many : length us ≡ length xs - 1 = omega (arith, ap length last.1.changes, length-append us (x ∷ []), some)
-    in let found : slice_get xs (length xs - 1) ≡ Some x = found-last us xs x (length xs) last.1.changes refl
-    in let swap : IsSwapOf w x v = rw found at swaps
-    in let y : Change = change_after_swap w x
-    in let exchanged : ys ≡ set xs (length xs - 1) y = rw found at changes
-    in let new : ys ≡ us ++ y ∷ []
-    = exchanged ∙ ap (λ k. set xs k y) (sym many) ∙ ap (λ (l : List Change). set l (length us) y) last.1.changes ∙ set-last us x y
-    in let left : zs ≡ us
-    = kept ∙ ap (λ (l : List Change). take (length l - 1) l) new ∙ take_at us (y ∷ []) (length (us ++ y ∷ []) - 1) (omega (arith, length-append us (y ∷ [])))
+    in let found : slice_get xs (length xs - 1) ≡ Some last.0 = found-last us xs last.0 (length xs) last.1.changes refl
+    in let swap : IsSwapOf w last.0 v = rw found at swaps
     in (
-      subst (λ (l : List Change). AreHistory v fs l) (sym left) (subst (λ (k : Whole). AreHistory k fs us) (sym swap.machine) last.1.before),
-      last.1.start ∙ ap (λ (k : Whole). unwound k (reverse (entries_of fs us))) (sym swap.machine) ∙ ap (λ (l : List Change). unwound v (reverse (entries_of fs l))) (sym left),
+      subst (λ (l : List Change). AreHistory v fs l) (sym kept) (subst (λ (k : Whole). AreHistory k fs us) (sym swap.machine) last.1.before),
+      last.1.start ∙ ap (λ (k : Whole). unwound k (reverse (entries_of fs us))) (sym swap.machine) ∙ ap (λ (l : List Change). unwound v (reverse (entries_of fs l))) (sym kept),
     )

@@ -1,8 +1,8 @@
 -- What a stack holds, and what it has memory for.
-use Rattle.std.proofs.Common.{◌≡◌, ◌≤◌, ◌<◌, ◌+◌, ◌++◌, ◌∙◌, ℕ, Bool, true, false, List, [], ◌∷◌, refl, ap, sym, arith, cond, length, length-append, reverse}
+use Rattle.std.proofs.Common.{◌≡◌, ◌≤◌, ◌<◌, ◌+◌, ◌-◌, ◌++◌, ◌∙◌, ℕ, Bool, true, false, List, [], ◌∷◌, refl, ap, sym, arith, cond, length, length-append, reverse, take}
 use Rattle.std.specs.List.{count_by}
 use Rattle.std.specs.Prelude.{OnOk, Result, Ok, Err}
-use Rattle.std.proofs.lemmas.List.{length-reverse, reverse-append}
+use Rattle.std.proofs.lemmas.List.{length-reverse, reverse-append, take_at}
 use Rattle.std.proofs.lemmas.List.Sums.{sum_by-append}
 use Rattle.s360_word.specs.declared.unit.Unit.{Unit as UnitAddress}
 use Rattle.s360_machine.specs.declared.event.Event.{Event}
@@ -12,6 +12,13 @@ use Rattle.s360_journal.specs.declared.event_stack.Tag.{Tag}
 use Rattle.s360_journal.specs.declared.event_stack.Tag.TheVariants.{Cpu as cpu, Channel as channel, Tick as tick, Load as load, Other as other}
 use Rattle.s360_journal.specs.Events.{AreEvents, events_of}
 use Rattle.s360_journal.specs.Stacks.{Fits, Room, carries_unit, stands_apart}
+
+-- all but the last
+pub take-push : (xs : List Event) (e : Event) → take (length (xs ++ e ∷ []) - 1) (xs ++ e ∷ []) ≡ xs
+take-push xs e =
+    let count : length (xs ++ e ∷ []) - 1 ≡ length xs = omega (arith, length-append xs (e ∷ []))
+    in let same : length xs ≡ length xs = refl
+    in rw count (rw take_at refl)
 
 -- ---- counts
 

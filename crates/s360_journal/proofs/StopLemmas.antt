@@ -1,16 +1,14 @@
 -- The last stop at a breakpoint, looked for from the last event back.
-use Rattle.std.proofs.Common.{◌≡◌, ◌+◌, ◌++◌, ℕ, List, [], ◌∷◌, refl, ap, sym, ◌∙◌, append_assoc, length, min, arith, Bool, true, false, cond, Option, Some, None, Result, Ok, Err, IfOk}
-use Rattle.std.proofs.lemmas.Bool.{true≢false}
+use Rattle.std.proofs.Common.{◌≡◌, ◌<◌, ◌+◌, ◌-◌, ◌++◌, ℕ, List, [], ◌∷◌, refl, ap, sym, ◌∙◌, append_assoc, length, length-append, take, min, arith, Bool, true, false, cond, Option, Some, None}
 use Rattle.std.specs.Option.{unwrap_or}
-use Rattle.std.specs.Result.{is_ok}
 use Rattle.s360_machine.specs.declared.event.Event.{Event}
 use Rattle.s360_machine.specs.Machine.{Machine, seen}
 use Rattle.s360_machine.specs.Step.{after}
 use Rattle.s360_journal.specs.Breakpoints.{is_at_breakpoint}
-use Rattle.s360_journal.specs.declared.session.NothingStands.{NothingStands}
 use Rattle.s360_journal.specs.Rerun.{rerun, or_else}
 use Rattle.s360_journal.specs.Standing.{Standing, machine_of}
 use Rattle.s360_journal.specs.Stops.{last_stop_from, stop_of}
+use Rattle.s360_journal.proofs.SessionLemmas.{split-last}
 
 -- one event more: the machine before it decides where the CPU operates at a breakpoint
 last_stop_from-push : (k : ℕ) (m : Machine) (es : List Event) (e : Event) (bs : List ℕ)
@@ -40,10 +38,11 @@ pub record GoesBack (s t : Standing) (bs : List ℕ) : Type 0 where
   pub kept : s ≡ record t { events = t.events ++ dropped }
   pub stop : stop_of (seen s.start) s.events bs ≡ stop_of (seen t.start) t.events bs
 
--- what a step back took
-pub taken : (r : Result Event NothingStands) (P : Event → Type 0) → is_ok r ≡ true → IfOk r P → (e : Event) × P e
-taken (Ok e) P h p = (e, p)
-taken (Err n) P h p = absurd (true≢false (sym h))
+-- where events stand, one stands last
+pub with-last : (t u : Standing) → 0 < length t.events → u ≡ record t { events = take (length t.events - 1) t.events } → (e : Event) × (t ≡ record u { events = u.events ++ e ∷ [] })
+with-last t u some is =
+    let parts : (e : Event) × (t.events ≡ take (length t.events - 1) t.events ++ e ∷ []) = split-last t.events (length t.events - 1) (omega (arith, some))
+    in (parts.0, rw is (ap (λ (es : List Event). record t { events = es }) parts.1))
 
 back_once : (s t u : Standing) (es : List Event) (e : Event) → s ≡ record t { events = t.events ++ es } → t ≡ record u { events = u.events ++ e ∷ [] }
     → s ≡ record u { events = u.events ++ e ∷ es }
@@ -68,3 +67,13 @@ pub record TakesBack (s t : Standing) (k : ℕ) : Type 0 where
   pub dropped : List Event
   pub kept : s ≡ record t { events = t.events ++ dropped }
   pub least : min k (length s.events) ≡ min k (length t.events)
+
+pub TakesBack-once : (s t u : Standing) (k : ℕ) → TakesBack s t k → k < length t.events → u ≡ record t { events = take (length t.events - 1) t.events } → TakesBack s u k
+TakesBack-once s t u k h more is =
+    let last : (e : Event) × (t ≡ record u { events = u.events ++ e ∷ [] }) = with-last t u (omega (arith, more)) is
+    in let count : length t.events ≡ length u.events + 1 = omega (arith, ap (λ (x : Standing). length x.events) last.1, length-append u.events (last.0 ∷ []))
+    in record {
+      dropped = last.0 ∷ h.dropped;
+      kept = back_once s t u h.dropped last.0 h.kept last.1;
+      least = omega (arith, h.least, more, count);
+    }

@@ -1,6 +1,6 @@
 //! Events in a byte each. What some carry stands in lists apart: the units of channel events and of
 //! loads, and whole events that carry more.
-ghost use Rattle.std.specs.Prelude.{◌≡◌, ◌↔◌, ◌++◌, ◌∷◌, [], None, IfOk, IfSome, IsOk, IsTrue, OnErr, OnOk, Some, length};
+ghost use Rattle.std.specs.Prelude.{◌≡◌, ◌↔◌, ◌-◌, ◌++◌, ◌∷◌, [], None, IfOk, IfSome, IsOk, IsTrue, OnErr, OnOk, Some, length, take};
 ghost use Rattle.std.specs.Option.{option_map};
 ghost use Rattle.s360_machine.specs.EventKinds.{kind_of_event};
 ghost use Rattle.s360_journal.specs.Stacks.{Fits, IsAsLarge};
@@ -139,6 +139,7 @@ impl EventStack {
     }
 
     /// Takes the last event, and keeps the memory for it.
+    #[inline(always)]
     pub fn pop(&mut self) -> Option<Event>
         ensures some { IfSome result (λ event. self.old ≡ record self.new { events = self.new.events ++ event ∷ [] }) }
         ensures none { result ≡ None → self.old.events ≡ [] }
@@ -151,6 +152,14 @@ impl EventStack {
             Tag::Load => Some(Event::Key(Key::Load(self.units.pop()?))),
             Tag::Other => self.others.pop(),
         }
+    }
+
+    /// Drops the last event, if there is one, and keeps the memory for it.
+    #[inline(always)]
+    pub(crate) fn drop_last(&mut self)
+        ensures { self.new ≡ record self.old { events = take (length self.old.events - 1) self.old.events } }
+    {
+        let _ = self.pop();
     }
 
     /// Drops all events, and keeps the memory for them.

@@ -1,5 +1,5 @@
 //! The events of a session.
-ghost use Rattle.std.specs.Prelude.{◌≡◌, ◌++◌, ◌∷◌, [], None, IfOk, IfSome, OnErr, OnOk};
+ghost use Rattle.std.specs.Prelude.{◌≡◌, ◌-◌, ◌++◌, ◌∷◌, [], None, IfOk, IfSome, OnErr, OnOk, length, take};
 ghost use Rattle.s360_journal.specs.Stacks.{Fits, IsAsLarge};
 ghost use Rattle.s360_journal.specs.Standing.{last_kind_of};
 
@@ -58,6 +58,14 @@ impl Events {
         ensures kept { result ≡ None → self.new ≡ self.old }
     {
         self.stack.pop()
+    }
+
+    /// Drops the last event, if there is one.
+    #[inline(always)]
+    pub(crate) fn drop_last(&mut self)
+        ensures { self.new ≡ take (length self.old - 1) self.old }
+    {
+        self.stack.drop_last();
     }
 
     /// What the last event is, if there is one.

@@ -1,6 +1,6 @@
 //! The session: the machine, and the journal of the changes that stand.
-ghost use Rattle.std.specs.Prelude.{◌≡◌, ◌↔◌, ◌++◌, ◌∷◌, ◌≤◌, [], length, take, OnOk, OnErr, IfOk, IsTrue, Err};
-ghost use Rattle.std.specs.Prelude.{IsOkUnless, MatchOption, min};
+ghost use Rattle.std.specs.Prelude.{◌≡◌, ◌↔◌, ◌-◌, ◌<◌, ◌++◌, ◌∷◌, ◌≤◌, [], length, take, OnOk, OnErr, IfOk, IsTrue, Err};
+ghost use Rattle.std.specs.Prelude.{IsOkUnless, MatchOption, false, min};
 ghost use Rattle.s360_machine.specs.Machine.{seen, storage_size};
 ghost use Rattle.s360_machine.specs.declared.event.Event.TheVariants.{Cpu};
 ghost use Rattle.s360_machine.specs.declared.refusal.Refusal.TheVariants.{Memory};
@@ -14,9 +14,8 @@ ghost use Rattle.s360_journal.specs.Withdrawals.{AreAllowed, is_standing};
 use crate::breaks::Breaks;
 use crate::event_stack::EventStack;
 use crate::events::Events;
-use crate::indexing::unindex_last;
 use crate::report::{Report, is_idle};
-use crate::standing::stand;
+use crate::standing::{stand, unmake_last};
 use s360_index::Index;
 use s360_machine::{Event, EventKind, Machine, Packed, Refusal};
 use s360_store::Place;
@@ -272,7 +271,7 @@ impl Session {
         let report = self.last_report();
         if report.is_err() {
             // The event is taken back, for which no memory is wanted.
-            let _taken = self.back();
+            let _taken = self.take_back();
         }
         Ok(report?)
     }
@@ -283,18 +282,30 @@ impl Session {
         ensures err { OnErr result (self.new ≡ self.old) }
         ensures nothing { OnErr result (self.old.events ≡ []) }
     {
-        let number = self.changes.len();
-        if number == 0 {
+        if self.changes.len() == 0 {
             return Err(NothingStands);
         }
-        self.changes.swap_last(&mut self.machine);
-        unindex_last(&mut self.index, &self.changes, number);
-        self.changes.drop_last();
+        unmake_last(&mut self.machine, &mut self.changes, &mut self.index);
         // It is taken last, so that it need not be held meanwhile.
         match self.events.pop() {
             Some(event) => Ok(event),
             None => unreachable!(),
         }
+    }
+
+    /// Takes back the last change that stands, if one does, and answers whether one did. It takes no memory.
+    #[inline(always)]
+    fn take_back(&mut self) -> bool
+        ensures some { IsTrue result → 0 < length self.old.events }
+        ensures nothing { result ≡ false → self.old.events ≡ [] }
+        ensures kept { self.new ≡ record self.old { events = take (length self.old.events - 1) self.old.events } }
+    {
+        if self.changes.len() == 0 {
+            return false;
+        }
+        unmake_last(&mut self.machine, &mut self.changes, &mut self.index);
+        self.events.drop_last();
+        true
     }
 
     /// Goes back to a change: takes back all changes after the one of this number, or none if no more stand. It answers how
@@ -304,7 +315,7 @@ impl Session {
         ensures kept { self.new ≡ record self.old { events = take result self.old.events } }
     {
         while self.standing() > number {
-            let _event = self.back();
+            let _ = self.take_back();
         }
         self.standing()
     }
@@ -316,7 +327,7 @@ impl Session {
         ensures stop { result ≡ stop_of (seen self.old.start) self.old.events breaks.now }
         ensures kept { self.new ≡ record self.old { events = take result self.old.events } }
     {
-        while self.back().is_ok() {
+        while self.take_back() {
             if breaks.stops(self.machine()) {
                 return self.standing();
             }
@@ -332,7 +343,7 @@ impl Session {
         ensures refused { MatchOption (refusal_in self.old event) (IsOkUnless result Memory) (λ r. result ≡ Err r) }
     {
         let report = self.forward(event)?;
-        let _ = self.back();
+        let _previewed = self.take_back();
         Ok(report)
     }
 }

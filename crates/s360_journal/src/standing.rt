@@ -1,6 +1,7 @@
-//! How an event comes to stand whose change was appended.
+//! How an event comes to stand whose change was appended, and how the last change is taken back.
 ghost use Rattle.std.specs.Prelude.{◌≡◌, ◌<◌, ◌-◌, ◌++◌, ◌∷◌, [], length, slice_get, take, IfSome, OnErr, OnOk};
 ghost use Rattle.s360_machine.specs.Change.{CanSwap, HasRoom};
+ghost use Rattle.s360_machine.specs.Packed.{IsSwapOf};
 ghost use Rattle.s360_journal.specs.Indexed.{IsIndexOf};
 ghost use Rattle.s360_journal.specs.Advances.{IsMade};
 
@@ -9,6 +10,51 @@ use crate::indexing::{index_last, unindex_last};
 use s360_index::Index;
 use s360_machine::{Event, Machine, Packed};
 use std::alloc::AllocError;
+
+/// Makes the last of the changes, for which the machine has room. Want of memory takes the change out of the list again.
+#[inline(never)]
+fn make_last(
+    machine: &mut Machine,
+    changes: &mut Packed,
+    index: &mut Index,
+) -> Result<(), AllocError>
+    requires some { 0 < length changes.old }
+    requires index { IsIndexOf index.old (take (length changes.old - 1) changes.old) }
+    requires can { IfSome (slice_get changes.old (length changes.old - 1)) (λ x. CanSwap machine.old.whole x) }
+    requires room { IfSome (slice_get changes.old (length changes.old - 1)) (λ x. HasRoom machine.old.spare x) }
+    ensures index { OnOk result (IsIndexOf index.new changes.new) }
+    ensures made { OnOk result (IsMade machine.old.whole machine.new.whole changes.old changes.new) }
+    ensures err_machine { OnErr result (machine.new ≡ machine.old) }
+    ensures err_changes { OnErr result (changes.new ≡ take (length changes.old - 1) changes.old) }
+    ensures err_index { OnErr result (IsIndexOf index.new changes.new) }
+{
+    let count = changes.len();
+    if index_last(index, changes, count).is_err() {
+        changes.drop_last();
+        return Err(AllocError);
+    }
+    // Nothing can fail from here on.
+    changes.swap_last(machine);
+    Ok(())
+}
+
+/// Exchanges the last of the changes, for which the machine has room, with the machine, and takes it out of the list and
+/// out of the index. It takes no memory.
+#[inline(always)]
+pub(crate) fn unmake_last(machine: &mut Machine, changes: &mut Packed, index: &mut Index)
+    requires some { 0 < length changes.old }
+    requires index { IsIndexOf index.old changes.old }
+    requires can { IfSome (slice_get changes.old (length changes.old - 1)) (λ x. CanSwap machine.old.whole x) }
+    requires room { IfSome (slice_get changes.old (length changes.old - 1)) (λ x. HasRoom machine.old.spare x) }
+    ensures index { IsIndexOf index.new changes.new }
+    ensures machine { IfSome (slice_get changes.old (length changes.old - 1)) (λ x. IsSwapOf machine.old.whole x machine.new.whole) }
+    ensures changes { changes.new ≡ take (length changes.old - 1) changes.old }
+{
+    let number = changes.len();
+    changes.swap_last(machine);
+    unindex_last(index, changes, number);
+    changes.drop_last();
+}
 
 /// Lets an event stand whose change is the last of the changes, for which the machine has room, and makes the change. Want
 /// of memory takes the change out of the list again.
@@ -32,17 +78,13 @@ pub(crate) fn stand(
     ensures err_changes { OnErr result (changes.new ≡ take (length changes.old - 1) changes.old) }
     ensures err_index { OnErr result (IsIndexOf index.new changes.new) }
 {
-    let count = changes.len();
-    if index_last(index, changes, count).is_err() {
-        changes.drop_last();
-        return Err(AllocError);
-    }
     if events.push(event).is_err() {
-        unindex_last(index, changes, count);
         changes.drop_last();
         return Err(AllocError);
     }
-    // Nothing can fail from here on.
-    changes.swap_last(machine);
-    Ok(())
+    let made = make_last(machine, changes, index);
+    if made.is_err() {
+        events.drop_last();
+    }
+    made
 }
