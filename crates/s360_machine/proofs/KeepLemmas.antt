@@ -8,6 +8,7 @@ use Rattle.s360_store.specs.declared.place.Cell.{Cell}
 use Rattle.s360_store.specs.Cells.{AreCellsOf, IsFresh, byte_cells}
 use Rattle.s360_store.specs.Places.{value_at}
 use Rattle.s360_store.specs.Differences.{AreKept, KeepsAltering}
+use Rattle.s360_machine.specs.AlteredRuns.{IsNextRun}
 use Rattle.s360_store.proofs.ByteCellLemmas.{byte_cells-more, byte_cells-parts, length-byte_cells}
 use Rattle.s360_store.proofs.KeptLemmas.{AreKept-other, AreKept-same, IsCellOf}
 use Rattle.s360_store.proofs.ItemExchangeLemmas.{AreCellsOf-left, AreCellsOf-right}
@@ -112,6 +113,48 @@ keeping-others m old now a new start at (suc n) l k h =
     in let on : at + n + 1 ≡ at + suc n = omega arith
     in subst (λ j. Keeping m old now a new start j) on (keeping-other m old now a new start (at + n) (omega (arith, l)) before (h n (omega arith)))
 
+-- the bytes that wait, as the code lends them
+pub waiting-slice : (new : List ℕ) (start at : ℕ) → start ≤ at → take (at - start) (drop start new) ≡ drop start (take at new)
+waiting-slice new start at l =
+    let sum : start + (at - start) ≡ at = omega (arith, l)
+    in sym (rw sum at (drop-take start (at - start) new))
+
+-- so many bytes that stand there, where none waits
+pub keeping-passed : (m : Core) (old now : List Cell) (a : ℕ) (new : List ℕ) (at n : ℕ) → at + n ≤ length new → Keeping m old now a new at at
+    → ((i : ℕ) → i < n → get_or m.storage.bytes (a + (at + i)) 0 ≡ get_or new (at + i) 0) → Keeping m old now a new (at + n) (at + n)
+keeping-passed m old now a new at zero l k h = let none : at ≡ at + 0 = omega arith in subst (λ j. Keeping m old now a new j j) none k
+keeping-passed m old now a new at (suc n) l k h =
+    let before : Keeping m old now a new (at + n) (at + n) = keeping-passed m old now a new at n (omega (arith, l)) k (λ i j. h i (omega (arith, j)))
+    in let on : at + n + 1 ≡ at + suc n = omega arith
+    in let nothing : now ≡ now ++ waiting a new (at + n) (at + n) = sym (ap (λ (cs : List Cell). now ++ cs) (none-waits a new (at + n) (omega (arith, l))) ∙ append-nil now)
+    in subst (λ j. Keeping m old now a new j j) on (keeping-same m old now now a new (at + n) (at + n) (omega (arith, l)) before (h n (omega (arith, l))) nothing)
+
+-- what waits is added
+keeping-added : (m : Core) (old now next : List Cell) (a : ℕ) (new : List ℕ) (s e : ℕ) → Keeping m old now a new s e → next ≡ now ++ waiting a new s e → Keeping m old next a new e e
+keeping-added m old now next a new s e k eq =
+    let count : length (waiting a new s e) ≡ e - s
+    = length-byte_cells (a + s) (drop s (take e new)) ∙ length-drop s (take e new) ∙ ap (λ n. n - s) (length-take-le e new k.within)
+    in record {
+      begun = omega arith;
+      within = k.within;
+      few = omega (arith, ap length eq, length-append now (waiting a new s e), count, k.few, k.begun);
+      kept = λ plan h p. rw (none-waits a new e k.within, append-nil, eq) (k.kept plan h p);
+    }
+
+-- the next run that differs is added, where the bytes that stand there are lent
+pub keeping-run : (m : Core) (old now next : List Cell) (a : ℕ) (new stored : List ℕ) (at s e : ℕ) → ((i : ℕ) → i < length new → get_or stored i 0 ≡ get_or m.storage.bytes (a + i) 0) → IsNextRun stored new at s e
+    → Keeping m old now a new at at → next ≡ now ++ byte_cells (a + s) (take (e - s) (drop s new)) → Keeping m old next a new e e
+keeping-run m old now next a new stored at s e there r k eq =
+    let to : at + (s - at) ≡ s = omega (arith, r.order)
+    in let passed : Keeping m old now a new s s
+    = subst (λ j. Keeping m old now a new j j) to
+    (keeping-passed m old now a new at (s - at) (omega (arith, r.order, r.begun, r.within)) k (λ i l. sym (there (at + i) (omega (arith, l, r.begun, r.within))) ∙ r.before (at + i) (omega arith) (omega (arith, l))))
+    in let through : s + (e - s) ≡ e = omega (arith, r.begun)
+    in let others : Keeping m old now a new s e
+    = subst (λ j. Keeping m old now a new s j) through
+    (keeping-others m old now a new s s (e - s) (omega (arith, r.begun, r.within)) passed (λ i l o. r.inside (s + i) (omega arith) (omega (arith, l)) (there (s + i) (omega (arith, l, r.within)) ∙ o)))
+    in keeping-added m old now next a new s e others (eq ∙ ap (λ bs. now ++ byte_cells (a + s) bs) (waiting-slice new s e r.begun))
+
 -- all were compared, and what waits is added
 pub keeps-bytes : (m : Core) (old now next : List Cell) (a : ℕ) (new : List ℕ) (start at : ℕ) → length new ≤ at → Keeping m old now a new start at → next ≡ now ++ byte_cells (a + start) (drop start new)
     → KeepsAltering m (byte_cells a new) old next
@@ -119,11 +162,11 @@ keeps-bytes m old now next a new start at l k e = λ plan h p.
     let all : take at new ≡ new = take_all at new l
     in rw e (rw all at (k.kept plan h p))
 
--- the bytes that wait, as the code lends them
-pub waiting-slice : (new : List ℕ) (start at : ℕ) → start ≤ at → take (at - start) (drop start new) ≡ drop start (take at new)
-waiting-slice new start at l =
-    let sum : start + (at - start) ≡ at = omega (arith, l)
-    in sym (rw sum at (drop-take start (at - start) new))
+-- all were compared, and nothing waits
+pub keeps-all : (m : Core) (old now : List Cell) (a : ℕ) (new : List ℕ) (at : ℕ) → length new ≤ at → Keeping m old now a new at at → KeepsAltering m (byte_cells a new) old now
+keeps-all m old now a new at l k =
+    let none : now ≡ now ++ byte_cells (a + at) (drop at new) = sym (ap (λ bs. now ++ byte_cells (a + at) bs) (drop_all at new l) ∙ append-nil now)
+    in keeps-bytes m old now now a new at at l k none
 
 -- a single cell of a plan
 pub keeps-altering : (m : Core) (old : List Cell) (c : Cell) → (value_at m c.place ≢ c.value) → KeepsAltering m (c ∷ []) old (old ++ c ∷ [])
@@ -164,8 +207,3 @@ pub stored-at : (bs : List ℕ) (a n at : ℕ) → at < n → get_or (take (a + 
 stored-at bs a n at l =
     let same : a + n - a ≡ n = omega arith
     in rw same (get_or-take n (drop a bs) at 0 l ∙ get_or-drop a bs at 0)
-
-pub keeps-few : (m : Core) (old now next : List Cell) (a : ℕ) (new : List ℕ) (start at : ℕ) → length new ≤ at → at ≤ length new → Keeping m old now a new start at → next ≡ now ++ byte_cells (a + start) (drop start new)
-    → length next ≤ length old + length new
-keeps-few m old now next a new start at l h k e =
-    omega (arith, ap length e, length-append now (byte_cells (a + start) (drop start new)), length-byte_cells (a + start) (drop start new), length-drop start new, k.few, k.begun)

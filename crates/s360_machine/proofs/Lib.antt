@@ -13,3 +13,4 @@ pub mod RunLemmas
 pub mod SpanLemmas
 pub mod PackedLemmas
 pub mod StretchLemmas
+pub mod AppendingLemmas

@@ -11,22 +11,23 @@ use Rattle.s360_store.proofs.ByteCellLemmas.{IsAscending-bytes, length-byte_cell
 use Rattle.s360_store.proofs.SortLemmas.{IsCoreChangeTo-ascending}
 use Rattle.s360_fixed.specs.Plain.{psw_cell}
 use Rattle.s360_machine.specs.AlteredRuns.{IsOneRun}
-use Rattle.s360_machine.proofs.KeepLemmas.{Keeping, keeping-none, keeping-others, keeping-same, keeps-bytes, none-waits, waiting, waiting-slice}
+use Rattle.s360_machine.proofs.KeepLemmas.{Keeping, keeping-none, keeping-others, keeping-passed, keeping-same, keeps-all, keeps-bytes, waiting, waiting-slice}
 
--- as many first bytes stand there
-pub record SameBefore (stored new : List ℕ) (start : ℕ) : Type 0 where
+-- those from one place up to another stand there
+pub record SameFrom (stored new : List ℕ) (from start : ℕ) : Type 0 where
+  pub order : from ≤ start
   pub within : start ≤ length new
-  pub same : (i : ℕ) → i < start → get_or stored i 0 ≡ get_or new i 0
+  pub same : (i : ℕ) → from ≤ i → i < start → get_or stored i 0 ≡ get_or new i 0
 
-pub same-none : (stored new : List ℕ) → SameBefore stored new 0
-same-none stored new = record { within = omega arith; same = λ i l. absurd (omega (arith, l)) }
+pub same-none : (stored new : List ℕ) (from : ℕ) → from ≤ length new → SameFrom stored new from from
+same-none stored new from l = record { order = omega arith; within = l; same = λ i m n. absurd (omega (arith, m, n)) }
 
-same-at : (stored new : List ℕ) (start i : ℕ) → SameBefore stored new start → get_or stored start 0 ≡ get_or new start 0 → i < start + 1 → (i < start) ⊎ (start ≤ i) → get_or stored i 0 ≡ get_or new i 0
-same-at stored new start i h e l (inl m) = h.same i m
-same-at stored new start i h e l (inr m) = let here : start ≡ i = omega (arith, l, m) in subst (λ k. get_or stored k 0 ≡ get_or new k 0) here e
+same-at : (stored new : List ℕ) (from start i : ℕ) → SameFrom stored new from start → get_or stored start 0 ≡ get_or new start 0 → from ≤ i → i < start + 1 → (i < start) ⊎ (start ≤ i) → get_or stored i 0 ≡ get_or new i 0
+same-at stored new from start i h e f l (inl m) = h.same i f m
+same-at stored new from start i h e f l (inr m) = let here : start ≡ i = omega (arith, l, m) in subst (λ k. get_or stored k 0 ≡ get_or new k 0) here e
 
-pub same-more : (stored new : List ℕ) (start : ℕ) → start < length new → SameBefore stored new start → get_or stored start 0 ≡ get_or new start 0 → SameBefore stored new (start + 1)
-same-more stored new start l h e = record { within = omega (arith, l); same = λ i m. same-at stored new start i h e m (cases_lt i start) }
+pub same-more : (stored new : List ℕ) (from start : ℕ) → start < length new → SameFrom stored new from start → get_or stored start 0 ≡ get_or new start 0 → SameFrom stored new from (start + 1)
+same-more stored new from start l h e = record { order = omega (arith, h.order); within = omega (arith, l); same = λ i f m. same-at stored new from start i h e f m (cases_lt i start) }
 
 -- those from one place up to another do not
 pub record DifferWithin (stored new : List ℕ) (start end : ℕ) : Type 0 where
@@ -63,23 +64,10 @@ same-behind stored new end i count same l m =
     in sym b ∙ ap (λ xs. get_or xs (i - end) 0) (sym same) ∙ a
 
 -- the bytes before the run are left
-before-run : (m : Core) (old : List Cell) (a : ℕ) (new : List ℕ) (s e : ℕ) → IsOneRun m.storage.bytes a new s e → (n : ℕ) → n ≤ s → Keeping m old old a new n n
-before-run m old a new s e h zero l = keeping-none m old a new
-before-run m old a new s e h (suc n) l =
-    let on : n + 1 ≡ suc n = omega arith
-    in let nothing : old ≡ old ++ waiting a new n n = sym (ap (λ (cs : List Cell). old ++ cs) (none-waits a new n (omega (arith, l, h.order, h.within))) ∙ append-nil old)
-    in subst (λ k. Keeping m old old a new k k) on
-    (keeping-same m old old old a new n n (omega (arith, l, h.order, h.within)) (before-run m old a new s e h n (omega (arith, l))) (h.before n (omega (arith, l))) nothing)
-
--- and so are those behind it
-behind-run : (m : Core) (old next : List Cell) (a : ℕ) (new : List ℕ) (s e : ℕ) → IsOneRun m.storage.bytes a new s e → Keeping m old next a new (e + 1) (e + 1) → (n : ℕ) → e + 1 + n ≤ length new
-    → Keeping m old next a new (e + 1 + n) (e + 1 + n)
-behind-run m old next a new s e h k zero l = let none : e + 1 ≡ e + 1 + 0 = omega arith in subst (λ j. Keeping m old next a new j j) none k
-behind-run m old next a new s e h k (suc n) l =
-    let on : e + 1 + n + 1 ≡ e + 1 + suc n = omega arith
-    in let nothing : next ≡ next ++ waiting a new (e + 1 + n) (e + 1 + n) = sym (ap (λ (cs : List Cell). next ++ cs) (none-waits a new (e + 1 + n) (omega (arith, l))) ∙ append-nil next)
-    in subst (λ j. Keeping m old next a new j j) on
-    (keeping-same m old next next a new (e + 1 + n) (e + 1 + n) (omega (arith, l)) (behind-run m old next a new s e h k n (omega (arith, l))) (h.behind (e + 1 + n) (omega arith) (omega (arith, l))) nothing)
+before-run : (m : Core) (old : List Cell) (a : ℕ) (new : List ℕ) (s e : ℕ) → IsOneRun m.storage.bytes a new s e → Keeping m old old a new s s
+before-run m old a new s e h =
+    let to : 0 + s ≡ s = omega arith
+    in subst (λ j. Keeping m old old a new j j) to (keeping-passed m old old a new 0 s (omega (arith, h.order, h.within)) (keeping-none m old a new) (λ i l. let here : 0 + i ≡ i = omega arith in rw here (h.before i l)))
 
 abbrev pub run_of : List ℕ → ℕ → ℕ → List ℕ
 run_of new s e = take (e - s) (drop s new)
@@ -93,10 +81,8 @@ run-kept m old a new s e h k (inl l) =
     let next : List Cell = old ++ byte_cells (a + s) (run_of new s e)
     in let added : next ≡ old ++ waiting a new s e = ap (λ bs. old ++ byte_cells (a + s) bs) (waiting-slice new s e h.order)
     in let one : Keeping m old next a new (e + 1) (e + 1) = keeping-same m old old next a new s e l k (h.behind e (omega arith) l) added
-    in let end : e + 1 + (length new - (e + 1)) ≡ length new = omega (arith, l)
-    in let all : Keeping m old next a new (length new) (length new) = subst (λ j. Keeping m old next a new j j) end (behind-run m old next a new s e h one (length new - (e + 1)) (omega (arith, l)))
-    in let none : drop (length new) new ≡ [] = drop_all (length new) new (omega arith)
-    in keeps-bytes m old next next a new (length new) (length new) (omega arith) all (sym (ap (λ bs. next ++ byte_cells (a + length new) bs) none ∙ append-nil next))
+    in let all = keeping-passed m old next a new (e + 1) (length new - (e + 1)) (omega (arith, l)) one (λ i b. h.behind (e + 1 + i) (omega arith) (omega (arith, b)))
+    in keeps-all m old next a new (e + 1 + (length new - (e + 1))) (omega (arith, l)) all
 
 -- so the PSW and the run are the change
 pub alters-run : (m : Core) (psw a : ℕ) (new : List ℕ) (s e : ℕ) → m.psw ≢ psw → AreCellsOf m (psw_cell psw ∷ byte_cells a new) → IsOneRun m.storage.bytes a new s e
@@ -106,7 +92,7 @@ alters-run m psw a new s e p cells h =
     in let sum : s + (e - s) ≡ e = omega (arith, h.order)
     in let within : Keeping m first first a new s e
     = subst (λ k. Keeping m first first a new s k) sum
-    (keeping-others m first first a new s s (e - s) (omega (arith, h.order, h.within)) (before-run m first a new s e h s (omega arith)) (λ i l. h.inside (s + i) (omega arith) (omega (arith, l))))
+    (keeping-others m first first a new s s (e - s) (omega (arith, h.order, h.within)) (before-run m first a new s e h) (λ i l. h.inside (s + i) (omega arith) (omega (arith, l))))
     in let psw_kept : AreKept m first first = record { cells = (cells.0, cells.1, tt, tt); makes = refl; among = λ q f. f; alter = (p, tt) }
     in let kept : AreKept m (psw_cell psw ∷ byte_cells a new) (psw_cell psw ∷ byte_cells (a + s) (run_of new s e)) = run-kept m first a new s e h within (cases_lt e (length new)) first cells psw_kept
     in let ascending : IsAscending (places_of_cells (psw_cell psw ∷ byte_cells (a + s) (run_of new s e))) = IsAscending-bytes first (a + s) (run_of new s e) (tt, tt) (inl (omega arith), tt)

@@ -1,4 +1,4 @@
--- A PSW and one run of bytes that an instruction alters.
+-- Runs of bytes that differ from what stands there, and a PSW and one run that an instruction alters.
 use Rattle.std.specs.Prelude.{◌≡◌, ◌≢◌, ◌<◌, ◌≤◌, ◌+◌, ◌^◌, ℕ, List, ◌∷◌, length, slice_index}
 use Rattle.s360_store.specs.declared.place.Cell.{Cell}
 use Rattle.s360_store.specs.Cells.{byte_cells}
@@ -8,7 +8,7 @@ use Rattle.s360_machine.specs.declared.altered_run.AlteredRun.{AlteredRun}
 abbrev pub cells_of_run : AlteredRun → List Cell
 cells_of_run r = psw_cell r.psw ∷ byte_cells r.address r.bytes.now
 
--- it has a byte, fewer than can be counted in 16 bits, with addresses of 32 bits
+-- it has a byte at least, and no more than 16 bits can count, with addresses of 32 bits
 pub record IsRunFit (r : AlteredRun) : Type 0 where
   pub some : 0 < length r.bytes.now
   pub few : length r.bytes.now < 2 ^ 16
@@ -21,3 +21,12 @@ pub record IsOneRun (stored : List ℕ) (address : ℕ) (new : List ℕ) (start 
   pub before : (i : ℕ) → i < start → slice_index stored (address + i) ≡ slice_index new i
   pub inside : (i : ℕ) → start ≤ i → i < end → slice_index stored (address + i) ≢ slice_index new i
   pub behind : (i : ℕ) → end ≤ i → i < length new → slice_index stored (address + i) ≡ slice_index new i
+
+-- from a place on the next bytes that differ from those that stand there are these; the first of all is looked at, if there is one
+pub record IsNextRun (stored new : List ℕ) (from start end : ℕ) : Type 0 where
+  pub order : from ≤ start
+  pub begun : start ≤ end
+  pub within : end ≤ length new
+  pub before : (i : ℕ) → from ≤ i → i < start → slice_index stored i ≡ slice_index new i
+  pub inside : (i : ℕ) → start ≤ i → i < end → slice_index stored i ≢ slice_index new i
+  pub on : from < length new → from < end

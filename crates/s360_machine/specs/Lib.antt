@@ -23,3 +23,4 @@ pub mod Changes
 pub mod Differences
 pub mod Planned
 pub mod Packed
+pub mod Appending

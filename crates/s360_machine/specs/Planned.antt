@@ -3,7 +3,8 @@ use Rattle.std.specs.Prelude.{◌≡◌, ◌++◌, ◌∷◌, [], Option, List}
 use Rattle.s360_model.specs.Exchanges.{CanIfAny, after_if_any, back_if_any, need_if_any}
 use Rattle.s360_store.specs.declared.place.Cell.{Cell}
 use Rattle.s360_store.specs.Plans.{IsPlanOf}
-use Rattle.s360_machine.specs.ControlCells.{ControlCell}
+use Rattle.s360_machine.specs.declared.beside.Beside.{Beside}
+use Rattle.s360_machine.specs.ControlCells.{ControlCell, control_cells}
 use Rattle.s360_fixed.specs.declared.plain.Plain.{Plain}
 use Rattle.s360_fixed.specs.Plain.{IsFit, cells_of_plain}
 use Rattle.s360_machine.specs.Changes.{change_of_core}
@@ -46,6 +47,12 @@ pub record PlansIo (planned : PlannedEvent) (c : Control) (us : Option UnitChang
   pub control : planned.control ≡ c
   pub units : planned.units ≡ us
   pub media : planned.media ≡ ms
+
+-- what a control part alters and what was planned of the units and of their devices stands beside the core
+pub record IsBesideOf (c : Control) (planned : PlannedEvent) (b : Beside) : Type 0 where
+  pub control : IsControlChangeTo c (control_cells b.control) planned.control
+  pub units : b.units ≡ planned.units
+  pub media : b.media ≡ planned.media
 
 -- what was planned has this control part, and leaves the units and their devices alone
 pub record LeavesUnits (w : Whole) (c : Control) (planned : PlannedEvent) : Type 0 where

@@ -1,17 +1,17 @@
 //! What an instruction alters of the core where that is the PSW and one run of bytes, as its plan has them: neither a
 //! change nor a copy is made of it.
-ghost use Rattle.std.specs.Prelude.{IfSome};
+ghost use Rattle.std.specs.Prelude.{IfSome, length};
 ghost use Rattle.s360_store.specs.Cells.{AreCellsOf, after_exchange};
 ghost use Rattle.s360_store.specs.Differences.{IsCoreChangeTo};
 ghost use Rattle.s360_store.specs.Plans.{HasBytes};
-ghost use Rattle.std.specs.Prelude.{length};
 ghost use Rattle.s360_machine.specs.AlteredRuns.{IsOneRun, IsRunFit, cells_of_run};
 ghost use Rattle.s360_machine.specs.Changes.{change_of_core};
 ghost use Rattle.s360_machine.specs.Machine.{Machine as SeenMachine};
 ghost use Rattle.s360_machine.specs.Planned.{IsChangeTo, IsPlanOfMachine};
 
 use crate::control_change::ControlChange;
-use crate::core_state::{Core, STRIDE, all_differ};
+use crate::core_state::Core;
+use crate::differing::next_run;
 use crate::machine::{Machine, PlannedEvent};
 use s360_psw::Psw;
 use s360_store::{GREATEST_SIZE, Part, Place, Plan};
@@ -34,19 +34,7 @@ impl Core {
         // So no address of the run passes 32 bits.
         prove!(self.storage().size() <= GREATEST_SIZE);
         let stored = self.storage().bytes(address, new.len() as u32);
-        let mut start = 0;
-        while start < new.len() && new[start] == stored[start] {
-            start += 1;
-        }
-        let mut end = start;
-        while end + STRIDE <= new.len()
-            && all_differ(&new[end..end + STRIDE], &stored[end..end + STRIDE])
-        {
-            end += STRIDE;
-        }
-        while end < new.len() && new[end] != stored[end] {
-            end += 1;
-        }
+        let (start, end) = next_run(new, stored, 0);
         if new[end..] == stored[end..] {
             Some((start, end))
         } else {

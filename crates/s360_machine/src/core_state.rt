@@ -1,6 +1,6 @@
 //! What an instruction works on: the current PSW, the general registers and main storage. Source:
 //! GA22-6821, "System Structure".
-ghost use Rattle.std.specs.Prelude.{◌≡◌, ◌≢◌, ◌<◌, ◌≤◌, ◌+◌, ◌^◌, ℕ, [], length, slice_index, true, IfErr, IfOk, IfSome, IsTrue, OnOk, OnSome, Some};
+ghost use Rattle.std.specs.Prelude.{◌≡◌, ◌≢◌, ◌<◌, ◌≤◌, ◌+◌, ◌^◌, [], length, slice_index, true, IfErr, IfOk, IfSome, OnOk, OnSome, Some};
 ghost use Rattle.std.specs.Bool.{MatchBool};
 ghost use Rattle.s360_model.specs.Core.{zero_core_with, core_with_bytes, core_with_psw, core_with_word};
 ghost use Rattle.s360_model.specs.Psw.{IsCurrentPsw, instruction_address_of};
@@ -15,6 +15,7 @@ ghost use Rattle.s360_logic.specs.Instruction.{PlansInstruction, conditions_at, 
 ghost use Rattle.s360_machine.specs.Cpu.{IsOfCore, core_after_ended};
 ghost use Rattle.s360_machine.specs.Rows.{HasSameCounts, IsOver, cells_of_row};
 
+use crate::differing::next_run;
 use crate::row::Row;
 use s360_fixed::{Plain, ProgramCode, ShortRun, View};
 use s360_logic::{Fetched, PlannedInstruction, Simple};
@@ -42,23 +43,6 @@ impl Model for Core {
     ghost view = { λ c. record { psw = c.psw; registers = c.registers; storage = c.storage } };
 
     ghost invariant = { λ c. length c.registers ≡ 16 };
-}
-
-/// So many bytes are compared at once.
-pub(crate) const STRIDE: usize = 16;
-
-/// Whether each byte differs from that of the other list. All are compared, which the compiler does at once.
-#[inline(always)]
-pub(crate) fn all_differ(bytes: &[u8], others: &[u8]) -> bool
-    requires few { length bytes.now ≡ 16 }
-    requires as_many { length others.now ≡ 16 }
-    ensures { IsTrue result → (i : ℕ) → i < 16 → slice_index bytes.now i ≢ slice_index others.now i }
-{
-    let mut is_any_same = false;
-    for i in 0..STRIDE {
-        is_any_same |= bytes[i] == others[i];
-    }
-    !is_any_same
 }
 
 impl Core {
@@ -207,21 +191,13 @@ impl Core {
         // So no address of the run passes 32 bits.
         prove!(self.storage.size() <= GREATEST_SIZE);
         let stored = self.storage.bytes(address, new.len() as u32);
-        let (mut start, mut at) = (0, 0);
+        let mut at = 0;
         while at < new.len() {
-            if at + STRIDE <= new.len()
-                && all_differ(&new[at..at + STRIDE], &stored[at..at + STRIDE])
-            {
-                at += STRIDE;
-                continue;
-            }
-            if new[at] == stored[at] {
-                kept.push_bytes(address + start as u32, &new[start..at])?;
-                start = at + 1;
-            }
-            at += 1;
+            let (start, end) = next_run(new, stored, at);
+            kept.push_bytes(address + start as u32, &new[start..end])?;
+            at = end;
         }
-        kept.push_bytes(address + start as u32, &new[start..])
+        Ok(())
     }
 
     /// Adds the cells of a part of a plan that alter their places.

@@ -6,6 +6,7 @@
 #![tactic(auto)]
 
 mod altered_run;
+mod appending;
 mod beside;
 mod change_spans;
 mod changes;
@@ -14,6 +15,7 @@ mod control;
 mod control_change;
 mod core_state;
 mod cpu;
+mod differing;
 mod event;
 mod event_kind;
 mod external;
@@ -24,6 +26,7 @@ mod machine;
 mod media;
 mod operator;
 mod packed;
+mod planning;
 mod refusal;
 mod row;
 mod run_state;

@@ -1,12 +1,12 @@
 //! The machine: its state, and the events that change it.
 ghost use Rattle.std.specs.Prelude.{◌≡◌, ◌≤◌, [], length, slice_index, None, Err, OnOk, IfOk, IfSome, IsOkUnless};
-ghost use Rattle.std.specs.Prelude.{MatchOption, OnErr, false, true};
+ghost use Rattle.std.specs.Prelude.{◌<◌, MatchOption, OnErr, false, true};
 ghost use Rattle.std.specs.Option.{option_copied, option_map};
 ghost use Rattle.std.specs.Bool.{MatchBool};
 ghost use Rattle.s360_model.specs.Storage.{is_storage_size};
 ghost use Rattle.s360_store.specs.declared.fault.StoreFault.TheVariants.{Size, Memory as no_memory};
-ghost use Rattle.s360_machine.specs.Machine.{Machine as SeenMachine, machine_with, new_machine, room_for, storage_size, seen};
-ghost use Rattle.s360_store.specs.Cells.{AllFit, AreCellsOf};
+ghost use Rattle.s360_machine.specs.Machine.{Machine as SeenMachine, machine_with, new_machine, room_for, seen};
+ghost use Rattle.s360_store.specs.Cells.{AllFit};
 ghost use Rattle.s360_machine.specs.Change.{CanSwap, after_swap, change_after_swap};
 ghost use Rattle.s360_machine.specs.Change.{HasRoom, NeedsNoRoom, NeedsRoom};
 ghost use Rattle.s360_machine.specs.Changes.{AreFit, change_of, change_of_core, change_of_parts};
@@ -14,34 +14,25 @@ ghost use Rattle.s360_machine.specs.IoChanges.{CanSwapMedia, media_needs, unit_o
 ghost use Rattle.s360_machine.specs.Packed.{change_of_row, lists};
 ghost use Rattle.s360_machine.specs.Rows.{HasSameCounts, IsOver, cells_of_row};
 ghost use Rattle.s360_model.specs.Exchanges.{CanIfAny};
-ghost use Rattle.s360_machine.specs.Step.{after, after_patch};
 ghost use Rattle.s360_device.specs.DeviceChanges.{bare};
 ghost use Rattle.s360_tape.specs.WholeTape.{seen as seen_tape};
 ghost use Rattle.s360_machine.specs.Media.{tape_of};
 ghost use Rattle.s360_channel.specs.ConfiguredUnits.{attention_at, state_at, unit_at};
-ghost use Rattle.s360_machine.specs.Refusals.{refusal_of, refusal_of_key, refusal_of_patch};
-ghost use Rattle.s360_machine.specs.ChannelEvents.{after_channel_event};
-ghost use Rattle.s360_machine.specs.Operator.{after_key};
-ghost use Rattle.s360_machine.specs.Timer.{after_tick};
-ghost use Rattle.s360_machine.specs.Planned.{IsChangeTo, IsPlanOfMachine, LeavesUnits};
-ghost use Rattle.s360_machine.specs.declared.refusal.Refusal.TheVariants.{Memory};
+ghost use Rattle.s360_machine.specs.Planned.{IsChangeTo};
 
 use crate::beside::{Beside, exchange_beside};
 use crate::changes::{Changes, Parts};
 use crate::control::Control;
 use crate::core_state::Core;
-use crate::event::{Event, Patch};
 use crate::external::ExternalConditions;
 use crate::media::{Devices, MediaChange};
-use crate::operator::Key;
-use crate::refusal::Refusal;
 use crate::row::Row;
 use crate::run_state::RunState;
 use s360_channel::{ConfiguredUnit, UnitChange, UnitState, Units};
 use s360_device::{Deck, Punch, Reader};
 use s360_print::{Console, ConsoleMedia, Printer, PrinterMedia};
 use s360_psw::Psw;
-use s360_store::{Item, Plan, Storage, StoreFault};
+use s360_store::{Item, Storage, StoreFault};
 use s360_tape::Tape;
 use s360_word::{RegisterNumber, Unit, Word};
 use std::alloc::{AllocError, Global};
@@ -239,100 +230,6 @@ impl Machine {
         }
     }
 
-    /// What an event alters, or why it is refused.
-    #[inline(always)]
-    pub fn plan(&self, event: &Event) -> Result<Changes, Refusal>
-        ensures ok { IfOk result (λ changes. IsChangeTo self.now.whole changes (after (seen self.now.whole) event.now)) }
-        ensures refused { MatchOption (refusal_of (storage_size (seen self.now.whole)) event.now) (IsOkUnless result Memory) (λ r. result ≡ Err r) }
-    {
-        if let Some(refusal) = self.refusal(event) {
-            return Err(refusal);
-        }
-        Ok(self.changes_of(event)?)
-    }
-
-    /// What was planned alters.
-    pub(crate) fn changes_planned(
-        &self,
-        plan: &Plan,
-        planned: PlannedEvent,
-    ) -> Result<Changes, AllocError>
-        requires cells { AreCellsOf self.now.whole.core plan.now }
-        ensures { IfOk result (λ changes. (n : SeenMachine) → IsPlanOfMachine self.now.whole plan.now planned n → IsChangeTo self.now.whole changes n) }
-    {
-        let cells = self.core.changes(self.alloc, plan)?;
-        let control = self.control.changes_to(&planned.control);
-        Changes::of(self.alloc, cells, control, planned.units, planned.media)
-    }
-
-    /// What an event makes that leaves the units alone.
-    pub(crate) fn planned(&self, control: Control) -> PlannedEvent
-        ensures { LeavesUnits self.now.whole control result }
-    {
-        PlannedEvent {
-            control,
-            units: None,
-            media: None,
-        }
-    }
-
-    /// What an event alters, unless it is refused for its own sake (refusals 2 to 5).
-    #[inline(always)]
-    pub(crate) fn changes_of(&self, event: &Event) -> Result<Changes, AllocError>
-        requires accepted { refusal_of (storage_size (seen self.now.whole)) event.now ≡ None }
-        ensures { IfOk result (λ changes. IsChangeTo self.now.whole changes (after (seen self.now.whole) event.now)) }
-    {
-        match event {
-            Event::Cpu => self.changes_of_cpu(),
-            Event::Channel(unit) => Ok(self.changes_of_channel(*unit)?),
-            Event::Tick => Ok(self.changes_of_tick()?),
-            Event::Key(key) => Ok(self.changes_of_key(key)?),
-            Event::Patch(patch) => Ok(self.changes_of_patch(patch)?),
-        }
-    }
-
-    /// What a channel event of a unit alters.
-    #[inline(never)]
-    fn changes_of_channel(&self, unit: Unit) -> Result<Changes, AllocError>
-        ensures { IfOk result (λ changes. IsChangeTo self.now.whole changes (after_channel_event unit (seen self.now.whole))) }
-    {
-        let mut plan = Plan::new(self.alloc);
-        let planned = self.plan_channel(unit, &mut plan)?;
-        self.changes_planned(&plan, planned)
-    }
-
-    /// What a tick alters.
-    #[inline(never)]
-    fn changes_of_tick(&self) -> Result<Changes, AllocError>
-        ensures { IfOk result (λ changes. IsChangeTo self.now.whole changes (after_tick (seen self.now.whole))) }
-    {
-        let mut plan = Plan::new(self.alloc);
-        let planned = self.plan_tick(&mut plan)?;
-        self.changes_planned(&plan, planned)
-    }
-
-    /// What a key alters that is not refused.
-    #[inline(never)]
-    fn changes_of_key(&self, key: &Key) -> Result<Changes, AllocError>
-        requires accepted { refusal_of_key key.now ≡ None }
-        ensures { IfOk result (λ changes. IsChangeTo self.now.whole changes (after_key (seen self.now.whole) key.now)) }
-    {
-        let plan = Plan::new(self.alloc);
-        let planned = self.plan_key(key)?;
-        self.changes_planned(&plan, planned)
-    }
-
-    /// What a patch alters that is not refused.
-    #[inline(never)]
-    fn changes_of_patch(&self, patch: &Patch) -> Result<Changes, AllocError>
-        requires accepted { refusal_of_patch (storage_size (seen self.now.whole)) patch.now ≡ None }
-        ensures { IfOk result (λ changes. IsChangeTo self.now.whole changes (after_patch (seen self.now.whole) patch.now)) }
-    {
-        let mut plan = Plan::new(self.alloc);
-        self.plan_patch(patch, &mut plan)?;
-        self.changes_planned(&plan, self.planned(self.control))
-    }
-
     /// Makes room for a change, after which its exchange takes no memory. The whole is as before. It takes memory only if
     /// the change needs room.
     #[inline(always)]
@@ -341,10 +238,20 @@ impl Machine {
         ensures ok { OnOk result (HasRoom self.new.spare changes.now) }
         ensures memory { OnErr result (NeedsRoom changes.now) }
     {
-        let Some(change) = changes.media() else {
-            return Ok(());
-        };
-        self.devices.make_room(change)
+        self.make_room(changes.media())
+    }
+
+    /// Makes room for a change of a device, if there is one.
+    #[inline(always)]
+    pub(crate) fn make_room(&mut self, change: Option<&MediaChange>) -> Result<(), AllocError>
+        ensures whole { self.new.whole ≡ self.old.whole }
+        ensures ok { OnOk result (IfSome (option_copied change.entry) (λ x. media_needs x ≤ room_for self.new.spare (unit_of_change x))) }
+        ensures memory { OnErr result (MatchOption (option_copied change.entry) ⊥ (λ x. 0 < media_needs x)) }
+    {
+        match change {
+            Some(change) => self.devices.make_room(change),
+            None => Ok(()),
+        }
     }
 
     /// Exchanges the values at the change's places with its own. It takes no memory, and done

@@ -1,30 +1,20 @@
 //! The changes of the journal, in little memory: a row of 16 bytes for each, all bytes of storage that they alter in one
 //! buffer, and what is rarer in lists apart.
-ghost use Rattle.std.specs.Prelude.{◌≡◌, ◌<◌, ◌≤◌, ◌-◌, ◌++◌, ◌∷◌, [], false, true, length, reverse, slice_get, slice_set, take, vec_capacity, vec_len, Err, IfOk, IfSome, IsOkUnless, IsTrue, MatchOption, OnErr, OnOk, box_value};
-ghost use Rattle.s360_store.specs.Cells.{AllFit};
-ghost use Rattle.s360_machine.specs.Beside.{IsNothing};
+ghost use Rattle.std.specs.Prelude.{◌≡◌, ◌<◌, ◌≤◌, ◌-◌, ◌++◌, ◌∷◌, [], length, reverse, slice_get, slice_set, take, IfOk, IfSome, OnErr, OnOk};
 ghost use Rattle.s360_machine.specs.Change.{CanSwap, Change, HasRoom, change_after_swap, places_of_change};
 ghost use Rattle.s360_machine.specs.ChangeSpans.{AreSpansOf, spans_of};
-ghost use Rattle.s360_fixed.specs.Plain.{IsFit, bytes_of_plain, cells_of_plain};
-ghost use Rattle.s360_machine.specs.Changes.{AreFit, change_of, change_of_core, change_of_parts};
-ghost use Rattle.s360_machine.specs.Packed.{ArePacked, HasBefore, IsAppended, IsEnd, IsOwnOf, IsSwapOf, bytes_of_changes, end_before, last_stretches, lists};
-ghost use Rattle.s360_machine.specs.Rows.{IsOver, row_of_plain};
+ghost use Rattle.s360_fixed.specs.Plain.{IsFit, cells_of_plain};
+ghost use Rattle.s360_machine.specs.Changes.{change_of_core};
+ghost use Rattle.s360_machine.specs.Packed.{ArePacked, HasBefore, IsEnd, IsOwnOf, IsSwapOf, bytes_of_changes, end_before, last_stretches, lists};
+ghost use Rattle.s360_machine.specs.Rows.{IsOver};
 ghost use Rattle.s360_machine.specs.AlteredRuns.{IsRunFit, cells_of_run};
-ghost use Rattle.s360_machine.specs.Cpu.{after_instruction};
-ghost use Rattle.s360_machine.specs.Machine.{seen, storage_size};
-ghost use Rattle.s360_machine.specs.Planned.{AppendsChangeTo};
-ghost use Rattle.s360_machine.specs.Refusals.{refusal_of};
-ghost use Rattle.s360_machine.specs.Step.{after};
-ghost use Rattle.s360_machine.specs.declared.refusal.Refusal.TheVariants.{Memory};
 
 use crate::altered_run::AlteredRun;
+use crate::appending::{append_bytes, append_parts};
 use crate::beside::Beside;
 use crate::change_spans::{ChangeSpans, SpansApart};
-use crate::changes::{Changes, Full, Parts};
-use crate::cpu::CpuCase;
-use crate::event::Event;
+use crate::changes::Changes;
 use crate::machine::Machine;
-use crate::refusal::Refusal;
 use crate::row::Row;
 use s360_fixed::Plain;
 use s360_store::{Item, Place};
@@ -34,13 +24,13 @@ use std::marker::Model;
 /// A list of changes, the newest at its end.
 #[derive(Debug, Drop)]
 pub struct Packed {
-    rows: Vec<Row>,
+    pub(crate) rows: Vec<Row>,
     /// Single cells and runs, of the rows that have them apart.
-    items: Vec<Item>,
+    pub(crate) items: Vec<Item>,
     /// All bytes of storage that the changes alter, and nothing else.
-    bytes: Vec<u8>,
+    pub(crate) bytes: Vec<u8>,
     /// What is beside the core, of the rows that have it.
-    beside: Vec<Beside>,
+    pub(crate) beside: Vec<Beside>,
 }
 
 impl Model for Packed {
@@ -146,83 +136,6 @@ fn end_of(rows: &[Row], items: &[Item], bytes: &[u8], beside: &[Beside], count: 
     end
 }
 
-/// Adds what is beside the core to a list that has room for it, if there is anything, and says whether there is.
-fn push_if_any(list: &mut Vec<Beside>, beside: Beside) -> bool
-    requires { vec_len list.old < vec_capacity list.old }
-    ensures some { IsTrue result → list.new.items ≡ list.old.items ++ beside ∷ [] }
-    ensures none { result ≡ false → (list.new.items ≡ list.old.items) × IsNothing beside }
-{
-    if beside.is_empty() {
-        return false;
-    }
-    list.push_reserved(beside);
-    true
-}
-
-/// Adds what a change has of the core and beside it to the lists, and answers its row. Want of memory leaves the lists as
-/// they were. It stands apart, since few changes are such.
-#[inline(never)]
-fn append_full(
-    full: Box<Full>,
-    items: &mut Vec<Item>,
-    bytes: &mut Vec<u8>,
-    list: &mut Vec<Beside>,
-) -> Result<Row, AllocError>
-    requires { AllFit true (box_value full).cells }
-    ensures ok { IfOk result (λ row. IsAppended (lists items.old.items bytes.old.items list.old.items) (lists items.new.items bytes.new.items list.new.items) row (change_of (box_value full).cells (box_value full).beside)) }
-    ensures err_items { OnErr result (items.new.items ≡ items.old.items) }
-    ensures err_bytes { OnErr result (bytes.new.items ≡ bytes.old.items) }
-    ensures err_list { OnErr result (list.new.items ≡ list.old.items) }
-{
-    let Full { cells, beside } = Box::into_inner(full);
-    let (items_before, bytes_before) = (items.as_slice().len(), bytes.as_slice().len());
-    list.reserve(1)?;
-    cells.append_to(items, bytes)?;
-    let beside = push_if_any(list, beside);
-    Ok(Row::More {
-        beside,
-        items: (items.as_slice().len() - items_before) as u32,
-        bytes: (bytes.as_slice().len() - bytes_before) as u32,
-        count: cells.len(),
-    })
-}
-
-/// Adds what a change of the PSW and little beside it has beside its row to a list, and answers its row. Want of memory leaves
-/// the list as it was.
-#[inline(always)]
-fn append_bytes(plain: &Plain, bytes: &mut Vec<u8>) -> Result<Row, AllocError>
-    requires { IsFit plain.now }
-    ensures ok { IfOk result (λ row. row ≡ row_of_plain plain.now) }
-    ensures bytes { IfOk result (λ row. bytes.new.items ≡ bytes.old.items ++ bytes_of_plain plain.now) }
-    ensures err { OnErr result (bytes.new.items ≡ bytes.old.items) }
-{
-    // Most have none, and a copy of none is a call.
-    if let Plain::Bytes { run, .. } = plain {
-        bytes.extend_from_slice(run.as_slice())?;
-    }
-    Ok(Row::of(plain))
-}
-
-/// Adds what a change has beside its row to the lists, and answers its row. Want of memory leaves the lists as they were.
-#[inline(always)]
-fn append_parts(
-    parts: Parts,
-    items: &mut Vec<Item>,
-    bytes: &mut Vec<u8>,
-    list: &mut Vec<Beside>,
-) -> Result<Row, AllocError>
-    requires { AreFit parts }
-    ensures ok { IfOk result (λ row. IsAppended (lists items.old.items bytes.old.items list.old.items) (lists items.new.items bytes.new.items list.new.items) row (change_of_parts parts)) }
-    ensures err_items { OnErr result (items.new.items ≡ items.old.items) }
-    ensures err_bytes { OnErr result (bytes.new.items ≡ bytes.old.items) }
-    ensures err_list { OnErr result (list.new.items ≡ list.old.items) }
-{
-    match parts {
-        Parts::Plain(plain) => append_bytes(&plain, bytes),
-        Parts::Full(full) => append_full(full, items, bytes, list),
-    }
-}
-
 impl Packed {
     /// No change. It takes no memory.
     pub fn new(alloc: Global) -> Packed
@@ -294,7 +207,7 @@ impl Packed {
 
     /// Adds a change of the PSW and one run of bytes at the end. Want of memory leaves the list as it was.
     #[inline(always)]
-    fn append_run(&mut self, run: AlteredRun<'_>) -> Result<(), AllocError>
+    pub(crate) fn append_run(&mut self, run: AlteredRun<'_>) -> Result<(), AllocError>
         requires few { length self.old < 10000000 }
         requires fit { IsRunFit run }
         ensures ok { OnOk result (self.new ≡ self.old ++ change_of_core (cells_of_run run.entry) ∷ []) }
@@ -307,64 +220,6 @@ impl Packed {
             address: run.address,
             psw: run.psw,
         });
-        Ok(())
-    }
-
-    /// Adds what a machine plans and makes room for at the end. Want of memory leaves the list as it was.
-    fn append_changes(&mut self, machine: &mut Machine, changes: Changes) -> Result<(), AllocError>
-        requires few { length self.old < 10000000 }
-        ensures ok { OnOk result (self.new ≡ self.old ++ changes ∷ []) }
-        ensures room { OnOk result (HasRoom machine.new.spare changes) }
-        ensures err { OnErr result (self.new ≡ self.old) }
-        ensures whole { machine.new.whole ≡ machine.old.whole }
-    {
-        machine.room(&changes)?;
-        self.append(changes)
-    }
-
-    /// Adds what an instruction alters at the end, with the interruption that it causes. Want of memory leaves the list as
-    /// it was.
-    fn append_instruction(&mut self, machine: &mut Machine) -> Result<(), AllocError>
-        requires few { length self.old < 10000000 }
-        ensures ok { OnOk result (AppendsChangeTo machine.old.whole machine.new.spare self.old self.new (after_instruction (seen machine.old.whole))) }
-        ensures err { OnErr result (self.new ≡ self.old) }
-        ensures whole { machine.new.whole ≡ machine.old.whole }
-    {
-        let fetched = machine.fetch();
-        if let Some(plain) = machine.altered_by(&fetched) {
-            return self.append_plain(plain);
-        }
-        let mut plan = machine.new_plan();
-        let planned = machine.plan_fetched(&fetched, &mut plan)?;
-        // Most are such, of which no change is made.
-        if let Some(run) = machine.altered_run(&plan, &planned) {
-            return self.append_run(run);
-        }
-        let changes = machine.changes_planned(&plan, planned)?;
-        self.append_changes(machine, changes)
-    }
-
-    /// Adds what an event alters at the end, for which it makes room in the machine, or says why it is refused. Want of
-    /// memory leaves the list as it was.
-    pub fn append_event(&mut self, machine: &mut Machine, event: &Event) -> Result<(), Refusal>
-        requires few { length self.old < 10000000 }
-        ensures ok { OnOk result (AppendsChangeTo machine.old.whole machine.new.spare self.old self.new (after (seen machine.old.whole) event.now)) }
-        ensures refused { MatchOption (refusal_of (storage_size (seen machine.old.whole)) event.now) (IsOkUnless result Memory) (λ r. result ≡ Err r) }
-        ensures err { OnErr result (self.new ≡ self.old) }
-        ensures whole { machine.new.whole ≡ machine.old.whole }
-    {
-        if let Some(refusal) = machine.refusal(event) {
-            return Err(refusal);
-        }
-        match event {
-            Event::Cpu if machine.cpu_case() == CpuCase::Executing => {
-                self.append_instruction(machine)?;
-            }
-            _ => {
-                let changes = machine.changes_of(event)?;
-                self.append_changes(machine, changes)?;
-            }
-        }
         Ok(())
     }
 

@@ -3,7 +3,7 @@ use Rattle.s360_machine.proofs.KeepLemmas.{Keeping}
 use Rattle.s360_machine.proofs.core_state.Core.keep_bytes.Given as goal
 
 abbrev pub invariant-loop-at : goal.invariant-loop-at
-invariant-loop-at l = Keeping l.self l.initial.kept l.kept l.address l.new l.start l.at
+invariant-loop-at l = Keeping l.self l.initial.kept l.kept l.address l.new l.at l.at
 
 abbrev pub decreases-loop-at : goal.decreases-loop-at
 decreases-loop-at l = length l.new - l.at

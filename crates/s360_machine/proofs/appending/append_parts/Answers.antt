@@ -1,6 +1,6 @@
 use Rattle.s360_machine.specs.Packed.{lists}
 use Rattle.s360_machine.proofs.PackedLemmas.{appended-bytes}
-use Rattle.s360_machine.proofs.packed.append_parts.Goals as goal
+use Rattle.s360_machine.proofs.appending.append_parts.Goals as goal
 
 pub returns-in-Plain-clause-ok : goal.returns-in-Plain-clause-ok
 returns-in-Plain-clause-ok c =

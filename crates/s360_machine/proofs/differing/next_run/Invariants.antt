@@ -1,9 +1,9 @@
 use Rattle.std.proofs.Common.{◌+◌, ◌-◌, length}
-use Rattle.s360_machine.proofs.RunLemmas.{DifferWithin, SameBefore}
-use Rattle.s360_machine.proofs.core_state.Core.altered_within.Given as goal
+use Rattle.s360_machine.proofs.RunLemmas.{DifferWithin, SameFrom}
+use Rattle.s360_machine.proofs.differing.next_run.Given as goal
 
 abbrev pub invariant-loop-start : goal.invariant-loop-start
-invariant-loop-start l = SameBefore l.stored l.new l.start
+invariant-loop-start l = SameFrom l.stored l.new l.from l.start
 
 abbrev pub decreases-loop-start : goal.decreases-loop-start
 decreases-loop-start l = length l.new - l.start

@@ -3,7 +3,7 @@ use Rattle.std.proofs.lemmas.List.{length-append}
 use Rattle.s360_store.specs.Cells.{AllFit}
 use Rattle.s360_machine.specs.declared.beside.Beside.{Beside}
 use Rattle.s360_machine.proofs.PackedLemmas.{appended-full, bytes-few, items-few}
-use Rattle.s360_machine.proofs.packed.append_full.Goals as goal
+use Rattle.s360_machine.proofs.appending.append_full.Goals as goal
 
 pub overflow_cast-result : goal.overflow_cast-result
 overflow_cast-result c =
