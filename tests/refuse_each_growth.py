@@ -41,9 +41,9 @@ STRIDE = 101
 # What is swept to the end, and of what it refuses each growth.
 TO_THE_END = {
     "logical/worked-rows": "a move that spreads a byte",
-    "tapes/discarded-blocks": "a tape block that is written in place of others",
+    "tapes/discarded-blocks": "a tape that is read from a file and shown as one, and a block in place of others",
     "tapes/longest-block-read": "the longest tape block",
-    "decks/data-chain": "a card that is read into two places",
+    "decks/data-chain": "a deck, and a card that is read into two places",
     "console/read": "a line that is entered and read",
     "withdrawals/tape-write": "a tape block whose writing is withdrawn",
     "withdrawals/card": "a patch that is withdrawn from before a card is read",
@@ -54,9 +54,6 @@ TO_THE_END = {
     "s360_rows_tests refused::entered_lines": "of a line that is entered, and its read",
     "s360_rows_tests refused::parted_bytes": "of patches that part bytes of one history",
     "s360_rows_tests answers::memory_within_a_line": "`answer`",
-    "s360_rows_tests images::files_of_decks_and_tapes": "`deck_from`, `tape_from`, `image_of`",
-    "s360_rows_tests devices::card_reader": "`plan` and `room` of the card reader",
-    "s360_rows_tests devices::tape": "`plan` and `room` of a tape",
     "s360_rows_tests channel_programs::programs_over_the_device_of_the_tests": "`channel_plan`",
     "s360_rows_tests packed::packed_changes": "`Packed::append`",
 }

@@ -1,11 +1,10 @@
-//! Devices by their own calls: the device of the tests, whose commands are taken back too, the card reader and a tape.
+//! The device of the tests by its own calls: each command that it does is taken back, many times.
 ghost use Rattle.std.specs.Prelude.{◌≡◌, IsTrue, IfOk};
 ghost use Rattle.s360_device.specs.Transfers.{CanEndWith};
 
 use crate::rows::{Subject, Words, assert_no_fault, fault_of_rows};
 use crate::slate::Slate;
-use s360_device::{Begin, COLUMNS, Device, Reader, deck_from};
-use s360_tape::tape_from;
+use s360_device::{Begin, Device};
 use std::alloc::{AllocError, Global};
 
 /// Whether a command that begins so may end with such bytes of output.
@@ -110,34 +109,6 @@ fn text_of_command<D: Device>(
     Some(text)
 }
 
-/// A device of which each command is asked, with so many bytes for an output.
-#[derive(Drop)]
-struct Commanded<D: Device> {
-    device: D,
-}
-
-impl<D: Device> Subject for Commanded<D> {
-    fn answer(&mut self, alloc: Global, words: &mut Words<'_>) -> Option<String> {
-        let command = words.below(0x100) as u8;
-        let bytes = file(alloc, words.below(0x100) as usize)?;
-        text_of_command(alloc, &mut self.device, command, bytes.as_slice())
-    }
-}
-
-/// What is wrong with a reader that has two cards.
-fn fault_of_reader(alloc: Global) -> Option<String> {
-    let cards = file(alloc, 2 * COLUMNS)?;
-    let deck = deck_from(alloc, &cards).ok()?;
-    let device = Reader::new(alloc, deck);
-    fault_of_rows(alloc, &mut Commanded { device }, READER)
-}
-
-/// What is wrong with a tape that has two blocks of a byte.
-fn fault_of_tape(alloc: Global) -> Option<String> {
-    let device = tape_from(alloc, &TWO_BLOCKS, false).ok()?;
-    fault_of_rows(alloc, &mut Commanded { device }, TAPE)
-}
-
 /// The slate.
 #[derive(Drop)]
 struct Writing {
@@ -176,41 +147,6 @@ fn device_of_the_tests(rt: HostRuntime) {
         fault_of_rows(rt.alloc(), &mut Writing { slate }, SLATE),
     );
 }
-
-#[test]
-fn card_reader(rt: HostRuntime) {
-    assert_no_fault(&rt, fault_of_reader(rt.alloc()));
-}
-
-#[test]
-fn tape(rt: HostRuntime) {
-    assert_no_fault(&rt, fault_of_tape(rt.alloc()));
-}
-
-const READER: &str = "
-* a card is read and stays, is read and fed, and another is fed
-C2 0 -> Input(80) 0 to 4F, sense 0
-02 0 -> Input(80) 0 to 4F, alters, sense 0
-A3 0 -> Control, alters, sense 0
-* no card is left, and the end-of-file key is not pressed
-42 0 -> Refused([64, 0, 0, 0, 0, 0]), alters, sense 40
-04 0 -> Input(1) 40 to 40, sense 40
-";
-
-/// A file of two blocks of a byte.
-const TWO_BLOCKS: [u8; 14] = [1, 0, 0, 0, 0xA0, 0, 0xC1, 1, 0, 1, 0, 0xA0, 0, 0xC2];
-
-const TAPE: &str = "
-02 0 -> Input(1) C1 to C1, alters, sense 0
-* three bytes in place of the second block, read backward, and a mark
-01 3 -> Output(65535), alters, sense 0
-0C 0 -> Input(3) 2 to 0, alters, sense 0
-1F 0 -> Control, alters, sense 0
-02 0 -> Refused([64, 0, 0, 0, 0, 0]), alters, sense 40
-27 0 -> Control, alters, exception, sense 0
-2F 0 -> Control, alters, sense 0
-0C 0 -> Refused([0, 8, 0, 0, 0, 0]), alters, sense 0
-";
 
 const SLATE: &str = "
 * no answer until there is a line, which is read once

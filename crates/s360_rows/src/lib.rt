@@ -13,8 +13,6 @@ mod devices;
 #[cfg(test)]
 mod held;
 #[cfg(test)]
-mod images;
-#[cfg(test)]
 mod indexes;
 #[cfg(test)]
 mod instructions;

@@ -81,7 +81,7 @@ impl Packing {
 impl Subject for Packing {
     fn answer(&mut self, alloc: Global, words: &mut Words<'_>) -> Option<String> {
         let kind = words.next_word();
-        let event = event(alloc, words.behind_the_first())?;
+        let event = event(alloc, words.rest())?;
         match kind {
             "make" => self.make(&event)?,
             "append" => self.append(&event)?,

@@ -8,7 +8,6 @@ use std::test::Fail;
 const COUNT: u32 = 65_535;
 
 /// In which order places are put.
-#[derive(Clone, Copy, Debug, PartialEq, Eq)]
 enum Order {
     /// Each behind those put before it.
     Rising,
@@ -22,7 +21,7 @@ enum Order {
 
 impl Order {
     /// The address of the place that is put after so many others.
-    fn address(self, after: u32) -> u32 {
+    fn address(&self, after: u32) -> u32 {
         match self {
             Order::Rising => after % COUNT + 1,
             Order::RisingButForTheLast => (after % COUNT + 1) % COUNT,
@@ -42,7 +41,7 @@ fn put(plan: &mut Plan, place: Place) -> Result<(), AllocError> {
 }
 
 /// How many places a plan has that are put in an order.
-fn places_put(alloc: Global, order: Order) -> Result<u32, AllocError> {
+fn places_put(alloc: Global, order: &Order) -> Result<u32, AllocError> {
     let mut plan = Plan::new(alloc);
     for after in 0..COUNT {
         put(&mut plan, Place::Byte(order.address(after)))?;
@@ -52,28 +51,28 @@ fn places_put(alloc: Global, order: Order) -> Result<u32, AllocError> {
 
 #[test]
 fn rising_puts(rt: HostRuntime) -> Result<(), Fail> {
-    let count = places_put(rt.alloc(), Order::Rising)?;
+    let count = places_put(rt.alloc(), &Order::Rising)?;
     assert_eq!(rt; count, COUNT);
     Ok(())
 }
 
 #[test]
 fn rising_puts_but_for_the_last(rt: HostRuntime) -> Result<(), Fail> {
-    let count = places_put(rt.alloc(), Order::RisingButForTheLast)?;
+    let count = places_put(rt.alloc(), &Order::RisingButForTheLast)?;
     assert_eq!(rt; count, COUNT);
     Ok(())
 }
 
 #[test]
 fn falling_puts(rt: HostRuntime) -> Result<(), Fail> {
-    let count = places_put(rt.alloc(), Order::Falling)?;
+    let count = places_put(rt.alloc(), &Order::Falling)?;
     assert_eq!(rt; count, COUNT);
     Ok(())
 }
 
 #[test]
 fn mixed_puts(rt: HostRuntime) -> Result<(), Fail> {
-    let count = places_put(rt.alloc(), Order::Mixed)?;
+    let count = places_put(rt.alloc(), &Order::Mixed)?;
     assert_eq!(rt; count, COUNT);
     Ok(())
 }

@@ -5,51 +5,44 @@ ghost use Rattle.std.specs.Prelude.{◌<◌};
 use s360_word::ProtectionKey;
 use std::alloc::Global;
 use std::process::Abort;
-use std::str::Split;
 
 /// The words of a question that are left, and whether each word so far was what was asked for.
 #[derive(Drop)]
 pub(crate) struct Words<'a> {
-    text: &'a str,
-    left: Split<'a, char>,
+    left: Option<&'a str>,
     are_read: bool,
 }
 
 impl<'a> Words<'a> {
     /// The words of a text, between blanks.
     fn new(text: &'a str) -> Words<'a> {
-        let text = text.trim();
         Words {
-            text,
-            left: text.split(' '),
+            left: Some(text.trim()),
             are_read: true,
         }
     }
 
     /// The next word, or an empty one.
     pub(crate) fn next_word(&mut self) -> &'a str {
-        match self.left.next() {
-            Some(word) => word,
+        let Some(left) = self.left else {
+            self.are_read = false;
+            return "";
+        };
+        match left.split_once(" ") {
+            Some((word, others)) => {
+                self.left = Some(others);
+                word
+            }
             None => {
-                self.are_read = false;
-                ""
+                self.left = None;
+                left
             }
         }
     }
 
-    /// All words, which are then read.
-    pub(crate) fn whole(&mut self) -> &'a str {
-        self.left = "".split(' ');
-        let _ = self.left.next();
-        self.text
-    }
-
-    /// All that stands behind the first word, which is then read.
-    pub(crate) fn behind_the_first(&mut self) -> &'a str {
-        match self.whole().split_once(" ") {
-            Some((_, line)) => line,
-            None => "",
-        }
+    /// All words that are left, which are then read.
+    pub(crate) fn rest(&mut self) -> &'a str {
+        self.left.take().unwrap_or("")
     }
 
     /// The next word as a number, or 0.
@@ -88,8 +81,8 @@ impl<'a> Words<'a> {
     }
 
     /// Whether each word was what was asked for, and none is left.
-    fn are_all_read(mut self) -> bool {
-        self.are_read && self.left.next().is_none()
+    fn are_all_read(self) -> bool {
+        self.are_read && self.left.is_none()
     }
 }
 

@@ -252,12 +252,6 @@ fn text_of_failed_read(alloc: Global, after: usize, kind: io::ErrorKind) -> Opti
     lend(alloc, 10, &mut cut)
 }
 
-/// What a script of so many blanks leaves, beside a session that is begun.
-fn text_of_blanks(alloc: Global, count: usize) -> Option<String> {
-    let script = vec![in alloc; b' '; count].ok()?;
-    text_of_whole(alloc, &script, &[])
-}
-
 /// The first lines of the script that are carried out where its writer stops after so many bytes.
 fn carried_out(room: usize) -> Option<usize> {
     let (written, _) = ADD_ANSWERS.split_at_checked(room)?;
@@ -306,7 +300,6 @@ impl Subject for Scripts {
             "full" => lend(alloc, 1, &mut Whole { script: PATCHES }),
             "whole" => text_of_whole(alloc, ADD.as_bytes(), ADD.as_bytes()),
             "long" => text_of_whole(alloc, &behind_a_comment(alloc)?, ADD.as_bytes()),
-            "blanks" => text_of_blanks(alloc, words.below(0x20_0000) as usize),
             kind => {
                 let kind = match kind {
                     "interrupted" => io::ErrorKind::Interrupted,
@@ -324,11 +317,6 @@ fn slow_streams_that_fail(rt: HostRuntime) {
         assert_no_fault(&rt, fault_of_write(rt.alloc(), room));
     }
     assert_no_fault(&rt, fault_of_rows(rt.alloc(), &mut Scripts, STREAMS));
-}
-
-#[test]
-fn longest_scripts(rt: HostRuntime) {
-    assert_no_fault(&rt, fault_of_rows(rt.alloc(), &mut Scripts, LONGEST));
 }
 
 /// More ticks than may stand where one change may, and more patches.
@@ -357,9 +345,3 @@ long -> Ok(7) 18E true true
 limit -> "1 changed 4 s000050 s000051 s000052 ext\nrefused 6 journal full\nrun 0 refused 6 journal full\nstanding 1\n"
 full -> "1 changed 1 r1\nrefused 6 journal full\n"
 "#;
-
-/// Scripts of blanks: of the greatest length, and of a byte more.
-const LONGEST: &str = "
-blanks 100000 -> Ok(0) 0 true true
-blanks 100001 -> Err(TooLong) 0 true true
-";

@@ -52,7 +52,7 @@ impl<'a> Running<'a> {
     /// What an event of this kind is answered: a preview, a patch of so many bytes, or both.
     fn report(&mut self, alloc: Global, kind: &str, words: &mut Words<'_>) -> Option<String> {
         let event = match kind {
-            "preview" => event(alloc, words.behind_the_first())?,
+            "preview" => event(alloc, words.rest())?,
             _ => long_patch(alloc, words)?,
         };
         let report = match kind {
@@ -90,10 +90,10 @@ impl<'a> Subject for Running<'a> {
         match words.next_word() {
             "picture" => self.picture(alloc),
             "lacking" => self.of_lacking_places(alloc),
-            "changes" => self.changes(alloc, words.behind_the_first()),
+            "changes" => self.changes(alloc, words.rest()),
             "event" => format!(in alloc; "{:?}", self.session.last_event()).ok(),
-            "memory" => self.stands(alloc, words.behind_the_first()),
-            "do" => self.perform(alloc, words.behind_the_first()),
+            "memory" => self.stands(alloc, words.rest()),
+            "do" => self.perform(alloc, words.rest()),
             kind => self.report(alloc, kind, words),
         }
     }
