@@ -268,9 +268,33 @@ def of_runs(machine, code, lengths, first, second):
             searched = range(tested[0] + 1 if tested else count)
             found = [byte(at) for i in searched for at in (first + i, function(i))]
             return {place: [place, *found] for place in ("r1", "r2", "p")}
-    operands = [*bytes_at(first, (lengths >> 4) + 1), *bytes_at(second, (lengths & 15) + 1)]
-    zone = ["p"] if code == 0xF3 else []  # MVO, PACK; UNPK
-    return dict.fromkeys(bytes_at(first, (lengths >> 4) + 1), [*zone, *operands])
+    return of_digits(code, lengths, first, second)
+
+
+def of_digits(code, lengths, first, second):
+    """MVO, PACK and UNPK, which make bytes from right to left. A byte of the second operand is fetched just before
+    the first byte that needs it is stored.
+    """
+    count, other_count = (lengths >> 4) + 1, (lengths & 15) + 1
+    made, fetched = {}, {}
+
+    def fetch(i):
+        if i >= other_count:
+            return []
+        place = byte(second + other_count - 1 - i)
+        return fetched.setdefault(i, made.get(place, [place]))
+
+    for i in range(count):
+        place = byte(first + count - 1 - i)
+        match code:
+            case 0xF1:  # MVO
+                found = [*fetch(i), *(fetch(i - 1) if i else [place])]
+            case 0xF2:  # PACK
+                found = [*fetch(2 * i), *fetch(2 * i - 1)] if i else fetch(0)
+            case _:  # UNPK
+                found = ["p", *fetch((i + 1) // 2)] if i else fetch(0)
+        made[place] = list(dict.fromkeys(found))
+    return made
 
 
 def left_to_right(first, count, operands):

@@ -1,9 +1,8 @@
 -- MOVE WITH OFFSET, PACK and UNPACK follow their sources.
-use Rattle.std.proofs.Common.{◌≡◌, ◌≢◌, ◌<◌, ◌≤◌, ◌+◌, ◌-◌, ◌∙◌, ◌++◌, ℕ, zero, suc, Bool, true, false, ◌&&◌, List, [], ◌∷◌, refl, ap, sym, arith, length, get_or, nat_lt, inl, inr}
-use Rattle.std.specs.Prelude.{if◌then◌else◌, nat_le}
-use Rattle.std.proofs.Math.Path.{fun_ext}
-use Rattle.std.proofs.lemmas.Bool.{and_parts, cases_Bool, leb-true, ltb-true, true≢false}
-use Rattle.std.proofs.lemmas.List.{get_or-set_other, length-set}
+use Rattle.std.proofs.Common.{◌≡◌, ◌+◌, ◌∙◌, ℕ, zero, suc, false, List, [], ◌∷◌, refl, ap, sym, arith, length, get_or, nat_eq, nat_lt, inl, inr}
+use Rattle.std.specs.Prelude.{if◌then◌else◌}
+use Rattle.std.proofs.lemmas.Bool.{cases_Bool, eq-eqb, ne_eqb}
+use Rattle.std.proofs.lemmas.List.{length-set}
 use Rattle.s360_model.specs.Core.{Core}
 use Rattle.s360_model.specs.Psw.{with_instruction_address}
 use Rattle.s360_model.specs.Storage.{Storage}
@@ -11,7 +10,6 @@ use Rattle.s360_psw.specs.declared.instruction_length.InstructionLength.{Instruc
 use Rattle.s360_store.specs.declared.place.Place.{Place}
 use Rattle.s360_store.specs.declared.place.Place.TheVariants.{Psw, Register, Byte, Key, Run, External, UnitState, UnitMedia}
 use Rattle.s360_store.specs.declared.protection.Access.TheVariants.{Store}
-use Rattle.s360_store.specs.Spans.{byte_places}
 use Rattle.s360_fixed.specs.declared.operation.Operation.{Operation}
 use Rattle.s360_fixed.specs.declared.setting.Setting.TheVariants.{Kept}
 use Rattle.s360_fixed.specs.Outcomes.{unless_met}
@@ -20,13 +18,14 @@ use Rattle.s360_fixed.specs.View.{Outcome}
 use Rattle.s360_logic.specs.Bytes.{byte_at, completed_with, fields_conditions, with_byte}
 use Rattle.s360_logic.specs.RightToLeft.{address_from_right, byte_from_right}
 use Rattle.s360_source.specs.Agreement.{AreAlike, HaveAllSame, HaveSame, KeepsSizes}
-use Rattle.s360_source.specs.InstructionSources.{digit_sources}
+use Rattle.s360_source.specs.declared.digits.Digits.{Digits}
+use Rattle.s360_source.specs.declared.digits.Field.{Field}
+use Rattle.s360_source.specs.DigitSources.{DigitsMade, digit_places, digit_sources, digits_made, fetched_before, from_right as right, one_more, places_from_right}
 use Rattle.s360_source.specs.Laws.{FollowsSources}
 use Rattle.s360_source.specs.Shapes.{converts_to_binary}
-use Rattle.s360_source.proofs.AgreementLemmas.{byte-same, same-else, same-first, same-if, same-second}
+use Rattle.s360_source.proofs.AgreementLemmas.{same-else, same-if}
 use Rattle.s360_source.proofs.BranchLemmas.{seen}
 use Rattle.s360_source.proofs.EffectLemmas.{set-same}
-use Rattle.s360_source.proofs.StoreLemmas.{in-run}
 use Rattle.s360_source.proofs.SuppressionLemmas.{suppression-law}
 
 -- the byte at a number from the right of an operand
@@ -75,100 +74,122 @@ length-stays needed result a1 c1 a2 c2 i (suc n) source s =
     length-stays needed result a1 c1 a2 c2 (i + 1) n (fetched_at needed a2 c2 i source s) (next_of needed result a1 c1 a2 c2 i source s)
     ∙ length-set s.bytes (place_of a1 c1 i) (result (fetched_at needed a2 c2 i source s) i)
 
-other-stays : (needed : ℕ → ℕ) (result : (ℕ → ℕ) → ℕ → ℕ) (a1 c1 a2 c2 n i : ℕ) (source : ℕ → ℕ) (s : Storage) (a : ℕ)
-    → ((k : ℕ) → i ≤ k → k < i + n → a ≢ place_of a1 c1 k) → byte_at (right_to_left_of needed result a1 c1 a2 c2 i n source s) a ≡ byte_at s a
-other-stays needed result a1 c1 a2 c2 zero i source s a h = refl
-other-stays needed result a1 c1 a2 c2 (suc n) i source s a h =
-    other-stays needed result a1 c1 a2 c2 n (i + 1) (fetched_at needed a2 c2 i source s) (next_of needed result a1 c1 a2 c2 i source s) a (λ k l u. h k (omega arith) (omega arith))
-    ∙ get_or-set_other s.bytes (place_of a1 c1 i) a (result (fetched_at needed a2 c2 i source s) i) 0 (h i (omega arith) (omega arith))
+-- the bytes that were fetched and the storage, after so many bytes of a result
+abbrev State : Type 0
+State = (ℕ → ℕ) × Storage
 
--- bytes that were the same stay so where the same byte is stored in both
-with_byte-same : (s t : Storage) (a v w x : ℕ) → length s.bytes ≡ length t.bytes → v ≡ w → byte_at s x ≡ byte_at t x → byte_at (with_byte a v s) x ≡ byte_at (with_byte a w t) x
-with_byte-same s t a v w x size e h = set-same s.bytes t.bytes a x v w size (λ f. e) (λ f. h)
+abbrev next_state : (ℕ → ℕ) → ((ℕ → ℕ) → ℕ → ℕ) → ℕ → ℕ → ℕ → ℕ → ℕ → State → State
+next_state needed result a1 c1 a2 c2 n x = (fetched_at needed a2 c2 n x.0 x.1, next_of needed result a1 c1 a2 c2 n x.0 x.1)
 
-from_right-same : (address count : ℕ) (s t : Storage) (a v w j : ℕ) → length s.bytes ≡ length t.bytes → v ≡ w → from_right address count s j ≡ from_right address count t j
-    → from_right address count (with_byte a v s) j ≡ from_right address count (with_byte a w t) j
-from_right-same address count s t a v w j size e h =
-    elim (cases_Bool (nat_lt j count)) [
-      | inl inside ↦ rw inside (with_byte-same s t a v w (place_of address count j) size e (rw inside at h))
+abbrev state_after : (ℕ → ℕ) → ((ℕ → ℕ) → ℕ → ℕ) → ℕ → ℕ → ℕ → ℕ → Storage → ℕ → State
+state_after needed result a1 c1 a2 c2 s zero = (from_right a2 c2 s, s)
+state_after needed result a1 c1 a2 c2 s (suc n) = next_state needed result a1 c1 a2 c2 n (state_after needed result a1 c1 a2 c2 s n)
+
+-- what is left to be stored then makes all
+rest-stored : (needed : ℕ → ℕ) (result : (ℕ → ℕ) → ℕ → ℕ) (a1 c1 a2 c2 : ℕ) (s : Storage) (n i : ℕ)
+    → right_to_left_of needed result a1 c1 a2 c2 i n (state_after needed result a1 c1 a2 c2 s i).0 (state_after needed result a1 c1 a2 c2 s i).1 ≡ (state_after needed result a1 c1 a2 c2 s (i + n)).1
+rest-stored needed result a1 c1 a2 c2 s zero i = let here : i + 0 ≡ i = omega arith in rw here refl
+rest-stored needed result a1 c1 a2 c2 s (suc n) i =
+    let next : i + 1 ≡ suc i = omega arith
+    in let all : i + suc n ≡ suc i + n = omega arith
+    in rw (next, all) (rest-stored needed result a1 c1 a2 c2 s n (suc i))
+
+all-stored : (needed : ℕ → ℕ) (result : (ℕ → ℕ) → ℕ → ℕ) (a1 c1 a2 c2 : ℕ) (s : Storage) → stored_of needed result a1 c1 a2 c2 s ≡ (state_after needed result a1 c1 a2 c2 s c1).1
+all-stored needed result a1 c1 a2 c2 s = let all : 0 + c1 ≡ c1 = omega arith in rw all at (rest-stored needed result a1 c1 a2 c2 s c1 0)
+
+state-length : (needed : ℕ → ℕ) (result : (ℕ → ℕ) → ℕ → ℕ) (a1 c1 a2 c2 : ℕ) (s : Storage) (n : ℕ) → length (state_after needed result a1 c1 a2 c2 s n).1.bytes ≡ length s.bytes
+state-length needed result a1 c1 a2 c2 s zero = refl
+state-length needed result a1 c1 a2 c2 s (suc n) =
+    let x : State = state_after needed result a1 c1 a2 c2 s n
+    in length-set x.1.bytes (place_of a1 c1 n) (result (fetched_at needed a2 c2 n x.0 x.1) n) ∙ state-length needed result a1 c1 a2 c2 s n
+
+-- two states have the same where the sources are the same
+record IsSameBy (m n : Core) (made : DigitsMade) (x y : State) : Type 0 where
+  fetched : (j : ℕ) → HaveAllSame m n (made.fetched j) → x.0 j ≡ y.0 j
+  stored : (a : ℕ) → HaveAllSame m n (made.stored a) → byte_at x.1 a ≡ byte_at y.1 a
+
+-- a byte of the result is the same where the bytes that it is made of are
+abbrev pub IsMadeOf : Core → Core → Digits → ((ℕ → ℕ) → ℕ → ℕ) → ((ℕ → ℕ) → ℕ → ℕ) → Type 0
+IsMadeOf m n d f g =
+    (x y : ℕ → ℕ) (fetched : ℕ → List Place) (i : ℕ) → ((j : ℕ) → HaveAllSame m n (fetched j) → x j ≡ y j)
+    → HaveAllSame m n (digit_places d.row (Byte (right d.first 0) ∷ []) fetched i) → f x i ≡ g y i
+
+-- a byte of the second operand
+from_right-follows : (m n : Core) (field : Field) (stored : ℕ → List Place) (s t : Storage) → ((a : ℕ) → HaveAllSame m n (stored a) → byte_at s a ≡ byte_at t a)
+    → (j : ℕ) → HaveAllSame m n (places_from_right field stored j) → from_right field.address field.count s j ≡ from_right field.address field.count t j
+from_right-follows m n field stored s t same j h =
+    elim (cases_Bool (nat_lt j field.count)) [
+      | inl inside ↦ rw inside (same (right field j) (rw inside at h))
       | inr past ↦ rw past refl
     ]
 
-fetched-same : (before : ℕ) (source other now then_now : ℕ → ℕ) → ((j : ℕ) → source j ≡ other j) → ((j : ℕ) → now j ≡ then_now j)
-    → fetched_then before source now ≡ fetched_then before other then_now
-fetched-same before source other now then_now same bytes =
-    fun_ext (λ j. elim (cases_Bool (nat_lt j before)) [ inl needed ↦ rw needed (same j) | inr new ↦ rw new (bytes j) ])
-
--- a byte that is the same, where both operands are
-stored-same : (needed : ℕ → ℕ) (f g : (ℕ → ℕ) → ℕ → ℕ) (a1 c1 a2 c2 : ℕ) → ((h : ℕ → ℕ) (i : ℕ) → f h i ≡ g h i)
-    → (n i : ℕ) (source other : ℕ → ℕ) (s t : Storage) (a : ℕ) → length s.bytes ≡ length t.bytes → ((j : ℕ) → source j ≡ other j) → ((j : ℕ) → from_right a2 c2 s j ≡ from_right a2 c2 t j)
-    → byte_at s a ≡ byte_at t a → byte_at (right_to_left_of needed f a1 c1 a2 c2 i n source s) a ≡ byte_at (right_to_left_of needed g a1 c1 a2 c2 i n other t) a
-stored-same needed f g a1 c1 a2 c2 results zero i source other s t a size same bytes h = h
-stored-same needed f g a1 c1 a2 c2 results (suc n) i source other s t a size same bytes h =
-    let one : ℕ → ℕ = fetched_at needed a2 c2 i source s
-    in let two : ℕ → ℕ = fetched_at needed a2 c2 i other t
-    in let fetched : one ≡ two = fetched-same (needed i) source other (from_right a2 c2 s) (from_right a2 c2 t) same bytes
-    in let byte : f one i ≡ g two i = ap (λ (x : ℕ → ℕ). f x i) fetched ∙ results two i
-    in let at : ℕ = place_of a1 c1 i
-    in stored-same needed f g a1 c1 a2 c2 results n (i + 1) one two (with_byte at (f one i) s) (with_byte at (g two i) t) a
-    (length-set s.bytes at (f one i) ∙ size ∙ sym (length-set t.bytes at (g two i)))
-    (λ j. ap (λ (x : ℕ → ℕ). x j) fetched)
-    (λ j. from_right-same a2 c2 s t at (f one i) (g two i) j size byte (bytes j))
-    (with_byte-same s t at (f one i) (g two i) a size byte h)
-
--- the bytes of an operand from the right, where its places are the same
-pub operand-same : (m n : Core) (address count : ℕ) → HaveAllSame m n (byte_places address count) → (j : ℕ) → from_right address count m.storage j ≡ from_right address count n.storage j
-operand-same m n address count h j =
-    elim (cases_Bool (nat_lt j count)) [
-      | inl inside ↦
-          let l : j < count = ltb-true _ _ inside
-          in let there : address + (count - 1 - j) ≡ address + count - 1 - j = omega arith
-          in rw inside (rw there at (byte-same m n count address (count - 1 - j) (omega arith) h))
-      | inr past ↦ rw past refl
+fetched-follows : (m n : Core) (d : Digits) (made : DigitsMade) (x y : State) (k : ℕ) → IsSameBy m n made x y
+    → (j : ℕ) → HaveAllSame m n ((one_more d k made).fetched j)
+    → fetched_at (fetched_before d.row) d.second.address d.second.count k x.0 x.1 j ≡ fetched_at (fetched_before d.row) d.second.address d.second.count k y.0 y.1 j
+fetched-follows m n d made x y k same j h =
+    elim (cases_Bool (nat_lt j (fetched_before d.row k))) [
+      | inl before ↦ rw before (same.fetched j (rw before at h))
+      | inr new ↦ rw new (from_right-follows m n d.second made.stored x.1 y.1 same.stored j (rw new at h))
     ]
 
--- whether an address is one of an operand's
-place-inside : (a count k : ℕ) → (nat_le a k && nat_lt k (a + count)) ≡ true → (a ≤ k) × (k < a + count)
-place-inside a count k h = let both : (nat_le a k ≡ true) × (nat_lt k (a + count) ≡ true) = and_parts _ _ h in (leb-true a k both.0, ltb-true k (a + count) both.1)
+state-follows : (m n : Core) (d : Digits) (f g : (ℕ → ℕ) → ℕ → ℕ) → AreAlike m n → IsMadeOf m n d f g
+    → (k : ℕ) → IsSameBy m n (digits_made d k)
+    (state_after (fetched_before d.row) f d.first.address d.first.count d.second.address d.second.count m.storage k)
+    (state_after (fetched_before d.row) g d.first.address d.first.count d.second.address d.second.count n.storage k)
+state-follows m n d f g alike each zero = record {
+  fetched = from_right-follows m n d.second (λ a. Byte a ∷ []) m.storage n.storage (λ a h. h.0);
+  stored = λ a h. h.0;
+}
+state-follows m n d f g alike each (suc k) =
+    let made : DigitsMade = digits_made d k
+    in let x : State = state_after (fetched_before d.row) f d.first.address d.first.count d.second.address d.second.count m.storage k
+    in let y : State = state_after (fetched_before d.row) g d.first.address d.first.count d.second.address d.second.count n.storage k
+    in let same : IsSameBy m n made x y = state-follows m n d f g alike each k
+    in let more : ℕ → List Place = (one_more d k made).fetched
+    in let one : ℕ → ℕ = fetched_at (fetched_before d.row) d.second.address d.second.count k x.0 x.1
+    in let two : ℕ → ℕ = fetched_at (fetched_before d.row) d.second.address d.second.count k y.0 y.1
+    in let at : ℕ = right d.first k
+    in let sources : List Place = digit_places d.row (Byte (right d.first 0) ∷ []) more k
+    in record {
+      fetched = fetched-follows m n d made x y k same;
+      stored = λ a h. set-same x.1.bytes y.1.bytes at a (f one k) (g two k)
+          (state-length (fetched_before d.row) f d.first.address d.first.count d.second.address d.second.count m.storage k ∙ alike.size
+              ∙ sym (state-length (fetched_before d.row) g d.first.address d.first.count d.second.address d.second.count n.storage k))
+          (λ e. each one two more k (fetched-follows m n d made x y k same) (same-if (nat_eq at a) m n sources (made.stored a) h (eq-eqb at a (sym e))))
+          (λ ne. same.stored a (same-else (nat_eq at a) m n sources (made.stored a) h (ne_eqb at a (λ e. ne (sym e)))));
+    }
 
-place-beside : (a count k i : ℕ) → (nat_le a k && nat_lt k (a + count)) ≡ false → i < count → k ≢ a + count - 1 - i
-place-beside a count k i h l e = absurd (true≢false (sym (in-run a count k (omega arith) (omega arith)) ∙ h))
+-- the byte of the result that was stored last
+pub stored-last : (d : Digits) (n a : ℕ) → right d.first n ≡ a → (digits_made d (suc n)).stored a ≡ digit_places d.row (Byte (right d.first 0) ∷ []) (digits_made d (suc n)).fetched n
+stored-last d n a e = rw (eq-eqb (right d.first n) a e) refl
+
+-- the rightmost byte of an operand
+pub rightmost-same : (m n : Core) (field : Field) → HaveAllSame m n (Byte (right field 0) ∷ []) → from_right field.address field.count m.storage 0 ≡ from_right field.address field.count n.storage 0
+rightmost-same m n field h =
+    elim (cases_Bool (nat_lt 0 field.count)) [
+      | inl inside ↦ rw inside h.0
+      | inr none ↦ rw none refl
+    ]
 
 -- the outcome of an instruction that is completed with the bytes that are stored
 abbrev digits_done : Core → ℕ → InstructionLength → (ℕ → ℕ) → ((ℕ → ℕ) → ℕ → ℕ) → ℕ → ℕ → ℕ → ℕ → Outcome
 digits_done m next il needed result a1 c1 a2 c2 = completed_with (seen m next il) Kept (stored_of needed result a1 c1 a2 c2 m.storage)
 
-digits-law : (m n : Core) (next : ℕ) (il : InstructionLength) (needed : ℕ → ℕ) (f g : (ℕ → ℕ) → ℕ → ℕ) (c1 c2 a1 a2 : ℕ) (used : List Place) (p : Place) → AreAlike m n
-    → (HaveAllSame m n (used ++ (byte_places a1 c1 ++ byte_places a2 c2)) → (h : ℕ → ℕ) (i : ℕ) → f h i ≡ g h i)
-    → HaveAllSame m n (digit_sources used a1 c1 a2 c2 p)
-    → HaveSame (digits_done m next il needed f a1 c1 a2 c2).core (digits_done n next il needed g a1 c1 a2 c2).core p
-digits-law m n next il needed f g c1 c2 a1 a2 used Psw alike results h = ap (λ x. with_instruction_address x next) h.0
-digits-law m n next il needed f g c1 c2 a1 a2 used (Register r) alike results h = h.0
-digits-law m n next il needed f g c1 c2 a1 a2 used (Key b) alike results h =
-    ap (λ (x : List ℕ). get_or x b 0) (keys-stay needed f a1 c1 a2 c2 0 c1 (from_right a2 c2 m.storage) m.storage) ∙ h.0
-    ∙ sym (ap (λ (x : List ℕ). get_or x b 0) (keys-stay needed g a1 c1 a2 c2 0 c1 (from_right a2 c2 n.storage) n.storage))
-digits-law m n next il needed f g c1 c2 a1 a2 used Run alike results h = refl
-digits-law m n next il needed f g c1 c2 a1 a2 used External alike results h = refl
-digits-law m n next il needed f g c1 c2 a1 a2 used (UnitState u) alike results h = refl
-digits-law m n next il needed f g c1 c2 a1 a2 used (UnitMedia u) alike results h = refl
-digits-law m n next il needed f g c1 c2 a1 a2 used (Byte a) alike results h =
-    let sources : List Place = used ++ (byte_places a1 c1 ++ byte_places a2 c2)
-    in let test : Bool = nat_le a1 a && nat_lt a (a1 + c1)
-    in elim (cases_Bool test) [
-      | inl inside ↦
-          let all : HaveAllSame m n sources = same-if test m n sources (Byte a ∷ []) h inside
-          in let both : HaveAllSame m n (byte_places a1 c1 ++ byte_places a2 c2) = same-second m n used (byte_places a1 c1 ++ byte_places a2 c2) all
-          in let one : HaveAllSame m n (byte_places a1 c1) = same-first m n (byte_places a1 c1) (byte_places a2 c2) both
-          in let two : HaveAllSame m n (byte_places a2 c2) = same-second m n (byte_places a1 c1) (byte_places a2 c2) both
-          in let place : (a1 ≤ a) × (a < a1 + c1) = place-inside a1 c1 a inside
-          in let there : a1 + (a - a1) ≡ a = omega arith
-          in let here : byte_at m.storage a ≡ byte_at n.storage a = rw there at (byte-same m n c1 a1 (a - a1) (omega arith) one)
-          in stored-same needed f g a1 c1 a2 c2 (results all) c1 0 (from_right a2 c2 m.storage) (from_right a2 c2 n.storage) m.storage n.storage a alike.size (operand-same m n a2 c2 two) (operand-same m n a2 c2 two) here
-      | inr beside ↦
-          let alone : byte_at m.storage a ≡ byte_at n.storage a = (same-else test m n sources (Byte a ∷ []) h beside).0
-          in other-stays needed f a1 c1 a2 c2 c1 0 (from_right a2 c2 m.storage) m.storage a (λ k l u. place-beside a1 c1 a k beside (omega arith))
-          ∙ alone ∙ sym (other-stays needed g a1 c1 a2 c2 c1 0 (from_right a2 c2 n.storage) n.storage a (λ k l u. place-beside a1 c1 a k beside (omega arith)))
-    ]
+digits-law : (m n : Core) (next : ℕ) (il : InstructionLength) (d : Digits) (f g : (ℕ → ℕ) → ℕ → ℕ) (p : Place) → AreAlike m n → IsMadeOf m n d f g
+    → HaveAllSame m n (digit_sources d p)
+    → HaveSame (digits_done m next il (fetched_before d.row) f d.first.address d.first.count d.second.address d.second.count).core (digits_done n next il (fetched_before d.row) g d.first.address d.first.count d.second.address d.second.count).core p
+digits-law m n next il d f g Psw alike each h = ap (λ x. with_instruction_address x next) h.0
+digits-law m n next il d f g (Register r) alike each h = h.0
+digits-law m n next il d f g (Key b) alike each h =
+    ap (λ (x : List ℕ). get_or x b 0) (keys-stay (fetched_before d.row) f d.first.address d.first.count d.second.address d.second.count 0 d.first.count (from_right d.second.address d.second.count m.storage) m.storage) ∙ h.0
+    ∙ sym (ap (λ (x : List ℕ). get_or x b 0) (keys-stay (fetched_before d.row) g d.first.address d.first.count d.second.address d.second.count 0 d.first.count (from_right d.second.address d.second.count n.storage) n.storage))
+digits-law m n next il d f g Run alike each h = refl
+digits-law m n next il d f g External alike each h = refl
+digits-law m n next il d f g (UnitState u) alike each h = refl
+digits-law m n next il d f g (UnitMedia u) alike each h = refl
+digits-law m n next il d f g (Byte a) alike each h =
+    rw (all-stored (fetched_before d.row) f d.first.address d.first.count d.second.address d.second.count m.storage, all-stored (fetched_before d.row) g d.first.address d.first.count d.second.address d.second.count n.storage)
+    ((state-follows m n d f g alike each d.first.count).stored a h)
 
 digits-keep : (m : Core) (next : ℕ) (il : InstructionLength) (needed : ℕ → ℕ) (f : (ℕ → ℕ) → ℕ → ℕ) (c1 c2 a1 a2 : ℕ) → KeepsSizes m (digits_done m next il needed f a1 c1 a2 c2).core
 digits-keep m next il needed f c1 c2 a1 a2 = record {
@@ -182,16 +203,16 @@ digits-keep m next il needed f c1 c2 a1 a2 = record {
 abbrev digits_met : Core → ℕ → InstructionLength → ℕ → ℕ → ℕ → ℕ → Conditions
 digits_met m next il a1 c1 a2 c2 = fields_conditions (seen m next il) Store (record { address = a1; count = c1 }) (record { address = a2; count = c2 })
 
-pub digits-row : (operation : Operation) (m n : Core) (next : ℕ) (il : InstructionLength) (needed : ℕ → ℕ) (f g : (ℕ → ℕ) → ℕ → ℕ) (c1 c2 a1 a2 b1 b2 : ℕ) (used : List Place) (p : Place)
-    → converts_to_binary operation ≡ false → AreAlike m n → a1 ≡ b1 → a2 ≡ b2
-    → (HaveAllSame m n (used ++ (byte_places a1 c1 ++ byte_places a2 c2)) → (h : ℕ → ℕ) (i : ℕ) → f h i ≡ g h i)
+pub digits-row : (operation : Operation) (m n : Core) (next : ℕ) (il : InstructionLength) (d : Digits) (f g : (ℕ → ℕ) → ℕ → ℕ) (b1 b2 : ℕ) (p : Place)
+    → converts_to_binary operation ≡ false → AreAlike m n → d.first.address ≡ b1 → d.second.address ≡ b2 → IsMadeOf m n d f g
     → FollowsSources operation m n
-    (unless_met (digits_met m next il a1 c1 a2 c2) m (digits_done m next il needed f a1 c1 a2 c2))
-    (unless_met (digits_met n next il b1 c1 b2 c2) n (digits_done n next il needed g b1 c1 b2 c2))
-    (digit_sources used a1 c1 a2 c2) p
-digits-row o m n next il needed f g c1 c2 a1 a2 b1 b2 used p k alike d e results =
-    rw (← d, ← e)
-    (suppression-law o (digits_met m next il a1 c1 a2 c2) (digits_met n next il a1 c1 a2 c2) m n
-    (digits_done m next il needed f a1 c1 a2 c2) (digits_done n next il needed g a1 c1 a2 c2)
-    (digit_sources used a1 c1 a2 c2) p k refl refl alike (λ i. digits-keep m next il needed f c1 c2 a1 a2) (λ i. digits-keep n next il needed g c1 c2 a1 a2)
-    (λ i j h. digits-law m n next il needed f g c1 c2 a1 a2 used p alike results h))
+    (unless_met (digits_met m next il d.first.address d.first.count d.second.address d.second.count) m (digits_done m next il (fetched_before d.row) f d.first.address d.first.count d.second.address d.second.count))
+    (unless_met (digits_met n next il b1 d.first.count b2 d.second.count) n (digits_done n next il (fetched_before d.row) g b1 d.first.count b2 d.second.count))
+    (digit_sources d) p
+digits-row o m n next il d f g b1 b2 p k alike e1 e2 each =
+    rw (← e1, ← e2)
+    (suppression-law o (digits_met m next il d.first.address d.first.count d.second.address d.second.count) (digits_met n next il d.first.address d.first.count d.second.address d.second.count) m n
+    (digits_done m next il (fetched_before d.row) f d.first.address d.first.count d.second.address d.second.count) (digits_done n next il (fetched_before d.row) g d.first.address d.first.count d.second.address d.second.count)
+    (digit_sources d) p k refl refl alike
+    (λ i. digits-keep m next il (fetched_before d.row) f d.first.count d.second.count d.first.address d.second.address) (λ i. digits-keep n next il (fetched_before d.row) g d.first.count d.second.count d.first.address d.second.address)
+    (λ i j h. digits-law m n next il d f g p alike each h))

@@ -7,7 +7,9 @@ use Rattle.s360_store.specs.declared.place.Place.TheVariants.{Psw, Register, Byt
 use Rattle.s360_fixed.specs.declared.ended.Ended.TheVariants.{Done}
 use Rattle.s360_fixed.specs.declared.form.Form.TheVariants.{Ss}
 use Rattle.s360_fixed.specs.declared.operation.Operation.TheVariants.{Move}
-use Rattle.s360_source.specs.InstructionSources.{instruction_sources}
+use Rattle.s360_source.specs.declared.digits.DigitRow.TheVariants.{MoveWithOffset, Pack, Unpack}
+use Rattle.s360_source.specs.DigitSources.{digit_sources}
+use Rattle.s360_source.specs.InstructionSources.{digits_of, instruction_sources}
 use Rattle.s360_source.specs.RegisterSources.{load_multiple_sources, store_multiple_sources}
 use Rattle.s360_source.specs.Shapes.{instruction_shape}
 use Rattle.s360_source.specs.StorageSources.{combined_bytes, left_to_right_sources, moved_bytes}
@@ -37,6 +39,40 @@ blanked = refl
 -- XC D70206010600: the third byte is made of itself and of the two that were changed before it
 pub chained : left_to_right_sources (combined_bytes 0x601 0x600) 0x601 3 (Byte 0x603) ≡ Byte 0x603 ∷ (Byte 0x602 ∷ (Byte 0x601 ∷ (Byte 0x600 ∷ [])))
 chained = refl
+
+-- F2110600 0700: two zoned digits are packed into two bytes
+abbrev packed_apart : Place → List Place
+packed_apart = digit_sources (digits_of Pack 0x11 0x600 0x700)
+
+pub exchanged_byte : packed_apart (Byte 0x601) ≡ Byte 0x701 ∷ []
+exchanged_byte = refl
+
+pub packed_digit : packed_apart (Byte 0x600) ≡ Byte 0x700 ∷ []
+packed_digit = refl
+
+-- F3210600 0700: the third digit is the high one of the byte that has the second
+abbrev unpacked_apart : Place → List Place
+unpacked_apart = digit_sources (digits_of Unpack 0x21 0x600 0x700)
+
+pub unpacked_digit : unpacked_apart (Byte 0x600) ≡ Psw ∷ (Byte 0x700 ∷ [])
+unpacked_digit = refl
+
+-- F1210600 0700: each byte has digits of two, and the rightmost one keeps its own low digit
+abbrev moved_with_offset : Place → List Place
+moved_with_offset = digit_sources (digits_of MoveWithOffset 0x21 0x600 0x700)
+
+pub offset_rightmost : moved_with_offset (Byte 0x602) ≡ Byte 0x701 ∷ (Byte 0x602 ∷ [])
+offset_rightmost = refl
+
+pub offset_middle : moved_with_offset (Byte 0x601) ≡ Byte 0x700 ∷ (Byte 0x701 ∷ [])
+offset_middle = refl
+
+pub offset_leftmost : moved_with_offset (Byte 0x600) ≡ Byte 0x700 ∷ []
+offset_leftmost = refl
+
+-- F3330600 0600: unpacked in place, the leftmost byte is made of the one at 601, into which a digit of 602 was unpacked before
+pub unpacked_in_place : digit_sources (digits_of Unpack 0x33 0x600 0x600) (Byte 0x600) ≡ Psw ∷ (Psw ∷ (Byte 0x602 ∷ []))
+unpacked_in_place = refl
 
 -- LM 14,1: register 0 is the third word; register 2 is left alone
 pub third_word : load_multiple_sources 14 1 0x700 (Register 0) ≡ Byte 0x708 ∷ (Byte 0x709 ∷ (Byte 0x70A ∷ (Byte 0x70B ∷ [])))

@@ -1,6 +1,7 @@
 -- The instructions of the format SS follow their sources.
-use Rattle.std.proofs.Common.{◌≡◌, ◌<◌, ◌+◌, ◌-◌, ◌*◌, ◌/◌, ◌%◌, ◌∙◌, ℕ, zero, suc, false, List, [], ◌∷◌, refl, ap, sym, arith, length, min, take, drop, nat_eq, bit_and, bit_or, bit_xor}
+use Rattle.std.proofs.Common.{◌≡◌, ◌<◌, ◌+◌, ◌-◌, ◌*◌, ◌/◌, ◌%◌, ◌∙◌, ℕ, zero, suc, false, List, [], ◌∷◌, refl, ap, sym, arith, length, min, take, drop, nat_eq, bit_and, bit_or, bit_xor, ◌++◌, inl, inr}
 use Rattle.std.specs.Prelude.{if◌then◌else◌}
+use Rattle.std.proofs.lemmas.Bool.{cases_Bool}
 use Rattle.std.proofs.lemmas.List.{ext_get_or, get_or-drop, get_or-take, length-drop, length-take}
 use Rattle.s360_model.specs.Core.{Core}
 use Rattle.s360_model.specs.Storage.{Storage}
@@ -23,7 +24,11 @@ use Rattle.s360_logic.specs.LeftToRight.{comparison_code, function_address, left
 use Rattle.s360_logic.specs.Logic.{address_of, row_outcome}
 use Rattle.s360_logic.specs.RightToLeft.{byte_from_right, digits, exchanged, zone_of}
 use Rattle.s360_source.specs.Agreement.{AreAlike, HaveAllSame, HaveSame, KeepsSizes}
-use Rattle.s360_source.specs.InstructionSources.{combination_in_storage, ss_sources}
+use Rattle.s360_source.specs.declared.digits.DigitRow.TheVariants.{MoveWithOffset as with_offset, Pack as packed, Unpack as unpacked}
+use Rattle.s360_source.specs.declared.digits.Digits.{Digits}
+use Rattle.s360_source.specs.declared.digits.Field.{Field}
+use Rattle.s360_source.specs.DigitSources.{from_right}
+use Rattle.s360_source.specs.InstructionSources.{combination_in_storage, digits_of, ss_sources}
 use Rattle.s360_source.specs.Laws.{FollowsSources}
 use Rattle.s360_source.specs.Shapes.{converts_to_binary}
 use Rattle.s360_source.specs.Sources.{psw_made_of}
@@ -31,7 +36,7 @@ use Rattle.s360_source.specs.StorageSources.{Bytes, both_operands, combined_byte
 use Rattle.s360_source.proofs.AgreementLemmas.{byte-same, same-first, same-second, same-sizes}
 use Rattle.s360_source.proofs.BranchLemmas.{seen}
 use Rattle.s360_source.proofs.LeftToRightLemmas.{SameBytes, byte_list, left_to_right-ahead, left_to_right-keys, left_to_right-length, left_to_right-option, sources-same, stored-follows}
-use Rattle.s360_source.proofs.DigitLemmas.{digits-row, operand-same as from_right-alike}
+use Rattle.s360_source.proofs.DigitLemmas.{IsMadeOf, digits-row, rightmost-same}
 use Rattle.s360_source.proofs.SearchLemmas.{search-row}
 use Rattle.s360_source.proofs.RowLemmas.{code-row, psw-same}
 use Rattle.s360_source.proofs.SuppressionLemmas.{is_suppressed-setting, suppression-law}
@@ -169,6 +174,42 @@ packed_byte f i = if nat_eq i 0 then exchanged (f 0) else digits (f (2 * i)) (f 
 abbrev unpacked_byte : ℕ → (ℕ → ℕ) → ℕ → ℕ
 unpacked_byte psw f i = if nat_eq i 0 then exchanged (f 0) else digits (zone_of psw) (if nat_eq (i % 2) 1 then f ((i + 1) / 2) else f (i / 2) / 16)
 
+-- each is the same where what it is made of is
+offset-made : (m n : Core) (first second : Field) (low other : ℕ) → (HaveAllSame m n (Byte (from_right first 0) ∷ []) → low ≡ other)
+    → IsMadeOf m n (record { row = with_offset; first = first; second = second }) (λ f i. digits (f i) (if nat_eq i 0 then low else f (i - 1) / 16)) (λ f i. digits (f i) (if nat_eq i 0 then other else f (i - 1) / 16))
+offset-made m n first second low other rightmost x y fetched i same h =
+    let right : List Place = if nat_eq i 0 then Byte (from_right first 0) ∷ [] else fetched (i - 1)
+    in let left : x i ≡ y i = same i (same-first m n (fetched i) right h)
+    in let beside : HaveAllSame m n right = same-second m n (fetched i) right h
+    in ap (λ q. digits q (if nat_eq i 0 then low else x (i - 1) / 16)) left
+    ∙ ap (λ q. digits (y i) q) (elim (cases_Bool (nat_eq i 0)) [
+        | inl z ↦ rw z (rightmost (rw z at beside))
+        | inr z ↦ rw z (ap (λ q. q / 16) (same (i - 1) (rw z at beside)))
+      ])
+
+packed-made : (m n : Core) (first second : Field) → IsMadeOf m n (record { row = packed; first = first; second = second }) packed_byte packed_byte
+packed-made m n first second x y fetched i same h =
+    elim (cases_Bool (nat_eq i 0)) [
+      | inl z ↦ rw z (ap (λ q. exchanged q) (same 0 (rw z at h)))
+      | inr z ↦
+          let both : HaveAllSame m n (fetched (2 * i) ++ fetched (2 * i - 1)) = rw z at h
+          in rw z (ap (λ q. digits q (x (2 * i - 1))) (same (2 * i) (same-first m n (fetched (2 * i)) (fetched (2 * i - 1)) both))
+          ∙ ap (λ q. digits (y (2 * i)) q) (same (2 * i - 1) (same-second m n (fetched (2 * i)) (fetched (2 * i - 1)) both)))
+    ]
+
+unpacked-made : (m n : Core) (first second : Field) → IsMadeOf m n (record { row = unpacked; first = first; second = second }) (unpacked_byte m.psw) (unpacked_byte n.psw)
+unpacked-made m n first second x y fetched i same h =
+    elim (cases_Bool (nat_eq i 0)) [
+      | inl z ↦ rw z (ap (λ q. exchanged q) (same 0 (rw z at h)))
+      | inr z ↦
+          let both : HaveAllSame m n (Psw ∷ (if nat_eq (i % 2) 1 then fetched ((i + 1) / 2) else fetched (i / 2))) = rw z at h
+          in rw z (ap (λ q. digits (zone_of q) (if nat_eq (i % 2) 1 then x ((i + 1) / 2) else x (i / 2) / 16)) both.0
+          ∙ ap (λ q. digits (zone_of n.psw) q) (elim (cases_Bool (nat_eq (i % 2) 1)) [
+              | inl odd ↦ rw odd (same ((i + 1) / 2) (rw odd at both.1))
+              | inr even ↦ rw even (ap (λ q. q / 16) (same (i / 2) (rw even at both.1)))
+            ]))
+    ]
+
 -- the address of an operand
 abbrev at : Core → ℕ → InstructionLength → ℕ → ℕ → ℕ
 at m next length b d = address_of (seen m next length) b d
@@ -206,16 +247,16 @@ ss-law Translate m n next length l b1 d1 b2 d2 p alike d e =
     (translated-each m n (at m next length b1 d1) (at m next length b2 d2) (at n next length b1 d1) (at n next length b2 d2) d e) (λ h. refl)
 ss-law TranslateAndTest m n next length l b1 d1 b2 d2 p alike d e = search-row m n next length (at m next length b1 d1) (at m next length b2 d2) (at n next length b1 d1) (at n next length b2 d2) (l + 1) p alike d e
 ss-law MoveWithOffset m n next length l b1 d1 b2 d2 p alike d e =
-    let a1 : ℕ = at m next length b1 d1
-    in let a2 : ℕ = at m next length b2 d2
-    in let c1 : ℕ = l / 16 + 1
-    in let c2 : ℕ = l % 16 + 1
-    in digits-row MoveWithOffset m n next length (λ i. i) (offset_byte a1 c1 m.storage) (offset_byte (at n next length b1 d1) c1 n.storage) c1 c2 a1 a2 (at n next length b1 d1) (at n next length b2 d2) [] p refl alike d e
-    (λ h f i. ap (λ x. digits (f i) (if nat_eq i 0 then x else f (i - 1) / 16))
-    (from_right-alike m n a1 c1 (same-first m n (byte_places a1 c1) (byte_places a2 c2) h) 0 ∙ ap (λ x. byte_from_right (record { address = x; count = c1 }) n.storage 0) d))
+    let o : Digits = digits_of with_offset l (at m next length b1 d1) (at m next length b2 d2)
+    in let first : Field = o.first
+    in digits-row MoveWithOffset m n next length o (offset_byte first.address first.count m.storage) (offset_byte (at n next length b1 d1) first.count n.storage) (at n next length b1 d1) (at n next length b2 d2) p refl alike d e
+    (λ x y fetched i same h. offset-made m n o.first o.second
+    (byte_from_right (record { address = first.address; count = first.count }) m.storage 0) (byte_from_right (record { address = at n next length b1 d1; count = first.count }) n.storage 0)
+    (λ r. rightmost-same m n first r ∙ ap (λ q. byte_from_right (record { address = q; count = first.count }) n.storage 0) d) x y fetched i same h)
 ss-law Pack m n next length l b1 d1 b2 d2 p alike d e =
-    digits-row Pack m n next length (λ i. 2 * i - 1) packed_byte packed_byte (l / 16 + 1) (l % 16 + 1) (at m next length b1 d1) (at m next length b2 d2) (at n next length b1 d1) (at n next length b2 d2) [] p refl alike d e (λ h f i. refl)
+    let o : Digits = digits_of packed l (at m next length b1 d1) (at m next length b2 d2)
+    in digits-row Pack m n next length o packed_byte packed_byte (at n next length b1 d1) (at n next length b2 d2) p refl alike d e (packed-made m n o.first o.second)
 ss-law Unpack m n next length l b1 d1 b2 d2 p alike d e =
-    digits-row Unpack m n next length (λ i. if nat_eq i 0 then 0 else i / 2 + 1) (unpacked_byte m.psw) (unpacked_byte n.psw) (l / 16 + 1) (l % 16 + 1) (at m next length b1 d1) (at m next length b2 d2) (at n next length b1 d1) (at n next length b2 d2) (Psw ∷ []) p refl alike d e
-    (λ h f i. ap (λ x. unpacked_byte x f i) h.0)
+    let o : Digits = digits_of unpacked l (at m next length b1 d1) (at m next length b2 d2)
+    in digits-row Unpack m n next length o (unpacked_byte m.psw) (unpacked_byte n.psw) (at n next length b1 d1) (at n next length b2 d2) p refl alike d e (unpacked-made m n o.first o.second)
 ss-law other m n next length l b1 d1 b2 d2 p alike d e = λ f h. record { first = same-sizes m; second = same-sizes n; same = h.0 }

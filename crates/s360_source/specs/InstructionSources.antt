@@ -1,6 +1,6 @@
 -- The sources of an instruction, by its format and its operation (GA22-6821, "Fixed-Point Arithmetic", "Logical Operations",
 -- "Branching" and "Status Switching").
-use Rattle.std.specs.Prelude.{ℕ, ◌+◌, ◌/◌, ◌%◌, ◌++◌, if◌then◌else◌, Option, Some, None, List, [], ◌∷◌}
+use Rattle.std.specs.Prelude.{ℕ, ◌+◌, ◌/◌, ◌%◌, if◌then◌else◌, Option, Some, None, List, [], ◌∷◌}
 use Rattle.s360_model.specs.Storage.{Storage}
 use Rattle.s360_store.specs.declared.place.Place.{Place}
 use Rattle.s360_store.specs.declared.place.Place.TheVariants.{Psw, Register, Byte, Key}
@@ -34,6 +34,10 @@ use Rattle.s360_source.specs.declared.shape.InstructionShape.{InstructionShape}
 use Rattle.s360_source.specs.declared.shape.Operands.{Operands}
 use Rattle.s360_source.specs.declared.shape.Performance.{Performance}
 use Rattle.s360_source.specs.Shapes.{is_suppressed, operation_of}
+use Rattle.s360_source.specs.declared.digits.DigitRow.{DigitRow}
+use Rattle.s360_source.specs.declared.digits.Digits.{Digits}
+use Rattle.s360_source.specs.declared.digits.DigitRow.TheVariants.{MoveWithOffset as with_offset, Pack as packed, Unpack as unpacked}
+use Rattle.s360_source.specs.DigitSources.{digit_sources}
 use Rattle.s360_source.specs.Sources.{Sources, address_parts, bytes_made_of, itself, made_of, psw_made_of, register_part}
 use Rattle.s360_source.specs.StorageSources.{both_operands, combined_bytes, left_to_right_sources, moved_bytes, searched_places}
 use Rattle.s360_source.specs.StorageSources.{translated_bytes}
@@ -94,7 +98,7 @@ si_sources Or address = psw_made_of (Byte address ∷ []) (made_of (Byte address
 si_sources ExclusiveOr address = psw_made_of (Byte address ∷ []) (made_of (Byte address) (Byte address ∷ []) itself)
 si_sources other address = itself
 
--- the format SS, by the length field, the addresses and the storage. The zone of an unpacked digit is that of the PSW's mode
+-- the format SS, by the length field, the addresses and the storage
 abbrev pub combination_in_storage : ℕ → ℕ → ℕ → Sources
 combination_in_storage first second count =
     psw_made_of (both_operands first second count) (left_to_right_sources (combined_bytes first second) first count)
@@ -104,10 +108,10 @@ abbrev pub search_sources : List Place → Sources
 search_sources searched =
     psw_made_of searched (made_of (Register 1) (Register 1 ∷ searched) (made_of (Register 2) (Register 2 ∷ searched) itself))
 
--- the rows of digits make each byte of the first operand of bytes of both, and of what else is used
-abbrev pub digit_sources : List Place → ℕ → ℕ → ℕ → ℕ → Sources
-digit_sources used first count second other_count =
-    bytes_made_of first count (used ++ (byte_places first count ++ byte_places second other_count)) itself
+-- two operands in storage, each with its length
+abbrev pub digits_of : DigitRow → ℕ → ℕ → ℕ → Digits
+digits_of row l first second =
+    record { row = row; first = record { address = first; count = l / 16 + 1 }; second = record { address = second; count = l % 16 + 1 } }
 
 abbrev pub ss_sources : Operation → ℕ → ℕ → ℕ → Storage → Sources
 ss_sources Move l first second s = psw_made_of [] (left_to_right_sources (moved_bytes second) first (l + 1))
@@ -119,9 +123,9 @@ ss_sources ExclusiveOr l first second s = combination_in_storage first second (l
 ss_sources CompareLogical l first second s = psw_made_of (both_operands first second (l + 1)) itself
 ss_sources Translate l first second s = psw_made_of [] (left_to_right_sources (translated_bytes first second s) first (l + 1))
 ss_sources TranslateAndTest l first second s = search_sources (searched_places second first 0 (l + 1) s)
-ss_sources MoveWithOffset l first second s = digit_sources [] first (l / 16 + 1) second (l % 16 + 1)
-ss_sources Pack l first second s = digit_sources [] first (l / 16 + 1) second (l % 16 + 1)
-ss_sources Unpack l first second s = digit_sources (Psw ∷ []) first (l / 16 + 1) second (l % 16 + 1)
+ss_sources MoveWithOffset l first second s = digit_sources (digits_of with_offset l first second)
+ss_sources Pack l first second s = digit_sources (digits_of packed l first second)
+ss_sources Unpack l first second s = digit_sources (digits_of unpacked l first second)
 ss_sources other l first second s = itself
 
 -- of an instruction that is completed

@@ -5,6 +5,7 @@ pub mod Parts
 pub mod RegisterSources
 pub mod StorageSources
 pub mod ByteRows
+pub mod DigitSources
 pub mod InstructionSources
 pub mod Deciders
 pub mod Laws

@@ -2,13 +2,15 @@
 //! Operations", "Decimal Arithmetic", "Branching" and "Status Switching".
 ghost use Rattle.std.specs.Prelude.{◌≡◌, ◌++◌, ◌+◌, ◌/◌, ◌%◌, [], ◌∷◌, OnOk};
 ghost use Rattle.s360_store.specs.Spans.{byte_places};
-ghost use Rattle.s360_source.specs.InstructionSources.{combination_in_storage, completed_sources, digit_sources};
+ghost use Rattle.s360_source.specs.DigitSources.{digit_sources};
+ghost use Rattle.s360_source.specs.InstructionSources.{combination_in_storage, completed_sources, digits_of};
 ghost use Rattle.s360_source.specs.InstructionSources.{instruction_sources};
 ghost use Rattle.s360_source.specs.InstructionSources.{rr_sources, rs_sources, rx_sources, search_sources};
 ghost use Rattle.s360_source.specs.InstructionSources.{si_sources, ss_sources};
 ghost use Rattle.s360_source.specs.Sources.{address_parts, itself, made_of, psw_made_of};
 ghost use Rattle.s360_source.specs.StorageSources.{both_operands, searched_places};
 
+use crate::digits::{DigitRow, Digits, Field};
 use crate::location::Location;
 use crate::made_of::{
     push_bytes_made_of, push_itself, push_made_of, push_pair_made_of, push_psw_made_of,
@@ -233,39 +235,25 @@ fn push_combination_in_storage(
     push_left_to_right(found, place, ByteRow::Combined, operands, count, storage)
 }
 
-/// Adds the sources of a place, as MVO or PACK with this length field made what stands there.
+/// Adds the sources of a place, as MVO, PACK or UNPK with this length field made what stands there.
 fn push_digits(
     found: &mut Vec<Place>,
     place: Place,
+    row: DigitRow,
     l: u8,
     operands: &Operands,
 ) -> Result<(), AllocError>
-    ensures { OnOk result (found.new.items ≡ found.old.items ++ digit_sources [] operands.now.first (l / 16 + 1) operands.now.second (l % 16 + 1) place) }
+    ensures { OnOk result (found.new.items ≡ found.old.items ++ digit_sources (digits_of row l operands.now.first operands.now.second) place) }
 {
-    let (first, count) = (operands.first, u16::from(l / 16) + 1);
-    let second = Part::Bytes(operands.second, u16::from(l % 16) + 1);
-    push_bytes_made_of(
-        found,
-        place,
-        first,
-        count,
-        &[Part::Bytes(first, count), second],
-    )
-}
-
-/// Adds the sources of a place, as UNPK with this length field made what stands there. The zones are those of the PSW's mode.
-fn push_unpacked(
-    found: &mut Vec<Place>,
-    place: Place,
-    l: u8,
-    operands: &Operands,
-) -> Result<(), AllocError>
-    ensures { OnOk result (found.new.items ≡ found.old.items ++ digit_sources (Place.Psw ∷ []) operands.now.first (l / 16 + 1) operands.now.second (l % 16 + 1) place) }
-{
-    let (first, count) = (operands.first, u16::from(l / 16) + 1);
-    let second = Part::Bytes(operands.second, u16::from(l % 16) + 1);
-    let used = [Part::Place(Place::Psw), Part::Bytes(first, count), second];
-    push_bytes_made_of(found, place, first, count, &used)
+    let first = Field {
+        address: operands.first,
+        count: u32::from(l / 16) + 1,
+    };
+    let second = Field {
+        address: operands.second,
+        count: u32::from(l % 16) + 1,
+    };
+    Digits { row, first, second }.push_sources(found, place)
 }
 
 /// Adds the sources of a place, as an instruction of the format SS with this length field made what stands there.
@@ -295,8 +283,11 @@ fn push_ss(
             push_left_to_right(found, place, ByteRow::Translated, operands, count, storage)
         }
         Operation::TranslateAndTest => push_search(found, place, count, operands, storage),
-        Operation::MoveWithOffset | Operation::Pack => push_digits(found, place, l, operands),
-        Operation::Unpack => push_unpacked(found, place, l, operands),
+        Operation::MoveWithOffset => {
+            push_digits(found, place, DigitRow::MoveWithOffset, l, operands)
+        }
+        Operation::Pack => push_digits(found, place, DigitRow::Pack, l, operands),
+        Operation::Unpack => push_digits(found, place, DigitRow::Unpack, l, operands),
         _ => push_itself(found, place),
     }
 }

@@ -12,6 +12,7 @@ mod channel_moves;
 mod cpu;
 mod cpu_deciding;
 mod deciding;
+mod digits;
 mod event;
 mod executed;
 mod instruction;
