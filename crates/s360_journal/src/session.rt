@@ -15,7 +15,7 @@ use crate::breaks::Breaks;
 use crate::event_stack::EventStack;
 use crate::events::Events;
 use crate::report::{Report, is_idle};
-use crate::standing::{stand, unmake_last};
+use crate::standing::{stand, stand_plain, unmake_last};
 use s360_index::Index;
 use s360_machine::{Event, EventKind, Machine, Packed, Refusal};
 use s360_store::Place;
@@ -224,13 +224,12 @@ impl Session {
         }
         match self.machine.altered() {
             Some(plain) => {
-                self.changes.append_plain(plain)?;
-                stand(
+                stand_plain(
                     &mut self.machine,
                     &mut self.events,
                     &mut self.changes,
                     &mut self.index,
-                    Event::Cpu,
+                    plain,
                 )?;
                 Ok(())
             }

@@ -25,6 +25,8 @@ use Rattle.s360_machine.specs.Machine.{Whole}
 use Rattle.s360_machine.specs.Changes.{change_of, change_of_core, change_with}
 use Rattle.s360_machine.specs.Packed.{ArePacked, HasBefore, HasOwn, IsAppended, IsSwapOf, byte_values, bytes_of_changes, value_if_byte, changes_of_rows, lists, IsEnd, IsWithin, Lists, change_of_row, end_before, joined, lists_from, lists_to, newest, older, others, own, unpacked}
 use Rattle.s360_machine.specs.Rows.{HasNoMore, HasSameCounts, IsOver, beside_of_row, bytes_of_row, cells_of_row, items_of_row, row_of_plain}
+use Rattle.s360_machine.specs.ChangeSpans.{AreSpansOf, spans_of_row}
+use Rattle.s360_machine.proofs.SpanLemmas.{within-own}
 use Rattle.s360_machine.proofs.SwapLemmas.{IsSwap, IsSwap-from, same-change}
 
 -- the end of a list that had more put to it
@@ -329,6 +331,17 @@ plain-beside nothing = refl
 plain-beside (psw_alone psw) = refl
 plain-beside (with_register r word psw) = refl
 plain-beside (with_bytes address psw run) = refl
+
+plain-alone : (x : Plain) → HasNoMore (row_of_plain x)
+plain-alone nothing = tt
+plain-alone (psw_alone psw) = tt
+plain-alone (with_register r word psw) = tt
+plain-alone (with_bytes address psw run) = tt
+
+-- its places
+pub plain-spans : (x : Plain) → IsFit x → AreSpansOf (spans_of_row (row_of_plain x)) (change_of_core (cells_of_plain x))
+plain-spans x fit =
+    within-own (row_of_plain x) [] (bytes_of_plain x) [] (change_of_core (cells_of_plain x)) (plain-alone x) (over-plain x fit) (sym (plain-beside x)) (ap (λ (cs : List Cell). change_of_core cs) (cells-plain x))
 
 pub appended-plain : (old : Lists) (new : List ℕ) (x : Plain) → IsFit x → new ≡ old.bytes ++ bytes_of_plain x
     → IsAppended old (lists old.items new old.beside) (row_of_plain x) (change_of_core (cells_of_plain x))

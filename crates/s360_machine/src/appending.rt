@@ -306,7 +306,7 @@ impl Packed {
     {
         let fetched = machine.fetch();
         if let Some(plain) = machine.altered_by(&fetched) {
-            return self.append_plain(plain);
+            return self.append_plain(&plain);
         }
         let mut plan = machine.new_plan();
         let planned = machine.plan_fetched(&fetched, &mut plan)?;

@@ -289,6 +289,7 @@ impl Core {
     }
 
     /// Exchanges what stands at the places of a change with its values.
+    #[inline(always)]
     pub(crate) fn exchange_plain(&mut self, plain: &mut Plain)
         requires fit { IsFit plain.old }
         requires can { AreCellsOf self.old (cells_of_plain plain.old) }

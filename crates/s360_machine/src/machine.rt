@@ -7,11 +7,12 @@ ghost use Rattle.s360_model.specs.Storage.{is_storage_size};
 ghost use Rattle.s360_store.specs.declared.fault.StoreFault.TheVariants.{Size, Memory as no_memory};
 ghost use Rattle.s360_machine.specs.Machine.{Machine as SeenMachine, machine_with, new_machine, room_for, seen};
 ghost use Rattle.s360_store.specs.Cells.{AllFit};
+ghost use Rattle.s360_fixed.specs.Plain.{IsFit, cells_of_plain};
 ghost use Rattle.s360_machine.specs.Change.{CanSwap, after_swap, change_after_swap};
 ghost use Rattle.s360_machine.specs.Change.{HasRoom, NeedsNoRoom, NeedsRoom};
 ghost use Rattle.s360_machine.specs.Changes.{AreFit, change_of, change_of_core, change_of_parts};
 ghost use Rattle.s360_machine.specs.IoChanges.{CanSwapMedia, media_needs, unit_of_change};
-ghost use Rattle.s360_machine.specs.Packed.{change_of_row, lists};
+ghost use Rattle.s360_machine.specs.Packed.{IsSwapOf, change_of_row, lists};
 ghost use Rattle.s360_machine.specs.Rows.{HasSameCounts, IsOver, cells_of_row};
 ghost use Rattle.s360_model.specs.Exchanges.{CanIfAny};
 ghost use Rattle.s360_device.specs.DeviceChanges.{bare};
@@ -30,6 +31,7 @@ use crate::row::Row;
 use crate::run_state::RunState;
 use s360_channel::{ConfiguredUnit, UnitChange, UnitState, Units};
 use s360_device::{Deck, Punch, Reader};
+use s360_fixed::Plain;
 use s360_print::{Console, ConsoleMedia, Printer, PrinterMedia};
 use s360_psw::Psw;
 use s360_store::{Item, Storage, StoreFault};
@@ -328,6 +330,19 @@ impl Machine {
         if !beside.is_empty() {
             self.exchange_beside(&mut beside[0]);
         }
+    }
+
+    /// Exchanges the values at the places of a change of the PSW and little beside it with its own. It takes no memory.
+    #[inline(always)]
+    pub fn swap_plain(&mut self, plain: &mut Plain)
+        requires fit { IsFit plain.old }
+        requires can { CanSwap self.old.whole (change_of_core (cells_of_plain plain.old)) }
+        ensures machine { IsSwapOf self.old.whole (change_of_core (cells_of_plain plain.old)) self.new.whole }
+        ensures change { change_of_core (cells_of_plain plain.new) ≡ change_after_swap self.old.whole (change_of_core (cells_of_plain plain.old)) }
+        ensures fit { IsFit plain.new }
+        ensures spare { self.new.spare ≡ self.old.spare }
+    {
+        self.core.exchange_plain(plain);
     }
 
     /// Exchanges the values at the places of a row that has all but its bytes within itself with its own.

@@ -193,14 +193,14 @@ impl Packed {
 
     /// Adds a change of the PSW and little beside it at the end. Want of memory leaves the list as it was.
     #[inline(always)]
-    pub fn append_plain(&mut self, plain: Plain) -> Result<(), AllocError>
+    pub fn append_plain(&mut self, plain: &Plain) -> Result<(), AllocError>
         requires few { length self.old < 10000000 }
-        requires fit { IsFit plain }
-        ensures ok { OnOk result (self.new ≡ self.old ++ change_of_core (cells_of_plain plain) ∷ []) }
+        requires fit { IsFit plain.now }
+        ensures ok { OnOk result (self.new ≡ self.old ++ change_of_core (cells_of_plain plain.now) ∷ []) }
         ensures err { OnErr result (self.new ≡ self.old) }
     {
         self.rows.reserve(1)?;
-        let row = append_bytes(&plain, &mut self.bytes)?;
+        let row = append_bytes(plain, &mut self.bytes)?;
         self.rows.push_reserved(row);
         Ok(())
     }
