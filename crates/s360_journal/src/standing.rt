@@ -65,8 +65,7 @@ fn record(
         changes.drop_last();
         return Err(AllocError);
     }
-    let number = changes.len();
-    let indexed = index_plain(index, changes, plain, number);
+    let indexed = index_plain(index, changes, plain, changes.len());
     if indexed.is_err() {
         events.drop_last();
         changes.drop_last();
