@@ -154,7 +154,7 @@ state-follows m n d f g alike each (suc k) =
       fetched = fetched-follows m n d made x y k same;
       stored = λ a h. set-same x.1.bytes y.1.bytes at a (f one k) (g two k)
           (state-length (fetched_before d.row) f d.first.address d.first.count d.second.address d.second.count m.storage k ∙ alike.size
-              ∙ sym (state-length (fetched_before d.row) g d.first.address d.first.count d.second.address d.second.count n.storage k))
+          ∙ sym (state-length (fetched_before d.row) g d.first.address d.first.count d.second.address d.second.count n.storage k))
           (λ e. each one two more k (fetched-follows m n d made x y k same) (same-if (nat_eq at a) m n sources (made.stored a) h (eq-eqb at a (sym e))))
           (λ ne. same.stored a (same-else (nat_eq at a) m n sources (made.stored a) h (ne_eqb at a (λ e. ne (sym e)))));
     }

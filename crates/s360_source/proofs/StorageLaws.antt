@@ -183,9 +183,9 @@ offset-made m n first second low other rightmost x y fetched i same h =
     in let beside : HaveAllSame m n right = same-second m n (fetched i) right h
     in ap (λ q. digits q (if nat_eq i 0 then low else x (i - 1) / 16)) left
     ∙ ap (λ q. digits (y i) q) (elim (cases_Bool (nat_eq i 0)) [
-        | inl z ↦ rw z (rightmost (rw z at beside))
-        | inr z ↦ rw z (ap (λ q. q / 16) (same (i - 1) (rw z at beside)))
-      ])
+      | inl z ↦ rw z (rightmost (rw z at beside))
+      | inr z ↦ rw z (ap (λ q. q / 16) (same (i - 1) (rw z at beside)))
+    ])
 
 packed-made : (m n : Core) (first second : Field) → IsMadeOf m n (record { row = packed; first = first; second = second }) packed_byte packed_byte
 packed-made m n first second x y fetched i same h =
@@ -205,9 +205,9 @@ unpacked-made m n first second x y fetched i same h =
           let both : HaveAllSame m n (Psw ∷ (if nat_eq (i % 2) 1 then fetched ((i + 1) / 2) else fetched (i / 2))) = rw z at h
           in rw z (ap (λ q. digits (zone_of q) (if nat_eq (i % 2) 1 then x ((i + 1) / 2) else x (i / 2) / 16)) both.0
           ∙ ap (λ q. digits (zone_of n.psw) q) (elim (cases_Bool (nat_eq (i % 2) 1)) [
-              | inl odd ↦ rw odd (same ((i + 1) / 2) (rw odd at both.1))
-              | inr even ↦ rw even (ap (λ q. q / 16) (same (i / 2) (rw even at both.1)))
-            ]))
+            | inl odd ↦ rw odd (same ((i + 1) / 2) (rw odd at both.1))
+            | inr even ↦ rw even (ap (λ q. q / 16) (same (i / 2) (rw even at both.1)))
+          ]))
     ]
 
 -- the address of an operand
