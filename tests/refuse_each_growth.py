@@ -47,13 +47,13 @@ TO_THE_END = {
     "console/read": "a line that is entered and read",
     "withdrawals/tape-write": "a tape block whose writing is withdrawn",
     "withdrawals/card": "a patch that is withdrawn from before a card is read",
-    "s360_rows_tests refused::moves": "`forward` of a move, beside the session before",
+    "s360_rows_tests refused::memory_within_a_line": "`answer`",
+    "s360_rows_tests refused::moves": "of a move",
     "s360_rows_tests refused::written_blocks": "of a tape block that is written",
     "s360_rows_tests refused::read_blocks": "of the longest tape block",
     "s360_rows_tests refused::chained_data": "of a card that is read into two places",
     "s360_rows_tests refused::entered_lines": "of a line that is entered, and its read",
     "s360_rows_tests refused::parted_bytes": "of patches that part bytes of one history",
-    "s360_rows_tests answers::memory_within_a_line": "`answer`",
     "s360_rows_tests channel_programs::programs_over_the_device_of_the_tests": "`channel_plan`",
     "s360_rows_tests packed::packed_changes": "`Packed::append`",
 }
@@ -61,7 +61,7 @@ TO_THE_END = {
 # by the growths of the answer, and those before it by the growths of an event, if it alters anything.
 OUT_OF_MEMORY_AFTER = re.compile(r"out of memory after (\d+) events of ([\w ]+)")
 EVENTS_OF_LINES = {
-    "s360_rows_tests answers::memory_within_a_line": {
+    "s360_rows_tests refused::memory_within_a_line": {
         "tick": {0, 1},
         "patch r 1 5": {1},
         "patch s 300 0102030405060708090A": {0, 1},
@@ -75,6 +75,16 @@ EVENTS_OF_LINES = {
         "break 200": {0},
         "last s 50": {0},
         "show s 50 4": {0},
+    },
+    "s360_rows_tests refused::moves": {"step": {0, 1}, "patch p 0000000000000200": {1}},
+    "s360_rows_tests refused::written_blocks": {"channel 180": {0, 1}},
+    "s360_rows_tests refused::read_blocks": {"channel 180": {0, 1}},
+    "s360_rows_tests refused::chained_data": {"channel C": {0, 1}},
+    "s360_rows_tests refused::entered_lines": {"channel 1F": {0, 1}, "enter ABC": {0, 1}},
+    "s360_rows_tests refused::parted_bytes": {
+        "patch s 402 0202": {0, 1},
+        "patch s 3FE 0303030303030303": {0, 1},
+        "patch s 400 0403040304030401": {0, 1},
     },
 }
 # How many growths a test may take, where that is bounded.

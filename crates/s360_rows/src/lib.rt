@@ -3,21 +3,15 @@
 #![tactic(auto)]
 
 #[cfg(test)]
-mod answers;
-#[cfg(test)]
 mod calls;
+#[cfg(test)]
+mod cases;
 #[cfg(test)]
 mod channel_programs;
 #[cfg(test)]
-mod devices;
-#[cfg(test)]
 mod held;
 #[cfg(test)]
-mod indexes;
-#[cfg(test)]
 mod instructions;
-#[cfg(test)]
-mod machine;
 #[cfg(test)]
 mod packed;
 #[cfg(test)]
@@ -26,6 +20,8 @@ mod plans;
 mod refused;
 #[cfg(test)]
 mod rows;
+#[cfg(test)]
+mod same;
 #[cfg(test)]
 mod scripts;
 #[cfg(test)]

@@ -1,7 +1,7 @@
 //! Scripts over readers and writers that are slow or fail.
 use crate::held::{Lent, lend};
-use crate::machine::are_same;
 use crate::rows::{Subject, Words, assert_no_fault, fault_of_rows};
+use crate::same::are_same;
 use s360_debug::{ScriptFault, run_script};
 use s360_journal::Session;
 use std::alloc::Global;
@@ -180,7 +180,7 @@ impl<'a> Lent for Beside<'a> {
     fn use_session(&mut self, alloc: Global, session: &mut Session) -> Option<String> {
         let _left = carry_out(alloc, session, self.script, NEVER, NEVER)?;
         let is_same = session.standing() == self.other.standing()
-            && are_same(session.machine(), self.other.machine());
+            && are_same(alloc, session.machine(), self.other.machine())?;
         format!(in alloc; "{is_same}").ok()
     }
 }

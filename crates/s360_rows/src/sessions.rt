@@ -4,7 +4,7 @@ use crate::held::{Lent, lend_blank};
 use crate::rows::{Subject, Words, assert_no_fault, fault_of_rows};
 use s360_device::deck_from;
 use s360_journal::{Answer, Outcome, Session, run_calls};
-use s360_machine::{Machine, Refusal};
+use s360_machine::Machine;
 use s360_psw::InstructionLength;
 use s360_store::Place;
 use s360_tape::blank_tape;
@@ -33,20 +33,6 @@ impl<'a> Running<'a> {
         let (first, third) = (self.register(1), self.register(3));
         let standing = self.session.standing();
         format!(in alloc; "{psw:X} {first:X} {third:X} {standing}").ok()
-    }
-
-    /// Offers an event, and again where want of memory refuses it: a refused event changes nothing.
-    fn stands(&mut self, alloc: Global, line: &str) -> Option<String> {
-        let (first, second) = (event(alloc, line)?, event(alloc, line)?);
-        let before = self.picture(alloc)?;
-        let mut refused = self.session.forward(first).err();
-        if refused == Some(Refusal::Memory) && self.picture(alloc)? == before {
-            refused = self.session.forward(second).err();
-        }
-        match refused {
-            None => format!(in alloc; "stands").ok(),
-            Some(refusal) => format!(in alloc; "{refusal:?}").ok(),
-        }
     }
 
     /// What an event of this kind is answered: a preview, a patch of so many bytes, or both.
@@ -92,7 +78,6 @@ impl<'a> Subject for Running<'a> {
             "lacking" => self.of_lacking_places(alloc),
             "changes" => self.changes(alloc, words.rest()),
             "event" => format!(in alloc; "{:?}", self.session.last_event()).ok(),
-            "memory" => self.stands(alloc, words.rest()),
             "do" => self.perform(alloc, words.rest()),
             kind => self.report(alloc, kind, words),
         }
@@ -124,13 +109,12 @@ fn sessions(rt: HostRuntime) {
 }
 
 /// Tables, and how many changes may stand in the session of each.
-const TABLES: [(u8, &str); 8] = [
+const TABLES: [(u8, &str); 7] = [
     (0, NOTHING_STANDS),
     (1, ONE_STANDS),
     (6, SIX_STAND),
     (5, IDLE),
     (13, PREVIEWS),
-    (13, MEMORY),
     (13, CHANGES),
     (4, WITHDRAWALS),
 ];
@@ -304,24 +288,6 @@ do back -> Patch(Register(RegisterNumber(1), 2147483647))
 do back -> Patch(Bytes { at: 0, bytes: Bytes { items: [26, 18] } })
 do back -> nothing stands
 picture -> 0 0 0 0
-";
-
-/// Want of memory changes nothing.
-const MEMORY: &str = "
-do patch s 0 1A12 -> [Byte(0), Byte(1)]
-do patch r 1 7FFFFFFF -> [Register(1)]
-do patch r 2 1 -> [Register(2)]
-memory step -> stands
-memory patch s 300 0101010101010101010101010101010101010101 -> stands
-memory patch r 2 1 -> stands
-do standing -> 6
-do last p -> Some(4)
-do last s 313 -> Some(5)
-do last r 2 -> Some(3)
-do back -> Patch(Register(RegisterNumber(2), 1))
-do back -> Patch(Bytes { at: 768, bytes: Bytes { items: [1, 1, 1, 1, 1, 1, 1, 1, 1, 1, 1, 1, 1, 1, 1, 1, 1, 1, 1, 1] } })
-do back -> Cpu
-picture -> 0 7FFFFFFF 0 3
 ";
 
 /// Calls of each kind, with changes that are taken back, idle events and refusals.

@@ -1,0 +1,62 @@
+//! Whether two machines show the same.
+use s360_debug::{Command, read_command};
+use s360_language::text_of_shown;
+use s360_machine::Machine;
+use s360_store::Storage;
+use std::alloc::Global;
+
+/// Lines that show what a machine has beside its storage. A tape is shown whole, and of other media how many there are.
+const SHOWN: &str = "show regs
+show psw
+show ext
+show u C
+show u D
+show u E
+show u 1F
+show u 180
+show u 181
+show d C
+show d D
+show d E
+show d 1F
+show d 180
+show d 181
+show image 180
+show image 181";
+
+/// Whether a line shows the same of two machines. Nothing is answered where memory is out.
+fn shows_same(alloc: Global, one: &Machine, other: &Machine, line: &str) -> Option<bool> {
+    let Ok(Command::Show(shown)) = read_command(alloc, line.as_bytes()) else {
+        return None;
+    };
+    let one = text_of_shown(alloc, one, shown).ok()?;
+    let other = text_of_shown(alloc, other, shown).ok()?;
+    Some(one.as_bytes() == other.as_bytes())
+}
+
+/// Whether two machines show the same. Nothing is answered where memory is out.
+pub(crate) fn are_same(alloc: Global, one: &Machine, other: &Machine) -> Option<bool> {
+    for line in SHOWN.lines() {
+        if !shows_same(alloc, one, other, line)? {
+            return Some(false);
+        }
+    }
+    Some(are_alike(one.storage(), other.storage()))
+}
+
+/// Whether two storages have the same bytes, keys and fetch bits, and protect fetches alike.
+fn are_alike(one: &Storage, other: &Storage) -> bool {
+    let size = one.size();
+    if one.fetch_protection() != other.fetch_protection()
+        || other.size() != size
+        || one.bytes(0, size) != other.bytes(0, size)
+    {
+        return false;
+    }
+    for block in 0..size / 2_048 {
+        if one.block_key(block) != other.block_key(block) {
+            return false;
+        }
+    }
+    true
+}
