@@ -16,11 +16,7 @@ for needed in rt gdb-multiarch python3; do
     fi
 done
 
-sources=("$top/crates.txt" "$top"/crates/*/src "$top"/crates/*/specs "$top"/crates/*/proofs)
-if [[ ! -x $program || -n $(find "${sources[@]}" -newer "$program" -print -quit 2>/dev/null) ]]; then
-    echo "gdb: proving and building the program, which can take twenty minutes" >&2
-    "$top/build" s360gdb
-fi
+"$top/build" s360gdb
 
 folder="$(mktemp -d)"
 trap 'rm -rf "$folder"' EXIT
