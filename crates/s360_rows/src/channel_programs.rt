@@ -50,7 +50,7 @@ fn execute<D: Device>(
 }
 
 /// What a channel does for a unit: the address of the next word, or the status word that waits.
-pub(crate) fn text_of_state(alloc: Global, state: &UnitState) -> Option<String> {
+fn text_of_state(alloc: Global, state: &UnitState) -> Option<String> {
     match state {
         UnitState::Idle => format!(in alloc; "idle").ok(),
         UnitState::Active(program) => format!(in alloc; "active {:X}", program.next_address()).ok(),
@@ -103,7 +103,6 @@ impl Executing {
             for byte in line {
                 write!(text, "{byte:02X}").ok()?;
             }
-            write!(text, " ").ok()?;
         }
         Some(text)
     }
@@ -157,107 +156,107 @@ fn programs_over_the_device_of_the_tests(rt: HostRuntime) {
 /// Reads of its line, which has twelve bytes.
 const INPUT: &str = "
 * the line is waited for, and then stored
-put 400 020006000000000C ->
-start 0 400 ->
+put 400 020006000000000C
+start 0 400
 event -> active 400
 event -> active 400
 bytes 600 C -> 000000000000000000000000
-line ->
+line
 event -> waiting 000004080C000000
 bytes 600 C -> 0102030405060708090A0B0C
 event -> waiting 000004080C000000
 * chained data: five bytes, none of the next three, and the four after them. The command codes of
 * the second word and the third say nothing
-new ->
-line ->
-put 400 0200060080000005 ->
-put 408 0100060090000003 ->
-put 410 0000060800000004 ->
-start 0 400 ->
+new
+line
+put 400 0200060080000005
+put 408 0100060090000003
+put 410 0000060800000004
+start 0 400
 event -> active 408
 event -> active 410
 event -> waiting 000004180C000000
 bytes 600 10 -> 0102030405000000090A0B0C00000000
 * a count that is too small, with and without the flag that suppresses the length
-new ->
-line ->
-put 400 0200060000000007 ->
-start 0 400 ->
+new
+line
+put 400 0200060000000007
+start 0 400
 event -> waiting 000004080C400000
 bytes 600 8 -> 0102030405060700
-line ->
-put 400 0200060020000007 ->
-start 0 400 ->
+line
+put 400 0200060020000007
+start 0 400
 event -> waiting 000004080C000000
 * a count that is too large
-line ->
-put 400 0200060000000010 ->
-start 0 400 ->
+line
+put 400 0200060000000010
+start 0 400
 event -> waiting 000004080C400004
-line ->
-put 400 0200060020000010 ->
-start 0 400 ->
+line
+put 400 0200060020000010
+start 0 400
 event -> waiting 000004080C000004
 * under chained data the flag says nothing: the line ends with a word that chains
-line ->
-put 400 02000600A0000010 ->
-start 0 400 ->
+line
+put 400 02000600A0000010
+start 0 400
 event -> waiting 000004080C400004
 * commands are chained, and the second read waits for its line
-new ->
-line ->
-put 400 020006004000000C ->
-put 408 020007000000000C ->
-start 0 400 ->
+new
+line
+put 400 020006004000000C
+put 408 020007000000000C
+start 0 400
 event -> active 408
 event -> active 408
-line ->
+line
 event -> waiting 000004100C000000
 bytes 700 C -> 0102030405060708090A0B0C
 * a store that the program's key does not allow: nothing is stored, and the line is kept
-new ->
-line ->
-put 400 020006000000000C ->
-start 5 400 ->
+new
+line
+put 400 020006000000000C
+start 5 400
 event -> waiting 5000040800100000
-start 0 400 ->
+start 0 400
 event -> waiting 000004080C000000
 ";
 
 /// Writes of lines, which take at most twelve bytes.
 const OUTPUT: &str = "
 * chained data: five bytes, three and four
-put 600 C1C2C3C4C5C6C7C8 ->
-put 608 D1D2D3D4D5D6D7D8 ->
-put 400 0100060080000005 ->
-put 408 0200060890000003 ->
-put 410 0000060500000004 ->
-start 0 400 ->
+put 600 C1C2C3C4C5C6C7C8
+put 608 D1D2D3D4D5D6D7D8
+put 400 0100060080000005
+put 408 0200060890000003
+put 410 0000060500000004
+start 0 400
 event -> active 408
 event -> active 410
-written ->
+written
 event -> waiting 000004180C000000
 written -> C1C2C3C4C5D1D2D3C6C7C8D1
 * fewer bytes than a line has
-new ->
-put 600 C1C2C3C4C5C6C7C8 ->
-put 400 0100060000000003 ->
-start 0 400 ->
+new
+put 600 C1C2C3C4C5C6C7C8
+put 400 0100060000000003
+start 0 400
 event -> waiting 000004080C000000
 written -> C1C2C3000000000000000000
 * more bytes, with and without the flag that suppresses the length
-new ->
-put 400 010006000000000E ->
-start 0 400 ->
+new
+put 400 010006000000000E
+start 0 400
 event -> waiting 000004080C400002
-put 400 010006002000000E ->
-start 0 400 ->
+put 400 010006002000000E
+start 0 400
 event -> waiting 000004080C000002
 * under chained data the flag says nothing: the line is full before the second word ends
-new ->
-put 400 010006008000000A ->
-put 408 00000600A0000005 ->
-start 0 400 ->
+new
+put 400 010006008000000A
+put 408 00000600A0000005
+start 0 400
 event -> active 408
 event -> waiting 000004100C400003
 ";

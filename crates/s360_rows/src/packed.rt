@@ -20,9 +20,9 @@ const SPREADING: &str = "make patch r 1 00001000 -> 0
 make patch s 1000 C10000000000 -> 0
 make patch s 200 D20410011000 -> 0
 make patch p 0000000000000200 -> 0
-append step -> 1 0000000000
-make patch p 0000000000000200 -> 1 0000000000
-append step -> 0 0000000000";
+append step -> 1 00 00 00 00 00
+make patch p 0000000000000200 -> 1 00 00 00 00 00
+append step -> 0 00 00 00 00 00";
 
 /// A program interruption stores an old PSW of which four bytes are not zero, two and two together.
 const INTERRUPTING: &str = "make patch r 1 7FFFFFFF -> 0
@@ -30,7 +30,7 @@ make patch r 2 00000001 -> 0
 make patch s 200 1A12 -> 0
 make patch s 68 0000000000000300 -> 0
 make patch p 0000000008000200 -> 0
-append step -> 2 00000000";
+append step -> 2 00 00 00 00";
 
 /// A machine, and the changes that were appended.
 #[derive(Drop)]
@@ -70,9 +70,9 @@ impl Packing {
     /// The runs of the last change, and the bytes of all.
     fn picture(&self, alloc: Global) -> Option<String> {
         let runs = self.changes.last_runs();
-        let mut text = format!(in alloc; "{runs} ").ok()?;
+        let mut text = format!(in alloc; "{runs}").ok()?;
         for byte in self.changes.bytes() {
-            write!(text, "{byte:02X}").ok()?;
+            write!(text, " {byte:02X}").ok()?;
         }
         Some(text)
     }

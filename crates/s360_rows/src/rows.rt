@@ -1,5 +1,5 @@
-//! Rows of text, each a question, an arrow and the answer. All numbers are hexadecimal. A row that
-//! begins with an asterisk says what the rows below it are.
+//! Rows of text, each a question, an arrow and the answer, or a question alone that is answered nothing. All numbers are
+//! hexadecimal. A row that begins with an asterisk says what the rows below it are.
 ghost use Rattle.std.specs.Prelude.{◌<◌};
 
 use s360_word::ProtectionKey;
@@ -17,7 +17,7 @@ impl<'a> Words<'a> {
     /// The words of a text, between blanks.
     fn new(text: &'a str) -> Words<'a> {
         Words {
-            left: Some(text.trim()),
+            left: Some(text),
             are_read: true,
         }
     }
@@ -42,7 +42,11 @@ impl<'a> Words<'a> {
 
     /// All words that are left, which are then read.
     pub(crate) fn rest(&mut self) -> &'a str {
-        self.left.take().unwrap_or("")
+        let Some(left) = self.left else {
+            return "";
+        };
+        self.left = None;
+        left
     }
 
     /// The next word as a number, or 0.
@@ -97,29 +101,18 @@ pub(crate) trait Subject {
     fn answer(&mut self, alloc: Global, words: &mut Words<'_>) -> Option<String>;
 }
 
-/// What is wrong where a question has another answer, or an empty text.
-fn fault_of_answer<S: Subject>(
-    alloc: Global,
-    subject: &mut S,
-    asked: &str,
-    wanted: &str,
-) -> Option<String> {
-    let mut words = Words::new(asked);
-    let answer = subject.answer(alloc, &mut words)?;
-    let found = answer.trim();
-    if words.are_all_read() && found == wanted.trim() {
-        return Some(String::new(alloc));
-    }
-    format!(in alloc; "{asked}->{wanted}: found {found}").ok()
-}
-
 /// What is wrong with a row, or an empty text.
 fn fault_of_row<S: Subject>(alloc: Global, subject: &mut S, row: &str) -> Option<String> {
-    match row.split_once("->") {
-        Some((asked, wanted)) => fault_of_answer(alloc, subject, asked, wanted),
-        None if row.is_empty() || row.starts_with("*") => Some(String::new(alloc)),
-        None => format!(in alloc; "no row: {row}").ok(),
+    if row.is_empty() || row.starts_with("*") {
+        return Some(String::new(alloc));
     }
+    let (asked, wanted) = row.split_once(" -> ").unwrap_or((row, ""));
+    let mut words = Words::new(asked);
+    let found = subject.answer(alloc, &mut words)?;
+    if words.are_all_read() && found.as_str() == wanted {
+        return Some(String::new(alloc));
+    }
+    format!(in alloc; "{asked} -> {wanted}: found {found}").ok()
 }
 
 /// What is wrong with the first row whose question has another answer, or an empty text. None is where memory was
