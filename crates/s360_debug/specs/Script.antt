@@ -6,16 +6,6 @@ use Rattle.s360_language.specs.Reading.{Reading, reading_of}
 use Rattle.s360_debug.specs.Debugger.{Debugger, new_debugger}
 use Rattle.s360_debug.specs.Answers.{answer_to, state_after, fault_text, StandsPartly}
 use Rattle.s360_debug.specs.Lines.{lines_of, is_skipped}
-use Rattle.s360_text.specs.declared.reading.ReadFault.{ReadFault}
-use Rattle.s360_text.specs.declared.reading.ReadFault.TheVariants as read
-use Rattle.s360_debug.specs.declared.bytes.ScriptFault.{ScriptFault}
-use Rattle.s360_debug.specs.declared.bytes.ScriptFault.TheVariants as script
-
--- what a fault of reading a script is
-abbrev pub fault_of_read : ReadFault → ScriptFault
-fault_of_read read.Failed = script.Read
-fault_of_read read.TooLong = script.TooLong
-fault_of_read read.Memory = script.Memory
 
 -- a reading's answer, and what the debugger keeps after it
 abbrev pub answer_to_reading : Debugger → Reading → List ℕ

@@ -6,15 +6,14 @@ ghost use Rattle.s360_debug.specs.Debugger.{new_debugger};
 ghost use Rattle.s360_debug.specs.Lines.{lines_of};
 ghost use Rattle.s360_debug.specs.Script.{answer_to_reading, state_after_reading, StandsAfterReading};
 ghost use Rattle.s360_debug.specs.Script.{answers_of, lines_of_script, state_after_lines, IsStopped, IsCut};
-ghost use Rattle.s360_debug.specs.declared.bytes.ScriptFault.TheVariants.{Read as read_failed, TooLong, Memory};
-ghost use Rattle.s360_debug.specs.declared.bytes.ScriptFault.TheVariants.{Write as write_failed};
+ghost use Rattle.s360_text.specs.declared.script_fault.ScriptFault.TheVariants.{Read as read_failed, TooLong, Memory};
+ghost use Rattle.s360_text.specs.declared.script_fault.ScriptFault.TheVariants.{Write as write_failed};
 
 use crate::answering::{answer, text_of_fault};
-use crate::bytes::ScriptFault;
 use crate::lines::{Lines, skips};
 use s360_journal::{Breaks, Reversible};
 use s360_language::read_command;
-use s360_text::{Text, read_whole, write_whole};
+use s360_text::{ScriptFault, Text, read_whole, write_whole};
 use std::alloc::{AllocError, Global};
 use std::io::{Read, Write};
 

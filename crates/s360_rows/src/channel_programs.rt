@@ -3,7 +3,7 @@
 ghost use Rattle.s360_model.specs.Exchanges.{CanIfAny};
 
 use crate::rows::{Subject, Words, assert_no_fault, fault_of_rows};
-use crate::slate::Slate;
+use crate::slate::{Slate, clean_slate, put_line};
 use crate::storage::{put, put_bytes};
 use s360_channel::{ChannelStep, Program, Progress, UnitState, channel_plan};
 use s360_device::Device;
@@ -72,7 +72,7 @@ impl Executing {
         let storage = Storage::new(alloc, 0x2000).ok()?;
         Some(Executing {
             storage,
-            slate: Slate::new(alloc),
+            slate: clean_slate(alloc),
             state: UnitState::Idle,
         })
     }
@@ -99,7 +99,7 @@ impl Executing {
     /// The bytes of the lines that are written.
     fn written(&self, alloc: Global) -> Option<String> {
         let mut text = String::new(alloc);
-        for line in self.slate.written() {
+        for line in self.slate.media().written() {
             for byte in line {
                 write!(text, "{byte:02X}").ok()?;
             }
@@ -124,7 +124,7 @@ impl Subject for Executing {
     fn answer(&mut self, alloc: Global, words: &mut Words<'_>) -> Option<String> {
         match words.next_word() {
             "new" => *self = Executing::idle(alloc)?,
-            "line" => self.slate.put_line(),
+            "line" => put_line(&mut self.slate).ok()?,
             "put" => self.put(words),
             "start" => {
                 self.state = UnitState::Active(Program {

@@ -182,7 +182,12 @@ impl Answering {
 impl Lent for Answering {
     fn use_session(&mut self, alloc: Global, session: &mut Session) -> Option<String> {
         let step = come_to(alloc, session, self.case, self.number, 0)?;
-        let fault = self.fault(alloc, session, step)?;
+        let fault = match (self.fault(alloc, session, step), self.accepted) {
+            (Some(fault), _) => fault,
+            // No more than one growth is refused.
+            (None, Some(_)) => "memory was wanting again",
+            (None, None) => return None,
+        };
         match self.accepted {
             Some(accepted) if fault.is_empty() => {
                 format!(in alloc; "out of memory after {accepted} events of {}", step.line).ok()

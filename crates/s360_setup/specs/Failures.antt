@@ -1,7 +1,5 @@
 -- What the faults of the crates below are to a program (own profile). Want of memory is of no part.
 use Rattle.std.specs.Prelude.{◌≡◌, ◌⊎◌}
-use Rattle.s360_debug.specs.declared.bytes.ScriptFault.{ScriptFault}
-use Rattle.s360_debug.specs.declared.bytes.ScriptFault.TheVariants as script
 use Rattle.s360_device.specs.declared.fault.DeckFault.{DeckFault}
 use Rattle.s360_device.specs.declared.fault.DeckFault.TheVariants as deck
 use Rattle.s360_store.specs.declared.fault.StoreFault.{StoreFault}
@@ -10,6 +8,8 @@ use Rattle.s360_tape.specs.declared.fault.TapeFault.{TapeFault}
 use Rattle.s360_tape.specs.declared.fault.TapeFault.TheVariants as tape
 use Rattle.s360_text.specs.declared.reading.ReadFault.{ReadFault}
 use Rattle.s360_text.specs.declared.reading.ReadFault.TheVariants as read
+use Rattle.s360_text.specs.declared.script_fault.ScriptFault.{ScriptFault}
+use Rattle.s360_text.specs.declared.script_fault.ScriptFault.TheVariants as script
 use Rattle.s360_setup.specs.declared.failure.Part as part
 use Rattle.s360_setup.specs.declared.failure.Part.TheVariants.{Reader, Tape0, Tape1, Script}
 use Rattle.s360_setup.specs.declared.failure.Fault.TheVariants.{CannotRead, FileTooLong, ShortCard, ShortHeader, BadFlags, PartOutOfPlace, ShortBlock, BlockTooLong, ReadFailed, ScriptTooLong, WriteFailed}

@@ -6,11 +6,10 @@ ghost use Rattle.s360_setup.specs.Failures.{failure_of_read, failure_of_script};
 ghost use Rattle.s360_setup.specs.declared.failure.Failure.TheVariants.{Memory};
 
 use itoa::Buffer;
-use s360_debug::ScriptFault;
 use s360_device::DeckFault;
 use s360_store::StoreFault;
 use s360_tape::TapeFault;
-use s360_text::ReadFault;
+use s360_text::{ReadFault, ScriptFault};
 use std::alloc::AllocError;
 
 /// What a fault is of.

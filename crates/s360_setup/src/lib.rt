@@ -1,5 +1,5 @@
 //! What a program over the machine starts and ends with: its command line, the machine that it asks for with a deck and
-//! tapes from files, a script that is carried out over it, and what is told where one of them is at fault.
+//! tapes from files, and what is told where one of them, or a script, is at fault.
 #![tactic(auto)]
 
 mod arguments;
@@ -8,7 +8,6 @@ mod command_line;
 mod failure;
 mod images;
 mod program;
-mod script;
 mod starting;
 mod telling;
 
@@ -18,7 +17,6 @@ pub use command_line::options;
 pub use failure::{Failure, Fault, Part};
 pub use images::open;
 pub use program::Program;
-pub use script::carry_out;
 pub use starting::start;
 pub use telling::{ending, tell};
 

@@ -1,3 +1,4 @@
 pub mod Blanks
 pub mod Digits
+pub mod Scripts
 pub mod Writing

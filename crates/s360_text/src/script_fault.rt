@@ -1,9 +1,10 @@
 //! Why a script is not carried out to its end.
 ghost use Rattle.std.specs.Prelude.{◌≡◌};
-ghost use Rattle.s360_debug.specs.Script.{fault_of_read};
-ghost use Rattle.s360_debug.specs.declared.bytes.ScriptFault.TheVariants.{Memory, Write as write_failed};
+ghost use Rattle.s360_text.specs.Scripts.{fault_of_read};
+ghost use Rattle.s360_text.specs.declared.script_fault.ScriptFault.TheVariants.{Memory, Write as write_failed};
 
-use s360_text::{ReadFault, Untaken};
+use crate::reading::ReadFault;
+use crate::writing::Untaken;
 use std::alloc::AllocError;
 use thiserror::Error;
 

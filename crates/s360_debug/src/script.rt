@@ -1,15 +1,14 @@
 //! A script that is carried out over a machine, and its answers.
-ghost use Rattle.std.specs.Prelude.{◌≡◌, ◌≤◌, [], true, length, IfOk, IfErr, IfSome, OnOk};
+ghost use Rattle.std.specs.Prelude.{◌≡◌, ◌≤◌, [], true, length, IfOk, IfSome, OnOk};
 ghost use Rattle.std.specs.Io.KnownBytes.{Appends, Keeps};
 ghost use Rattle.std.specs.Io.Buffered.{writer_buffer, writer_contents};
 ghost use Rattle.s360_debug.specs.Debugger.{new_debugger};
 ghost use Rattle.s360_debug.specs.Lines.{lines_of};
 ghost use Rattle.s360_debug.specs.Script.{answers_of, state_after_lines};
-ghost use Rattle.s360_setup.specs.Failures.{IsScriptFailure};
 
-use crate::failure::Failure;
-use s360_debug::{ScriptFault, run_script};
+use crate::run::run_script;
 use s360_journal::Reversible;
+use s360_text::ScriptFault;
 use std::alloc::Global;
 use std::io::{BufWriter, Read, Write};
 
@@ -20,15 +19,14 @@ pub fn carry_out<S: Reversible, R: Read, W: Write + Drop>(
     session: &mut S,
     reader: &mut R,
     writer: W,
-) -> Result<W, Failure>
+) -> Result<W, ScriptFault>
     ensures length { OnOk result (IfSome (R.remaining reader.old) (λ text. length text ≤ 1048576)) }
     ensures answers { IfOk result (λ w. IfSome (R.remaining reader.old) (λ text. Appends (W.contents writer) (W.contents w) (answers_of (S.standing_of session.old) text))) }
     ensures state { OnOk result (IfSome (R.remaining reader.old) (λ text. S.standing_of session.new ≡ (state_after_lines (new_debugger (S.standing_of session.old)) (lines_of text)).session)) }
     ensures limit { OnOk result ((S.standing_of session.new).limit ≡ (S.standing_of session.old).limit) }
-    ensures failure { IfErr result IsScriptFailure }
 {
     let Ok(mut buffered) = BufWriter::new(alloc, writer) else {
-        return Err(Failure::Memory);
+        return Err(ScriptFault::Memory);
     };
     let answered = run_script(alloc, session, reader, &mut buffered);
     let is_flushed = flush_after(&answered, &mut buffered);
@@ -36,8 +34,8 @@ pub fn carry_out<S: Reversible, R: Read, W: Write + Drop>(
     let (writer, _unwritten) = buffered.into_parts();
     match answered {
         Ok(_lines) if is_flushed => Ok(writer),
-        Ok(_lines) => Err(Failure::from(ScriptFault::Write)),
-        Err(fault) => Err(Failure::from(fault)),
+        Ok(_lines) => Err(ScriptFault::Write),
+        Err(fault) => Err(fault),
     }
 }
 
