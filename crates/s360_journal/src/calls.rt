@@ -106,9 +106,14 @@ pub fn run_calls(
     ensures answers { IfOk result (λ o. (end : State) × IsRun (record { start = start.whole; events = []; limit = limit }) calls.items o.answers.items end) }
 {
     let mut session = Session::new(alloc, start, limit);
-    let answers = session.perform_all(calls)?;
-    Ok(Outcome {
-        answers,
-        machine: session.into_machine(),
-    })
+    match session.perform_all(calls) {
+        Ok(answers) => Ok(Outcome {
+            answers,
+            machine: session.into_machine(),
+        }),
+        Err(fault) => {
+            session.end();
+            Err(fault)
+        }
+    }
 }

@@ -78,10 +78,11 @@ impl Session {
     pub(crate) fn copy(&self) -> Result<Session, AllocError>
         ensures { IfOk result (λ session. session ≡ self.now) }
     {
-        let machine = self.machine.copy()?;
         let events = self.events.copy()?;
         let changes = self.changes.copy()?;
         let index = self.index.copy()?;
+        // The last, so that no machine has to be let go where memory is wanting.
+        let machine = self.machine.copy()?;
         Ok(Session {
             machine,
             events,

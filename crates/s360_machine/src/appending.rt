@@ -62,16 +62,16 @@ fn append_full(
     ensures err_bytes { OnErr result (bytes.new.items ≡ bytes.old.items) }
     ensures err_list { OnErr result (list.new.items ≡ list.old.items) }
 {
-    let Full { cells, beside } = Box::into_inner(full);
     let (items_before, bytes_before) = (items.as_slice().len(), bytes.as_slice().len());
     list.reserve(1)?;
-    cells.append_to(items, bytes)?;
-    let beside = push_if_any(list, beside);
+    full.cells.append_to(items, bytes)?;
+    let count = full.cells.len();
+    let beside = push_if_any(list, full.into_beside());
     Ok(Row::More {
         beside,
         items: (items.as_slice().len() - items_before) as u32,
         bytes: (bytes.as_slice().len() - bytes_before) as u32,
-        count: cells.len(),
+        count,
     })
 }
 
@@ -296,6 +296,28 @@ impl Packed {
         }
     }
 
+    /// Adds what was planned of an instruction alters at the end. Want of memory leaves the list as it was.
+    #[inline(always)]
+    fn append_performed(
+        &mut self,
+        machine: &mut Machine,
+        plan: &Plan,
+        planned: PlannedEvent,
+    ) -> Result<(), AllocError>
+        requires few { length self.old < 10000000 }
+        requires cells { AreCellsOf machine.old.whole.core plan.now }
+        ensures ok { OnOk result ((n : SeenMachine) → IsPlanOfMachine machine.old.whole plan.now planned n → AppendsChangeTo machine.old.whole machine.new.spare self.old self.new n) }
+        ensures err { OnErr result (self.new ≡ self.old) }
+        ensures whole { machine.new.whole ≡ machine.old.whole }
+    {
+        // Most are such, of which no change is made.
+        if let Some(run) = machine.altered_run(plan, &planned) {
+            return self.append_run(run);
+        }
+        let changes = machine.changes_planned(plan, planned)?;
+        self.append_changes(machine, changes)
+    }
+
     /// Adds what an instruction alters at the end, with the interruption that it causes. Want of memory leaves the list as
     /// it was.
     fn append_instruction(&mut self, machine: &mut Machine) -> Result<(), AllocError>
@@ -310,12 +332,7 @@ impl Packed {
         }
         let mut plan = machine.new_plan();
         let planned = machine.plan_fetched(&fetched, &mut plan)?;
-        // Most are such, of which no change is made.
-        if let Some(run) = machine.altered_run(&plan, &planned) {
-            return self.append_run(run);
-        }
-        let changes = machine.changes_planned(&plan, planned)?;
-        self.append_changes(machine, changes)
+        self.append_performed(machine, &plan, planned)
     }
 
     /// Adds what a channel event of a unit alters at the end. Want of memory leaves the list as it was.

@@ -1,5 +1,5 @@
 //! What an event alters, ready to be exchanged with the machine.
-ghost use Rattle.std.specs.Prelude.{◌≡◌, ◌∷◌, [], length, slice_get, true, IfOk, IfSome};
+ghost use Rattle.std.specs.Prelude.{◌≡◌, ◌∷◌, [], box_value, length, slice_get, true, IfOk, IfSome};
 ghost use Rattle.std.specs.Option.{option_copied};
 ghost use Rattle.s360_store.specs.Cells.{AllFit};
 ghost use Rattle.s360_store.specs.Places.{Fits};
@@ -25,6 +25,16 @@ use std::marker::Model;
 pub(crate) struct Full {
     pub(crate) cells: Cells,
     pub(crate) beside: Beside,
+}
+
+impl Full {
+    /// What it alters beside the core.
+    pub(crate) fn into_beside(self: Box<Full>) -> Beside
+        ensures { result ≡ (box_value self).beside }
+    {
+        let Full { beside, .. } = Box::into_inner(self);
+        beside
+    }
 }
 
 /// What an event alters: most alter little, for which no memory is taken.

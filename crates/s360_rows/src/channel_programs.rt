@@ -1,5 +1,6 @@
 //! Channel programs over the device of the tests, which cannot begin its input at first: chained data,
 //! and lengths that are wrong. No unit of the machine is such a device.
+ghost use Rattle.std.specs.Prelude.{◌≡◌, []};
 ghost use Rattle.s360_model.specs.Exchanges.{CanIfAny};
 
 use crate::rows::{Subject, Words, assert_no_fault, fault_of_rows};
@@ -22,16 +23,19 @@ fn alter<D: Device>(device: &mut D, change: Option<D::Change>) -> Result<(), All
     Ok(())
 }
 
-/// Makes one channel event of a program happen, and answers what becomes of the unit.
-fn execute<D: Device>(
+/// Makes one channel event of a program happen but for what it stores, which is planned, and answers what becomes of the
+/// unit.
+fn state_after<D: Device>(
     alloc: Global,
-    storage: &mut Storage,
+    storage: &Storage,
     device: &mut D,
     program: Program,
-) -> Result<UnitState, AllocError> {
-    let mut plan = Plan::new(alloc);
-    let step = channel_plan(alloc, storage, &program, device, &mut plan)?;
-    let state = match step {
+    plan: &mut Plan,
+) -> Result<UnitState, AllocError>
+    requires empty { plan.old ≡ [] }
+{
+    let step = channel_plan(alloc, storage, &program, device, plan)?;
+    Ok(match step {
         ChannelStep::NotYet => UnitState::Active(program),
         ChannelStep::GoesOn { program, change } => {
             alter(device, change)?;
@@ -41,7 +45,18 @@ fn execute<D: Device>(
             alter(device, change)?;
             UnitState::Waiting(csw)
         }
-    };
+    })
+}
+
+/// Makes one channel event of a program happen, and answers what becomes of the unit.
+fn execute<D: Device>(
+    alloc: Global,
+    storage: &mut Storage,
+    device: &mut D,
+    program: Program,
+) -> Result<UnitState, AllocError> {
+    let mut plan = Plan::new(alloc);
+    let state = state_after(alloc, storage, device, program, &mut plan)?;
     for i in 0..plan.len() {
         let cell = plan.cell(i);
         put(storage, cell.place, cell.value);

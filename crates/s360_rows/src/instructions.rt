@@ -1,5 +1,7 @@
 //! How the instruction at the instruction address ends, by the call that plans it. What is planned beside an
 //! interruption code shows whether the instruction was completed.
+ghost use Rattle.std.specs.Prelude.{◌≡◌, []};
+
 use crate::rows::{Subject, Words, assert_no_fault, fault_of_rows};
 use crate::storage::put_bytes;
 use s360_logic::plan_instruction;
@@ -28,12 +30,12 @@ impl Before {
         Some(Before { registers, storage })
     }
 
-    /// How it ends, the next address, what is planned for register 1, and how many
-    /// places are.
-    fn ending(&self, alloc: Global) -> Option<String> {
-        let mut plan = Plan::new(alloc);
+    /// How it ends, the next address, what is planned for register 1, and how many places are, by an empty plan.
+    fn ending(&self, alloc: Global, plan: &mut Plan) -> Option<String>
+        requires { plan.old ≡ [] }
+    {
         let psw = Psw::from_u64(0x200);
-        let planned = plan_instruction(psw, &self.registers, &self.storage, &mut plan).ok()?;
+        let planned = plan_instruction(psw, &self.registers, &self.storage, plan).ok()?;
         let (ended, next) = (planned.ended, planned.next_address);
         let first = plan.value(Place::Register(1)).unwrap_or_default();
         format!(in alloc; "{ended:?} {next:X} r1 {first:X} of {}", plan.len()).ok()
@@ -47,7 +49,7 @@ struct Instructions;
 impl Subject for Instructions {
     fn answer(&mut self, alloc: Global, words: &mut Words<'_>) -> Option<String> {
         let before = Before::new(alloc, words)?;
-        before.ending(alloc)
+        before.ending(alloc, &mut Plan::new(alloc))
     }
 }
 

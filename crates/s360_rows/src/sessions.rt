@@ -10,9 +10,19 @@ use s360_store::Place;
 use s360_tape::blank_tape;
 use s360_word::{RegisterNumber, Unit, Word};
 use std::alloc::Global;
+use std::process::Abort;
 
 /// A machine has so many bytes.
 const STORAGE: u32 = 8_192;
+
+/// Places that such a machine lacks.
+const LACKING: [Place; 5] = [
+    Place::Byte(0x2000),
+    Place::Register(16),
+    Place::Key(4),
+    Place::UnitMedia(Unit(0x00F)),
+    Place::UnitState(Unit(0x00F)),
+];
 
 /// A session that calls are made of.
 #[derive(Drop)]
@@ -60,14 +70,14 @@ impl<'a> Running<'a> {
         format!(in alloc; "{changes:?}").ok()
     }
 
-    /// The last changes of places that the machine lacks.
-    fn of_lacking_places(&self, alloc: Global) -> Option<String> {
-        let byte = self.session.last_change(Place::Byte(0x2000));
-        let register = self.session.last_change(Place::Register(16));
-        let key = self.session.last_change(Place::Key(4));
-        let media = self.session.last_change(Place::UnitMedia(Unit(0x00F)));
-        let unit = self.session.last_change(Place::UnitState(Unit(0x00F)));
-        format!(in alloc; "{byte:?} {register:?} {key:?} {media:?} {unit:?}").ok()
+    /// Whether a place that the machine lacks has a last change.
+    fn has_change_of_lacking_place(&self) -> bool {
+        for place in &LACKING {
+            if self.session.last_change(*place).is_some() {
+                return true;
+            }
+        }
+        false
     }
 }
 
@@ -75,7 +85,7 @@ impl<'a> Subject for Running<'a> {
     fn answer(&mut self, alloc: Global, words: &mut Words<'_>) -> Option<String> {
         match words.next_word() {
             "picture" => self.picture(alloc),
-            "lacking" => self.of_lacking_places(alloc),
+            "lacking" => format!(in alloc; "{}", self.has_change_of_lacking_place()).ok(),
             "changes" => self.changes(alloc, words.rest()),
             "event" => format!(in alloc; "{:?}", self.session.last_event()).ok(),
             "do" => self.perform(alloc, words.rest()),
@@ -279,7 +289,7 @@ do channel 00F -> no such unit
 picture -> 30000002 80000000 7 5
 do last r 1 -> Some(5)
 * a place that the machine lacks has no last change
-lacking -> None None None None None
+lacking -> false
 do back -> Cpu
 do back -> Patch(Register(RegisterNumber(3), 7))
 picture -> 0 7FFFFFFF 0 3
@@ -379,10 +389,14 @@ impl Lent for Calls {
     }
 }
 
+/// Asserts that these are the answers.
+fn assert_answers(rt: &impl Abort, answers: Option<String>) {
+    let answers = answers.expect(rt, "out of memory");
+    assert_eq!(rt; answers.as_str(), ANSWERS);
+}
+
 #[test]
 fn lists_of_calls(rt: HostRuntime) {
-    let answers = run(rt.alloc()).expect(&rt, "out of memory");
-    assert_eq!(rt; answers.as_str(), ANSWERS);
-    let answers = lend(rt.alloc(), 6, &mut Calls).expect(&rt, "out of memory");
-    assert_eq!(rt; answers.as_str(), ANSWERS);
+    assert_answers(&rt, run(rt.alloc()));
+    assert_answers(&rt, lend(rt.alloc(), 6, &mut Calls));
 }
