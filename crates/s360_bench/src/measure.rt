@@ -29,9 +29,7 @@ pub(crate) fn measure<R: Clock + Files>(
 ) -> Result<Measured, BenchFault> {
     let tape = tape_of_blocks(alloc, workload.blocks())?;
     let mut session = new_session(alloc, workload.cards(events), tape, size)?;
-    let measured = measure_session(rt, alloc, &mut session, workload, events);
-    session.end();
-    measured
+    measure_session(rt, alloc, &mut session, workload, events)
 }
 
 /// Has a new session run so many events of the loop, and takes them all back.

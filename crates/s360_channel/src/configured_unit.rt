@@ -6,7 +6,7 @@ ghost use Rattle.s360_channel.specs.ConfiguredUnits.{address_of_unit, channel_of
 use s360_word::Unit;
 
 /// How a channel serves its units.
-#[derive(Clone, Copy, Debug, PartialEq, Eq)]
+#[derive(Clone, Copy, PartialEq, Eq)]
 pub enum ChannelKind {
     /// It executes the programs of all its units side by side.
     Multiplexer,
@@ -15,7 +15,7 @@ pub enum ChannelKind {
 }
 
 /// A unit of the machine.
-#[derive(Clone, Copy, Debug, Default, PartialEq, Eq)]
+#[derive(Clone, Copy, Default, PartialEq, Eq)]
 pub enum ConfiguredUnit {
     /// The card reader of the 2540, 00C.
     #[default]

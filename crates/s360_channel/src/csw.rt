@@ -9,7 +9,7 @@ ghost use Rattle.s360_channel.specs.Words.{weight_of};
 use s360_word::ProtectionKey;
 
 /// What the unit tells, bits 32 to 39.
-#[derive(Clone, Copy, Debug, PartialEq, Eq)]
+#[derive(Clone, Copy, PartialEq, Eq)]
 pub struct UnitStatus {
     /// The unit asks for the program's attention (bit 32).
     pub attention: bool,
@@ -30,7 +30,7 @@ pub struct UnitStatus {
 }
 
 /// What the channel tells, bits 40 to 47, of which the last four are never given.
-#[derive(Clone, Copy, Debug, PartialEq, Eq)]
+#[derive(Clone, Copy, PartialEq, Eq)]
 pub struct ChannelStatus {
     /// Never given (bit 40).
     pub program_controlled: bool,
@@ -43,7 +43,7 @@ pub struct ChannelStatus {
 }
 
 /// A channel status word: how a channel program ended.
-#[derive(Clone, Copy, Debug, PartialEq, Eq)]
+#[derive(Clone, Copy, PartialEq, Eq)]
 pub struct Csw {
     /// The program's protection key (bits 0 to 3).
     pub key: ProtectionKey,

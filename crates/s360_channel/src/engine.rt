@@ -27,7 +27,7 @@ use s360_store::{Access, Checked, Plan, Storage};
 use std::alloc::{AllocError, Global};
 
 /// What one channel event makes of a unit that executes a program.
-#[derive(Debug, Drop)]
+#[derive(Drop)]
 pub enum ChannelStep<C> {
     /// The device cannot begin the command yet, and nothing happens.
     NotYet,

@@ -11,7 +11,7 @@ use std::rc::Rc;
 
 /// Bytes that are gathered word by word, which a contract sees as a list. A word shares those of the words
 /// before it with the states of its unit that had them, so that it costs what it adds.
-#[derive(Debug, Drop)]
+#[derive(Drop)]
 pub struct Gathered {
     parts: Rc<Parts>,
     count: usize,
@@ -29,7 +29,6 @@ impl Model for Gathered {
 }
 
 /// What a word has gathered, after what the words before it have.
-#[derive(Debug)]
 enum Parts {
     First(Vec<u8>),
     After(Rc<Parts>, Vec<u8>),

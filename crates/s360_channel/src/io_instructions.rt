@@ -23,7 +23,7 @@ use s360_word::{Cc, Unit};
 const CAW: u32 = 72;
 
 /// What is stored of the channel status word.
-#[derive(Clone, Copy, Debug, PartialEq, Eq)]
+#[derive(Clone, Copy, PartialEq, Eq)]
 pub enum CswStore {
     /// Nothing.
     Nothing,
@@ -34,7 +34,7 @@ pub enum CswStore {
 }
 
 /// A unit, and how it stands then.
-#[derive(Debug, Drop)]
+#[derive(Drop)]
 pub struct UnitAfter {
     /// The unit.
     pub unit: ConfiguredUnit,
@@ -43,7 +43,7 @@ pub struct UnitAfter {
 }
 
 /// What an input/output instruction does.
-#[derive(Debug, Drop)]
+#[derive(Drop)]
 pub struct IoResult {
     /// The condition code.
     pub condition: Cc,

@@ -18,7 +18,7 @@ use crate::gathered::Gathered;
 use s360_word::ProtectionKey;
 
 /// How the next channel command word follows what went before it.
-#[derive(Clone, Debug, PartialEq, Eq, Drop)]
+#[derive(Clone, PartialEq, Eq, Drop)]
 pub enum Progress {
     /// It comes first.
     First,
@@ -101,7 +101,7 @@ impl Progress {
 }
 
 /// A channel program that a unit executes.
-#[derive(Clone, Debug, PartialEq, Eq, Drop)]
+#[derive(Clone, PartialEq, Eq)]
 pub struct Program {
     /// The protection key of its stores.
     pub key: ProtectionKey,
@@ -109,6 +109,16 @@ pub struct Program {
     pub address: u32,
     /// How that word follows what went before it.
     pub progress: Progress,
+}
+
+impl Drop for Program {
+    fn drop(self) {
+        let Program {
+            key: _,
+            address: _,
+            progress: _,
+        } = self;
+    }
 }
 
 impl Program {

@@ -11,7 +11,7 @@ use std::marker::Model;
 use std::{mem, slice};
 
 /// What becomes of units that do not stay as they are.
-#[derive(Clone, Debug, Drop)]
+#[derive(Clone)]
 pub enum UnitChange {
     /// One unit stands so.
     One(ConfiguredUnit, UnitControl),
@@ -21,14 +21,22 @@ pub enum UnitChange {
     Several(SeveralUnits),
 }
 
+impl Drop for UnitChange {
+    fn drop(self) {
+        match self {
+            UnitChange::One(_, _) | UnitChange::Attention(_, _) | UnitChange::Several(_) => {}
+        }
+    }
+}
+
 /// What several units become at once. A contract sees how all units stand then, and which of them stand otherwise.
-#[derive(Debug, Drop)]
+#[derive(Drop)]
 pub struct SeveralUnits {
     parts: Box<Parts>,
 }
 
 /// The parts of it, which stand apart, since few events alter several units.
-#[derive(Clone, Debug, Drop)]
+#[derive(Clone, Drop)]
 struct Parts {
     units: Units,
     altered: ArrayVec<ConfiguredUnit, 6>,

@@ -9,7 +9,7 @@ use crate::unit_state::UnitState;
 use s360_word::ProtectionKey;
 
 /// The state of a unit, and whether it asks for attention.
-#[derive(Clone, Debug, PartialEq, Eq, Drop)]
+#[derive(Clone, PartialEq, Eq, Drop)]
 pub struct UnitControl {
     /// What the channel does for it.
     pub state: UnitState,
@@ -18,7 +18,7 @@ pub struct UnitControl {
 }
 
 /// What a unit has for an interruption, or for TEST I/O.
-#[derive(Debug, Drop)]
+#[derive(Drop)]
 pub struct Condition {
     /// The status word that is stored for it.
     pub csw: Csw,

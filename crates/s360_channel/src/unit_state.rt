@@ -8,7 +8,7 @@ use crate::program::Program;
 use std::alloc::AllocError;
 
 /// What a channel does for a unit.
-#[derive(Clone, Debug, PartialEq, Eq, Drop)]
+#[derive(Clone, PartialEq, Eq, Drop)]
 pub enum UnitState {
     /// Nothing.
     Idle,

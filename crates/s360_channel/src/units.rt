@@ -20,9 +20,14 @@ use std::marker::Model;
 use std::mem;
 
 /// How each unit stands on its channel. A contract sees them one after another, in the order of their addresses.
-#[derive(Debug, Drop)]
 pub struct Units {
     controls: [UnitControl; 6],
+}
+
+impl Drop for Units {
+    fn drop(self) {
+        let Units { controls: _ } = self;
+    }
 }
 
 impl Model for Units {

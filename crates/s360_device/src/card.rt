@@ -15,7 +15,7 @@ pub type Card = [u8; COLUMNS];
 const BLANK: u8 = 0x40;
 
 /// The reader's stackers.
-#[derive(Clone, Copy, Debug, PartialEq, Eq)]
+#[derive(Clone, Copy, PartialEq, Eq)]
 pub enum ReadStacker {
     /// The first, on the outside.
     R1,
@@ -26,7 +26,7 @@ pub enum ReadStacker {
 }
 
 /// The punch's stackers.
-#[derive(Clone, Copy, Debug, PartialEq, Eq)]
+#[derive(Clone, Copy, PartialEq, Eq)]
 pub enum PunchStacker {
     /// The first, on the outside.
     P1,
@@ -38,7 +38,7 @@ pub enum PunchStacker {
 
 /// What is punched in a card. It stands apart from the change that has it, so that one that punches nothing is small.
 /// A contract sees the bytes of the card's columns.
-#[derive(Debug, Drop)]
+#[derive(Drop)]
 pub struct Punched {
     card: Box<Card>,
 }
@@ -52,7 +52,7 @@ impl Model for Punched {
 }
 
 /// A card that was punched.
-#[derive(Clone, Debug, Drop)]
+#[derive(Clone, Drop)]
 pub struct PunchedCard {
     /// What is punched in it.
     pub card: Punched,

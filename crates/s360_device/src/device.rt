@@ -8,7 +8,7 @@ ghost use Rattle.s360_device.specs.Transfers.{IsInputOf, IsOutput, CanEndWith};
 use std::alloc::AllocError;
 
 /// How a device begins a command as it stands.
-#[derive(Clone, Copy, Debug, PartialEq, Eq)]
+#[derive(Clone, Copy, PartialEq, Eq)]
 pub enum Begin {
     /// It has so many bytes for storage.
     Input(u32),
@@ -23,7 +23,7 @@ pub enum Begin {
 }
 
 /// What a command will do to a device.
-#[derive(Clone, Copy, Debug, Drop)]
+#[derive(Clone, Copy, Drop)]
 pub struct Planned<C> {
     /// What is to be exchanged with the device.
     pub change: C,

@@ -15,17 +15,27 @@ use std::alloc::AllocError;
 use std::mem;
 
 /// A device: its sense bytes and its media.
-#[derive(Drop)]
 pub struct DeviceWith<M> {
     sense: SenseBytes,
     media: M,
 }
 
+impl<M: Drop> Drop for DeviceWith<M> {
+    fn drop(self) {
+        let DeviceWith { sense: _, media: _ } = self;
+    }
+}
+
 /// What is exchanged with a device: the sense bytes, and what is done to its media, if anything.
-#[derive(Debug, Drop)]
 pub struct DeviceChange<C> {
     media: Option<C>,
     sense: SenseBytes,
+}
+
+impl<C: Drop> Drop for DeviceChange<C> {
+    fn drop(self) {
+        let DeviceChange { media: _, sense: _ } = self;
+    }
 }
 
 impl<M> DeviceWith<M> {

@@ -8,7 +8,7 @@ use std::alloc::AllocError;
 use std::mem;
 
 /// What is done at the end of a list.
-#[derive(Clone, Copy, Debug, PartialEq, Eq, Drop)]
+#[derive(Clone, Copy, PartialEq, Eq, Drop)]
 pub enum Motion<T> {
     /// Nothing.
     Stay,

@@ -26,11 +26,20 @@ use std::mem;
 pub type Reader = DeviceWith<ReaderMedia>;
 
 /// The reader's cards, where they are, and its end-of-file key.
-#[derive(Drop)]
 pub struct ReaderMedia {
     deck: Deck,
     stackers: Vec<ReadStacker>,
     end_of_file: bool,
+}
+
+impl Drop for ReaderMedia {
+    fn drop(self) {
+        let ReaderMedia {
+            deck: _,
+            stackers: _,
+            end_of_file: _,
+        } = self;
+    }
 }
 
 impl Model for ReaderMedia {

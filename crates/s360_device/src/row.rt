@@ -5,7 +5,7 @@ ghost use Rattle.s360_device.specs.DeviceRows.{bytes_given};
 
 /// The row of a device's own command, as the device stands. Its change is what it does to the media, where they do
 /// not stay as they are. There may be unit exception.
-#[derive(Debug, Drop)]
+#[derive(Drop)]
 pub enum Row<C> {
     /// It is refused, with these sense bytes.
     Refused([u8; 6]),
@@ -20,7 +20,7 @@ pub enum Row<C> {
 }
 
 /// The bytes that a command gives: the first of them first, or backward the last.
-#[derive(Clone, Copy, Debug)]
+#[derive(Clone, Copy)]
 pub struct Given<'a> {
     bytes: &'a [u8],
     backward: bool,

@@ -15,7 +15,7 @@ pub const COMMAND_REJECT: [u8; 6] = [0x80, 0, 0, 0, 0, 0];
 pub const INTERVENTION_REQUIRED: [u8; 6] = [0x40, 0, 0, 0, 0, 0];
 
 /// The sense bytes of a device. A contract sees the list of them.
-#[derive(Debug, Drop)]
+#[derive(Drop)]
 pub(crate) struct SenseBytes {
     bytes: [u8; 6],
 }

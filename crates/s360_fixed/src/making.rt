@@ -19,7 +19,7 @@ use s360_word::RegisterNumber;
 use std::alloc::AllocError;
 
 /// Registers from R1 on, 15 followed by 0, and the address of as many successive words.
-#[derive(Clone, Copy, Debug, PartialEq, Eq)]
+#[derive(Clone, Copy, PartialEq, Eq)]
 pub struct RegisterWords {
     /// The first register.
     pub r1: RegisterNumber,
@@ -30,7 +30,7 @@ pub struct RegisterWords {
 }
 
 /// What an instruction makes of the core that it works on.
-#[derive(Debug, Drop)]
+#[derive(Drop)]
 pub enum Made {
     /// Nothing. A program interruption with this code follows.
     Refused(ProgramCode),

@@ -3,7 +3,7 @@
 //! Operations".
 
 /// What an instruction does. Instructions of different formats may share it: AR and A both add.
-#[derive(Clone, Copy, Debug, PartialEq, Eq)]
+#[derive(Clone, Copy, PartialEq, Eq)]
 pub enum Operation {
     /// SPM.
     SetProgramMask,

@@ -8,7 +8,7 @@ use s360_psw::Psw;
 use s360_word::{RegisterNumber, Word};
 
 /// What an event alters of the core where that is the PSW and little beside it.
-#[derive(Debug, Drop)]
+#[derive(Drop)]
 pub enum Plain {
     /// Nothing.
     Nothing,

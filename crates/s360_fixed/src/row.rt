@@ -8,7 +8,7 @@ use crate::operation::Operation;
 use crate::second_operand::{SecondOperand, Width};
 
 /// What is made of R1 and a second operand.
-#[derive(Clone, Copy, Debug, PartialEq, Eq)]
+#[derive(Clone, Copy, PartialEq, Eq)]
 pub(crate) enum Combination {
     /// The second operand.
     Second,
@@ -45,7 +45,7 @@ pub(crate) enum Combination {
 }
 
 /// What is made of the pair R1, R1 + 1 and a second operand.
-#[derive(Clone, Copy, Debug, PartialEq, Eq)]
+#[derive(Clone, Copy, PartialEq, Eq)]
 pub(crate) enum PairCombination {
     /// The signed product of R1 + 1 and the second operand.
     Product,
@@ -54,7 +54,7 @@ pub(crate) enum PairCombination {
 }
 
 /// A branch to an address.
-#[derive(Clone, Copy, Debug, PartialEq, Eq)]
+#[derive(Clone, Copy, PartialEq, Eq)]
 pub(crate) enum Branch {
     /// Where the mask R1 has a one for the condition code.
     OnCondition,
@@ -65,7 +65,7 @@ pub(crate) enum Branch {
 }
 
 /// A shift of R1 or of the pair R1, R1 + 1.
-#[derive(Clone, Copy, Debug, PartialEq, Eq)]
+#[derive(Clone, Copy, PartialEq, Eq)]
 pub(crate) enum Shift {
     /// Of all bits to the left.
     LeftLogical,
@@ -78,7 +78,7 @@ pub(crate) enum Shift {
 }
 
 /// When a branch on index is taken.
-#[derive(Clone, Copy, Debug, PartialEq, Eq)]
+#[derive(Clone, Copy, PartialEq, Eq)]
 pub(crate) enum IndexBranch {
     /// Where the sum is above the comparand.
     High,
@@ -87,7 +87,7 @@ pub(crate) enum IndexBranch {
 }
 
 /// What an operation does.
-#[derive(Clone, Copy, Debug, PartialEq, Eq)]
+#[derive(Clone, Copy, PartialEq, Eq)]
 pub(crate) enum Row {
     /// R1 becomes something of it and the second operand, or the two are compared. In the format RX
     /// the second operand is where this says.

@@ -3,7 +3,7 @@ ghost use Rattle.std.specs.Prelude.{◌≡◌, ◌<◌};
 ghost use Rattle.s360_fixed.specs.Operands.{bytes_of_width};
 
 /// How many bytes of storage an operand has.
-#[derive(Clone, Copy, Debug, PartialEq, Eq)]
+#[derive(Clone, Copy, PartialEq, Eq)]
 pub(crate) enum Width {
     /// One byte.
     Byte,
@@ -28,7 +28,7 @@ impl Width {
 }
 
 /// Where the second operand of an instruction with the format RX is.
-#[derive(Clone, Copy, Debug, PartialEq, Eq)]
+#[derive(Clone, Copy, PartialEq, Eq)]
 pub(crate) enum SecondOperand {
     /// At the address, with so many bytes.
     InStorage(Width),

@@ -7,7 +7,7 @@ use std::marker::Model;
 pub const SHORT: usize = 8;
 
 /// At most eight bytes, which a contract sees as their list.
-#[derive(Debug, Drop)]
+#[derive(Drop)]
 pub struct ShortRun {
     count: u8,
     bytes: [u8; SHORT],

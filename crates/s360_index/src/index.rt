@@ -16,7 +16,6 @@ use std::collections::BTreeMap;
 use std::marker::Model;
 
 /// For each place the numbers of the changes that altered it, in the order in which they were put.
-#[derive(Debug, Drop)]
 pub struct Index {
     psw: Vec<u32>,
     registers: [Vec<u32>; 16],
@@ -24,6 +23,18 @@ pub struct Index {
     /// Of all other places.
     others: BTreeMap<Place, Vec<u32>>,
     alloc: Global,
+}
+
+impl Drop for Index {
+    fn drop(self) {
+        let Index {
+            psw: _,
+            registers: _,
+            bytes: _,
+            others: _,
+            alloc: _,
+        } = self;
+    }
 }
 
 impl Model for Index {

@@ -10,7 +10,7 @@ use std::alloc::{AllocError, Global};
 const UNALTERED: u32 = 0;
 
 /// Bytes of storage that follow each other and were altered by the same changes.
-#[derive(Debug, Drop)]
+#[derive(Drop)]
 pub(crate) struct Segment {
     /// The address of the first byte.
     start: usize,
@@ -36,13 +36,22 @@ impl Clone for Segment {
 }
 
 /// The bytes of storage, each in a segment.
-#[derive(Debug, Drop)]
 pub(crate) struct Segments {
     /// Of each byte the index of its segment, from address 0 on up to the highest that a change has altered.
     labels: Vec<u32>,
     /// The segments. The first has the bytes that no change has altered, which need not follow each other.
     segments: Vec<Segment>,
     alloc: Global,
+}
+
+impl Drop for Segments {
+    fn drop(self) {
+        let Segments {
+            labels: _,
+            segments: _,
+            alloc: _,
+        } = self;
+    }
 }
 
 /// Gives bytes, from a first one up to an end, another label.

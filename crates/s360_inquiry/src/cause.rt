@@ -17,7 +17,7 @@ use s360_text::Text;
 use std::alloc::{AllocError, Global};
 
 /// What made a value.
-#[derive(Clone, Copy, Debug, PartialEq, Eq)]
+#[derive(Clone, Copy, PartialEq, Eq)]
 pub(crate) enum Origin {
     /// It is the PSW's, which is told and not followed.
     NotFollowed,
@@ -28,7 +28,7 @@ pub(crate) enum Origin {
 }
 
 /// An extent with its value in words, and what made that.
-#[derive(Debug, Drop)]
+#[derive(Drop)]
 pub(crate) struct Cause {
     pub(crate) extent: Extent,
     pub(crate) value: Text,
@@ -36,7 +36,7 @@ pub(crate) struct Cause {
 }
 
 /// What a change made an extent of, that change in words, and what decided it.
-#[derive(Debug, Drop)]
+#[derive(Drop)]
 pub(crate) struct Making {
     pub(crate) number: u32,
     pub(crate) extent: Extent,

@@ -17,7 +17,7 @@ use std::alloc::{AllocError, Global};
 const BYTES_SHOWN: u64 = 16;
 
 /// Places that are told together.
-#[derive(Clone, Copy, Debug, PartialEq, Eq)]
+#[derive(Clone, Copy, PartialEq, Eq)]
 pub(crate) enum Extent {
     /// The bytes of storage from one address to another.
     Bytes { first: u32, last: u32 },

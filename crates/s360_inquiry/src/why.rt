@@ -24,7 +24,7 @@ pub(crate) const MOST_DEPTH: u32 = 100;
 const MOST_LINES: usize = 1000;
 
 /// Lines that are told, at most so many, and how many there are; no more are counted than one beyond these.
-#[derive(Debug, Drop)]
+#[derive(Drop)]
 struct Telling {
     text: Text,
     lines: usize,
@@ -224,7 +224,7 @@ fn made_by(alloc: Global, number: u32) -> Result<Text, AllocError>
 }
 
 /// An extent that the change of a number made, and how deep it is to be followed.
-#[derive(Clone, Copy, Debug)]
+#[derive(Clone, Copy)]
 struct Followed {
     number: u32,
     extent: Extent,

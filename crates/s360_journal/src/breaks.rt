@@ -13,7 +13,7 @@ const MOST: usize = 64;
 
 /// The breakpoints: a set of at most 64 addresses in bytes from 0, which a contract sees as a list in
 /// the order in which they were set. No call takes memory.
-#[derive(Debug, Drop)]
+#[derive(Drop)]
 pub struct Breaks {
     addresses: ArrayVec<u32, MOST>,
 }

@@ -17,7 +17,7 @@ use std::alloc::{AllocError, Global};
 use std::collections::VecDeque;
 
 /// A call of a session.
-#[derive(Debug, Drop)]
+#[derive(Drop)]
 pub enum Call {
     /// `Session::forward`
     Forward(Event),
@@ -36,7 +36,7 @@ pub enum Call {
 }
 
 /// What a call answered.
-#[derive(Debug, Drop)]
+#[derive(Drop)]
 pub enum Answer {
     /// Of `Session::forward`.
     Forwarded(Result<Report, Refusal>),
@@ -106,14 +106,9 @@ pub fn run_calls(
     ensures answers { IfOk result (λ o. (end : State) × IsRun (record { start = start.whole; events = []; limit = limit }) calls.items o.answers.items end) }
 {
     let mut session = Session::new(alloc, start, limit);
-    match session.perform_all(calls) {
-        Ok(answers) => Ok(Outcome {
-            answers,
-            machine: session.into_machine(),
-        }),
-        Err(fault) => {
-            session.end();
-            Err(fault)
-        }
-    }
+    let answers = session.perform_all(calls)?;
+    Ok(Outcome {
+        answers,
+        machine: session.into_machine(),
+    })
 }

@@ -14,7 +14,7 @@ use std::alloc::{AllocError, Global};
 use std::marker::Model;
 
 /// What an event is, in a byte.
-#[derive(Clone, Copy, Debug, PartialEq, Eq)]
+#[derive(Clone, Copy, PartialEq, Eq)]
 pub(crate) enum Tag {
     /// Of the central processing unit.
     Cpu,
@@ -29,7 +29,7 @@ pub(crate) enum Tag {
 }
 
 /// An event of a stack, where it stands.
-#[derive(Clone, Copy, Debug)]
+#[derive(Clone, Copy)]
 enum Top<'a> {
     /// Of the central processing unit.
     Cpu,
@@ -45,11 +45,20 @@ enum Top<'a> {
 
 /// Events, the last of which can be taken, with memory for some more. A contract sees their list, the
 /// last of them last, and which events there is memory for.
-#[derive(Debug, Drop)]
 pub struct EventStack {
     tags: Vec<Tag>,
     units: Vec<Unit>,
     others: Vec<Event>,
+}
+
+impl Drop for EventStack {
+    fn drop(self) {
+        let EventStack {
+            tags: _,
+            units: _,
+            others: _,
+        } = self;
+    }
 }
 
 impl Model for EventStack {
@@ -99,15 +108,15 @@ impl EventStack {
         ensures kept { IsAsLarge self.old.room self.new.room }
     {
         self.tags.reserve(1)?;
-        let tag = match event {
+        let tag = match &event {
             Event::Cpu => Tag::Cpu,
             Event::Tick => Tag::Tick,
             Event::Channel(unit) => {
-                self.units.push(unit)?;
+                self.units.push(*unit)?;
                 Tag::Channel
             }
             Event::Key(Key::Load(unit)) => {
-                self.units.push(unit)?;
+                self.units.push(*unit)?;
                 Tag::Load
             }
             Event::Key(_) | Event::Patch(_) => {
@@ -170,9 +179,6 @@ impl EventStack {
         self.units.clear();
         self.others.clear();
     }
-
-    /// Lets the stack go, with all that it holds.
-    pub fn end(self) {}
 
     /// The number of events.
     pub fn len(&self) -> usize

@@ -9,7 +9,7 @@ use std::alloc::{AllocError, Global};
 use std::marker::Model;
 
 /// Events in their order, which a contract sees as their list: what memory there is for more is not seen.
-#[derive(Debug, Drop)]
+#[derive(Drop)]
 pub(crate) struct Events {
     stack: EventStack,
 }

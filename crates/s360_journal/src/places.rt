@@ -15,7 +15,7 @@ use std::alloc::{AllocError, Global};
 use std::marker::Model;
 
 /// Spans, in their order.
-#[derive(Debug, Drop)]
+#[derive(Drop)]
 enum SpanList {
     /// Those of a change that stands within its row, as most do.
     Within(SpansWithin),
@@ -24,11 +24,16 @@ enum SpanList {
 }
 
 /// Places in their order, each once, which a contract sees as a list.
-#[derive(Debug, Drop)]
 pub struct Places {
     spans: SpanList,
     /// The number of places.
     count: u32,
+}
+
+impl Drop for Places {
+    fn drop(self) {
+        let Places { spans: _, count: _ } = self;
+    }
 }
 
 impl Model for Places {

@@ -8,7 +8,7 @@ use s360_machine::Packed;
 use std::alloc::{AllocError, Global};
 
 /// What an accepted event altered.
-#[derive(Debug, Drop)]
+#[derive(Drop)]
 pub enum Report {
     /// The places whose value is another than before, at least one.
     Changed(Places),

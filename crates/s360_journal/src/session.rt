@@ -116,10 +116,6 @@ impl Session {
         machine
     }
 
-    /// Lets the session go, with all that it holds. Where a session is let go without this call, its crate has to
-    /// prove again how each part of it is dropped.
-    pub fn end(self) {}
-
     /// The number of changes that stand.
     pub fn standing(&self) -> u32
         ensures { result ≡ length self.now.events }

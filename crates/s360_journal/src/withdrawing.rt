@@ -12,7 +12,6 @@ use crate::events::Events;
 use crate::session::Session;
 use s360_machine::{Event, Refusal};
 use std::alloc::AllocError;
-use std::mem;
 use thiserror::Error;
 
 /// Why no change was withdrawn.
@@ -96,13 +95,8 @@ impl Session {
         ensures { IfOk result (λ session. session ≡ record self.now { events = without_event number self.now.events }) }
     {
         let mut other = self.copy()?;
-        match other.leave_out(number) {
-            Ok(()) => Ok(other),
-            Err(fault) => {
-                other.end();
-                Err(fault)
-            }
-        }
+        other.leave_out(number)?;
+        Ok(other)
     }
 
     /// Withdraws a change, counted from 1: the session is as if its event had never been. Each later change has a number
@@ -115,8 +109,7 @@ impl Session {
         if !self.stands(number) {
             return Err(Withdrawal::NoSuchChange);
         }
-        let other = self.without(number)?;
-        mem::replace(self, other).end();
+        *self = self.without(number)?;
         Ok(())
     }
 }

@@ -10,7 +10,7 @@ use std::alloc::AllocError;
 use thiserror::Error;
 
 /// A command with its arguments: a variant for each first word, but one for the three that press a key.
-#[derive(Debug, Drop)]
+#[derive(Drop)]
 pub enum Command {
     /// `step`: one CPU event.
     Step,
@@ -67,7 +67,7 @@ impl Command {
 }
 
 /// What is shown of the machine.
-#[derive(Clone, Copy, Debug, PartialEq, Eq)]
+#[derive(Clone, Copy, PartialEq, Eq)]
 pub enum Shown {
     /// `show regs`: the general registers.
     Registers,

@@ -28,7 +28,7 @@ use std::marker::Model;
 /// An instruction as it was planned: how it ends, and what an interruption that follows stores of
 /// it. Where it could not be fetched, or its address is odd, the length is not available and the
 /// address is its own.
-#[derive(Clone, Copy, Debug, PartialEq, Eq)]
+#[derive(Clone, Copy, PartialEq, Eq)]
 pub struct PlannedInstruction {
     /// How it ends.
     pub ended: Ended,
@@ -57,7 +57,7 @@ impl<'a> Model for Fetched<'a> {
 }
 
 /// What an instruction does that alters the PSW and little beside it.
-#[derive(Debug, Drop)]
+#[derive(Drop)]
 pub enum Simple {
     /// It is completed with no interruption, and alters this.
     Completed(Plain),

@@ -9,7 +9,7 @@ ghost use Rattle.s360_logic.specs.Rows.{register_status_of, storage_status_of};
 use s360_fixed::{IoOperation, Operation};
 
 /// What a byte of the first operand becomes with a byte of the second.
-#[derive(Clone, Copy, Debug, PartialEq, Eq)]
+#[derive(Clone, Copy, PartialEq, Eq)]
 pub(crate) enum ByteCombination {
     /// The second byte.
     Second,
@@ -26,7 +26,7 @@ pub(crate) enum ByteCombination {
 }
 
 /// What is done with a byte in storage and the byte of the instruction.
-#[derive(Clone, Copy, Debug, PartialEq, Eq)]
+#[derive(Clone, Copy, PartialEq, Eq)]
 pub(crate) enum ImmediateRow {
     /// The byte in storage becomes something of both.
     Combine(ByteCombination),
@@ -39,7 +39,7 @@ pub(crate) enum ImmediateRow {
 }
 
 /// What is made of two operands in storage from right to left, a digit of four bits at a time.
-#[derive(Clone, Copy, Debug, PartialEq, Eq)]
+#[derive(Clone, Copy, PartialEq, Eq)]
 pub(crate) enum DigitRow {
     /// The digits of the second to the left of the low digit of the first.
     MoveWithOffset,
@@ -50,7 +50,7 @@ pub(crate) enum DigitRow {
 }
 
 /// What is done with two operands in storage.
-#[derive(Clone, Copy, Debug, PartialEq, Eq)]
+#[derive(Clone, Copy, PartialEq, Eq)]
 pub(crate) enum StorageRow {
     /// The bytes of the first become something of both.
     Combine(ByteCombination),
@@ -65,7 +65,7 @@ pub(crate) enum StorageRow {
 }
 
 /// A conversion between a word in a register and a packed decimal number in storage.
-#[derive(Clone, Copy, Debug, PartialEq, Eq)]
+#[derive(Clone, Copy, PartialEq, Eq)]
 pub(crate) enum Conversion {
     /// The word becomes the number.
     ToBinary,
@@ -75,7 +75,7 @@ pub(crate) enum Conversion {
 
 /// What is done with the storage key of the block that R2 names, and with its fetch bit if fetches are
 /// protected. Both are privileged.
-#[derive(Clone, Copy, Debug, PartialEq, Eq)]
+#[derive(Clone, Copy, PartialEq, Eq)]
 pub(crate) enum KeyRow {
     /// It becomes the key in R1.
     Set,
@@ -84,7 +84,7 @@ pub(crate) enum KeyRow {
 }
 
 /// What is done by registers, or by the second byte of the instruction.
-#[derive(Clone, Copy, Debug, PartialEq, Eq)]
+#[derive(Clone, Copy, PartialEq, Eq)]
 pub(crate) enum RegisterStatus {
     /// The condition code and the program mask become those in R1.
     SetProgramMask,
@@ -95,7 +95,7 @@ pub(crate) enum RegisterStatus {
 }
 
 /// What is done with an operand in storage, or with a unit. All are privileged.
-#[derive(Clone, Copy, Debug, PartialEq, Eq)]
+#[derive(Clone, Copy, PartialEq, Eq)]
 pub(crate) enum StorageStatus {
     /// The system mask becomes the byte.
     SetSystemMask,

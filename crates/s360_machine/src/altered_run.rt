@@ -17,7 +17,7 @@ use s360_psw::Psw;
 use s360_store::{GREATEST_SIZE, Part, Place, Plan};
 
 /// A PSW, and at least one byte from an address on.
-#[derive(Clone, Copy, Debug)]
+#[derive(Clone, Copy)]
 pub(crate) struct AlteredRun<'a> {
     pub(crate) psw: Psw,
     pub(crate) address: u32,

@@ -286,7 +286,7 @@ impl Packed {
         match bytes_alone(plan) {
             // Of most channel events no change is made.
             Some((address, new)) if planned.units.is_some() || planned.media.is_some() => {
-                let beside = machine.beside(planned);
+                let beside = planned.into_beside(&machine.control);
                 self.append_beside(machine, address, new, beside)
             }
             _ => {

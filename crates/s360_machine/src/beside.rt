@@ -21,11 +21,21 @@ use s360_store::Place;
 pub(crate) const BESIDE: usize = 9;
 
 /// What an event alters beside the core. It stands apart from the change that has it, since few events alter any.
-#[derive(Clone, Debug, Drop)]
+#[derive(Clone)]
 pub(crate) struct Beside {
     pub(crate) control: ControlChange,
     pub(crate) units: Option<UnitChange>,
     pub(crate) media: Option<MediaChange>,
+}
+
+impl Drop for Beside {
+    fn drop(self) {
+        let Beside {
+            control: _,
+            units: _,
+            media: _,
+        } = self;
+    }
 }
 
 /// Adds a place where there is a change of it.

@@ -12,7 +12,7 @@ use s360_fixed::Plain;
 use s360_store::{Item, Span};
 
 /// The places of a change that stands within its row.
-#[derive(Clone, Copy, Debug)]
+#[derive(Clone, Copy)]
 pub enum SpansWithin {
     /// None.
     Nothing,
@@ -36,7 +36,7 @@ impl SpansWithin {
 }
 
 /// The places of a change as spans, in their order.
-#[derive(Clone, Copy, Debug)]
+#[derive(Clone, Copy)]
 pub enum ChangeSpans<'a> {
     /// Those of a change that stands within its row, as most do.
     Within(SpansWithin),
@@ -45,7 +45,7 @@ pub enum ChangeSpans<'a> {
 }
 
 /// The spans that are left of what stands apart from the rows, in their order.
-#[derive(Clone, Copy, Debug)]
+#[derive(Clone, Copy)]
 pub struct SpansApart<'a> {
     /// Single cells and runs, each of which is a span.
     items: &'a [Item],

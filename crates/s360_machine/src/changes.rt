@@ -5,14 +5,11 @@ ghost use Rattle.s360_store.specs.Cells.{AllFit};
 ghost use Rattle.s360_store.specs.Places.{Fits};
 ghost use Rattle.s360_machine.specs.Change.{places_of_change};
 ghost use Rattle.s360_fixed.specs.Plain.{IsFit, cells_of_plain, psw_cell};
-ghost use Rattle.s360_machine.specs.Changes.{BeginsWithPsw, IsPlainOf, change_of_core};
-ghost use Rattle.s360_machine.specs.ControlCells.{control_cells};
+ghost use Rattle.s360_machine.specs.Changes.{AreFit, BeginsWithPsw, IsPlainOf, change_of, change_of_core, change_of_parts};
 
 use crate::beside::Beside;
-use crate::control_change::ControlChange;
 use crate::media::MediaChange;
 use crate::row::Row;
-use s360_channel::UnitChange;
 use s360_fixed::{Plain, ShortRun};
 use s360_psw::Psw;
 use s360_store::{Cell, Cells, Part, Place};
@@ -21,7 +18,7 @@ use std::alloc::{AllocError, Global};
 use std::marker::Model;
 
 /// What an event alters of the core and beside it.
-#[derive(Debug, Drop)]
+#[derive(Drop)]
 pub(crate) struct Full {
     pub(crate) cells: Cells,
     pub(crate) beside: Beside,
@@ -38,7 +35,7 @@ impl Full {
 }
 
 /// What an event alters: most alter little, for which no memory is taken.
-#[derive(Debug, Drop)]
+#[derive(Drop)]
 pub(crate) enum Parts {
     /// Of the core, the PSW and little beside it.
     Plain(Plain),
@@ -49,9 +46,14 @@ pub(crate) enum Parts {
 /// The places that an event alters, in their order, each with the value that stands there while the
 /// change is not made, or no longer: those of the core, then those of the control part, and then
 /// those of the units.
-#[derive(Debug, Drop)]
 pub struct Changes {
     pub(crate) parts: Parts,
+}
+
+impl Drop for Changes {
+    fn drop(self) {
+        let Changes { parts: _ } = self;
+    }
 }
 
 impl Model for Changes {
@@ -116,22 +118,11 @@ fn with_cell(psw: Psw, cell: Cell) -> Option<Plain>
 }
 
 impl Changes {
-    /// A change of these cells of the core and of these other parts.
-    pub(crate) fn of(
-        alloc: Global,
-        cells: Cells,
-        control: ControlChange,
-        units: Option<UnitChange>,
-        media: Option<MediaChange>,
-    ) -> Result<Changes, AllocError>
+    /// A change of these cells of the core and of this beside it.
+    pub(crate) fn of(alloc: Global, cells: Cells, beside: Beside) -> Result<Changes, AllocError>
         requires fit { AllFit true cells }
-        ensures { IfOk result (λ changes. changes ≡ record { cells = cells; control = control_cells control; units = units; media = media }) }
+        ensures { IfOk result (λ changes. changes ≡ change_of cells beside) }
     {
-        let beside = Beside {
-            control,
-            units,
-            media,
-        };
         if beside.is_empty() {
             if let Some(plain) = plain_of(&cells) {
                 return Ok(Changes::of_core(plain));
@@ -151,6 +142,15 @@ impl Changes {
         Changes {
             parts: Parts::Plain(plain),
         }
+    }
+
+    /// Its parts.
+    pub(crate) fn into_parts(self) -> Parts
+        ensures parts { change_of_parts result ≡ self }
+        ensures fit { AreFit result }
+    {
+        let Changes { parts } = self;
+        parts
     }
 
     /// What it alters of the media, if it alters any.

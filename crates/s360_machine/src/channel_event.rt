@@ -18,7 +18,7 @@ use s360_word::Unit;
 use std::alloc::{AllocError, Global};
 
 /// What a channel event makes of a unit and its device, where they do not stay as they are.
-#[derive(Debug, Drop)]
+#[derive(Drop)]
 pub(crate) struct UnitStep<C> {
     /// The unit on its channel.
     pub(crate) control: Option<UnitControl>,

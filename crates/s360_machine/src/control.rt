@@ -17,7 +17,7 @@ use s360_word::Word;
 use std::marker::Model;
 
 /// The run state and the pending external conditions.
-#[derive(Clone, Copy, Debug)]
+#[derive(Clone, Copy)]
 pub(crate) struct Control {
     run_state: RunState,
     external: ExternalConditions,

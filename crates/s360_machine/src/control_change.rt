@@ -7,7 +7,7 @@ use crate::run_state::RunState;
 
 /// The places of the control part that an event alters, each with a value of it. A contract sees
 /// the list of their cells. It is small, since each change in the journal has one.
-#[derive(Clone, Copy, Debug, PartialEq, Eq)]
+#[derive(Clone, Copy, PartialEq, Eq)]
 pub(crate) enum ControlChange {
     /// None of them.
     Neither,

@@ -20,7 +20,7 @@ use s360_store::Plan;
 use std::alloc::AllocError;
 
 /// What a CPU event is: the first of these that holds.
-#[derive(Clone, Copy, Debug, PartialEq, Eq)]
+#[derive(Clone, Copy, PartialEq, Eq)]
 pub enum CpuCase {
     /// The machine is stopped or loads, and nothing happens.
     Halted,

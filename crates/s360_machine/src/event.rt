@@ -17,7 +17,7 @@ use s360_word::{ProtectionKey, RegisterNumber, Unit, Word};
 use std::alloc::AllocError;
 
 /// What a patch puts into the machine from outside. It ignores protection.
-#[derive(Clone, Debug, Drop)]
+#[derive(Clone, Debug)]
 pub enum Patch {
     /// Bytes from an address on, at most 256.
     Bytes { at: u32, bytes: Bytes },
@@ -30,6 +30,18 @@ pub enum Patch {
     /// The current PSW, from a doubleword of which bits 16 to 33 (an interruption code and an
     /// instruction length code) are dropped.
     Psw(u64),
+}
+
+impl Drop for Patch {
+    fn drop(self) {
+        match self {
+            Patch::Bytes { at: _, bytes: _ }
+            | Patch::Register(_, _)
+            | Patch::StorageKey { at: _, key: _ }
+            | Patch::FetchBit { at: _, on: _ }
+            | Patch::Psw(_) => {}
+        }
+    }
 }
 
 /// What happens to the machine at once.

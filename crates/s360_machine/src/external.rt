@@ -4,7 +4,7 @@ ghost use Rattle.s360_machine.specs.Interruptions.{external_code};
 ghost use Rattle.s360_machine.specs.Machine.{no_external};
 
 /// What interrupts the program as soon as the external mask is one.
-#[derive(Clone, Copy, Debug, Default, PartialEq, Eq)]
+#[derive(Clone, Copy, Default, PartialEq, Eq)]
 pub struct ExternalConditions {
     /// The timer has passed from zero or more to a negative number.
     pub timer: bool,

@@ -71,7 +71,7 @@ impl Machine {
     pub(crate) fn plan_loading(
         &self,
         unit: ConfiguredUnit,
-        planned: PlannedEvent,
+        mut planned: PlannedEvent,
         plan: &mut Plan,
     ) -> Result<PlannedEvent, AllocError>
         requires cells { AreCellsOf self.now.whole.core plan.old }
@@ -86,12 +86,8 @@ impl Machine {
             state: UnitState::Idle,
             attention: self.units.control(unit).attention,
         };
-        let units = self.units.change_of(unit, idle);
-        let control = planned.control.operating();
-        Ok(PlannedEvent {
-            control,
-            units,
-            media: planned.media,
-        })
+        planned.units = self.units.change_of(unit, idle);
+        planned.control = planned.control.operating();
+        Ok(planned)
     }
 }

@@ -19,7 +19,7 @@ ghost use Rattle.s360_device.specs.DeviceChanges.{bare};
 ghost use Rattle.s360_tape.specs.WholeTape.{seen as seen_tape};
 ghost use Rattle.s360_machine.specs.Media.{tape_of};
 ghost use Rattle.s360_channel.specs.ConfiguredUnits.{attention_at, state_at, unit_at};
-ghost use Rattle.s360_machine.specs.Planned.{IsChangeTo};
+ghost use Rattle.s360_machine.specs.Planned.{IsBesideOf, IsChangeTo};
 
 use crate::beside::{Beside, exchange_beside};
 use crate::changes::{Changes, Parts};
@@ -42,7 +42,6 @@ use std::marker::Model;
 
 /// The machine. A contract sees the whole of it (PSW, registers, storage with its keys, run state,
 /// pending external conditions, the states of the units and their devices) with room beside it.
-#[derive(Drop)]
 pub struct Machine {
     pub(crate) core: Core,
     pub(crate) control: Control,
@@ -51,8 +50,19 @@ pub struct Machine {
     pub(crate) alloc: Global,
 }
 
+impl Drop for Machine {
+    fn drop(self) {
+        let Machine {
+            core: _,
+            control: _,
+            units: _,
+            devices: _,
+            alloc: _,
+        } = self;
+    }
+}
+
 /// What an event makes of the machine beside the core.
-#[derive(Debug, Drop)]
 pub(crate) struct PlannedEvent {
     /// The control part after it.
     pub(crate) control: Control,
@@ -60,6 +70,35 @@ pub(crate) struct PlannedEvent {
     pub(crate) units: Option<UnitChange>,
     /// What becomes of a device.
     pub(crate) media: Option<MediaChange>,
+}
+
+impl Drop for PlannedEvent {
+    fn drop(self) {
+        let PlannedEvent {
+            control: _,
+            units: _,
+            media: _,
+        } = self;
+    }
+}
+
+impl PlannedEvent {
+    /// What it alters beside the core, where the control part stands so.
+    pub(crate) fn into_beside(self, control: &Control) -> Beside
+        ensures { IsBesideOf control.now self result }
+    {
+        let altered = control.changes_to(&self.control);
+        let PlannedEvent {
+            control: _,
+            units,
+            media,
+        } = self;
+        Beside {
+            control: altered,
+            units,
+            media,
+        }
+    }
 }
 
 impl Model for Machine {

@@ -19,7 +19,6 @@ use s360_tape::{Tape, TapeChange};
 use std::alloc::AllocError;
 
 /// The devices.
-#[derive(Drop)]
 pub(crate) struct Devices {
     pub(crate) reader: Reader,
     pub(crate) punch: Punch,
@@ -29,8 +28,20 @@ pub(crate) struct Devices {
     pub(crate) tape1: Tape,
 }
 
+impl Drop for Devices {
+    fn drop(self) {
+        let Devices {
+            reader: _,
+            punch: _,
+            printer: _,
+            console: _,
+            tape0: _,
+            tape1: _,
+        } = self;
+    }
+}
+
 /// What is exchanged with the device that does not stay as it is. No event alters two of them.
-#[derive(Debug, Drop)]
 pub(crate) enum MediaChange {
     /// The card reader's change.
     Reader(DeviceChange<ReaderChange>),
@@ -44,6 +55,19 @@ pub(crate) enum MediaChange {
     Tape0(DeviceChange<TapeChange>),
     /// That of the second.
     Tape1(DeviceChange<TapeChange>),
+}
+
+impl Drop for MediaChange {
+    fn drop(self) {
+        match self {
+            MediaChange::Reader(_)
+            | MediaChange::Punch(_)
+            | MediaChange::Printer(_)
+            | MediaChange::Console(_)
+            | MediaChange::Tape0(_)
+            | MediaChange::Tape1(_) => {}
+        }
+    }
 }
 
 impl Clone for MediaChange {

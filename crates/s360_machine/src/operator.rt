@@ -15,7 +15,7 @@ use s360_word::Unit;
 use std::alloc::AllocError;
 
 /// A key that the operator presses.
-#[derive(Clone, Debug, PartialEq, Eq, Drop)]
+#[derive(Clone, Debug, PartialEq, Eq)]
 pub enum Key {
     /// The stopped machine operates. It does nothing while the machine loads.
     Start,
@@ -35,6 +35,21 @@ pub enum Key {
     /// The load key with this unit selected: what the reset key does, and then initial program
     /// loading from the unit.
     Load(Unit),
+}
+
+impl Drop for Key {
+    fn drop(self) {
+        match self {
+            Key::Start
+            | Key::Stop
+            | Key::Reset
+            | Key::Interrupt
+            | Key::EndOfFile
+            | Key::Request
+            | Key::Enter(_)
+            | Key::Load(_) => {}
+        }
+    }
 }
 
 /// The units after a reset, from one of which the machine may load then.

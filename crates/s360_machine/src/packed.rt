@@ -22,7 +22,6 @@ use std::alloc::{AllocError, Global};
 use std::marker::Model;
 
 /// A list of changes, the newest at its end.
-#[derive(Debug, Drop)]
 pub struct Packed {
     pub(crate) rows: Vec<Row>,
     /// Single cells and runs, of the rows that have them apart.
@@ -31,6 +30,17 @@ pub struct Packed {
     pub(crate) bytes: Vec<u8>,
     /// What is beside the core, of the rows that have it.
     pub(crate) beside: Vec<Beside>,
+}
+
+impl Drop for Packed {
+    fn drop(self) {
+        let Packed {
+            rows: _,
+            items: _,
+            bytes: _,
+            beside: _,
+        } = self;
+    }
 }
 
 impl Model for Packed {
@@ -46,7 +56,7 @@ impl Model for Packed {
 }
 
 /// Where the lists end of the first changes, so many.
-#[derive(Clone, Copy, Debug)]
+#[derive(Clone, Copy)]
 struct End {
     rows: usize,
     items: usize,
@@ -55,7 +65,7 @@ struct End {
 }
 
 /// A change as it stands in the lists.
-#[derive(Clone, Copy, Debug)]
+#[derive(Clone, Copy)]
 struct Own<'a> {
     row: Row,
     items: &'a [Item],
@@ -182,7 +192,7 @@ impl Packed {
     {
         self.rows.reserve(1)?;
         let row = append_parts(
-            changes.parts,
+            changes.into_parts(),
             &mut self.items,
             &mut self.bytes,
             &mut self.beside,

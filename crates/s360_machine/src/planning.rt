@@ -4,13 +4,12 @@ ghost use Rattle.s360_store.specs.Cells.{AreCellsOf};
 ghost use Rattle.s360_machine.specs.ChannelEvents.{after_channel_event};
 ghost use Rattle.s360_machine.specs.Machine.{Machine as SeenMachine, storage_size, seen};
 ghost use Rattle.s360_machine.specs.Operator.{after_key};
-ghost use Rattle.s360_machine.specs.Planned.{IsBesideOf, IsChangeTo, IsPlanOfMachine, LeavesUnits};
+ghost use Rattle.s360_machine.specs.Planned.{IsChangeTo, IsPlanOfMachine, LeavesUnits};
 ghost use Rattle.s360_machine.specs.Refusals.{refusal_of, refusal_of_key, refusal_of_patch};
 ghost use Rattle.s360_machine.specs.Step.{after, after_patch};
 ghost use Rattle.s360_machine.specs.Timer.{after_tick};
 ghost use Rattle.s360_machine.specs.declared.refusal.Refusal.TheVariants.{Memory};
 
-use crate::beside::Beside;
 use crate::changes::Changes;
 use crate::control::Control;
 use crate::event::{Event, Patch};
@@ -44,19 +43,7 @@ impl Machine {
         ensures { IfOk result (λ changes. (n : SeenMachine) → IsPlanOfMachine self.now.whole plan.now planned n → IsChangeTo self.now.whole changes n) }
     {
         let cells = self.core.changes(self.alloc, plan)?;
-        let control = self.control.changes_to(&planned.control);
-        Changes::of(self.alloc, cells, control, planned.units, planned.media)
-    }
-
-    /// What was planned alters beside the core.
-    pub(crate) fn beside(&self, planned: PlannedEvent) -> Beside
-        ensures { IsBesideOf self.now.whole.control planned result }
-    {
-        Beside {
-            control: self.control.changes_to(&planned.control),
-            units: planned.units,
-            media: planned.media,
-        }
+        Changes::of(self.alloc, cells, planned.into_beside(&self.control))
     }
 
     /// What an event makes that leaves the units alone.

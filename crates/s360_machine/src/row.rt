@@ -16,7 +16,7 @@ use s360_store::{Item, Place, part_at};
 use s360_word::{RegisterNumber, Word};
 
 /// What an event alters. Each variant has its smallest fields first, so that none takes more than 16 bytes.
-#[derive(Clone, Copy, Debug)]
+#[derive(Clone, Copy)]
 pub(crate) enum Row {
     /// Nothing.
     Nothing,

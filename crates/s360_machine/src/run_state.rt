@@ -5,7 +5,7 @@ ghost use Rattle.s360_machine.specs.RunStates.{is_operating};
 use s360_word::Unit;
 
 /// Whether the machine runs.
-#[derive(Clone, Copy, Debug, Default, PartialEq, Eq)]
+#[derive(Clone, Copy, Default, PartialEq, Eq)]
 pub enum RunState {
     /// Instructions are executed and interruptions taken.
     #[default]

@@ -20,7 +20,7 @@ const FEATURES: &str =
     ";qXfer:features:read+;ReverseStep+;ReverseContinue+;swbreak+;QStartNoAckMode+";
 
 /// Why the machine stopped.
-#[derive(Clone, Copy, Debug, PartialEq, Eq)]
+#[derive(Clone, Copy, PartialEq, Eq)]
 pub enum Stop {
     /// A step is done.
     Trap,
@@ -37,7 +37,7 @@ pub enum Stop {
 }
 
 /// An answer.
-#[derive(Clone, Copy, Debug)]
+#[derive(Clone, Copy)]
 pub enum Answer<'a> {
     /// The request is not known.
     Empty,

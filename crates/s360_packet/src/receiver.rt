@@ -10,7 +10,7 @@ use std::alloc::{AllocError, Global};
 use std::marker::Model;
 
 /// What a byte completed.
-#[derive(Clone, Copy, Debug, PartialEq, Eq)]
+#[derive(Clone, Copy, PartialEq, Eq)]
 pub enum Received {
     /// A packet, whose data the receiver lends until the next packet begins.
     Packet,
@@ -21,7 +21,7 @@ pub enum Received {
 }
 
 /// Whether packets are acknowledged.
-#[derive(Clone, Copy, Debug, PartialEq, Eq)]
+#[derive(Clone, Copy, PartialEq, Eq)]
 pub enum Acknowledging {
     /// Each is, by a byte.
     On,
@@ -43,7 +43,7 @@ impl Received {
 }
 
 /// Where in a packet the next byte stands.
-#[derive(Clone, Copy, Debug, PartialEq, Eq)]
+#[derive(Clone, Copy, PartialEq, Eq)]
 pub enum Stage {
     /// In none.
     Between,
@@ -58,7 +58,7 @@ pub enum Stage {
 }
 
 /// Receives packets. It holds at most as many bytes of data as were told, in memory that it has from the start.
-#[derive(Debug, Drop)]
+#[derive(Drop)]
 pub struct Receiver {
     stage: Stage,
     size: usize,

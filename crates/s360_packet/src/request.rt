@@ -7,7 +7,7 @@ use std::marker::Model;
 use thiserror::Error;
 
 /// Bytes that a request carries, which a contract sees as their list.
-#[derive(Debug, Drop)]
+#[derive(Drop)]
 pub struct Payload {
     bytes: Vec<u8>,
 }
@@ -44,7 +44,7 @@ impl Payload {
 }
 
 /// What stops the machine: a breakpoint, or a byte that is altered.
-#[derive(Clone, Copy, Debug, PartialEq, Eq)]
+#[derive(Clone, Copy, PartialEq, Eq)]
 pub enum Point {
     /// `0`: the instruction at an address, by a software breakpoint.
     Software,
@@ -55,7 +55,7 @@ pub enum Point {
 }
 
 /// Which threads a request is about.
-#[derive(Clone, Copy, Debug, PartialEq, Eq)]
+#[derive(Clone, Copy, PartialEq, Eq)]
 pub enum Thread {
     /// `-1`: all of them.
     Every,
@@ -66,7 +66,7 @@ pub enum Thread {
 }
 
 /// A request. Addresses and counts are of bytes, and no number is above 32 bits.
-#[derive(Debug, Drop)]
+#[derive(Drop)]
 pub enum Request {
     /// `?`: why the machine stopped.
     Stopped,

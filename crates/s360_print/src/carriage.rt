@@ -16,7 +16,7 @@ const LINES: u8 = 66;
 const END_LINE: u8 = 56;
 
 /// Where the carriage stands.
-#[derive(Clone, Copy, Debug, PartialEq, Eq)]
+#[derive(Clone, Copy, PartialEq, Eq)]
 pub struct Position {
     page: u32,
     line: u8,
@@ -36,7 +36,7 @@ impl Model for Position {
 }
 
 /// How a command moves the carriage.
-#[derive(Clone, Copy, Debug, PartialEq, Eq)]
+#[derive(Clone, Copy, PartialEq, Eq)]
 pub enum CarriageMotion {
     /// So many lines further on, 0 to 3.
     Space(u8),

@@ -20,12 +20,22 @@ use std::mem;
 pub type Console = DeviceWith<ConsoleMedia>;
 
 /// What the console typed, and the lines that were entered.
-#[derive(Drop)]
 pub struct ConsoleMedia {
     alloc: Global,
     typed: Vec<TypedItem>,
     entered: Vec<Line>,
     taken: usize,
+}
+
+impl Drop for ConsoleMedia {
+    fn drop(self) {
+        let ConsoleMedia {
+            alloc: _,
+            typed: _,
+            entered: _,
+            taken: _,
+        } = self;
+    }
 }
 
 impl Model for ConsoleMedia {

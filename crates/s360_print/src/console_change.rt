@@ -8,7 +8,7 @@ use s360_device::Motion;
 use std::alloc::AllocError;
 
 /// What is exchanged with the media of a console.
-#[derive(Clone, Debug, Drop)]
+#[derive(Clone)]
 pub struct ConsoleChange {
     /// What is done to one of its lists.
     pub(crate) list: ListChange,
@@ -16,8 +16,14 @@ pub struct ConsoleChange {
     pub(crate) taken: usize,
 }
 
+impl Drop for ConsoleChange {
+    fn drop(self) {
+        let ConsoleChange { list: _, taken: _ } = self;
+    }
+}
+
 /// What is done to one of the console's two lists. Nothing alters both.
-#[derive(Clone, Debug, Drop)]
+#[derive(Clone, Drop)]
 pub(crate) enum ListChange {
     /// An item is typed, or taken back, or nothing is done.
     Typed(Motion<TypedItem>),

@@ -4,7 +4,7 @@ ghost use Rattle.s360_model.specs.Tables.{entry_in};
 ghost use Rattle.s360_print.specs.ConsoleCommands.{console_commands};
 
 /// What a command of the console's own does.
-#[derive(Clone, Copy, Debug, PartialEq, Eq)]
+#[derive(Clone, Copy, PartialEq, Eq)]
 pub(crate) enum ConsoleCommand {
     /// Types a line.
     Write,

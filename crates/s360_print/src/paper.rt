@@ -13,7 +13,7 @@ const BLANK: u8 = 0x40;
 
 /// The bytes of a line's print positions, in EBCDIC. They stand apart from the record that has them, so that a change
 /// of a printer that prints nothing is small. A contract sees the list of them.
-#[derive(Debug, Drop)]
+#[derive(Drop)]
 pub struct PrintedLine {
     bytes: Box<[u8; LINE_WIDTH]>,
 }
@@ -27,7 +27,7 @@ impl Model for PrintedLine {
 }
 
 /// A line that was printed.
-#[derive(Clone, Debug, Drop)]
+#[derive(Clone, Drop)]
 pub struct Record {
     /// The page, from 1.
     pub page: u32,

@@ -21,10 +21,18 @@ use std::mem;
 pub type Printer = DeviceWith<PrinterMedia>;
 
 /// The lines that the printer has printed, and where its carriage stands.
-#[derive(Drop)]
 pub struct PrinterMedia {
     position: Position,
     records: Vec<Record>,
+}
+
+impl Drop for PrinterMedia {
+    fn drop(self) {
+        let PrinterMedia {
+            position: _,
+            records: _,
+        } = self;
+    }
 }
 
 impl Model for PrinterMedia {

@@ -7,7 +7,7 @@ use crate::carriage::CarriageMotion;
 use crate::carriage::CarriageMotion::{Skip, Space};
 
 /// What a command of the printer's own does.
-#[derive(Clone, Copy, Debug, PartialEq, Eq)]
+#[derive(Clone, Copy, PartialEq, Eq)]
 pub(crate) enum PrinterCommand {
     /// Prints, and then moves the carriage.
     Print(CarriageMotion),

@@ -9,7 +9,7 @@ use std::marker::Model;
 pub const LINE_LIMIT: usize = 256;
 
 /// A line of at most 256 EBCDIC bytes, which a contract sees as the list of them.
-#[derive(Debug, Drop)]
+#[derive(Drop)]
 pub struct Line {
     bytes: Vec<u8>,
 }
@@ -56,7 +56,7 @@ impl Line {
 }
 
 /// What the console did at the operator's paper.
-#[derive(Clone, Debug, Drop)]
+#[derive(Clone, Drop)]
 pub enum TypedItem {
     /// It typed a line, without a carriage return after it.
     Text(Line),

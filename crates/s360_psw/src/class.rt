@@ -4,7 +4,7 @@ ghost use Rattle.std.specs.Prelude.{◌≡◌, ◌≤◌, ◌+◌};
 ghost use Rattle.s360_psw.specs.Class.{new_location_of, old_location_of};
 
 /// A class of interruptions, in the order of its permanent storage locations.
-#[derive(Clone, Copy, Debug, PartialEq, Eq)]
+#[derive(Clone, Copy, PartialEq, Eq)]
 pub enum Class {
     /// The timer, the interrupt key or an external signal.
     External,

@@ -4,7 +4,7 @@ ghost use Rattle.std.specs.Prelude.{◌≡◌, ◌<◌};
 ghost use Rattle.s360_psw.specs.InstructionLength.{length_code_of};
 
 /// The length of the instruction that an interruption follows, in halfwords.
-#[derive(Clone, Copy, Debug, PartialEq, Eq)]
+#[derive(Clone, Copy, PartialEq, Eq)]
 pub enum InstructionLength {
     /// No instruction, or none that could be fetched whole: code 0.
     NotAvailable,

@@ -36,7 +36,7 @@ const ADDRESSES: u64 = 1 << 24;
 const SYSTEM_MASK: u64 = 1 << 56;
 
 /// A current PSW: 64 bits, of which bits 16 to 33 are zero.
-#[derive(Clone, Copy, Debug, PartialEq, Eq)]
+#[derive(Clone, Copy, PartialEq, Eq)]
 pub struct Psw(u64);
 
 impl Model for Psw {

@@ -25,11 +25,19 @@ use std::marker::Model;
 
 /// A session beside the record of its events. A contract sees its start, the events of the record, how many first ones of
 /// them stand, and its limit. The record is accepted from the start, and has at most `limit` events.
-#[derive(Drop)]
 pub struct Recording {
     session: Session,
     /// The events of the record that do not stand, the next one last, with memory for those that stand.
     later: EventStack,
+}
+
+impl Drop for Recording {
+    fn drop(self) {
+        let Recording {
+            session: _,
+            later: _,
+        } = self;
+    }
 }
 
 impl Model for Recording {
@@ -65,14 +73,6 @@ impl Recording {
         ensures size { storage_size (machine_of (session_of self.now)) ≡ storage_size (seen self.now.start) }
     {
         self.session.machine()
-    }
-
-    /// Lets the recording go, with all that it holds. Where it is let go without this call, a crate has to prove again how
-    /// each part of it is dropped.
-    pub fn end(self) {
-        let Recording { session, later } = self;
-        session.end();
-        later.end();
     }
 
     /// The number of changes that stand.

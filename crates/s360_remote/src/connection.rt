@@ -16,7 +16,7 @@ use std::alloc::{AllocError, Global};
 use std::marker::Model;
 
 /// A connection: what has come of packets, whether they are acknowledged, and whether gdb has left.
-#[derive(Debug, Drop)]
+#[derive(Drop)]
 pub struct Connection {
     receiver: Receiver,
     acknowledging: Acknowledging,

@@ -2,7 +2,7 @@
 use s360_saving::FileToWrite;
 
 /// What is to be done beside sending what was answered.
-#[derive(Debug, Drop)]
+#[derive(Drop)]
 pub enum Errand {
     /// Nothing.
     Nothing,

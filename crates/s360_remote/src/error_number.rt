@@ -8,7 +8,7 @@ use s360_packet::Answer;
 use std::alloc::AllocError;
 
 /// Why a request failed.
-#[derive(Clone, Copy, Debug, PartialEq, Eq)]
+#[derive(Clone, Copy, PartialEq, Eq)]
 pub enum ErrorNumber {
     /// ESRCH: there is no such thread.
     NoThread,

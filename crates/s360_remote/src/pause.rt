@@ -5,7 +5,7 @@ ghost use Rattle.s360_remote.specs.Forward.{pause_of};
 use s360_machine::Refusal;
 
 /// How far the machine goes on.
-#[derive(Clone, Copy, Debug, PartialEq, Eq)]
+#[derive(Clone, Copy, PartialEq, Eq)]
 pub enum Reach {
     /// Over one event of the CPU.
     Step,
@@ -26,7 +26,7 @@ impl Reach {
 }
 
 /// Why the machine pauses.
-#[derive(Clone, Copy, Debug, PartialEq, Eq)]
+#[derive(Clone, Copy, PartialEq, Eq)]
 pub enum Pause {
     /// The next event was refused.
     Refused(Refusal),

@@ -17,7 +17,7 @@ use std::marker::Model;
 const MOST: usize = 64;
 
 /// Bytes of storage that are watched. Their addresses are below 2^32.
-#[derive(Clone, Copy, Debug, Default, PartialEq, Eq)]
+#[derive(Clone, Copy, Default, PartialEq, Eq)]
 pub struct Watch {
     at: u32,
     count: u32,
@@ -77,7 +77,7 @@ fn last_change_at(recording: &Recording, at: u32) -> u32
 }
 
 /// The breakpoints and the watched bytes. A contract sees both in the order in which they were set. No call takes memory.
-#[derive(Debug, Drop)]
+#[derive(Drop)]
 pub struct Points {
     breaks: Breaks,
     watches: ArrayVec<Watch, MOST>,

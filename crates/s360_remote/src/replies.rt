@@ -8,7 +8,7 @@ use std::alloc::{AllocError, Global};
 use std::marker::Model;
 
 /// Packets that are to be sent, in their order, with the bytes that acknowledge what came. A contract sees the bytes.
-#[derive(Debug, Drop)]
+#[derive(Drop)]
 pub struct Replies {
     bytes: Vec<u8>,
     pub(crate) alloc: Global,

@@ -38,7 +38,7 @@ use s360_text::Text;
 use std::alloc::AllocError;
 
 /// How serving goes on.
-#[derive(Debug, Drop)]
+#[derive(Drop)]
 pub enum Then {
     /// With the next request.
     GoOn,

@@ -78,11 +78,6 @@ impl Target {
         self.counting.recording.machine()
     }
 
-    /// Lets it go, with all that it holds.
-    pub fn end(self) {
-        self.counting.recording.end();
-    }
-
     /// Goes on, and answers why the machine pauses. After want of memory some first ones of the events stand.
     pub fn forward(&mut self, reach: Reach) -> Result<Pause, AllocError>
         ensures pause { IfOk result (λ pause. pause ≡ (resumed self.old.points reach self.old.recorded most_turns).why) }

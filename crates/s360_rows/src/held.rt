@@ -26,9 +26,7 @@ pub(crate) fn lend_over<L: Lent>(
     let deck = deck_from(alloc, deck).ok()?;
     let machine = Machine::new(alloc, size, deck, tape, blank_tape(alloc)).ok()?;
     let mut session = Session::new(alloc, machine, u32::from(limit));
-    let text = lent.use_session(alloc, &mut session);
-    session.end();
-    text
+    lent.use_session(alloc, &mut session)
 }
 
 /// Lends a session over a machine of so many bytes with no card and blank tapes.

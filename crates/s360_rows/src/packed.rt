@@ -2,7 +2,6 @@
 use crate::calls::event;
 use crate::rows::{Subject, Words, assert_no_fault, fault_of_rows};
 use s360_device::deck_from;
-use s360_journal::Session;
 use s360_machine::{Event, Machine, Packed};
 use s360_tape::blank_tape;
 use std::alloc::Global;
@@ -99,11 +98,7 @@ fn fault_of(alloc: Global, rows: &str) -> Option<String> {
         machine: Machine::new(alloc, STORAGE, deck, first, second).ok()?,
         changes: Packed::new(alloc),
     };
-    let fault = fault_of_rows(alloc, &mut packing, rows);
-    let Packing { machine, .. } = packing;
-    // The session's end lets the machine go.
-    Session::new(alloc, machine, 0).end();
-    fault
+    fault_of_rows(alloc, &mut packing, rows)
 }
 
 #[test]

@@ -3,7 +3,7 @@ use crate::calls::{call, calls, event, long_patch, place_of, text_of_answer, tex
 use crate::held::{Lent, lend_blank};
 use crate::rows::{Subject, Words, assert_no_fault, fault_of_rows};
 use s360_device::deck_from;
-use s360_journal::{Answer, Outcome, Session, run_calls};
+use s360_journal::{Answer, Session, run_calls};
 use s360_machine::Machine;
 use s360_psw::InstructionLength;
 use s360_store::Place;
@@ -368,13 +368,8 @@ fn run(alloc: Global) -> Option<String> {
     let deck = deck_from(alloc, &[]).ok()?;
     let (first, second) = (blank_tape(alloc), blank_tape(alloc));
     let machine = Machine::new(alloc, STORAGE, deck, first, second).ok()?;
-    let Ok(outcome) = run_calls(alloc, machine, 6, calls) else {
-        return None;
-    };
-    let Outcome { machine, answers } = outcome;
-    let text = text_of_end(alloc, &answers, &machine);
-    Session::new(alloc, machine, 0).end();
-    text
+    let outcome = run_calls(alloc, machine, 6, calls).ok()?;
+    text_of_end(alloc, &outcome.answers, &outcome.machine)
 }
 
 /// The same calls, made of a session.

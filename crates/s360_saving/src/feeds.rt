@@ -15,7 +15,7 @@ const FORM_FEED: u8 = 0x0C;
 const CARRIAGE_RETURN: u8 = 0x0D;
 
 /// A line of a page, both counted from 1.
-#[derive(Clone, Copy, Debug, PartialEq, Eq)]
+#[derive(Clone, Copy, PartialEq, Eq)]
 pub struct PageLine {
     /// The page.
     pub page: u32,

@@ -16,7 +16,7 @@ use s360_word::Unit;
 use std::alloc::{AllocError, Global};
 
 /// How much a file has.
-#[derive(Clone, Copy, Debug, PartialEq, Eq)]
+#[derive(Clone, Copy, PartialEq, Eq)]
 pub enum Amount {
     /// So many pages.
     Pages(u32),
@@ -29,7 +29,7 @@ pub enum Amount {
 }
 
 /// A file that is to be written.
-#[derive(Debug, Drop)]
+#[derive(Drop)]
 pub struct FileToWrite {
     /// Its name.
     pub name: Text,

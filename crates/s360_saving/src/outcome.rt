@@ -7,7 +7,7 @@ use s360_text::Text;
 use std::alloc::{AllocError, Global};
 
 /// Why a file was not written.
-#[derive(Clone, Copy, Debug, PartialEq, Eq)]
+#[derive(Clone, Copy, PartialEq, Eq)]
 pub enum SaveFault {
     /// A file of its name is there, and it is not to be written over.
     Exists,

@@ -3,7 +3,7 @@ ghost use Rattle.std.specs.Prelude.{◌≡◌};
 ghost use Rattle.s360_setup.specs.Programs.{program_name};
 
 /// A program over the machine. All have one command line.
-#[derive(Clone, Copy, Debug, PartialEq, Eq)]
+#[derive(Clone, Copy, PartialEq, Eq)]
 pub enum Program {
     /// Carries a script out.
     Debugger,

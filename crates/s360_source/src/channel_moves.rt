@@ -17,7 +17,7 @@ use s360_store::{GREATEST_SIZE, Storage};
 pub(crate) type Extent = (Location, u16);
 
 /// Where a channel event finds and puts bytes of storage.
-#[derive(Debug, Drop)]
+#[derive(Drop)]
 pub(crate) struct ChannelMoves {
     /// The channel command word with which the program goes on, if one stands there.
     pub(crate) word: Option<Location>,

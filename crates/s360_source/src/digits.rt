@@ -9,7 +9,7 @@ use s360_store::Place;
 use std::alloc::AllocError;
 
 /// What a byte of the first operand is made of.
-#[derive(Clone, Copy, Debug, PartialEq, Eq)]
+#[derive(Clone, Copy, PartialEq, Eq)]
 pub(crate) enum DigitRow {
     /// The digits of the second operand, to the left of the low digit of the first.
     MoveWithOffset,
@@ -35,7 +35,7 @@ impl DigitRow {
 }
 
 /// An operand in storage.
-#[derive(Clone, Copy, Debug, PartialEq, Eq)]
+#[derive(Clone, Copy, PartialEq, Eq)]
 pub(crate) struct Field {
     /// The address of its leftmost byte.
     pub(crate) address: Location,
@@ -55,7 +55,7 @@ impl Field {
 }
 
 /// Two operands, of which the first is made of digits.
-#[derive(Clone, Copy, Debug, PartialEq, Eq)]
+#[derive(Clone, Copy, PartialEq, Eq)]
 pub(crate) struct Digits {
     pub(crate) row: DigitRow,
     pub(crate) first: Field,

@@ -19,7 +19,7 @@ use s360_store::{Plan, Storage};
 use std::alloc::{AllocError, Global};
 
 /// What the word moves with which a unit's program goes on, and the status with which it ends the program, if it does.
-#[derive(Debug, Drop)]
+#[derive(Drop)]
 pub(crate) struct Executed {
     /// Where it finds and puts bytes of storage.
     pub(crate) moves: ChannelMoves,

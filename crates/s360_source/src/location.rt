@@ -4,7 +4,7 @@ ghost use Rattle.std.specs.Prelude.{◌≡◌, ◌<◌, ◌^◌};
 use std::marker::Model;
 
 /// The address of an operand's first byte, or the number of a block, below 2^24. A contract sees that number.
-#[derive(Clone, Copy, Debug, PartialEq, Eq)]
+#[derive(Clone, Copy, PartialEq, Eq)]
 pub struct Location(u32);
 
 impl Model for Location {

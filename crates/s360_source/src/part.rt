@@ -9,7 +9,7 @@ use s360_word::RegisterNumber;
 use std::alloc::AllocError;
 
 /// Places that something is made of.
-#[derive(Clone, Copy, Debug)]
+#[derive(Clone, Copy)]
 pub(crate) enum Part {
     /// A place.
     Place(Place),

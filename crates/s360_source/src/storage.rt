@@ -15,7 +15,7 @@ use s360_store::{Place, Storage};
 use std::alloc::AllocError;
 
 /// What a byte of the first operand is made of.
-#[derive(Clone, Copy, Debug, PartialEq, Eq)]
+#[derive(Clone, Copy, PartialEq, Eq)]
 pub(crate) enum ByteRow {
     /// The byte of the second operand with its number.
     Moved,

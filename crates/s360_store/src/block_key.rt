@@ -12,7 +12,7 @@ use std::marker::Model;
 const FETCH_BIT: u8 = 16;
 
 /// A storage key and a fetch bit. A contract sees one number: the key, and 16 more where the bit is one.
-#[derive(Clone, Copy, Debug, PartialEq, Eq)]
+#[derive(Clone, Copy, PartialEq, Eq)]
 pub struct BlockKey(u8);
 
 impl Model for BlockKey {

@@ -35,13 +35,22 @@ const BYTES: usize = 16;
 const MOST: usize = 16;
 
 /// Cells, in their order.
-#[derive(Debug, Drop)]
 pub struct Cells {
     items: SmallVec<Item, ITEMS>,
     /// The bytes of the runs, run after run.
     bytes: SmallVec<u8, BYTES>,
     /// The number of cells.
     count: u32,
+}
+
+impl Drop for Cells {
+    fn drop(self) {
+        let Cells {
+            items: _,
+            bytes: _,
+            count: _,
+        } = self;
+    }
 }
 
 impl Model for Cells {

@@ -16,7 +16,7 @@ use crate::span::Span;
 use std::alloc::AllocError;
 
 /// A single cell, or a run of successive bytes of storage.
-#[derive(Clone, Copy, Debug)]
+#[derive(Clone, Copy)]
 pub enum Item {
     /// A cell.
     Single(Cell),
@@ -31,7 +31,7 @@ impl Default for Item {
 }
 
 /// A part of cells: one, or those of successive bytes of storage.
-#[derive(Clone, Copy, Debug)]
+#[derive(Clone, Copy)]
 pub enum Part<'a> {
     /// A cell.
     Cell(Cell),

@@ -28,7 +28,6 @@ use std::alloc::{AllocError, Global};
 use std::marker::Model;
 
 /// The cells of a plan.
-#[derive(Drop)]
 enum Planned {
     /// Single cells and runs of bytes.
     Cells(Cells),
@@ -36,11 +35,27 @@ enum Planned {
     Map(IndexMap<Place, u64>),
 }
 
+impl Drop for Planned {
+    fn drop(self) {
+        match self {
+            Planned::Cells(_) | Planned::Map(_) => {}
+        }
+    }
+}
+
 /// Values for places, each place at most once, in the order in which they were first put.
-#[derive(Drop)]
 pub struct Plan {
     planned: Planned,
     alloc: Global,
+}
+
+impl Drop for Plan {
+    fn drop(self) {
+        let Plan {
+            planned: _,
+            alloc: _,
+        } = self;
+    }
 }
 
 impl Model for Plan {

@@ -3,7 +3,7 @@ ghost use Rattle.std.specs.Prelude.{◌≡◌};
 ghost use Rattle.s360_store.specs.Protection.{met_of_both};
 
 /// What an access does. Fetches are protected by an option alone.
-#[derive(Clone, Copy, Debug, PartialEq, Eq)]
+#[derive(Clone, Copy, PartialEq, Eq)]
 pub enum Access {
     /// Bytes are read.
     Fetch,
@@ -12,7 +12,7 @@ pub enum Access {
 }
 
 /// What an access to an operand meets.
-#[derive(Clone, Copy, Debug, PartialEq, Eq)]
+#[derive(Clone, Copy, PartialEq, Eq)]
 pub enum Checked {
     /// All bytes are inside, and their keys allow the access.
     Clear,

@@ -31,11 +31,20 @@ pub const LEAST_SIZE: u32 = 8_192;
 pub const GREATEST_SIZE: u32 = 1_048_576;
 
 /// Main storage of 8,192 to 1,048,576 bytes, in whole blocks.
-#[derive(Drop)]
 pub struct Storage {
     bytes: Vec<u8>,
     keys: Vec<BlockKey>,
     fetch_protection: bool,
+}
+
+impl Drop for Storage {
+    fn drop(self) {
+        let Storage {
+            bytes: _,
+            keys: _,
+            fetch_protection: _,
+        } = self;
+    }
 }
 
 impl Model for Storage {

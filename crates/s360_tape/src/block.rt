@@ -9,7 +9,7 @@ use std::marker::Model;
 pub(crate) const BLOCK_LIMIT: usize = 65_535;
 
 /// The bytes of a block, at most 65,535. A contract sees the list of them.
-#[derive(Debug, Drop)]
+#[derive(Drop)]
 pub struct Block {
     bytes: Vec<u8>,
 }

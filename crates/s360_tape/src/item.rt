@@ -6,7 +6,7 @@ ghost use Rattle.s360_tape.specs.Items.{bytes_of, is_mark};
 use crate::block::Block;
 
 /// An item of a tape.
-#[derive(Clone, Debug, Drop)]
+#[derive(Clone, Drop)]
 pub enum Item {
     /// A block of bytes.
     Block(Block),

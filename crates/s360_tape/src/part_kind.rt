@@ -4,7 +4,7 @@ ghost use Rattle.s360_model.specs.Tables.{entry_in};
 ghost use Rattle.s360_tape.specs.Parts.{part_flags, flags_of, goes_inside};
 
 /// What a part of a file is of a tape.
-#[derive(Clone, Copy, Debug, PartialEq, Eq)]
+#[derive(Clone, Copy, PartialEq, Eq)]
 pub(crate) enum PartKind {
     /// A whole block.
     Whole,

@@ -8,7 +8,7 @@ use std::alloc::AllocError;
 use std::mem;
 
 /// What is done to the slots.
-#[derive(Clone, Debug, Drop)]
+#[derive(Clone, Drop)]
 pub enum SlotChange {
     /// A slot is put at the end, or taken from there, or nothing is done.
     End(Motion<Item>),

@@ -26,13 +26,24 @@ use std::mem;
 pub type Tape = DeviceWith<TapeMedia>;
 
 /// The items of a tape, its position, and whether it is protected or unloaded.
-#[derive(Drop)]
 pub struct TapeMedia {
     slots: Vec<Item>,
     visible: usize,
     position: usize,
     protected: bool,
     unloaded: bool,
+}
+
+impl Drop for TapeMedia {
+    fn drop(self) {
+        let TapeMedia {
+            slots: _,
+            visible: _,
+            position: _,
+            protected: _,
+            unloaded: _,
+        } = self;
+    }
 }
 
 impl Model for TapeMedia {

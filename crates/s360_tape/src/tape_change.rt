@@ -2,7 +2,7 @@
 use crate::slot_change::SlotChange;
 
 /// What is exchanged with the media of a tape.
-#[derive(Clone, Debug, Drop)]
+#[derive(Clone)]
 pub struct TapeChange {
     /// An item that is written, or taken back.
     pub(crate) slot: SlotChange,
@@ -12,4 +12,15 @@ pub struct TapeChange {
     pub(crate) visible: usize,
     /// Whether the tape is unloaded.
     pub(crate) unloaded: bool,
+}
+
+impl Drop for TapeChange {
+    fn drop(self) {
+        let TapeChange {
+            slot: _,
+            position: _,
+            visible: _,
+            unloaded: _,
+        } = self;
+    }
 }

@@ -4,7 +4,7 @@ ghost use Rattle.s360_model.specs.Tables.{entry_in};
 ghost use Rattle.s360_tape.specs.TapeCommands.{tape_commands, writes};
 
 /// A command of the tapes' own.
-#[derive(Clone, Copy, Debug, PartialEq, Eq)]
+#[derive(Clone, Copy, PartialEq, Eq)]
 pub(crate) enum TapeCommand {
     /// Writes a block at the position.
     Write,

@@ -8,7 +8,7 @@ use std::alloc::{AllocError, Global};
 use std::marker::Model;
 
 /// A text, which a contract sees as the list of its bytes.
-#[derive(Debug, Drop)]
+#[derive(Drop)]
 pub struct Text {
     bytes: Vec<u8>,
     alloc: Global,

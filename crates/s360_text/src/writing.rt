@@ -6,7 +6,7 @@ ghost use Rattle.s360_text.specs.Writing.{IsPartWritten};
 use std::io::Write;
 
 /// A write failed, or took no byte.
-#[derive(Clone, Copy, Debug, PartialEq, Eq)]
+#[derive(Clone, Copy, PartialEq, Eq)]
 pub struct Untaken;
 
 /// Writes a text by as many writes as it takes. After a write that failed or took no byte, none is tried again,

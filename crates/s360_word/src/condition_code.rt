@@ -10,7 +10,7 @@ use crate::word::Word;
 use std::marker::Model;
 
 /// A condition code, 0 to 3.
-#[derive(Clone, Copy, Debug, PartialEq, Eq)]
+#[derive(Clone, Copy, PartialEq, Eq)]
 pub struct Cc(u8);
 
 impl Model for Cc {

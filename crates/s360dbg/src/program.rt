@@ -11,7 +11,6 @@ ghost use Rattle.s360_setup.specs.declared.failure.Failure.TheVariants.{StorageS
 
 use s360_debug::carry_out;
 use s360_journal::Session;
-use s360_machine::Machine;
 use s360_setup::{Failure, LIMIT, Options, Part, Program, open, set_up, tell};
 use std::io::{self, Input, IsTerminal, Read};
 
@@ -27,22 +26,12 @@ pub(crate) fn run(rt: &HostRuntime, options: Options<'_>) -> Result<(), Failure>
     ensures failure { IfErr result IsRunFailure }
 {
     let machine = set_up(rt, rt.alloc(), options)?;
-    answer_script(rt, machine, options.script)
-}
-
-/// Carries out the script in a file, or that on standard input where none is named, over a machine.
-fn answer_script(rt: &HostRuntime, machine: Machine, name: Option<&str>) -> Result<(), Failure>
-    ensures no_size { result ≢ Err StorageSize }
-    ensures failure { IfErr result IsAnsweringFailure }
-{
     let mut session = Session::new(rt.alloc(), machine, LIMIT);
-    let answered = answer_named(rt, &mut session, name);
-    session.end();
-    answered
+    answer_script(rt, &mut session, options.script)
 }
 
 /// Carries out the script in a file, or that on standard input where none is named.
-fn answer_named(rt: &HostRuntime, session: &mut Session, name: Option<&str>) -> Result<(), Failure>
+fn answer_script(rt: &HostRuntime, session: &mut Session, name: Option<&str>) -> Result<(), Failure>
     ensures no_size { result ≢ Err StorageSize }
     ensures failure { IfErr result IsAnsweringFailure }
 {

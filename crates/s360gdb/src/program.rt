@@ -32,13 +32,8 @@ pub(crate) fn run(rt: &HostRuntime, options: Options<'_>) -> Result<(), Failure>
 {
     let machine = set_up(rt, rt.alloc(), options)?;
     let mut recording = Recording::new(rt.alloc(), machine, LIMIT);
-    match answer_script(rt, &mut recording, options.script) {
-        Ok(()) => serve_on_output(rt, recording),
-        Err(failure) => {
-            recording.end();
-            Err(failure)
-        }
-    }
+    answer_script(rt, &mut recording, options.script)?;
+    serve_on_output(rt, recording)
 }
 
 /// Carries out the script in a file, if one is named, and writes its answers to standard error: standard output is gdb's.
@@ -63,16 +58,14 @@ fn serve_on_output(rt: &HostRuntime, recording: Recording) -> Result<(), Failure
     ensures failure { IfErr result IsServingFailure }
 {
     let mut target = Target::new(rt.alloc(), recording, LIMIT);
-    let served = serve(
+    serve(
         rt,
         rt.alloc(),
         &mut target,
         &mut rt.reader(),
         &mut rt.stdout(),
         &mut rt.stderr(),
-    );
-    target.end();
-    served
+    )
 }
 
 /// Serves gdb until it leaves, or until what it sends has ended. `notes` are told how many recorded changes it drops, and

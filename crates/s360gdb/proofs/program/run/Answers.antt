@@ -7,5 +7,6 @@ pub returns-in_err-machine-clause-failure : goal.returns-in_err-machine-clause-f
 returns-in_err-machine-clause-failure c =
     IfErr-passed_on _ c.in_err-machine.field-0.0 IsRunFailure c.from_residual.ensures.1 (inl c.in_err-machine.ensures.failure)
 
-pub returns-in-Err-clause-failure : goal.returns-in-Err-clause-failure
-returns-in-Err-clause-failure c = inr (inl c.in-Err.ensures.failure)
+pub returns-in_err-answer_script-clause-failure : goal.returns-in_err-answer_script-clause-failure
+returns-in_err-answer_script-clause-failure c =
+    IfErr-passed_on _ c.in_err-answer_script.field-0.0 IsRunFailure c.from_residual-in_err-answer_script.ensures.1 (inr (inl c.in_err-answer_script.ensures.failure))

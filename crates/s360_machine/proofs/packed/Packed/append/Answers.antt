@@ -23,13 +23,13 @@ invariant_of-self-2 c =
     in let room : length c.self.inside.rows.items < 10000000 = rw (← length-changes c.self.inside.rows.items (before c)) (rw (← c.self.view_is) at c.requires)
     in (
       subst (λ (l : List Row). ArePacked (reverse l) (after c)) (sym more)
-          (packed-appended c.self.inside.rows.items (before c) (after c) c.in_ok-row.row (change_of_parts c.changes.inside.parts) c.self.invariant.0 c.in_ok-row.ensures.ok),
+          (packed-appended c.self.inside.rows.items (before c) (after c) c.in_ok-row.row (change_of_parts c.into_parts.result) c.self.invariant.0 c.in_ok-row.ensures.ok),
       omega (arith, ap length more, length-append c.self.inside.rows.items (c.in_ok-row.row ∷ []), room, length-changes c.self.inside.rows.items (before c), c.in_ok-reserve.ensures.items),
     )
 
 pub returns-clause-ok : goal.returns-clause-ok
 returns-clause-ok c =
     ap (λ (l : List Row). changes_of_rows l (after c)) (rows c)
-    ∙ changes-appended c.self.inside.rows.items (before c) (after c) c.in_ok-row.row (change_of_parts c.changes.inside.parts) c.in_ok-row.ensures.ok
-    ∙ ap (λ (xs : List Change). xs ++ change_of_parts c.changes.inside.parts ∷ []) c.self.view_is
-    ∙ ap (λ (x : Change). c.args.self.now ++ x ∷ []) c.changes.view_is
+    ∙ changes-appended c.self.inside.rows.items (before c) (after c) c.in_ok-row.row (change_of_parts c.into_parts.result) c.in_ok-row.ensures.ok
+    ∙ ap (λ (xs : List Change). xs ++ change_of_parts c.into_parts.result ∷ []) c.self.view_is
+    ∙ ap (λ (x : Change). c.args.self.now ++ x ∷ []) c.into_parts.ensures.parts
