@@ -5,7 +5,7 @@ ghost use Rattle.s360_channel.specs.Words.{caw_of, caw_word, is_whole_caw};
 use s360_word::{ProtectionKey, Word};
 
 /// The word at decimal 72, from which a channel program starts.
-#[derive(Clone, Copy, PartialEq, Eq)]
+#[derive(Clone, Copy)]
 pub struct Caw {
     /// The protection key of the program's stores (bits 0 to 3).
     pub key: ProtectionKey,

@@ -6,7 +6,7 @@ ghost use Rattle.s360_channel.specs.Words.{is_transfer, reads_backward};
 use crate::csw::weight_of;
 
 /// The flags of a channel command word, bits 32 to 36.
-#[derive(Clone, Copy, PartialEq, Eq)]
+#[derive(Clone, Copy)]
 pub struct CcwFlags {
     /// Chain data: the next word goes on with the same record (bit 32).
     pub chain_data: bool,
@@ -21,7 +21,7 @@ pub struct CcwFlags {
 }
 
 /// A channel command word. Bits 40 to 47 are ignored.
-#[derive(Clone, Copy, PartialEq, Eq)]
+#[derive(Clone, Copy)]
 pub struct Ccw {
     /// The command code (bits 0 to 7).
     pub command: u8,

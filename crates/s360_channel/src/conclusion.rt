@@ -6,7 +6,7 @@ ghost use Rattle.s360_channel.specs.Execution.{meets_protection_check};
 use crate::csw::{ChannelStatus, UnitStatus};
 
 /// How a command ends.
-#[derive(Clone, Copy, PartialEq, Eq)]
+#[derive(Clone, Copy)]
 pub(crate) struct Conclusion {
     /// Channel end and device end, with unit exception or without it, or unit check alone.
     pub(crate) unit: UnitStatus,

@@ -13,7 +13,7 @@ use s360_store::Storage;
 const LOADING_WORD: u64 = 0x0200_0000_6000_0018;
 
 /// What a channel finds where a program goes on.
-#[derive(Clone, Copy, PartialEq, Eq)]
+#[derive(Clone, Copy)]
 pub enum Fetched {
     /// A program check. The last word that it looked at stands at this address.
     Broken(u32),

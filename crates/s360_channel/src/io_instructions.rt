@@ -23,7 +23,7 @@ use s360_word::{Cc, Unit};
 const CAW: u32 = 72;
 
 /// What is stored of the channel status word.
-#[derive(Clone, Copy, PartialEq, Eq)]
+#[derive(Clone, Copy)]
 pub enum CswStore {
     /// Nothing.
     Nothing,

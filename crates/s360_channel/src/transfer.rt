@@ -9,7 +9,7 @@ use s360_store::{Access, Checked, Storage};
 use s360_word::ProtectionKey;
 
 /// What a word moves of a record.
-#[derive(Clone, Copy, PartialEq, Eq)]
+#[derive(Clone, Copy)]
 pub struct Transfer {
     /// The number of bytes.
     pub count: u16,

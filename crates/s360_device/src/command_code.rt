@@ -3,7 +3,7 @@ ghost use Rattle.std.specs.Prelude.{◌≡◌};
 ghost use Rattle.s360_device.specs.Commands.{command_of};
 
 /// A command code as every device reads it.
-#[derive(Clone, Copy, PartialEq, Eq)]
+#[derive(Clone, Copy)]
 pub enum CommandCode {
     /// 03: control no-operation.
     NoOperation,

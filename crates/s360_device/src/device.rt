@@ -8,7 +8,7 @@ ghost use Rattle.s360_device.specs.Transfers.{IsInputOf, IsOutput, CanEndWith};
 use std::alloc::AllocError;
 
 /// How a device begins a command as it stands.
-#[derive(Clone, Copy, PartialEq, Eq)]
+#[derive(Clone, Copy)]
 pub enum Begin {
     /// It has so many bytes for storage.
     Input(u32),

@@ -3,7 +3,7 @@ use crate::card::ReadStacker;
 use crate::motion::Motion;
 
 /// What is exchanged with the media of a reader.
-#[derive(Clone, Copy, PartialEq, Eq)]
+#[derive(Clone, Copy)]
 pub struct ReaderChange {
     /// Whether the end-of-file key was pressed.
     pub(crate) end_of_file: bool,

@@ -6,7 +6,7 @@ ghost use Rattle.s360_device.specs.ReaderCommands.{reader_commands, stacker_of_c
 use crate::card::ReadStacker;
 
 /// What a command of the reader's own does with the next card.
-#[derive(Clone, Copy, PartialEq, Eq)]
+#[derive(Clone, Copy)]
 pub(crate) enum ReaderCommand {
     /// Gives its bytes, and feeds it where there is a stacker for it.
     Read(Option<ReadStacker>),

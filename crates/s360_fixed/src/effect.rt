@@ -10,7 +10,7 @@ use std::alloc::AllocError;
 
 /// What an instruction makes of the register R1, of the register after it, and of the condition
 /// code.
-#[derive(Clone, Copy, PartialEq, Eq)]
+#[derive(Clone, Copy)]
 pub struct Effect {
     /// The word that R1 becomes, if it is altered.
     pub first: Option<Word>,

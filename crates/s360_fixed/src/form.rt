@@ -19,7 +19,7 @@ pub enum Format {
 }
 
 /// What an operation code stands for.
-#[derive(Clone, Copy, PartialEq, Eq)]
+#[derive(Clone, Copy)]
 pub(crate) struct Entry {
     pub format: Format,
     pub operation: Operation,
@@ -27,7 +27,7 @@ pub(crate) struct Entry {
 
 /// An instruction: its operation, and the fields of its format under their names in the standard. A
 /// displacement is below 4,096.
-#[derive(Clone, Copy, PartialEq, Eq)]
+#[derive(Clone, Copy)]
 pub enum Form {
     /// Register and register. A branch on condition has its mask for R1, and a supervisor call its
     /// code in both.

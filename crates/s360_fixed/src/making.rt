@@ -19,7 +19,7 @@ use s360_word::RegisterNumber;
 use std::alloc::AllocError;
 
 /// Registers from R1 on, 15 followed by 0, and the address of as many successive words.
-#[derive(Clone, Copy, PartialEq, Eq)]
+#[derive(Clone, Copy)]
 pub struct RegisterWords {
     /// The first register.
     pub r1: RegisterNumber,

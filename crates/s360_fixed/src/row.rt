@@ -87,7 +87,7 @@ pub(crate) enum IndexBranch {
 }
 
 /// What an operation does.
-#[derive(Clone, Copy, PartialEq, Eq)]
+#[derive(Clone, Copy)]
 pub(crate) enum Row {
     /// R1 becomes something of it and the second operand, or the two are compared. In the format RX
     /// the second operand is where this says.

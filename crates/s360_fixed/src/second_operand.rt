@@ -28,7 +28,7 @@ impl Width {
 }
 
 /// Where the second operand of an instruction with the format RX is.
-#[derive(Clone, Copy, PartialEq, Eq)]
+#[derive(Clone, Copy)]
 pub(crate) enum SecondOperand {
     /// At the address, with so many bytes.
     InStorage(Width),

@@ -8,7 +8,7 @@ use s360_psw::Psw;
 use s360_word::Cc;
 
 /// What an instruction makes of the condition code.
-#[derive(Clone, Copy, PartialEq, Eq)]
+#[derive(Clone, Copy)]
 pub enum Setting {
     /// It stays.
     Kept,

@@ -17,7 +17,7 @@ use s360_text::Text;
 use std::alloc::{AllocError, Global};
 
 /// What made a value.
-#[derive(Clone, Copy, PartialEq, Eq)]
+#[derive(Clone, Copy)]
 pub(crate) enum Origin {
     /// It is the PSW's, which is told and not followed.
     NotFollowed,

@@ -2,7 +2,7 @@
 use s360_store::Place;
 
 /// Where to go in what was recorded.
-#[derive(Clone, Copy, PartialEq, Eq)]
+#[derive(Clone, Copy)]
 pub enum Mark {
     /// Just after the change of this number.
     Change(u32),
@@ -15,7 +15,7 @@ pub enum Mark {
 }
 
 /// A line with its arguments: a variant for each first word.
-#[derive(Clone, Copy, PartialEq, Eq)]
+#[derive(Clone, Copy)]
 pub enum Inquiry {
     /// `who`: goes to just before the last change of a place, and tells it.
     Who(Place),

@@ -16,7 +16,7 @@ use s360_machine::{ConfiguredUnit, Event, Machine, Refusal};
 use std::alloc::AllocError;
 
 /// Why a run ended.
-#[derive(Clone, Copy, PartialEq, Eq)]
+#[derive(Clone, Copy)]
 pub enum RunEnd {
     /// The next event was refused.
     Refused(Refusal),

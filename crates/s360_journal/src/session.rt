@@ -81,7 +81,6 @@ impl Session {
         let events = self.events.copy()?;
         let changes = self.changes.copy()?;
         let index = self.index.copy()?;
-        // The last, so that no machine has to be let go where memory is wanting.
         let machine = self.machine.copy()?;
         Ok(Session {
             machine,

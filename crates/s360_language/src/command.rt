@@ -67,7 +67,7 @@ impl Command {
 }
 
 /// What is shown of the machine.
-#[derive(Clone, Copy, PartialEq, Eq)]
+#[derive(Clone, Copy)]
 pub enum Shown {
     /// `show regs`: the general registers.
     Registers,

@@ -28,7 +28,7 @@ use std::marker::Model;
 /// An instruction as it was planned: how it ends, and what an interruption that follows stores of
 /// it. Where it could not be fetched, or its address is odd, the length is not available and the
 /// address is its own.
-#[derive(Clone, Copy, PartialEq, Eq)]
+#[derive(Clone, Copy)]
 pub struct PlannedInstruction {
     /// How it ends.
     pub ended: Ended,

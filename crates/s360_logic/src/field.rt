@@ -11,7 +11,7 @@ use s360_fixed::{ProgramCode, View};
 use s360_store::{Access, Checked};
 
 /// An operand in storage.
-#[derive(Clone, Copy, PartialEq, Eq)]
+#[derive(Clone, Copy)]
 pub(crate) struct Field {
     /// The address of its leftmost byte.
     pub address: u32,

@@ -295,7 +295,7 @@ pub(crate) fn plan_translate(
 }
 
 /// A byte that selects a byte of a table that is not zero.
-#[derive(Clone, Copy, PartialEq, Eq)]
+#[derive(Clone, Copy)]
 struct Found {
     /// Its number, counted from 0 at the left.
     number: u32,

@@ -16,7 +16,7 @@ use s360_store::{Access, Plan};
 use std::alloc::AllocError;
 
 /// A byte of the result, and the byte of the second operand that is held for the next.
-#[derive(Clone, Copy, PartialEq, Eq)]
+#[derive(Clone, Copy)]
 struct Made {
     byte: u8,
     held: u8,

@@ -26,7 +26,7 @@ pub(crate) enum ByteCombination {
 }
 
 /// What is done with a byte in storage and the byte of the instruction.
-#[derive(Clone, Copy, PartialEq, Eq)]
+#[derive(Clone, Copy)]
 pub(crate) enum ImmediateRow {
     /// The byte in storage becomes something of both.
     Combine(ByteCombination),
@@ -50,7 +50,7 @@ pub(crate) enum DigitRow {
 }
 
 /// What is done with two operands in storage.
-#[derive(Clone, Copy, PartialEq, Eq)]
+#[derive(Clone, Copy)]
 pub(crate) enum StorageRow {
     /// The bytes of the first become something of both.
     Combine(ByteCombination),
@@ -84,7 +84,7 @@ pub(crate) enum KeyRow {
 }
 
 /// What is done by registers, or by the second byte of the instruction.
-#[derive(Clone, Copy, PartialEq, Eq)]
+#[derive(Clone, Copy)]
 pub(crate) enum RegisterStatus {
     /// The condition code and the program mask become those in R1.
     SetProgramMask,
@@ -95,7 +95,7 @@ pub(crate) enum RegisterStatus {
 }
 
 /// What is done with an operand in storage, or with a unit. All are privileged.
-#[derive(Clone, Copy, PartialEq, Eq)]
+#[derive(Clone, Copy)]
 pub(crate) enum StorageStatus {
     /// The system mask becomes the byte.
     SetSystemMask,

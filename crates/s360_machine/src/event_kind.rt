@@ -7,7 +7,7 @@ use crate::operator::Key;
 use s360_word::Unit;
 
 /// What kind of key the operator presses.
-#[derive(Clone, Copy, Debug, PartialEq, Eq)]
+#[derive(Clone, Copy, Debug)]
 pub enum KeyKind {
     /// The start key.
     Start,
@@ -43,7 +43,7 @@ pub enum PatchKind {
 }
 
 /// What kind of event happens: what its name says of it.
-#[derive(Clone, Copy, Debug, PartialEq, Eq)]
+#[derive(Clone, Copy, Debug)]
 pub enum EventKind {
     /// Of the central processing unit.
     Cpu,

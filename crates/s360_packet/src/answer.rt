@@ -20,7 +20,7 @@ const FEATURES: &str =
     ";qXfer:features:read+;ReverseStep+;ReverseContinue+;swbreak+;QStartNoAckMode+";
 
 /// Why the machine stopped.
-#[derive(Clone, Copy, PartialEq, Eq)]
+#[derive(Clone, Copy)]
 pub enum Stop {
     /// A step is done.
     Trap,

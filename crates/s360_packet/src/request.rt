@@ -55,7 +55,7 @@ pub enum Point {
 }
 
 /// Which threads a request is about.
-#[derive(Clone, Copy, PartialEq, Eq)]
+#[derive(Clone, Copy)]
 pub enum Thread {
     /// `-1`: all of them.
     Every,

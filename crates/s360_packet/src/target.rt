@@ -83,7 +83,7 @@ pub fn description() -> &'static str
 }
 
 /// What `p` answers of a register.
-#[derive(Clone, Copy, PartialEq, Eq)]
+#[derive(Clone, Copy)]
 pub enum RegisterValue {
     /// The word in it.
     Word(u32),

@@ -36,7 +36,7 @@ impl Model for Position {
 }
 
 /// How a command moves the carriage.
-#[derive(Clone, Copy, PartialEq, Eq)]
+#[derive(Clone, Copy)]
 pub enum CarriageMotion {
     /// So many lines further on, 0 to 3.
     Space(u8),

@@ -7,7 +7,7 @@ use crate::carriage::CarriageMotion;
 use crate::carriage::CarriageMotion::{Skip, Space};
 
 /// What a command of the printer's own does.
-#[derive(Clone, Copy, PartialEq, Eq)]
+#[derive(Clone, Copy)]
 pub(crate) enum PrinterCommand {
     /// Prints, and then moves the carriage.
     Print(CarriageMotion),

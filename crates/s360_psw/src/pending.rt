@@ -7,7 +7,7 @@ use crate::psw::Psw;
 use s360_word::Unit;
 
 /// What interrupts the program as soon as its mask in the PSW is one.
-#[derive(Clone, Copy, PartialEq, Eq)]
+#[derive(Clone, Copy)]
 pub struct Pending {
     /// The timer has passed from zero or more to a negative number.
     pub timer: bool,

@@ -9,7 +9,7 @@ use s360_journal::{EventStack, Session};
 use s360_machine::{Event, Refusal};
 
 /// How an event that was run stands to the record.
-#[derive(Clone, Copy, PartialEq, Eq)]
+#[derive(Clone, Copy)]
 pub enum Forwarded {
     /// The record was at its end, and has the event now.
     New,

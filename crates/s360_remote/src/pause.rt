@@ -26,7 +26,7 @@ impl Reach {
 }
 
 /// Why the machine pauses.
-#[derive(Clone, Copy, PartialEq, Eq)]
+#[derive(Clone, Copy)]
 pub enum Pause {
     /// The next event was refused.
     Refused(Refusal),

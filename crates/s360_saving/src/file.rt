@@ -16,7 +16,7 @@ use s360_word::Unit;
 use std::alloc::{AllocError, Global};
 
 /// How much a file has.
-#[derive(Clone, Copy, PartialEq, Eq)]
+#[derive(Clone, Copy)]
 pub enum Amount {
     /// So many pages.
     Pages(u32),

@@ -3,7 +3,7 @@ use s360_device::PunchStacker;
 use std::marker::Model;
 
 /// What is saved.
-#[derive(Clone, Copy, PartialEq, Eq)]
+#[derive(Clone, Copy)]
 pub enum Medium {
     /// The pages that the printer printed.
     Printer,

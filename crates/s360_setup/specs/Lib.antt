@@ -1,6 +1,6 @@
-pub mod Beginning
 pub mod CommandLine
 pub mod Ending
 pub mod Failures
+pub mod Images
 pub mod Partial
 pub mod Programs

@@ -1,7 +1,7 @@
 //! What the command line gives.
 
 /// What a command line asks for of a tape.
-#[derive(Clone, Copy, PartialEq, Eq)]
+#[derive(Clone, Copy)]
 pub struct TapeOptions<'a> {
     /// The file of the tape, if one is named. Else the tape is blank.
     pub file: Option<&'a str>,
@@ -10,7 +10,7 @@ pub struct TapeOptions<'a> {
 }
 
 /// What a command line asks for.
-#[derive(Clone, Copy, PartialEq, Eq)]
+#[derive(Clone, Copy)]
 pub struct Options<'a> {
     /// The size of storage, in bytes. It may be none that a storage can have.
     pub storage: u32,

@@ -29,7 +29,7 @@ pub enum Part {
 
 /// What went wrong with a part. Offsets are bytes from the start of the file; those of a tape's file
 /// are of the header at which the fault was found.
-#[derive(Clone, Copy, PartialEq, Eq)]
+#[derive(Clone, Copy)]
 pub enum Fault {
     /// The file did not open, or reading it failed.
     CannotRead,
@@ -58,7 +58,7 @@ pub enum Fault {
 
 /// Why a program did not do all that it was asked for, in the order in which it is found. Want of
 /// memory can come at any time.
-#[derive(Clone, Copy, PartialEq, Eq)]
+#[derive(Clone, Copy)]
 pub enum Failure {
     /// A word of the command line is not UTF-8.
     Word,

@@ -3,7 +3,7 @@ ghost use Rattle.std.specs.Prelude.{◌≡◌, [], None, IfOk, IfErr};
 ghost use Rattle.s360_model.specs.Cards.{IsDeckFile};
 ghost use Rattle.s360_device.specs.DeviceChanges.{bare};
 ghost use Rattle.s360_tape.specs.WholeTape.{seen as seen_tape};
-ghost use Rattle.s360_setup.specs.Beginning.{IsTapeFor};
+ghost use Rattle.s360_setup.specs.Images.{IsTapeFor};
 ghost use Rattle.s360_setup.specs.Failures.{IsFailureOf, IsDeckFailure, IsTapeFailure};
 ghost use Rattle.s360_setup.specs.declared.failure.Fault.TheVariants.{CannotRead};
 ghost use Rattle.s360_setup.specs.declared.failure.Failure.TheVariants.{Part as failure_of_part};
@@ -20,11 +20,7 @@ use std::fs::{self, File};
 const LONGEST_FILE: usize = 67_108_864;
 
 /// The deck in a file, or one with no card where none is named.
-pub(crate) fn read_deck(
-    rt: &HostRuntime,
-    alloc: Global,
-    name: Option<&str>,
-) -> Result<Deck, Failure>
+pub fn read_deck(rt: &HostRuntime, alloc: Global, name: Option<&str>) -> Result<Deck, Failure>
     ensures unnamed { name.entry ≡ None → IfOk result (λ deck. IsDeckFile [] deck) }
     ensures failure { IfErr result (λ failure. IsDeckFailure failure) }
 {
@@ -33,7 +29,7 @@ pub(crate) fn read_deck(
 }
 
 /// The tape in a file, or a blank one where none is named. `part` is what a fault of it is of.
-pub(crate) fn read_tape(
+pub fn read_tape(
     rt: &HostRuntime,
     alloc: Global,
     part: Part,

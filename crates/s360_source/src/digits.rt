@@ -35,7 +35,7 @@ impl DigitRow {
 }
 
 /// An operand in storage.
-#[derive(Clone, Copy, PartialEq, Eq)]
+#[derive(Clone, Copy)]
 pub(crate) struct Field {
     /// The address of its leftmost byte.
     pub(crate) address: Location,
@@ -55,7 +55,7 @@ impl Field {
 }
 
 /// Two operands, of which the first is made of digits.
-#[derive(Clone, Copy, PartialEq, Eq)]
+#[derive(Clone, Copy)]
 pub(crate) struct Digits {
     pub(crate) row: DigitRow,
     pub(crate) first: Field,

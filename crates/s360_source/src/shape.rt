@@ -25,21 +25,21 @@ const BLOCKS: Word = 1 << 13;
 
 /// Where the operands of an instruction are: their addresses in storage, or the block whose key is set or inserted; 0 if there
 /// is none.
-#[derive(Clone, Copy, PartialEq, Eq)]
+#[derive(Clone, Copy)]
 pub struct Operands {
     pub first: Location,
     pub second: Location,
 }
 
 /// An instruction as it is performed.
-#[derive(Clone, Copy, PartialEq, Eq)]
+#[derive(Clone, Copy)]
 pub struct Performance {
     pub form: Form,
     pub operands: Operands,
 }
 
 /// The shape of an instruction.
-#[derive(Clone, Copy, PartialEq, Eq)]
+#[derive(Clone, Copy)]
 pub struct InstructionShape {
     /// What is performed: the instruction, or the subject of an execute. It is none if that cannot be fetched, has no operation
     /// code or is an execute again.

@@ -28,7 +28,7 @@ pub enum Place {
 
 /// A place with a value of it: a PSW's 64 bits, a register's word, a byte, or the number of a key and
 /// its fetch bit.
-#[derive(Clone, Copy, Default, PartialEq, Eq)]
+#[derive(Clone, Copy, Default)]
 pub struct Cell {
     pub place: Place,
     pub value: u64,

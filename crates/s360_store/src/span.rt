@@ -5,7 +5,7 @@ ghost use Rattle.s360_store.specs.Spans.{IsSpan, places_of_span};
 use crate::place::Place;
 
 /// Places that follow each other: one, or those of successive bytes of storage.
-#[derive(Clone, Copy, PartialEq, Eq)]
+#[derive(Clone, Copy)]
 pub enum Span {
     /// A place.
     Place(Place),

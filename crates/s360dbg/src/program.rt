@@ -9,9 +9,10 @@ ghost use Rattle.s360_setup.specs.Failures.{IsScriptFailure, IsAnsweringFailure}
 ghost use Rattle.s360dbg.specs.Failures.{IsRunFailure};
 ghost use Rattle.s360_setup.specs.declared.failure.Failure.TheVariants.{StorageSize};
 
+use s360_beginning::set_up;
 use s360_debug::carry_out;
 use s360_journal::Session;
-use s360_setup::{Failure, LIMIT, Options, Part, Program, open, set_up, tell};
+use s360_setup::{Failure, LIMIT, Options, Part, Program, open, tell};
 use std::io::{self, Input, IsTerminal, Read};
 
 /// What a person is told from whose terminal the script is read. All of it is read before its first

@@ -12,10 +12,11 @@ ghost use Rattle.s360_setup.specs.declared.failure.Failure.TheVariants.{Memory, 
 
 use crate::file::write_file;
 use itoa::Buffer;
+use s360_beginning::set_up;
 use s360_debug::carry_out;
 use s360_record::Recording;
 use s360_remote::{Connection, Errand, Replies, Target};
-use s360_setup::{Failure, Fault, LIMIT, Options, Part, Program, open, set_up, tell};
+use s360_setup::{Failure, Fault, LIMIT, Options, Part, Program, open, tell};
 use s360_text::{Untaken, write_whole};
 use std::alloc::{AllocError, Global};
 use std::fs::Files;

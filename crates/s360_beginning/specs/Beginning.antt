@@ -2,14 +2,8 @@
 use Rattle.std.specs.Prelude.{◌≡◌, ℕ, None, List, []}
 use Rattle.s360_model.specs.Cards.{IsDeckFile}
 use Rattle.s360_machine.specs.Machine.{Machine, new_machine}
-use Rattle.s360_tape.specs.Tape.{Tape, new_tape}
 use Rattle.s360_setup.specs.declared.arguments.Options.{Options}
-use Rattle.s360_setup.specs.declared.arguments.TapeOptions.{TapeOptions}
-
--- a tape at its load point, protected where that is asked for, and blank where no file is named
-pub record IsTapeFor (options : TapeOptions) (tape : Tape) : Type 0 where
-  pub new : tape ≡ new_tape tape.media.items options.protected
-  pub blank : options.file ≡ None → tape.media.items ≡ []
+use Rattle.s360_setup.specs.Images.{IsTapeFor}
 
 -- the cards in the reader
 abbrev pub deck_of : Machine → List (List ℕ)
