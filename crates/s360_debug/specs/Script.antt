@@ -69,3 +69,10 @@ pub record IsCut (old new : Option (List ℕ)) (d : Debugger) (s : Standing) (li
   pub short : count < length (answer_to_line (state_after_lines d done) next)
   pub written : Appends old new (answers_to_lines d done ++ take count (answer_to_line (state_after_lines d done) next))
   pub stands : s ≡ (state_after_lines d (done ++ next ∷ [])).session
+
+-- what stands is as after some first lines
+pub record AreCarriedOut (d : Debugger) (s : Standing) (lines : List (List ℕ)) : Type 0 where
+  pub done : List (List ℕ)
+  pub left : List (List ℕ)
+  pub split : lines ≡ done ++ left
+  pub stands : s ≡ (state_after_lines d done).session

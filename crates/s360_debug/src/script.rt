@@ -1,10 +1,12 @@
 //! A script that is carried out over a machine, and its answers.
-ghost use Rattle.std.specs.Prelude.{◌≡◌, ◌≤◌, [], true, length, IfOk, IfSome, OnOk};
+ghost use Rattle.std.specs.Prelude.{◌≡◌, ◌⊎◌, ◌≤◌, ◌<◌, [], true, length, IfOk, IfSome, OnOk, Err, None};
 ghost use Rattle.std.specs.Io.KnownBytes.{Appends, Keeps};
 ghost use Rattle.std.specs.Io.Buffered.{writer_buffer, writer_contents};
 ghost use Rattle.s360_debug.specs.Debugger.{new_debugger};
 ghost use Rattle.s360_debug.specs.Lines.{lines_of};
-ghost use Rattle.s360_debug.specs.Script.{answers_of, state_after_lines};
+ghost use Rattle.s360_debug.specs.Script.{answers_of, state_after_lines, AreCarriedOut, IsStopped};
+ghost use Rattle.s360_text.specs.declared.script_fault.ScriptFault.TheVariants.{Read as read_failed, TooLong, Memory};
+ghost use Rattle.s360_text.specs.declared.script_fault.ScriptFault.TheVariants.{Write as write_failed};
 
 use crate::run::run_script;
 use s360_journal::Reversible;
@@ -13,7 +15,8 @@ use std::alloc::Global;
 use std::io::{BufWriter, Read, Write};
 
 /// Carries out the script that a reader has left, writes its answers, and answers the writer. The answers
-/// that come before a fault are written too, but after a write that failed none is written again.
+/// that come before a fault are written too, but after a write that failed none is written again. After a fault the writer is
+/// gone, so that what it got is not told.
 pub fn carry_out<S: Reversible, R: Read, W: Write + Drop>(
     alloc: Global,
     session: &mut S,
@@ -24,6 +27,10 @@ pub fn carry_out<S: Reversible, R: Read, W: Write + Drop>(
     ensures answers { IfOk result (λ w. IfSome (R.remaining reader.old) (λ text. Appends (W.contents writer) (W.contents w) (answers_of (S.standing_of session.old) text))) }
     ensures state { OnOk result (IfSome (R.remaining reader.old) (λ text. S.standing_of session.new ≡ (state_after_lines (new_debugger (S.standing_of session.old)) (lines_of text)).session)) }
     ensures limit { OnOk result ((S.standing_of session.new).limit ≡ (S.standing_of session.old).limit) }
+    ensures unread { (result ≡ Err read_failed) ⊎ (result ≡ Err TooLong) → session.new ≡ session.old }
+    ensures too_long { result ≡ Err TooLong → IfSome (R.remaining reader.old) (λ text. 1048576 < length text) }
+    ensures memory { result ≡ Err Memory → IfSome (R.remaining reader.old) (λ text. IsStopped None None (new_debugger (S.standing_of session.old)) (S.standing_of session.new) (lines_of text)) }
+    ensures write { result ≡ Err write_failed → IfSome (R.remaining reader.old) (λ text. AreCarriedOut (new_debugger (S.standing_of session.old)) (S.standing_of session.new) (lines_of text)) }
 {
     let Ok(mut buffered) = BufWriter::new(alloc, writer) else {
         return Err(ScriptFault::Memory);
