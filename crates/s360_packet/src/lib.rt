@@ -11,7 +11,6 @@ mod pieces;
 mod receiver;
 mod request;
 mod request_reader;
-mod request_writer;
 mod target;
 
 pub use answer::{Answer, Stop, write_answer};
@@ -20,5 +19,4 @@ pub use laws::{all_registers_are_each, packets_are_read_back, requests_are_read_
 pub use receiver::{Acknowledging, Received, Receiver, Stage};
 pub use request::{Payload, Point, Request, RequestFault, Thread};
 pub use request_reader::read_request;
-pub use request_writer::{write_binary_write, write_request};
 pub use target::{REGISTERS, RegisterValue, description, register_value};
