@@ -11,10 +11,11 @@
   docs/proof/definitions.md has each file of definitions once. In docs/develop/layers.md each crate
   stands on what crates.txt says.
 - README.md has at most 100 lines, and all pages have no more words than they may.
-- What README.md and docs/guide.md let a reader type prints what they print; typed.py says how.
+- What README.md and docs/guide.md let a reader type prints what they print, as typed.py says.
 - Each example says its command line in its first comment, which gives its answers.
 
-The screens of gdb in docs/reference are compared by gdb_sessions.py. The last line says how many of these passed.
+The screens of gdb in docs/reference are compared by gdb_sessions.py. The last line says how many
+of these passed.
 """
 import argparse
 import functools

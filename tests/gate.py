@@ -4,12 +4,12 @@
     ./test            looks at the scripts that a user starts; then proves every crate from nothing
                       with `rt ci`, which also tries the wrong bodies and runs the unit tests; then
                       runs the worked rows, which have to carry out each instruction, command, line
-                      and request, and the program where no row can say what has to hold; then rows, unit tests and packets with growths of
-                      memory refused one by one; and compares the program with a second machine over
-                      random scripts and over sessions that nobody wrote; and sends packets to
-                      s360gdb, lets it save files, lets a real gdb drive it, and compares it with a
-                      second target, and tries the sources and deciders that it tells; and looks that the
-                      documents are true
+                      and request, and the program where no row can say what has to hold; then
+                      rows, unit tests and packets with growths of memory refused one by one; and
+                      compares the program with a second machine over random scripts and over
+                      sessions that nobody wrote; and sends packets to s360gdb, lets it save files,
+                      lets a real gdb drive it, and compares it with a second target, and tries the
+                      sources and deciders that it tells; and looks that the documents are true
     ./test --quick    looks at those scripts, runs the worked rows over the program with no proof, in
                       some three minutes, and looks at the documents
 

@@ -7,8 +7,9 @@ A session is two files of tests/gdb: NAME.gdb has gdb's commands, and NAME.trans
 terminal shows of them: each command behind gdb's prompt, and what gdb prints then. The first line
 of the commands is `# s360gdb WORD ..`: the words of the program's command line, with files named
 from the top. What comes before the first prompt is not compared. The screens of gdb in
-docs/reference/gdb.md have to be parts of the transcripts of `guide` and `saved`. gdb is started in a folder of its own, where files can be saved. `--print`
-prints sessions and compares nothing. The status is 0 if each session prints what it has to.
+docs/reference/gdb.md have to be parts of the transcripts of `guide` and `saved`. gdb is started in
+a folder of its own, where files can be saved. `--print` prints sessions and compares nothing. The
+status is 0 if each session prints what it has to.
 """
 import argparse
 import difflib

@@ -1,11 +1,11 @@
 """What a reader types from a page, and what that prints.
 
-In an indented block a line behind `$` is typed to a shell, and prints the lines below it, up to the next
-such line or an empty one. If it starts `./gdb`, the lines behind `(gdb)` are typed to it. Where it is
-`./run` in README.md, the first column below it is typed, and the second one is printed.
+In an indented block a line behind `$` is typed to a shell, and prints the lines below it, up to
+the next such line or an empty one. If it starts `./gdb`, the lines behind `(gdb)` are typed to it.
+Where it is `./run` in README.md, the first column below it is typed, and the second one printed.
 
-All of a page is typed in one folder: a clean copy of what the repository has for users, in which a
-program has been built already.
+All of a page is typed in one folder: a clean copy of what the repository has for users, in which
+the programs have been built already.
 """
 import itertools
 import os
@@ -57,7 +57,8 @@ def printed(command, folder, typed=()):
 
 def blocks_of(page):
     """The commands of a page, each with the lines below it."""
-    lines = [l[4:] if l.startswith("    ") or not l else None for l in page.read_text().splitlines()]
+    lines = page.read_text().splitlines()
+    lines = [l[4:] if l.startswith("    ") or not l else None for l in lines]
     for at, line in enumerate(lines):
         if line and line.startswith("$ "):
             # An empty line is one of gdb's screen, and else the end.
