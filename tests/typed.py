@@ -87,7 +87,10 @@ def faults_of_page(page, programs):
     with tempfile.TemporaryDirectory(prefix="a clean copy ") as name:
         folder = pathlib.Path(name)
         make_checkout(folder, programs)
-        for command, wanted in blocks_of(page):
+        blocks = [*blocks_of(page)]
+        if not blocks:
+            yield "nothing is typed"
+        for command, wanted in blocks:
             if command.startswith("./gdb"):
                 got = shown_by_gdb(command, wanted, folder)
             elif page.name == "README.md" and command.startswith("./run"):
