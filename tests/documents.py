@@ -1,7 +1,7 @@
 #!/usr/bin/env python3
 """Looks that README.md and the pages of docs are true.
 
-    tests/documents.py [--program FILE]
+    tests/documents.py [--programs S360DBG S360GDB]
     tests/documents.py --unproved          carries out no command: for work in progress
 
 - Each link leads to a file, and to a heading in it.
@@ -11,28 +11,28 @@
   docs/proof/definitions.md has each file of definitions once. In docs/develop/layers.md each crate
   stands on what crates.txt says.
 - README.md has at most 100 lines, and all pages have no more words than they may.
-- In README.md and docs/guide.md each line that begins with `$` is carried out, and prints what
-  stands below it. A page's commands run in one folder, with the program in place of `./run`.
-- The tour of README.md has lines and answers of the example that its command line names.
+- What README.md and docs/guide.md let a reader type prints what they print, as typed.py says.
 - Each example says its command line in its first comment, which gives its answers.
 
-The screens of gdb are compared by gdb_sessions.py. The last line says how many of these passed.
+The screens of gdb in docs/reference are compared by gdb_sessions.py. The last line says how many
+of these passed.
 """
 import argparse
 import functools
 import itertools
 import pathlib
 import re
-import shlex
-import subprocess
 import sys
 import tempfile
+
+import typed
 
 TOP = pathlib.Path(__file__).resolve().parent.parent
 PAGES = [TOP / "README.md", *sorted((TOP / "docs").rglob("*.md"))]
 USER_PAGES = ("README.md", "docs/guide.md", "docs/reference/")
 CODE_PAGES = ("README.md", "docs/proof/", "docs/develop/", "docs/DECISIONS.md")
 CARRIED_OUT = ("README.md", "docs/guide.md")
+PROGRAMS = [TOP / "crates" / name / "out" / name for name in ("s360dbg", "s360gdb")]
 EXAMPLES = sorted((TOP / "examples").glob("*.s360"))
 MOST_LINES_OF_README = 100
 MOST_WORDS, MOST_USER_WORDS = 22_000, 14_000
@@ -42,9 +42,6 @@ NOT_FOUND_IN = {"__pycache__", "documents.py"}
 PATH = re.compile(r"(?:crates|docs|examples|tests|tools)/\S*")
 # A name of two words, a call of a type, or a name with a capital letter within.
 NAME = re.compile(r"[A-Za-z][a-z0-9]*(?:_\w+|::\w+|[A-Z]\w*)+(?:::\w+)*")
-SHORTENED = " .."
-TOUR_COLUMN = 16
-SECONDS = 300
 
 
 def named(page):
@@ -175,78 +172,22 @@ def faults_of_lengths():
         yield f"{sum(counts.values())} words"
 
 
-def folder_for(folder, program):
-    """Puts what a page's commands find into a folder."""
-    for name in ("examples", "tools"):
-        pathlib.Path(folder, name).symlink_to(TOP / name)
-    run = pathlib.Path(folder, "run")
-    run.write_text(
-        f'#!/bin/sh\n[ "$1" = --unproved ] && shift\nexec {shlex.quote(str(program))} "$@"\n'
-    )
-    run.chmod(0o755)
-
-
-def printed(command, folder):
-    done = subprocess.run(
-        ["bash", "-c", command],
-        cwd=folder,
-        stdin=subprocess.DEVNULL,
-        stdout=subprocess.PIPE,
-        stderr=subprocess.STDOUT,
-        text=True,
-        errors="replace",
-        timeout=SECONDS,
-    )
-    return done.stdout.splitlines()
-
-
-def faults_of_commands(page, program):
-    lines = [l[4:] for l in (TOP / page).read_text().splitlines() if l.startswith("    ") or not l]
-    with tempfile.TemporaryDirectory() as folder:
-        folder_for(folder, program)
-        for at, line in enumerate(lines):
-            if not line.startswith("$ "):
-                continue
-            behind = lines[at + 1 :]
-            ends = (n for n, l in enumerate(behind) if not l or l.startswith("$ "))
-            wanted = behind[: next(ends, len(behind))]
-            got = printed(line[2:], folder)
-            if got != wanted:
-                yield f"{line}\n" + "\n".join(f"    {l}" for l in got)
-
-
-def faults_of_tour():
-    lines = PAGES[0].read_text().splitlines()
-    at = next(n for n, l in enumerate(lines) if l.startswith("    ./run") and l.endswith(".s360"))
-    script = TOP / lines[at].split()[-1]
-    said = [l for l in script.read_text().splitlines() if l and not l.startswith("*")]
-    pairs = iter(zip(said, script.with_suffix(".answers").read_text().splitlines()))
-    tour = lines[at + 2 :]
-    for row in tour[: tour.index("")]:
-        line, text = row[4 : 4 + TOUR_COLUMN].strip(), row[4 + TOUR_COLUMN :]
-        part = text.partition(SHORTENED)[0] if SHORTENED in text else None
-        if not any(
-            said == line and (text.startswith(answer) or part and answer.startswith(part))
-            for said, answer in pairs
-        ):
-            yield f"not in {named(script)}: {row.strip()}"
-
-
-def faults_of_example(script, program):
+def faults_of_example(script, programs):
     first = script.read_text().partition("\n")[0]
     found = re.fullmatch(r"\* (\./run .*)", first)
     if not found or found[1].split()[-1] != named(script):
         yield "its first comment is not its command line"
         return
     with tempfile.TemporaryDirectory() as folder:
-        folder_for(folder, program)
-        if printed(found[1], folder) != script.with_suffix(".answers").read_text().splitlines():
+        typed.make_checkout(pathlib.Path(folder), programs)
+        answers = script.with_suffix(".answers").read_text().splitlines()
+        if typed.shown_by_shell(found[1], folder) != answers:
             yield "its command line has other answers"
 
 
 def main():
     parser = argparse.ArgumentParser(description=__doc__.partition("\n")[0])
-    parser.add_argument("--program", type=pathlib.Path, default=TOP / "crates/s360dbg/out/s360dbg")
+    parser.add_argument("--programs", type=pathlib.Path, nargs=2, default=PROGRAMS)
     parser.add_argument("--unproved", action="store_true", help="carries out no command")
     options = parser.parse_args()
     looks = [(f"links of {named(page)}", faults_of_links(page)) for page in PAGES]
@@ -256,12 +197,11 @@ def main():
         ("definitions", faults_of_map(TOP / "docs/proof/definitions.md")),
         ("layers", faults_of_layers(TOP / "docs/develop/layers.md")),
         ("lengths", faults_of_lengths()),
-        ("the tour", faults_of_tour()),
     ]
     if not options.unproved:
-        program = options.program.resolve()
-        looks += [(f"what {page} runs", faults_of_commands(page, program)) for page in CARRIED_OUT]
-        looks += [(named(script), faults_of_example(script, program)) for script in EXAMPLES]
+        programs = [program.resolve() for program in options.programs]
+        looks += [(f"what {p} runs", typed.faults_of_page(TOP / p, programs)) for p in CARRIED_OUT]
+        looks += [(named(script), faults_of_example(script, programs)) for script in EXAMPLES]
     faults = [(name, list(found)) for name, found in looks]
     for name, found in faults:
         for fault in found:

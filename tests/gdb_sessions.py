@@ -6,10 +6,10 @@
 A session is two files of tests/gdb: NAME.gdb has gdb's commands, and NAME.transcript what a
 terminal shows of them: each command behind gdb's prompt, and what gdb prints then. The first line
 of the commands is `# s360gdb WORD ..`: the words of the program's command line, with files named
-from the top. What comes before the first prompt is not compared. The screen of gdb in README.md has
-to be a part of the transcript of `tour`, and those in docs/reference/gdb.md parts of those of
-`guide` and `saved`. gdb is started in a folder of its own, where files can be saved. `--print`
-prints sessions and compares nothing. The status is 0 if each session prints what it has to.
+from the top. What comes before the first prompt is not compared. The screens of gdb in
+docs/reference/gdb.md have to be parts of the transcripts of `guide` and `saved`. gdb is started in
+a folder of its own, where files can be saved. `--print` prints sessions and compares nothing. The
+status is 0 if each session prints what it has to.
 """
 import argparse
 import difflib
@@ -28,7 +28,6 @@ PROMPT = "(gdb) "
 # Of each screen of gdb its page, the line above it, and the session of which it is a part: from the
 # line that is its first to the one that is its last.
 SCREENS = [
-    ("README.md", "After `monitor key eof`, `monitor load 00C` and `continue`:", "tour"),
     (
         "docs/reference/gdb.md",
         "With the deck of `examples/cards.deck`, after `key eof`, `load 00C` and `continue`:",
@@ -65,9 +64,14 @@ def shown(session, program, elf):
         for name in FOLDERS:
             pathlib.Path(folder, name).symlink_to(TOP / name)
         printed = subprocess.run(gdb, input="\n".join([*commands, ""]), cwd=folder, **how).stdout
-    said = printed.replace(f"{elf.parent}/", "").split(PROMPT)[1:]
-    echoed = [f"{PROMPT}{command}\n{answer}" for command, answer in zip(commands, said)]
-    return "".join(echoed + said[len(commands) :]).splitlines()
+    return echoed(printed.replace(f"{elf.parent}/", ""), commands)
+
+
+def echoed(printed, commands):
+    """The lines of a terminal, of which gdb has printed the prompts and the answers."""
+    answers = printed.split(PROMPT)[1:]
+    shown = [f"{PROMPT}{command}\n{answer}" for command, answer in zip(commands, answers)]
+    return "".join(shown).splitlines()
 
 
 def differences(session, program, elf):

@@ -1,5 +1,5 @@
 # s360gdb --reader examples/cards.deck
-# The find of tour.gdb, by one inquiry, from the damage to its cause.
+# The find of README.md, by one inquiry, from the damage to its cause.
 monitor key eof
 monitor load 00C
 continue

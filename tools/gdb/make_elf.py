@@ -63,5 +63,8 @@ def elf():
 if __name__ == "__main__":
     if len(sys.argv) != 2:
         sys.exit(__doc__)
-    with open(sys.argv[1], "wb") as file:
-        file.write(elf())
+    try:
+        with open(sys.argv[1], "wb") as file:
+            file.write(elf())
+    except OSError as fault:
+        sys.exit(f"{sys.argv[1]}: {fault.strerror}")

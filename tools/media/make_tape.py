@@ -39,7 +39,9 @@ def blocks(length, *names):
 def items_of_simh(contents):
     """The blocks and marks of a tape in SIMH's format."""
     at = 0
-    while at + 4 <= len(contents):
+    while at < len(contents):
+        if at + 4 > len(contents):
+            sys.exit(f"no tape in SIMH's format: it ends within the word at {at}")
         (length,) = struct.unpack_from("<I", contents, at)
         at += 4
         if length == SIMH_END:
@@ -63,7 +65,11 @@ def main(words):
         case _:
             sys.exit(__doc__)
     sys.stdout.buffer.write(b"".join(written(items)))
+    sys.stdout.flush()
 
 
 if __name__ == "__main__":
-    main(sys.argv[1:])
+    try:
+        main(sys.argv[1:])
+    except OSError as fault:
+        sys.exit(f"{fault.filename or 'standard output'}: {fault.strerror}")
