@@ -14,6 +14,10 @@ the same did without the growth.
 A test may tell how many events of a line stood after want of memory within it. Then EVENTS_OF_LINES says
 of each such line which numbers have to be met. None may be above them.
 
+No call may grow anything that stands between two marks of a test, which tells them by lines `begin CALLS`
+and `end`. WITHOUT_GROWTH says which calls each test has to mark so. One that takes memory and goes on
+without it, if it is refused, would else be right whatever is refused.
+
 What may come of a row of packets, `packets/NAME`, is said in `refused_packets.py`.
 
 It needs what `rt ci` has built, and a C compiler. It prints what is wrong, and how many rows and
@@ -49,7 +53,8 @@ TO_THE_END = {
     "withdrawals/card": "a patch that is withdrawn from before a card is read",
     "s360_rows_tests refused::memory_within_a_line": "`answer`",
     "s360_rows_tests refused::moves": "of a move",
-    "s360_rows_tests refused::written_blocks": "of a tape block that is written",
+    "s360_rows_tests refused::written_blocks": "of a tape block that is written, and of its withdrawal",
+    "s360_rows_tests refused::appended_blocks": "of a tape block that is written behind the last one",
     "s360_rows_tests refused::read_blocks": "of the longest tape block",
     "s360_rows_tests refused::chained_data": "of a card that is read into two places",
     "s360_rows_tests refused::entered_lines": "of a line that is entered, and its read",
@@ -77,7 +82,8 @@ EVENTS_OF_LINES = {
         "show s 50 4": {0},
     },
     "s360_rows_tests refused::moves": {"step": {0, 1}, "patch p 0000000000000200": {1}},
-    "s360_rows_tests refused::written_blocks": {"channel 180": {0, 1}},
+    "s360_rows_tests refused::written_blocks": {"channel 180": {0, 1}, "tick": {0, 1}, "withdraw 13": {0}},
+    "s360_rows_tests refused::appended_blocks": {"channel 180": {0, 1}},
     "s360_rows_tests refused::read_blocks": {"channel 180": {0, 1}},
     "s360_rows_tests refused::chained_data": {"channel C": {0, 1}},
     "s360_rows_tests refused::entered_lines": {"channel 1F": {0, 1}, "enter ABC": {0, 1}},
@@ -85,6 +91,36 @@ EVENTS_OF_LINES = {
         "patch s 402 0202": {0, 1},
         "patch s 3FE 0303030303030303": {0, 1},
         "patch s 400 0403040304030401": {0, 1},
+    },
+}
+# The calls that a test makes between marks.
+MARKS = re.compile(r"(\d+) begin (.*)\n(\d+) end")
+WITHOUT_GROWTH = {
+    "s360_rows_tests without_memory::calls_without_memory": {
+        "Session::new",
+        "Session::back",
+        "Session::back_to",
+        "Session::back_until",
+        "Session::standing",
+        "Session::last_change",
+        "Session::changes_of",
+        "Machine",
+        "Storage",
+        "Storage::swap",
+        "Media",
+        "Tape",
+        "Device",
+        "Units",
+        "Words",
+        "Plan",
+        "new",
+    },
+    "s360_rows_tests packed::packed_changes": {
+        "Machine::swap_all",
+        "Changes",
+        "Packed::swap",
+        "Packed::keep",
+        "Packed::bytes",
     },
 }
 # How many growths a test may take, where that is bounded.
@@ -167,7 +203,20 @@ class Subject(NamedTuple):
             if fault:
                 found.append(f"{self.name}: growth {nth} of {count} refused: {fault}")
         found += (f"{self.name}: {fault}" for fault in self.may_come.faults_at_the_end())
+        found += (f"{self.name}: {fault}" for fault in self.faults_between_marks(shim))
         return found, len(refused)
+
+    def faults_between_marks(self, shim):
+        """What is wrong with the calls that are to grow nothing."""
+        if self.name not in WITHOUT_GROWTH:
+            return
+        told = self.run(shim, TELL_GROWTHS="yes").stdout.decode()
+        grown = defaultdict(int)
+        for before, calls, after in MARKS.findall(told):
+            grown[calls] += int(after) - int(before)
+        yield from (f"{calls}: {growths} growths" for calls, growths in grown.items() if growths)
+        for calls in sorted(grown.keys() ^ WITHOUT_GROWTH[self.name]):
+            yield f"{calls}: in the test or in the table, and not in both"
 
 
 def subjects(folder):
@@ -197,7 +246,8 @@ def main():
         subprocess.run(["cc", "-O1", "-shared", "-fPIC", "-o", shim, source], check=True)
         with ThreadPoolExecutor(os.cpu_count()) as pool:
             results = list(pool.map(lambda subject: subject.faults(shim, folder), wanted))
-    named = set() if words else {*TO_THE_END, *EVENTS_OF_LINES, *MOST_GROWTHS}
+    tables = (TO_THE_END, EVENTS_OF_LINES, MOST_GROWTHS, WITHOUT_GROWTH)
+    named = set() if words else set().union(*tables)
     missing = named - {subject.name for subject in wanted}
     results += [([f"{name}: there is no such row or test"], 0) for name in sorted(missing)]
     for faults, _ in results:

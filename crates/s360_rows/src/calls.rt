@@ -1,105 +1,116 @@
-//! Events and calls of a session, written as lines of a script, and the texts of their answers. None
-//! of them is there where a line is no command or memory is out.
+//! Events and calls of a session, written as lines of a script, and the texts of their answers.
+use crate::fault::Fault;
 use crate::rows::Words;
 use s360_debug::read_command;
-use s360_journal::{Answer, Call, Places, Report, Session, Withdrawal};
+use s360_journal::{Answer, Breaks, Call, Places, Report, Session, Withdrawal};
 use s360_machine::{Bytes, Event, Patch, Refusal};
 use s360_store::Place;
 use std::alloc::Global;
 
-/// The call that a line asks of a session: how many changes stand, a step back, going back to a change, a withdrawal, the
-/// last change of a byte or a register, or the event that it offers.
-pub(crate) fn call(alloc: Global, line: &str) -> Option<Call> {
-    match line.split_once(" ") {
-        None if line == "standing" => Some(Call::Standing),
-        None if line == "back" => Some(Call::Back),
-        Some(("to", number)) => Some(Call::BackTo(number.parse().ok()?)),
-        Some(("withdraw", number)) => Some(Call::Withdraw(number.parse().ok()?)),
-        Some(("last", "p")) => Some(Call::LastChange(Place::Psw)),
-        Some(("last", place)) => Some(Call::LastChange(place_of(place)?)),
-        _ => Some(Call::Forward(event(alloc, line)?)),
-    }
+/// A breakpoint at an address.
+fn break_at(address: &str) -> Result<Breaks, Fault> {
+    let mut breaks = Breaks::new();
+    breaks.add(u32::from_str_radix(address, 16)?);
+    Ok(breaks)
 }
 
-/// The place that the words of a byte or a register are.
-pub(crate) fn place_of(words: &str) -> Option<Place> {
-    let (kind, digits) = words.split_once(" ")?;
-    let number = u32::from_str_radix(digits, 16).ok()?;
+/// The call that a line asks of a session: how many changes stand, a step back, going back to a change or to a
+/// breakpoint, a withdrawal, the last change of a byte or a register, or the event that it offers.
+pub(crate) fn call(alloc: Global, line: &str) -> Result<Call, Fault> {
+    Ok(match line.split_once(" ") {
+        None if line == "standing" => Call::Standing,
+        None if line == "back" => Call::Back,
+        Some(("until", address)) => Call::BackUntil(break_at(address)?),
+        Some(("to", number)) => Call::BackTo(number.parse()?),
+        Some(("withdraw", number)) => Call::Withdraw(number.parse()?),
+        Some(("last", place)) => Call::LastChange(place_of(place)?),
+        _ => Call::Forward(event(alloc, line)?),
+    })
+}
+
+/// The place that the words of the PSW, a byte or a register are.
+pub(crate) fn place_of(words: &str) -> Result<Place, Fault> {
+    if words == "p" {
+        return Ok(Place::Psw);
+    }
+    let Some((kind, digits)) = words.split_once(" ") else {
+        return Err(Fault::Unforeseen);
+    };
+    let number = u32::from_str_radix(digits, 16)?;
     match kind {
-        "s" => Some(Place::Byte(number)),
-        "r" if number < 0x10 => Some(Place::Register(number as u8)),
-        _ => None,
+        "s" => Ok(Place::Byte(number)),
+        "r" if number < 0x10 => Ok(Place::Register(number as u8)),
+        _ => Err(Fault::Unforeseen),
     }
 }
 
 /// The calls that lines ask of a session.
-pub(crate) fn calls(alloc: Global, lines: &str) -> Option<Vec<Call>> {
+pub(crate) fn calls(alloc: Global, lines: &str) -> Result<Vec<Call>, Fault> {
     let mut calls = Vec::new(alloc);
     for line in lines.lines() {
         let call = call(alloc, line)?;
-        calls.push(call).ok()?;
+        calls.push(call).ok().ok_or(Fault::Memory)?;
     }
-    Some(calls)
+    Ok(calls)
 }
 
 /// The event that a line offers.
-pub(crate) fn event(alloc: Global, line: &str) -> Option<Event> {
-    read_command(alloc, line.as_bytes()).ok()?.into_event()
+pub(crate) fn event(alloc: Global, line: &str) -> Result<Event, Fault> {
+    let command = read_command(alloc, line.as_bytes())?;
+    command.into_event().ok_or(Fault::Unforeseen)
 }
 
-/// Offers the events of lines to a session, and answers whether none was refused.
-pub(crate) fn carry_out(alloc: Global, session: &mut Session, lines: &str) -> bool {
+/// Offers the events of lines to a session, none of which is to be refused.
+pub(crate) fn carry_out(alloc: Global, session: &mut Session, lines: &str) -> Result<(), Fault> {
     for line in lines.lines() {
-        let Some(event) = event(alloc, line) else {
-            return false;
-        };
-        if session.forward(event).is_err() {
-            return false;
-        }
+        session.forward(event(alloc, line)?)?;
     }
-    true
+    Ok(())
 }
 
 /// A patch of so many bytes: its address and its length are the next words.
-pub(crate) fn long_patch(alloc: Global, words: &mut Words<'_>) -> Option<Event> {
+pub(crate) fn long_patch(alloc: Global, words: &mut Words<'_>) -> Result<Event, Fault> {
     let at = words.word();
     let count = words.below(0x200) as usize;
-    let bytes = vec![in alloc; 0xA5u8; count].ok()?;
+    let bytes = vec![in alloc; 0xA5u8; count]?;
     let bytes = Bytes::new(bytes);
-    Some(Event::Patch(Patch::Bytes { at, bytes }))
+    Ok(Event::Patch(Patch::Bytes { at, bytes }))
 }
 
 /// The places of a report, as a list of them is shown.
-fn text_of_places(alloc: Global, places: &Places) -> Option<String> {
+fn text_of_places(alloc: Global, places: &Places) -> Result<String, Fault> {
     let mut list = Vec::new(alloc);
     for i in 0..places.len() {
-        list.push(places.get(i)?).ok()?;
+        let place = places.get(i).ok_or(Fault::Unforeseen)?;
+        list.push(place).ok().ok_or(Fault::Memory)?;
     }
-    format!(in alloc; "{:?}", list.as_slice()).ok()
+    Ok(format!(in alloc; "{:?}", list.as_slice())?)
 }
 
-/// What an event was answered: the places that it altered, or why it is refused. None is where the
-/// reason is want of memory.
-pub(crate) fn text_of_report(alloc: Global, report: &Result<Report, Refusal>) -> Option<String> {
+/// What an event was answered: the places that it altered, or why it is refused.
+pub(crate) fn text_of_report(
+    alloc: Global,
+    report: &Result<Report, Refusal>,
+) -> Result<String, Fault> {
     match report {
         Ok(Report::Changed(places)) => text_of_places(alloc, places),
-        Ok(Report::Idle) => format!(in alloc; "idle").ok(),
-        Err(Refusal::Memory) => None,
-        Err(refusal) => format!(in alloc; "{refusal}").ok(),
+        Ok(Report::Idle) => Ok(format!(in alloc; "idle")?),
+        Err(Refusal::Memory) => Err(Fault::Memory),
+        Err(refusal) => Ok(format!(in alloc; "{refusal}")?),
     }
 }
 
 /// What a call was answered.
-pub(crate) fn text_of_answer(alloc: Global, answer: &Answer) -> Option<String> {
-    match answer {
-        Answer::Forwarded(report) => text_of_report(alloc, report),
-        Answer::TookBack(Ok(event)) => format!(in alloc; "{event:?}").ok(),
-        Answer::TookBack(Err(fault)) => format!(in alloc; "{fault}").ok(),
-        Answer::WentBack(number) => format!(in alloc; "until {number}").ok(),
-        Answer::Withdrew(Ok(())) => format!(in alloc; "withdrawn").ok(),
-        Answer::Withdrew(Err(Withdrawal::Memory)) => None,
-        Answer::Withdrew(Err(fault)) => format!(in alloc; "{fault}").ok(),
-        Answer::Stands(count) => format!(in alloc; "{count}").ok(),
-        Answer::LastChanged(number) => format!(in alloc; "{number:?}").ok(),
-    }
+pub(crate) fn text_of_answer(alloc: Global, answer: &Answer) -> Result<String, Fault> {
+    Ok(match answer {
+        Answer::Forwarded(report) => text_of_report(alloc, report)?,
+        Answer::TookBack(Ok(event)) => format!(in alloc; "{event:?}")?,
+        Answer::TookBack(Err(fault)) => format!(in alloc; "{fault}")?,
+        Answer::WentBack(number) => format!(in alloc; "until {number}")?,
+        Answer::Withdrew(Ok(())) => format!(in alloc; "withdrawn")?,
+        Answer::Withdrew(Err(Withdrawal::Memory)) => return Err(Fault::Memory),
+        Answer::Withdrew(Err(fault)) => format!(in alloc; "{fault}")?,
+        Answer::Stands(count) => format!(in alloc; "{count}")?,
+        Answer::LastChanged(number) => format!(in alloc; "{number:?}")?,
+    })
 }

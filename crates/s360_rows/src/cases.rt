@@ -1,4 +1,5 @@
 //! The lines that are refused growths: what they are to answer, and what stands before them.
+use crate::fault::Fault;
 use s360_tape::{Tape, blank_tape, tape_from};
 use std::alloc::Global;
 
@@ -34,15 +35,15 @@ impl Media {
     }
 
     /// The tape of 180.
-    pub(crate) fn tape(&self, alloc: Global) -> Option<Tape> {
+    pub(crate) fn tape(&self, alloc: Global) -> Result<Tape, Fault> {
         match self {
-            Media::FiveBlocks => tape_from(alloc, &FIVE_BLOCKS, false).ok(),
+            Media::FiveBlocks => Ok(tape_from(alloc, &FIVE_BLOCKS, false)?),
             Media::LongestBlock => {
-                let mut file = Vec::from_slice(alloc, &HEADER).ok()?;
-                file.resize(HEADER.len() + LONGEST, 0xC1).ok()?;
-                tape_from(alloc, &file, false).ok()
+                let mut file = Vec::from_slice(alloc, &HEADER)?;
+                file.resize(HEADER.len() + LONGEST, 0xC1)?;
+                Ok(tape_from(alloc, &file, false)?)
             }
-            _ => Some(blank_tape(alloc)),
+            _ => Ok(blank_tape(alloc)),
         }
     }
 }
@@ -207,7 +208,8 @@ patch p 0000000000000200",
     ],
 };
 
-/// A block that is written after the second of five, of which the later ones are discarded.
+/// A block that is written after the second of five, of which the later ones are discarded, and withdrawn from before
+/// another event.
 pub(crate) static WRITTEN_BLOCKS: Case = Case {
     media: Media::FiveBlocks,
     start: "patch p 0000000000000200
@@ -222,9 +224,34 @@ step
 patch s 600 E9
 patch s 400 0100060000000001
 step",
+    steps: &[
+        Step {
+            line: "channel 180",
+            answer: "13 changed 2 u180 d180\n",
+        },
+        Step {
+            line: "tick",
+            answer: "14 changed 4 s000050 s000051 s000052 ext\n",
+        },
+        Step {
+            line: "withdraw 13",
+            answer: "withdrawn 13\n",
+        },
+    ],
+};
+
+/// A block that is written behind the last one of a tape, which has none.
+pub(crate) static APPENDED_BLOCKS: Case = Case {
+    media: Media::Nothing,
+    start: "patch p 0000000000000200
+patch s 48 00000400
+patch s 200 9C000180
+patch s 600 E9
+patch s 400 0100060000000001
+step",
     steps: &[Step {
         line: "channel 180",
-        answer: "13 changed 2 u180 d180\n",
+        answer: "7 changed 2 u180 d180\n",
     }],
 };
 

@@ -3,6 +3,7 @@
 ghost use Rattle.std.specs.Prelude.{◌≡◌, []};
 ghost use Rattle.s360_model.specs.Exchanges.{CanIfAny};
 
+use crate::fault::Fault;
 use crate::rows::{Subject, Words, assert_no_fault, fault_of_rows};
 use crate::slate::{Slate, clean_slate, put_line};
 use crate::storage::{put, put_bytes};
@@ -65,11 +66,11 @@ fn execute<D: Device>(
 }
 
 /// What a channel does for a unit: the address of the next word, or the status word that waits.
-fn text_of_state(alloc: Global, state: &UnitState) -> Option<String> {
+fn text_of_state(alloc: Global, state: &UnitState) -> Result<String, AllocError> {
     match state {
-        UnitState::Idle => format!(in alloc; "idle").ok(),
-        UnitState::Active(program) => format!(in alloc; "active {:X}", program.next_address()).ok(),
-        UnitState::Waiting(csw) => format!(in alloc; "waiting {:016X}", csw.to_u64()).ok(),
+        UnitState::Idle => format!(in alloc; "idle"),
+        UnitState::Active(program) => format!(in alloc; "active {:X}", program.next_address()),
+        UnitState::Waiting(csw) => format!(in alloc; "waiting {:016X}", csw.to_u64()),
     }
 }
 
@@ -83,9 +84,9 @@ struct Executing {
 
 impl Executing {
     /// A storage of 8,192 bytes, a clean slate and no program.
-    fn idle(alloc: Global) -> Option<Executing> {
-        let storage = Storage::new(alloc, 0x2000).ok()?;
-        Some(Executing {
+    fn idle(alloc: Global) -> Result<Executing, Fault> {
+        let storage = Storage::new(alloc, 0x2000)?;
+        Ok(Executing {
             storage,
             slate: clean_slate(alloc),
             state: UnitState::Idle,
@@ -100,11 +101,11 @@ impl Executing {
     }
 
     /// One channel event, after which the state is answered.
-    fn execute(&mut self, alloc: Global) -> Option<String> {
+    fn execute(&mut self, alloc: Global) -> Result<String, AllocError> {
         let state = mem::replace(&mut self.state, UnitState::Idle);
         self.state = match state {
             UnitState::Active(program) => {
-                execute(alloc, &mut self.storage, &mut self.slate, program).ok()?
+                execute(alloc, &mut self.storage, &mut self.slate, program)?
             }
             other => other,
         };
@@ -112,34 +113,34 @@ impl Executing {
     }
 
     /// The bytes of the lines that are written.
-    fn written(&self, alloc: Global) -> Option<String> {
+    fn written(&self, alloc: Global) -> Result<String, AllocError> {
         let mut text = String::new(alloc);
         for line in self.slate.media().written() {
             for byte in line {
-                write!(text, "{byte:02X}").ok()?;
+                write!(text, "{byte:02X}")?;
             }
         }
-        Some(text)
+        Ok(text)
     }
 
     /// So many bytes from an address on.
-    fn bytes(&self, alloc: Global, words: &mut Words<'_>) -> Option<String> {
+    fn bytes(&self, alloc: Global, words: &mut Words<'_>) -> Result<String, AllocError> {
         let address = words.below(0x1000) as u32;
         let count = words.below(0x100) as u32;
         prove!(self.storage.size() >= LEAST_SIZE);
         let mut text = String::new(alloc);
         for byte in self.storage.bytes(address, count) {
-            write!(text, "{byte:02X}").ok()?;
+            write!(text, "{byte:02X}")?;
         }
-        Some(text)
+        Ok(text)
     }
 }
 
 impl Subject for Executing {
-    fn answer(&mut self, alloc: Global, words: &mut Words<'_>) -> Option<String> {
+    fn answer(&mut self, alloc: Global, words: &mut Words<'_>) -> Result<String, Fault> {
         match words.next_word() {
             "new" => *self = Executing::idle(alloc)?,
-            "line" => put_line(&mut self.slate).ok()?,
+            "line" => put_line(&mut self.slate)?,
             "put" => self.put(words),
             "start" => {
                 self.state = UnitState::Active(Program {
@@ -148,16 +149,20 @@ impl Subject for Executing {
                     progress: Progress::First,
                 });
             }
-            "event" => return self.execute(alloc),
-            "written" => return self.written(alloc),
-            _ => return self.bytes(alloc, words),
+            "copy" => {
+                self.state = self.state.copy()?;
+                return Ok(text_of_state(alloc, &self.state)?);
+            }
+            "event" => return Ok(self.execute(alloc)?),
+            "written" => return Ok(self.written(alloc)?),
+            _ => return Ok(self.bytes(alloc, words)?),
         }
-        Some(String::new(alloc))
+        Ok(String::new(alloc))
     }
 }
 
 /// What is wrong with the rows of a table.
-fn fault_of_programs(alloc: Global, rows: &str) -> Option<String> {
+fn fault_of_programs(alloc: Global, rows: &str) -> Result<String, Fault> {
     let mut executing = Executing::idle(alloc)?;
     fault_of_rows(alloc, &mut executing, rows)
 }
@@ -174,6 +179,7 @@ const INPUT: &str = "
 put 400 020006000000000C
 start 0 400
 event -> active 400
+copy -> active 400
 event -> active 400
 bytes 600 C -> 000000000000000000000000
 line
@@ -248,9 +254,13 @@ put 408 0200060890000003
 put 410 0000060500000004
 start 0 400
 event -> active 408
+* a copy of the state goes on with what was gathered
+copy -> active 408
 event -> active 410
+copy -> active 410
 written
 event -> waiting 000004180C000000
+copy -> waiting 000004180C000000
 written -> C1C2C3C4C5D1D2D3C6C7C8D1
 * fewer bytes than a line has
 new

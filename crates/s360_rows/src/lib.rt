@@ -3,15 +3,21 @@
 #![tactic(auto)]
 
 #[cfg(test)]
+mod call_lists;
+#[cfg(test)]
 mod calls;
 #[cfg(test)]
 mod cases;
 #[cfg(test)]
 mod channel_programs;
 #[cfg(test)]
+mod fault;
+#[cfg(test)]
 mod held;
 #[cfg(test)]
 mod instructions;
+#[cfg(test)]
+mod marks;
 #[cfg(test)]
 mod packed;
 #[cfg(test)]
@@ -30,3 +36,5 @@ mod sessions;
 mod slate;
 #[cfg(test)]
 mod storage;
+#[cfg(test)]
+mod without_memory;

@@ -6,9 +6,10 @@
 //! took an accepted event back would not meet the last of them.
 use crate::calls::carry_out;
 use crate::cases::{
-    CHAINED_DATA, Case, ENTERED_LINES, LINES, MOVES, PARTED_BYTES, READ_BLOCKS, Step,
-    WRITTEN_BLOCKS,
+    APPENDED_BLOCKS, CHAINED_DATA, Case, ENTERED_LINES, LINES, MOVES, PARTED_BYTES, READ_BLOCKS,
+    Step, WRITTEN_BLOCKS,
 };
+use crate::fault::Fault;
 use crate::held::{Lent, lend_over};
 use crate::rows::assert_no_fault;
 use crate::same::are_same;
@@ -71,31 +72,29 @@ fn have_same_changes(one: &Session, other: &Session) -> bool {
     have_same_storage(one, other)
 }
 
-/// Whether all is as in another session: what stands, the changes of each place and the machine. Nothing is answered
-/// where memory is out.
-fn stands_as(alloc: Global, session: &Session, other: &Session) -> Option<bool> {
+/// Whether all is as in another session: what stands, the changes of each place and the machine.
+fn stands_as(alloc: Global, session: &Session, other: &Session) -> Result<bool, Fault> {
     let is_same = session.standing() == other.standing() && have_same_changes(session, other);
-    Some(is_same && are_same(alloc, session.machine(), other.machine())?)
+    Ok(is_same && are_same(alloc, session.machine(), other.machine())?)
 }
 
-/// Comes to a step of a case, and then makes the event of the step so many times. Nothing is answered where one is
-/// refused.
+/// Comes to a step of a case, and then makes the event of the step so many times.
 fn come_to(
     alloc: Global,
     session: &mut Session,
     case: &Case,
     number: usize,
     accepted: u32,
-) -> Option<&'static Step> {
-    let step = case.steps.get(number)?;
-    let mut is_there = carry_out(alloc, session, case.start);
+) -> Result<&'static Step, Fault> {
+    let step = case.steps.get(number).ok_or(Fault::Unforeseen)?;
+    carry_out(alloc, session, case.start)?;
     for step in case.steps.iter().take(number) {
-        is_there = is_there && carry_out(alloc, session, step.line);
+        carry_out(alloc, session, step.line)?;
     }
     for _ in 0..accepted {
-        is_there = is_there && carry_out(alloc, session, step.event());
+        carry_out(alloc, session, step.event())?;
     }
-    is_there.then_some(step)
+    Ok(step)
 }
 
 /// A session that is compared with one that comes to a step of a case and accepts so many of its events.
@@ -109,25 +108,28 @@ struct Beside<'a> {
 
 impl<'a> Lent for Beside<'a> {
     /// An empty text where both are the same.
-    fn use_session(&mut self, alloc: Global, session: &mut Session) -> Option<String> {
+    fn use_session(&mut self, alloc: Global, session: &mut Session) -> Result<String, Fault> {
         let _step = come_to(alloc, session, self.case, self.number, self.accepted)?;
         let is_same = stands_as(alloc, session, self.other)?;
-        String::from_str(alloc, if is_same { "" } else { "another" }).ok()
+        let text = String::from_str(alloc, if is_same { "" } else { "another" })?;
+        Ok(text)
     }
 }
 
-/// What a line is answered. Nothing is where memory is out.
-fn answered(alloc: Global, session: &mut Session, line: &str) -> Option<Text> {
-    let command = read_command(alloc, line.as_bytes()).ok()?;
-    answer(alloc, session, &mut Breaks::new(), command).ok()
+/// What a line is answered.
+fn answered(alloc: Global, session: &mut Session, line: &str) -> Result<Text, Fault> {
+    let command = read_command(alloc, line.as_bytes())?;
+    Ok(answer(alloc, session, &mut Breaks::new(), command)?)
 }
 
 /// Takes back all that stands above a number.
-fn take_back(session: &mut Session, number: u32) -> Option<()> {
+fn take_back(session: &mut Session, number: u32) -> Result<(), Fault> {
     for _ in number..session.standing() {
-        session.back().ok()?;
+        if session.back().is_err() {
+            return Err(Fault::Unforeseen);
+        }
     }
-    Some(())
+    Ok(())
 }
 
 /// What carries the line of a step out.
@@ -141,7 +143,7 @@ struct Answering {
 
 impl Answering {
     /// Whether a session is as one that accepts so many events of the step.
-    fn is_after(&self, alloc: Global, other: &Session, accepted: u32) -> Option<bool> {
+    fn is_after(&self, alloc: Global, other: &Session, accepted: u32) -> Result<bool, Fault> {
         let (case, number) = (self.case, self.number);
         let mut beside = Beside {
             other,
@@ -149,63 +151,68 @@ impl Answering {
             number,
             accepted,
         };
-        Some(lend_case(alloc, case, &mut beside)?.is_empty())
+        Ok(lend_case(alloc, case, &mut beside)?.is_empty())
     }
 
     /// What is wrong with the line, which is carried out again where memory was wanting, and with what is left once its
     /// events are taken back.
-    fn fault(&mut self, alloc: Global, session: &mut Session, step: &Step) -> Option<&'static str> {
+    fn fault(
+        &mut self,
+        alloc: Global,
+        session: &mut Session,
+        step: &Step,
+    ) -> Result<&'static str, Fault> {
         let before = session.standing();
         let mut text = answered(alloc, session, step.line);
-        if text.is_none() {
+        if let Err(Fault::Memory) = text {
             let accepted = session.standing().saturating_sub(before);
             self.accepted = Some(accepted);
             if !self.is_after(alloc, session, accepted)? {
-                return Some("memory was wanting, and the session is another");
+                return Ok("memory was wanting, and the session is another");
             }
             take_back(session, before)?;
             text = answered(alloc, session, step.line);
         }
         if text?.as_bytes() != step.answer.as_bytes() {
-            return Some("another answer");
+            return Ok("another answer");
         }
         if session.standing() > before {
             take_back(session, before)?;
             if !self.is_after(alloc, session, 0)? {
-                return Some("taken back, it left something");
+                return Ok("taken back, it left something");
             }
         }
-        Some("")
+        Ok("")
     }
 }
 
 impl Lent for Answering {
-    fn use_session(&mut self, alloc: Global, session: &mut Session) -> Option<String> {
+    fn use_session(&mut self, alloc: Global, session: &mut Session) -> Result<String, Fault> {
         let step = come_to(alloc, session, self.case, self.number, 0)?;
         let fault = match (self.fault(alloc, session, step), self.accepted) {
-            (Some(fault), _) => fault,
+            (Ok(fault), _) => fault,
             // No more than one growth is refused.
-            (None, Some(_)) => "memory was wanting again",
-            (None, None) => return None,
+            (Err(Fault::Memory), Some(_)) => "memory was wanting again",
+            (Err(fault), _) => return Err(fault),
         };
         match self.accepted {
             Some(accepted) if fault.is_empty() => {
-                format!(in alloc; "out of memory after {accepted} events of {}", step.line).ok()
+                Ok(format!(in alloc; "out of memory after {accepted} events of {}", step.line)?)
             }
-            _ if fault.is_empty() => Some(String::new(alloc)),
-            _ => format!(in alloc; "{}: {fault}", step.line).ok(),
+            _ if fault.is_empty() => Ok(String::new(alloc)),
+            _ => Ok(format!(in alloc; "{}: {fault}", step.line)?),
         }
     }
 }
 
 /// Lends a session over the media of a case.
-fn lend_case<L: Lent>(alloc: Global, case: &Case, lent: &mut L) -> Option<String> {
+fn lend_case<L: Lent>(alloc: Global, case: &Case, lent: &mut L) -> Result<String, Fault> {
     let tape = case.media.tape(alloc)?;
     lend_over(alloc, STORAGE, case.media.deck(), tape, LIMIT, lent)
 }
 
 /// What is wrong with the first step that has a fault, or an empty text: no more than one growth may be refused in all.
-fn fault_of(alloc: Global, case: &'static Case) -> Option<String> {
+fn fault_of(alloc: Global, case: &'static Case) -> Result<String, Fault> {
     for number in 0..case.steps.len() {
         let mut answering = Answering {
             case,
@@ -214,10 +221,10 @@ fn fault_of(alloc: Global, case: &'static Case) -> Option<String> {
         };
         let fault = lend_case(alloc, case, &mut answering)?;
         if !fault.is_empty() {
-            return Some(fault);
+            return Ok(fault);
         }
     }
-    Some(String::new(alloc))
+    Ok(String::new(alloc))
 }
 
 #[test]
@@ -235,6 +242,11 @@ fn moves(rt: HostRuntime) {
 #[test]
 fn written_blocks(rt: HostRuntime) {
     assert_no_fault(&rt, fault_of(rt.alloc(), &WRITTEN_BLOCKS));
+}
+
+#[test]
+fn appended_blocks(rt: HostRuntime) {
+    assert_no_fault(&rt, fault_of(rt.alloc(), &APPENDED_BLOCKS));
 }
 
 #[test]

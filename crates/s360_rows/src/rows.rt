@@ -2,6 +2,7 @@
 //! hexadecimal. A row that begins with an asterisk says what the rows below it are.
 ghost use Rattle.std.specs.Prelude.{◌<◌};
 
+use crate::fault::Fault;
 use s360_word::ProtectionKey;
 use std::alloc::Global;
 use std::process::Abort;
@@ -97,42 +98,41 @@ fn number(digits: &str) -> Option<u64> {
 
 /// What the rows of a table are asked of.
 pub(crate) trait Subject {
-    /// The answer to the words of a question, or none where they are no question or memory is out.
-    fn answer(&mut self, alloc: Global, words: &mut Words<'_>) -> Option<String>;
+    /// The answer to the words of a question.
+    fn answer(&mut self, alloc: Global, words: &mut Words<'_>) -> Result<String, Fault>;
 }
 
 /// What is wrong with a row, or an empty text.
-fn fault_of_row<S: Subject>(alloc: Global, subject: &mut S, row: &str) -> Option<String> {
+fn fault_of_row<S: Subject>(alloc: Global, subject: &mut S, row: &str) -> Result<String, Fault> {
     if row.is_empty() || row.starts_with("*") {
-        return Some(String::new(alloc));
+        return Ok(String::new(alloc));
     }
     let (asked, wanted) = row.split_once(" -> ").unwrap_or((row, ""));
     let mut words = Words::new(asked);
     let found = subject.answer(alloc, &mut words)?;
     if words.are_all_read() && found.as_str() == wanted {
-        return Some(String::new(alloc));
+        return Ok(String::new(alloc));
     }
-    format!(in alloc; "{asked} -> {wanted}: found {found}").ok()
+    Ok(format!(in alloc; "{asked} -> {wanted}: found {found}")?)
 }
 
-/// What is wrong with the first row whose question has another answer, or an empty text. None is where memory was
-/// wanting, or a question is none.
+/// What is wrong with the first row whose question has another answer, or an empty text.
 pub(crate) fn fault_of_rows<S: Subject>(
     alloc: Global,
     subject: &mut S,
     rows: &str,
-) -> Option<String> {
+) -> Result<String, Fault> {
     for row in rows.lines() {
         let fault = fault_of_row(alloc, subject, row)?;
         if !fault.is_empty() {
-            return Some(fault);
+            return Ok(fault);
         }
     }
-    Some(String::new(alloc))
+    Ok(String::new(alloc))
 }
 
 /// Asserts that nothing is wrong.
-pub(crate) fn assert_no_fault(rt: &impl Abort, fault: Option<String>) {
-    let fault = fault.expect(rt, "out of memory, or no question");
+pub(crate) fn assert_no_fault(rt: &impl Abort, fault: Result<String, Fault>) {
+    let fault = fault.expect(rt, "no answer");
     assert!(rt; fault.is_empty(), "{fault}");
 }

@@ -1,4 +1,5 @@
 //! Whether two machines show the same.
+use crate::fault::Fault;
 use s360_debug::{Command, read_command};
 use s360_language::text_of_shown;
 use s360_machine::Machine;
@@ -24,24 +25,24 @@ show d 181
 show image 180
 show image 181";
 
-/// Whether a line shows the same of two machines. Nothing is answered where memory is out.
-fn shows_same(alloc: Global, one: &Machine, other: &Machine, line: &str) -> Option<bool> {
-    let Ok(Command::Show(shown)) = read_command(alloc, line.as_bytes()) else {
-        return None;
+/// Whether a line shows the same of two machines.
+fn shows_same(alloc: Global, one: &Machine, other: &Machine, line: &str) -> Result<bool, Fault> {
+    let Command::Show(shown) = read_command(alloc, line.as_bytes())? else {
+        return Err(Fault::Unforeseen);
     };
-    let one = text_of_shown(alloc, one, shown).ok()?;
-    let other = text_of_shown(alloc, other, shown).ok()?;
-    Some(one.as_bytes() == other.as_bytes())
+    let one = text_of_shown(alloc, one, shown)?;
+    let other = text_of_shown(alloc, other, shown)?;
+    Ok(one.as_bytes() == other.as_bytes())
 }
 
-/// Whether two machines show the same. Nothing is answered where memory is out.
-pub(crate) fn are_same(alloc: Global, one: &Machine, other: &Machine) -> Option<bool> {
+/// Whether two machines show the same.
+pub(crate) fn are_same(alloc: Global, one: &Machine, other: &Machine) -> Result<bool, Fault> {
     for line in SHOWN.lines() {
         if !shows_same(alloc, one, other, line)? {
-            return Some(false);
+            return Ok(false);
         }
     }
-    Some(are_alike(one.storage(), other.storage()))
+    Ok(are_alike(one.storage(), other.storage()))
 }
 
 /// Whether two storages have the same bytes, keys and fetch bits, and protect fetches alike.

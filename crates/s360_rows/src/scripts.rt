@@ -1,4 +1,5 @@
 //! Scripts over readers and writers that are slow or fail.
+use crate::fault::Fault;
 use crate::held::{Lent, lend};
 use crate::rows::{Subject, Words, assert_no_fault, fault_of_rows};
 use crate::same::are_same;
@@ -6,6 +7,7 @@ use s360_debug::{ScriptFault, run_script};
 use s360_journal::Session;
 use std::alloc::Global;
 use std::io::{self, Read, Write};
+use std::test::Fail;
 
 /// Writers have room for so many bytes from the start, so that only the script wants memory.
 const ROOM: usize = 4_096;
@@ -34,6 +36,9 @@ const CARRIED_OUT: [usize; 13] = [1, 2, 3, 4, 5, 5, 5, 5, 6, 7, 7, 7, 7];
 
 /// More reads of one byte than a number of eight bits counts.
 const COMMENT: usize = 400;
+
+/// A script has at most so many bytes.
+const LONGEST: usize = 1_048_576;
 
 /// More bytes than any stream here gives or takes.
 const MANY: usize = 2_000_000;
@@ -140,15 +145,15 @@ fn run<R: Read, W: Write>(
     run_script(alloc, session, reader, writer)
 }
 
-/// Carries a script out over a reader and a writer that stop so. Nothing is answered where memory was wanting.
+/// Carries a script out over a reader and a writer that stop so.
 fn carry_out(
     alloc: Global,
     session: &mut Session,
     script: &[u8],
     reads: Stop,
     writes: Stop,
-) -> Option<Left> {
-    let taken = Vec::with_capacity(alloc, ROOM).ok()?;
+) -> Result<Left, Fault> {
+    let taken = Vec::with_capacity(alloc, ROOM)?;
     let left = script;
     let mut reader = SlowReader { left, stop: reads };
     let mut writer = SlowWriter {
@@ -158,15 +163,15 @@ fn carry_out(
     let outcome = run(alloc, session, &mut reader, &mut writer);
     let written = writer.taken;
     match outcome {
-        Err(ScriptFault::Memory) => None,
-        outcome => Some(Left { outcome, written }),
+        Err(ScriptFault::Memory) => Err(Fault::Memory),
+        outcome => Ok(Left { outcome, written }),
     }
 }
 
 /// Bytes that are a text, within quotes.
-fn quoted(alloc: Global, bytes: &[u8]) -> Option<String> {
-    let text = str::from_utf8(bytes).ok()?;
-    format!(in alloc; "{text:?}").ok()
+fn quoted(alloc: Global, bytes: &[u8]) -> Result<String, Fault> {
+    let text = str::from_utf8(bytes).ok().ok_or(Fault::Unforeseen)?;
+    Ok(format!(in alloc; "{text:?}")?)
 }
 
 /// Whether a session is as another, in which a script is carried out to its end.
@@ -177,11 +182,11 @@ struct Beside<'a> {
 }
 
 impl<'a> Lent for Beside<'a> {
-    fn use_session(&mut self, alloc: Global, session: &mut Session) -> Option<String> {
+    fn use_session(&mut self, alloc: Global, session: &mut Session) -> Result<String, Fault> {
         let _left = carry_out(alloc, session, self.script, NEVER, NEVER)?;
         let is_same = session.standing() == self.other.standing()
             && are_same(alloc, session.machine(), self.other.machine())?;
-        format!(in alloc; "{is_same}").ok()
+        Ok(format!(in alloc; "{is_same}")?)
     }
 }
 
@@ -197,14 +202,14 @@ struct Cut<'a> {
 impl<'a> Lent for Cut<'a> {
     /// Its outcome, the number of bytes written, whether they are a first part of the answers, and whether the
     /// session is as after the other script.
-    fn use_session(&mut self, alloc: Global, session: &mut Session) -> Option<String> {
+    fn use_session(&mut self, alloc: Global, session: &mut Session) -> Result<String, Fault> {
         let left = carry_out(alloc, session, self.script, self.reads, self.writes)?;
         let (outcome, count) = (left.outcome, left.written.len());
         let is_first = ADD_ANSWERS.as_bytes().starts_with(&left.written);
         let other = &*session;
         let script = self.beside;
         let is_same = lend(alloc, 10, &mut Beside { other, script })?;
-        format!(in alloc; "{outcome:?} {count:X} {is_first} {is_same}").ok()
+        Ok(format!(in alloc; "{outcome:?} {count:X} {is_first} {is_same}")?)
     }
 }
 
@@ -215,22 +220,22 @@ struct Whole<'a> {
 }
 
 impl<'a> Lent for Whole<'a> {
-    fn use_session(&mut self, alloc: Global, session: &mut Session) -> Option<String> {
+    fn use_session(&mut self, alloc: Global, session: &mut Session) -> Result<String, Fault> {
         let left = carry_out(alloc, session, self.script, NEVER, NEVER)?;
         quoted(alloc, &left.written)
     }
 }
 
 /// The script behind a long comment.
-fn behind_a_comment(alloc: Global) -> Option<Vec<u8>> {
-    let mut script = vec![in alloc; b'*'; COMMENT].ok()?;
-    script.push(b'\n').ok()?;
-    script.extend_from_slice(ADD.as_bytes()).ok()?;
-    Some(script)
+fn behind_a_comment(alloc: Global) -> Result<Vec<u8>, Fault> {
+    let mut script = vec![in alloc; b'*'; COMMENT]?;
+    script.push(b'\n').ok().ok_or(Fault::Memory)?;
+    script.extend_from_slice(ADD.as_bytes())?;
+    Ok(script)
 }
 
 /// What a script leaves over streams that do not stop, beside another.
-fn text_of_whole(alloc: Global, script: &[u8], beside: &[u8]) -> Option<String> {
+fn text_of_whole(alloc: Global, script: &[u8], beside: &[u8]) -> Result<String, Fault> {
     let mut whole = Cut {
         script,
         reads: NEVER,
@@ -241,7 +246,7 @@ fn text_of_whole(alloc: Global, script: &[u8], beside: &[u8]) -> Option<String> 
 }
 
 /// What the script leaves where its reader fails so, beside a session that is begun.
-fn text_of_failed_read(alloc: Global, after: usize, kind: io::ErrorKind) -> Option<String> {
+fn text_of_failed_read(alloc: Global, after: usize, kind: io::ErrorKind) -> Result<String, Fault> {
     let error = Some(kind);
     let mut cut = Cut {
         script: ADD.as_bytes(),
@@ -264,8 +269,12 @@ fn carried_out(room: usize) -> Option<usize> {
 }
 
 /// What the script leaves where its writer stops after so many bytes, beside the lines that are carried out then.
-fn text_of_failed_write(alloc: Global, room: usize) -> Option<String> {
-    let (beside, _) = ADD.as_bytes().split_at_checked(carried_out(room)?)?;
+fn text_of_failed_write(alloc: Global, room: usize) -> Result<String, Fault> {
+    let length = carried_out(room).ok_or(Fault::Unforeseen)?;
+    let (beside, _) = ADD
+        .as_bytes()
+        .split_at_checked(length)
+        .ok_or(Fault::Unforeseen)?;
     let mut cut = Cut {
         script: ADD.as_bytes(),
         reads: NEVER,
@@ -280,13 +289,13 @@ fn text_of_failed_write(alloc: Global, room: usize) -> Option<String> {
 
 /// What is wrong where the writer stops after so many bytes: it has taken them and no more, and the session stands as
 /// after the line whose answer was cut.
-fn fault_of_write(alloc: Global, room: usize) -> Option<String> {
-    let wanted = format!(in alloc; "Err(Write) {room:X} true true").ok()?;
+fn fault_of_write(alloc: Global, room: usize) -> Result<String, Fault> {
+    let wanted = format!(in alloc; "Err(Write) {room:X} true true")?;
     let text = text_of_failed_write(alloc, room)?;
     if text == wanted {
-        return Some(String::new(alloc));
+        return Ok(String::new(alloc));
     }
-    format!(in alloc; "{wanted}: found {text}").ok()
+    Ok(format!(in alloc; "{wanted}: found {text}")?)
 }
 
 /// Scripts over streams that give or take one byte a call, and at times stop.
@@ -294,7 +303,7 @@ fn fault_of_write(alloc: Global, room: usize) -> Option<String> {
 struct Scripts;
 
 impl Subject for Scripts {
-    fn answer(&mut self, alloc: Global, words: &mut Words<'_>) -> Option<String> {
+    fn answer(&mut self, alloc: Global, words: &mut Words<'_>) -> Result<String, Fault> {
         match words.next_word() {
             "limit" => lend(alloc, 1, &mut Whole { script: TICKS }),
             "full" => lend(alloc, 1, &mut Whole { script: PATCHES }),
@@ -309,6 +318,25 @@ impl Subject for Scripts {
             }
         }
     }
+}
+
+/// What so many blanks leave beside a session that is begun.
+fn text_of_blanks(alloc: Global, count: usize) -> Result<String, Fault> {
+    let script = vec![in alloc; b' '; count]?;
+    text_of_whole(alloc, &script, &[])
+}
+
+#[test]
+fn longest_scripts(rt: HostRuntime) -> Result<(), Fail> {
+    let cases = [
+        (LONGEST, "Ok(0) 0 true true"),
+        (LONGEST + 1, "Err(TooLong) 0 true true"),
+    ];
+    for (count, wanted) in cases {
+        let text = text_of_blanks(rt.alloc(), count)?;
+        assert_eq!(rt; text.as_str(), wanted);
+    }
+    Ok(())
 }
 
 #[test]

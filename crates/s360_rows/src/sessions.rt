@@ -1,16 +1,13 @@
-//! Sessions: calls in which few changes may stand, previews, and lists of calls.
-use crate::calls::{call, calls, event, long_patch, place_of, text_of_answer, text_of_report};
+//! Sessions: calls in which few changes may stand, and previews.
+use crate::calls::{call, event, long_patch, place_of, text_of_answer, text_of_report};
+use crate::fault::Fault;
 use crate::held::{Lent, lend_blank};
 use crate::rows::{Subject, Words, assert_no_fault, fault_of_rows};
-use s360_device::deck_from;
-use s360_journal::{Answer, Session, run_calls};
-use s360_machine::Machine;
+use s360_journal::Session;
 use s360_psw::InstructionLength;
 use s360_store::Place;
-use s360_tape::blank_tape;
 use s360_word::{RegisterNumber, Unit, Word};
 use std::alloc::Global;
-use std::process::Abort;
 
 /// A machine has so many bytes.
 const STORAGE: u32 = 8_192;
@@ -37,16 +34,21 @@ impl<'a> Running<'a> {
     }
 
     /// Some of what the session shows.
-    fn picture(&self, alloc: Global) -> Option<String> {
+    fn picture(&self, alloc: Global) -> Result<String, Fault> {
         let psw = self.session.machine().psw();
         let psw = psw.stored(0, InstructionLength::NotAvailable);
         let (first, third) = (self.register(1), self.register(3));
         let standing = self.session.standing();
-        format!(in alloc; "{psw:X} {first:X} {third:X} {standing}").ok()
+        Ok(format!(in alloc; "{psw:X} {first:X} {third:X} {standing}")?)
     }
 
     /// What an event of this kind is answered: a preview, a patch of so many bytes, or both.
-    fn report(&mut self, alloc: Global, kind: &str, words: &mut Words<'_>) -> Option<String> {
+    fn report(
+        &mut self,
+        alloc: Global,
+        kind: &str,
+        words: &mut Words<'_>,
+    ) -> Result<String, Fault> {
         let event = match kind {
             "preview" => event(alloc, words.rest())?,
             _ => long_patch(alloc, words)?,
@@ -59,15 +61,15 @@ impl<'a> Running<'a> {
     }
 
     /// What the call of a line is answered.
-    fn perform(&mut self, alloc: Global, line: &str) -> Option<String> {
+    fn perform(&mut self, alloc: Global, line: &str) -> Result<String, Fault> {
         let answer = self.session.perform(call(alloc, line)?);
         text_of_answer(alloc, &answer)
     }
 
     /// The changes of a place.
-    fn changes(&self, alloc: Global, place: &str) -> Option<String> {
+    fn changes(&self, alloc: Global, place: &str) -> Result<String, Fault> {
         let changes = self.session.changes_of(place_of(place)?);
-        format!(in alloc; "{changes:?}").ok()
+        Ok(format!(in alloc; "{changes:?}")?)
     }
 
     /// Whether a place that the machine lacks has a last change.
@@ -82,12 +84,12 @@ impl<'a> Running<'a> {
 }
 
 impl<'a> Subject for Running<'a> {
-    fn answer(&mut self, alloc: Global, words: &mut Words<'_>) -> Option<String> {
+    fn answer(&mut self, alloc: Global, words: &mut Words<'_>) -> Result<String, Fault> {
         match words.next_word() {
             "picture" => self.picture(alloc),
-            "lacking" => format!(in alloc; "{}", self.has_change_of_lacking_place()).ok(),
+            "lacking" => Ok(format!(in alloc; "{}", self.has_change_of_lacking_place())?),
             "changes" => self.changes(alloc, words.rest()),
-            "event" => format!(in alloc; "{:?}", self.session.last_event()).ok(),
+            "event" => Ok(format!(in alloc; "{:?}", self.session.last_event())?),
             "do" => self.perform(alloc, words.rest()),
             kind => self.report(alloc, kind, words),
         }
@@ -101,13 +103,13 @@ struct Table {
 }
 
 impl Lent for Table {
-    fn use_session(&mut self, alloc: Global, session: &mut Session) -> Option<String> {
+    fn use_session(&mut self, alloc: Global, session: &mut Session) -> Result<String, Fault> {
         fault_of_rows(alloc, &mut Running { session }, self.rows)
     }
 }
 
 /// Lends a session over such a machine, where at most so many changes may stand.
-fn lend<L: Lent>(alloc: Global, limit: u8, lent: &mut L) -> Option<String> {
+fn lend<L: Lent>(alloc: Global, limit: u8, lent: &mut L) -> Result<String, Fault> {
     lend_blank(alloc, STORAGE, limit, lent)
 }
 
@@ -299,99 +301,3 @@ do back -> Patch(Bytes { at: 0, bytes: Bytes { items: [26, 18] } })
 do back -> nothing stands
 picture -> 0 0 0 0
 ";
-
-/// Calls of each kind, with changes that are taken back, idle events and refusals.
-const EACH_KIND: &str = "back
-patch s 0 1A12
-patch r 1 7FFFFFFF
-patch r 2 1
-patch s 300 01
-patch s 301 02
-last s 301
-back
-last s 301
-patch r 2 1
-standing
-patch s 2000 01
-step
-last r 1
-patch r 3 1
-standing";
-
-/// Their answers where six changes may stand, and register 1 in the end.
-const ANSWERS: &str = "nothing stands
-[Byte(0), Byte(1)]
-[Register(1)]
-[Register(2)]
-[Byte(768)]
-[Byte(769)]
-Some(5)
-Patch(Bytes { at: 769, bytes: Bytes { items: [2] } })
-None
-idle
-5
-outside storage
-[Psw, Register(1)]
-Some(6)
-journal full
-6
-80000000
-";
-
-/// Writes the text of an answer on a line of its own.
-fn push_answer(alloc: Global, text: &mut String, answer: &Answer) -> Option<()> {
-    let answer = text_of_answer(alloc, answer)?;
-    text.push_str(&answer).ok()?;
-    text.push('\n').ok()
-}
-
-/// The texts of answers, one a line.
-fn text_of_answers(alloc: Global, answers: &[Answer]) -> Option<String> {
-    let mut text = String::new(alloc);
-    for answer in answers {
-        push_answer(alloc, &mut text, answer)?;
-    }
-    Some(text)
-}
-
-/// The texts of answers, and what is left of the machine.
-fn text_of_end(alloc: Global, answers: &[Answer], machine: &Machine) -> Option<String> {
-    let mut text = text_of_answers(alloc, answers)?;
-    let first = machine.register(RegisterNumber::new(1));
-    writeln!(text, "{first:X}").ok()?;
-    Some(text)
-}
-
-/// Lists of calls as a whole, which are made of a new machine.
-fn run(alloc: Global) -> Option<String> {
-    let calls = calls(alloc, EACH_KIND)?;
-    let deck = deck_from(alloc, &[]).ok()?;
-    let (first, second) = (blank_tape(alloc), blank_tape(alloc));
-    let machine = Machine::new(alloc, STORAGE, deck, first, second).ok()?;
-    let outcome = run_calls(alloc, machine, 6, calls).ok()?;
-    text_of_end(alloc, &outcome.answers, &outcome.machine)
-}
-
-/// The same calls, made of a session.
-#[derive(Drop)]
-struct Calls;
-
-impl Lent for Calls {
-    fn use_session(&mut self, alloc: Global, session: &mut Session) -> Option<String> {
-        let calls = calls(alloc, EACH_KIND)?;
-        let answers = session.perform_all(calls).ok()?;
-        text_of_end(alloc, &answers, session.machine())
-    }
-}
-
-/// Asserts that these are the answers.
-fn assert_answers(rt: &impl Abort, answers: Option<String>) {
-    let answers = answers.expect(rt, "out of memory");
-    assert_eq!(rt; answers.as_str(), ANSWERS);
-}
-
-#[test]
-fn lists_of_calls(rt: HostRuntime) {
-    assert_answers(&rt, run(rt.alloc()));
-    assert_answers(&rt, lend(rt.alloc(), 6, &mut Calls));
-}
