@@ -59,6 +59,12 @@ stored-keys row zone low source first zero i s = refl
 stored-keys row zone low source first (suc n) i s =
     stored-keys row zone low source first n (i + 1) (with_byte (address_from_right first i) (result_byte row zone low source i) s)
 
+stored-fetch_protection : (row : DigitRow) (zone low : ℕ) (source : ℕ → ℕ) (first : Field) (n i : ℕ) (s : Storage)
+    → (stored row zone low source first i n s).fetch_protection ≡ s.fetch_protection
+stored-fetch_protection row zone low source first zero i s = refl
+stored-fetch_protection row zone low source first (suc n) i s =
+    stored-fetch_protection row zone low source first n (i + 1) (with_byte (address_from_right first i) (result_byte row zone low source i) s)
+
 stored-other : (row : DigitRow) (zone low : ℕ) (source : ℕ → ℕ) (first : Field) (n i a : ℕ) (s : Storage)
     → ((k : ℕ) → i ≤ k → k < i + n → a ≢ address_from_right first k) → byte_at (stored row zone low source first i n s) a ≡ byte_at s a
 stored-other row zone low source first zero i a s h = refl
@@ -90,5 +96,6 @@ digits_of_apart_operands row zone first second s a inside =
       made = λ i h. stored-made row zone low source first first.count 0 i s (omega arith) (omega arith) (omega arith) inside;
       others = λ b h. stored-other row zone low source first first.count 0 b s (λ k l m. λ e. omega arith);
       keys = stored-keys row zone low source first first.count 0 s;
+      fetch_protection = stored-fetch_protection row zone low source first first.count 0 s;
       size = stored-size row zone low source first first.count 0 s;
     })

@@ -2,7 +2,7 @@
 ghost use Rattle.s360_logic.specs.DigitLaws.{DigitsOfApartOperands};
 
 /// Of operands that share no byte, MOVE WITH OFFSET, PACK and UNPACK make each byte of the result of the
-/// second operand as it stood before, and alter no other byte.
+/// second operand as it stood before, and alter nothing else of storage.
 pub fn digits_of_apart_operands()
     ensures { DigitsOfApartOperands }
 {}

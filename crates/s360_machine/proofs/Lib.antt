@@ -14,3 +14,4 @@ pub mod SpanLemmas
 pub mod PackedLemmas
 pub mod StretchLemmas
 pub mod AppendingLemmas
+pub mod DifferenceLemmas

@@ -99,10 +99,13 @@ pub record IsEnd (rows : List Row) (ls : Lists) (e : End) : Type 0 where
   pub rest_packed : (rs : List Row) (ms : Lists) → ArePacked rs ms → ArePacked (reverse (drop e.rows rows) ++ rs) (joined ms (lists_from e ls))
 
 -- the change as it stands in the lists
+abbrev pub change_of_own : Own → Change
+change_of_own o = change_of_row o.row (lists o.items.now o.bytes.now o.beside.now)
+
 pub record IsOwnOf (o : Own) (x : Change) : Type 0 where
   pub over : IsOver o.row o.items.now o.bytes.now
   pub beside : length o.beside.now ≡ beside_of_row o.row
-  pub change : change_of_row o.row (lists o.items.now o.bytes.now o.beside.now) ≡ x
+  pub change : change_of_own o ≡ x
 
 -- lists that have more at their ends: what a row has of a change
 pub record IsAppended (old new : Lists) (r : Row) (x : Change) : Type 0 where

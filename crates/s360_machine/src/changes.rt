@@ -1,5 +1,5 @@
 //! What an event alters, ready to be exchanged with the machine.
-ghost use Rattle.std.specs.Prelude.{◌≡◌, ◌∷◌, [], box_value, length, slice_get, true, IfOk, IfSome};
+ghost use Rattle.std.specs.Prelude.{◌≡◌, ◌<◌, ◌∷◌, [], box_value, length, slice_get, true, IfOk, IfSome, Some};
 ghost use Rattle.std.specs.Option.{option_copied};
 ghost use Rattle.s360_store.specs.Cells.{AllFit};
 ghost use Rattle.s360_store.specs.Places.{Fits};
@@ -173,23 +173,17 @@ impl Changes {
         }
     }
 
-    /// The place at `i`, counted from 0, if there are so many.
-    pub fn place(&self, i: u32) -> Option<Place>
-        ensures { result ≡ slice_get (places_of_change self.now) i }
+    /// The place at `i`, counted from 0.
+    pub fn place(&self, i: u32) -> Place
+        requires { i < length (places_of_change self.now) }
+        ensures { slice_get (places_of_change self.now) i ≡ Some result }
     {
         match &self.parts {
-            Parts::Plain(plain) => {
-                let row = Row::of(plain);
-                if i < row.len() {
-                    Some(row.place(&[], plain.bytes(), i))
-                } else {
-                    None
-                }
-            }
-            Parts::Full(full) if i < full.cells.len() => Some(full.cells.cell(i).place),
+            Parts::Plain(plain) => Row::of(plain).place(&[], plain.bytes(), i),
+            Parts::Full(full) if i < full.cells.len() => full.cells.cell(i).place,
             Parts::Full(full) => {
                 let places = full.beside.places();
-                places.get((i - full.cells.len()) as usize).copied()
+                places[(i - full.cells.len()) as usize]
             }
         }
     }

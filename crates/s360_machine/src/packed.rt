@@ -5,7 +5,7 @@ ghost use Rattle.s360_machine.specs.Change.{CanSwap, Change, HasRoom, change_aft
 ghost use Rattle.s360_machine.specs.ChangeSpans.{AreSpansOf, spans_of};
 ghost use Rattle.s360_fixed.specs.Plain.{IsFit, cells_of_plain};
 ghost use Rattle.s360_machine.specs.Changes.{change_of_core};
-ghost use Rattle.s360_machine.specs.Packed.{ArePacked, HasBefore, IsEnd, IsOwnOf, IsSwapOf, bytes_of_changes, end_before, last_stretches, lists};
+ghost use Rattle.s360_machine.specs.Packed.{ArePacked, HasBefore, IsEnd, IsOwnOf, IsSwapOf, bytes_of_changes, change_of_own, end_before, last_stretches, lists};
 ghost use Rattle.s360_machine.specs.Rows.{IsOver};
 ghost use Rattle.s360_machine.specs.AlteredRuns.{IsRunFit, cells_of_run};
 
@@ -85,17 +85,17 @@ impl<'a> Own<'a> {
         }
     }
 
-    /// The place at `i`, counted from 0, if there are so many.
-    fn place(&self, i: u32) -> Option<Place>
-        requires { IsOver self.now.row self.now.items.now self.now.bytes.now }
-        ensures { (x : Change) → IsOwnOf self.now x → result ≡ slice_get (places_of_change x) i }
+    /// The place at `i`, counted from 0.
+    fn place(&self, i: u32) -> Place
+        requires own { IsOwnOf self.now (change_of_own self.now) }
+        requires inside { i < length (places_of_change (change_of_own self.now)) }
+        ensures { slice_get (places_of_change (change_of_own self.now)) i ≡ Some result }
     {
         if i < self.row.len() {
-            return Some(self.row.place(self.items, self.bytes, i));
+            return self.row.place(self.items, self.bytes, i);
         }
-        let beside = self.beside.first()?;
-        let places = beside.places();
-        places.get((i - self.row.len()) as usize).copied()
+        let places = self.beside[0].places();
+        places[(i - self.row.len()) as usize]
     }
 
     /// Its places as spans.
@@ -378,11 +378,12 @@ impl Packed {
         self.own(number).len()
     }
 
-    /// The place at `i`, counted from 0, of a change, counted from 1, if it has so many. It takes no memory.
-    pub fn place(&self, number: u32, i: u32) -> Option<Place>
+    /// The place at `i`, counted from 0, of a change, counted from 1. It takes no memory.
+    pub fn place(&self, number: u32, i: u32) -> Place
         requires some { 0 < number }
         requires inside { number ≤ length self.now }
-        ensures { IfSome (slice_get self.now (number - 1)) (λ x. result ≡ slice_get (places_of_change x) i) }
+        requires place { IfSome (slice_get self.now (number - 1)) (λ x. i < length (places_of_change x)) }
+        ensures { IfSome (slice_get self.now (number - 1)) (λ x. slice_get (places_of_change x) i ≡ Some result) }
     {
         self.own(number).place(i)
     }
