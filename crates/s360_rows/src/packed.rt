@@ -114,7 +114,7 @@ impl<'a> Packing<'a> {
         let changes = self.machine.plan(event)?;
         begin(self.rt, "Changes")?;
         let count = changes.len();
-        let is_psw = count > 0 && changes.place(0) == Some(Place::Psw);
+        let is_psw = count > 0 && changes.place(0) == Place::Psw;
         end(self.rt)?;
         Ok(format!(in alloc; "{count} {is_psw}")?)
     }
@@ -128,7 +128,7 @@ impl<'a> Packing<'a> {
         begin(self.rt, "Packed::keep")?;
         changes.keep(1);
         let count = changes.count(1);
-        let is_psw = count > 0 && changes.place(1, 0) == Some(Place::Psw);
+        let is_psw = count > 0 && changes.place(1, 0) == Place::Psw;
         end(self.rt)?;
         Ok(format!(in alloc; "{count} {is_psw}")?)
     }
