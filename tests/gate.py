@@ -10,7 +10,7 @@
                       sessions that nobody wrote; and sends packets to s360gdb, lets it save files,
                       lets a real gdb drive it, and compares it with a second target, and tries the
                       sources and deciders that it tells; and looks that the documents are true
-    ./test --quick    looks at those scripts, runs the worked rows over the program with no proof, in
+    ./test --quick    looks at the scripts, runs the worked rows over the program with no proof, in
                       some three minutes, and looks at the documents
 
 tools/setup sees to what it needs.
@@ -32,6 +32,7 @@ SESSIONS = "20"
 BYTES_OF_A_CHECK = 5 * 2**30
 WHOLE = [
     ("scripts", ["tests/scripts.py"]),
+    ("where wrong bodies apply", ["tests/wrong_bodies", "--apply"]),
     ("rt ci", ["rt", "ci"]),
     ("worked rows", ["tests/rows.py"]),
     ("what rows carry out", ["tests/coverage.py"]),
