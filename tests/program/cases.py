@@ -8,6 +8,7 @@ the program.
 It needs the programs as `rt ci` or `./build s360dbg s360gdb` has built them, a C compiler, and Python's standard library
 alone.
 """
+import errno
 import itertools
 import os
 import pathlib
@@ -34,10 +35,13 @@ LONGEST_SCRIPT = 1_048_576
 LONGEST_FILE = 67_108_864
 CARD = 80
 END_OF_FILE = b"\x04"
-# A script of so many lines has answers that take some writes.
+# So many lines and requests have answers that take some writes, and are read by some reads.
 MANY_LINES = 10_000
-SOME_WRITES = 3
-
+SOME_CALLS = 2
+# What a call of the system fails with, none of which is a reason to try it again; or a write takes no
+# byte.
+ERRORS = {name: getattr(errno, name) for name in ("ENOSPC", "EINTR", "EAGAIN", "EIO", "EPIPE")}
+NO_BYTE = 0
 
 # The sum of 5 and 7 in register 1, and what a script is answered of it.
 ADDITION = b"""patch s 200 1A12
@@ -71,6 +75,7 @@ LONGEST_FIRST = header(LONGEST_BLOCK, 0, FIRST) + bytes(LONGEST_BLOCK)
 FILES = {
     "standing.s360": b"standing\n",
     "longer.s360": LONGEST_SCRIPT + 1,
+    "many.s360": Repeated(b"standing\n", MANY_LINES),
     "addition.s360": ADDITION,
     "two.deck": b"\xc1" * (2 * CARD),
     "short.deck": b"\xc1" * (2 * CARD + 1),
@@ -492,6 +497,55 @@ CASES = [*SCRIPTS, *STORAGE, *DECKS, *TAPES, *ORDER, *COMMAND_LINES, *SERVING]
 CASES += [case for _, case in TAPE_FILES]
 
 
+class Failing(NamedTuple):
+    """A run of a program that reads or writes by several calls: the stream of its answers, all of them,
+    and what is told where a call fails, in the order in which the calls come."""
+
+    what: str
+    calls: dict[str, str]
+    program: str
+    args: list[str]
+    script: bytes = b""
+    stream: str = "stdout"
+    whole: bytes = b""
+    faults: tuple[bytes, ...] = ()
+
+
+def writes_to(descriptor):
+    return {"FAIL_CALL": "write", "FAIL_FILE": str(descriptor)}
+
+
+READS = {"FAIL_CALL": "read"}
+STANDINGS = b"standing\n" * MANY_LINES
+STAND = STANDING * MANY_LINES
+QUESTIONS = sent(b"?") * MANY_LINES
+STOPS = answered(b"T05") * MANY_LINES
+MEDIA = ["--reader", "two.deck", "--tape0", "whole.tape", "--tape1", "parts.tape"]
+UNREAD_MEDIA = (b"reader: cannot read", b"tape0: cannot read", b"tape1: cannot read")
+UNREAD_SCRIPT = (*UNREAD_MEDIA, b"script: read failed")
+FAILING = [
+    Failing("a write of a script's answers", writes_to(1), DEBUGGER, [], STANDINGS, "stdout", STAND,
+            (b"script: write failed",)),
+    Failing("a write of its answers to standard error", writes_to(2), SERVER, ["many.s360"], b"",
+            "stderr", STAND, (b"script: write failed",)),
+    Failing("a write of gdb's answers", writes_to(1), SERVER, [], QUESTIONS, "stdout", STOPS,
+            (b"gdb: write failed",)),
+    Failing("a read of files, or of a script on standard input", READS, DEBUGGER, MEDIA, STANDINGS,
+            "stdout", STAND, UNREAD_SCRIPT),
+    Failing("a read of files and of a script in a file", READS, DEBUGGER, [*MEDIA, "many.s360"], b"",
+            "stdout", STAND, UNREAD_SCRIPT),
+    Failing("a read of files, of a script and of what gdb sends", READS, SERVER,
+            [*MEDIA, "standing.s360"], QUESTIONS, "stdout", STOPS,
+            (*UNREAD_SCRIPT, b"gdb: read failed")),
+]
+# What is written by one call is not told at all where that fails, and the status is this.
+UNTOLD = [
+    (Failing("the write of help", writes_to(1), DEBUGGER, ["--help"]), 1),
+    (Failing("the write of what is wrong with a command line", writes_to(2), SERVER, ["--quick"]), 2),
+    (Failing("the first write of a fault", writes_to(2), DEBUGGER, ["absent.s360"]), 1),
+]
+
+
 class Writing(NamedTuple):
     """Channel programs that write a tape, and what is on it then."""
 
@@ -669,26 +723,61 @@ def fault_of_a_leave(folder):
     return None if right else (status, *shown)
 
 
-def fault_of_failed_writes(folder, **variables):
-    """What is wrong where one write fails, and each later one would be made: nothing comes after it."""
-    shim = folder / "fail_nth_write.so"
-    source = TOP / "tests/program/fail_nth_write.c"
-    subprocess.run(["cc", "-O1", "-shared", "-fPIC", "-o", shim, source], check=True)
-    script, whole = b"standing\n" * MANY_LINES, STANDING * MANY_LINES
-    before = None
+def runs_with_a_failure(failing, shim, folder, error):
+    """Runs of a program of which the first call fails, the second, and so on, up to the run that has no
+    such call."""
     for nth in itertools.count(1):
-        environment = dict(os.environ, LD_PRELOAD=str(shim), FAIL_NTH=str(nth), **variables)
+        failure = {"LD_PRELOAD": str(shim), "FAIL_NTH": str(nth), "FAIL_ERRNO": str(error)}
+        environment = {**os.environ, **failure, **failing.calls}
         how = {"capture_output": True, "timeout": SECONDS, "cwd": folder, "env": environment}
-        done = subprocess.run([built(DEBUGGER)], input=script, **how)
+        command = [built(failing.program), *failing.args]
+        yield subprocess.run(command, input=failing.script, **how)
+
+
+def fault_of_failures(failing, shim, folder, error):
+    """What is wrong where one call fails, and each later one would be made. None is tried again: the
+    answers are those that were written before, and then the fault is told."""
+    told_of = {told(fault, failing.program): fault for fault in failing.faults}
+    faults, answers = [], []
+    for done in runs_with_a_failure(failing, shim, folder, error):
+        answer = getattr(done, failing.stream)
         if done.returncode == 0:
-            right = done.stdout == whole and nth > SOME_WRITES
-            return None if right else f"{nth - 1} writes, and {len(done.stdout)} bytes written"
-        is_first_part = whole.startswith(done.stdout) and done.stdout != whole
-        is_longer = done.stdout == b"" if before is None else len(done.stdout) > len(before)
-        fault = (done.returncode, done.stderr)
-        if not is_first_part or not is_longer or fault != (1, told(b"script: write failed")):
-            return f"write {nth}: {len(done.stdout)} bytes written, {fault}"
-        before = done.stdout
+            break
+        ending = next((line for line in told_of if done.stderr.endswith(line)), None)
+        if ending is None or done.returncode != 1:
+            return f"call {len(faults) + 1}: {done.returncode}, {done.stderr[-200:]}"
+        faults.append(told_of[ending])
+        answers.append(answer.removesuffix(ending))
+    right = (
+        answer == failing.whole,
+        all(faults.count(fault) >= SOME_CALLS for fault in failing.faults),
+        faults == sorted(faults, key=failing.faults.index),
+        all(failing.whole.startswith(part) for part in answers),
+        answers == sorted(answers, key=len),
+        # A script is read whole before it is answered, and each write that succeeds writes some.
+        not any(part for fault, part in zip(faults, answers) if fault in UNREAD_SCRIPT),
+        failing.calls == READS or len({*answers, failing.whole}) > len(answers),
+    )
+    return None if all(right) else (right, faults, [len(part) for part in answers])
+
+
+def faults_of_failures(folder):
+    """What is wrong where one call fails, of each kind of calls and by each error."""
+    shim = folder / "fail_nth.so"
+    source = TOP / "tests/program/fail_nth.c"
+    subprocess.run(["cc", "-O1", "-shared", "-fPIC", "-o", shim, source], check=True)
+    for failing in FAILING:
+        for name, error in ERRORS.items():
+            fault = fault_of_failures(failing, shim, folder, error)
+            yield f"{failing.what} fails once with {name}", fault
+        if failing.calls != READS:
+            fault = fault_of_failures(failing, shim, folder, NO_BYTE)
+            yield f"{failing.what} takes no byte once", fault
+    for failing, status in UNTOLD:
+        for name, error in ERRORS.items():
+            done = next(runs_with_a_failure(failing, shim, folder, error))
+            right = (done.returncode, done.stdout, done.stderr) == (status, b"", b"")
+            yield f"{failing.what} fails with {name}", None if right else done
 
 
 def main():
@@ -704,9 +793,7 @@ def main():
         faults.append(("a tape in an address space that it does not fit", fault))
         faults.append(("a script that is typed at a terminal", fault_at_a_terminal(folder)))
         faults.append(("gdb: the program ends when gdb leaves", fault_of_a_leave(folder)))
-        faults.append(("a write that fails once", fault_of_failed_writes(folder)))
-        fault = fault_of_failed_writes(folder, TAKE_NOTHING="1")
-        faults.append(("a write that takes no byte once", fault))
+        faults += faults_of_failures(folder)
         for what, writing in WRITINGS.items():
             fault = fault_of_read_back(writing, folder)
             faults.append((f"a tape that is written and read back: {what}", fault))

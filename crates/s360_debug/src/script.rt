@@ -10,7 +10,7 @@ ghost use Rattle.s360_text.specs.declared.script_fault.ScriptFault.TheVariants.{
 
 use crate::run::run_script;
 use s360_journal::Reversible;
-use s360_text::ScriptFault;
+use s360_text::{OneTry, ScriptFault};
 use std::alloc::Global;
 use std::io::{BufWriter, Read, Write};
 
@@ -32,15 +32,15 @@ pub fn carry_out<S: Reversible, R: Read, W: Write + Drop>(
     ensures memory { result ≡ Err Memory → IfSome (R.remaining reader.old) (λ text. IsStopped None None (new_debugger (S.standing_of session.old)) (S.standing_of session.new) (lines_of text)) }
     ensures write { result ≡ Err write_failed → IfSome (R.remaining reader.old) (λ text. AreCarriedOut (new_debugger (S.standing_of session.old)) (S.standing_of session.new) (lines_of text)) }
 {
-    let Ok(mut buffered) = BufWriter::new(alloc, writer) else {
+    let Ok(mut buffered) = BufWriter::new(alloc, OneTry { writer }) else {
         return Err(ScriptFault::Memory);
     };
     let answered = run_script(alloc, session, reader, &mut buffered);
     let is_flushed = flush_after(&answered, &mut buffered);
     // A buffer that is dropped would write what is left in it once more.
-    let (writer, _unwritten) = buffered.into_parts();
+    let (inner, _unwritten) = buffered.into_parts();
     match answered {
-        Ok(_lines) if is_flushed => Ok(writer),
+        Ok(_lines) if is_flushed => Ok(inner.writer),
         Ok(_lines) => Err(ScriptFault::Write),
         Err(fault) => Err(fault),
     }

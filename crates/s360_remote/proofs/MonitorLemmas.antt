@@ -67,7 +67,7 @@ carried-skipped line d t h other is = record {
 
 -- a line that was carried out, whose text is lost
 pub begun-carried : (line said : List ℕ) (d t : Driven) → IsCarriedOut line d t said → IsLineBegun line d t
-begun-carried line said d t h = record { stands = λ other. inr (h.state other); points = h.points; stood = h.stood; help = h.help }
+begun-carried line said d t h = record { stands = λ other. inr (h.state other); points = h.points; stood = h.stood; help = λ same. (h.help same).0 }
 
 -- and so of an inquiry
 pub begun-answered : (asked : Option Asked) (line said : List ℕ) (d t : Driven) → IsAnswered asked line d t said → IsBegun asked line d t

@@ -10,6 +10,7 @@ use Rattle.s360_inquiry.specs.Answers.{Inquired, answer_to, state_after}
 use Rattle.s360_inquiry.specs.Reading.{Asked}
 use Rattle.s360_record.specs.Recorded.{session_of, with_standing}
 use Rattle.s360_remote.specs.Driven.{Driven}
+use Rattle.s360_remote.specs.declared.monitor.TheConstants.{HELP}
 
 -- what a line meets: the session that stands, and the breakpoints that lines set
 abbrev pub debugger_of : Driven → Debugger
@@ -23,13 +24,14 @@ dropped_text (suc n) = codes "dropped " ++ decimal (suc n) ++ codes " recorded c
 abbrev pub monitor_text : Debugger → List ℕ → ℕ → List ℕ
 monitor_text d line dropped = answer_to_line d line ++ dropped_text dropped
 
--- the line was carried out: one of the language as a script's is, also where a script skips it; `help` with no change
+-- the line was carried out: one of the language as a script's is, also where a script skips it; `help` with no change, and it
+-- tells the lines
 pub record IsCarriedOut (line : List ℕ) (d t : Driven) (said : List ℕ) : Type 0 where
   pub text : line ≢ codes "help" → said ≡ monitor_text (debugger_of d) line t.dropped
   pub state : line ≢ codes "help" → debugger_of t ≡ state_after_line (debugger_of d) line
   pub points : t.points ≡ d.points
   pub stood : t.stood ≡ d.stood
-  pub help : line ≡ codes "help" → t ≡ d
+  pub help : line ≡ codes "help" → (t ≡ d) × (said ≡ HELP.now)
 
 -- after want of memory: some first ones of the events stand that it would have run, or it was carried out and its text is lost
 pub record IsLineBegun (line : List ℕ) (d t : Driven) : Type 0 where

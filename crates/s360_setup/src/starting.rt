@@ -8,6 +8,8 @@ use crate::program::Program;
 use crate::telling::ending;
 use clap::Error;
 use clap::error::ErrorKind;
+use s360_text::OneTry;
+use std::io::Write;
 use std::{env, io};
 
 /// The status where the command line did not ask for what can be done.
@@ -64,10 +66,17 @@ fn status_for<F: FnOnce(Options<'_>) -> Result<(), Failure>>(
 fn show(rt: &HostRuntime, error: &Error) -> u8
     ensures { result ≤ 2 }
 {
-    let shown = error.print(rt);
     if error.use_stderr() {
-        USAGE
-    } else {
-        u8::from(shown.is_err())
+        // Where this is not taken, the status alone tells of it.
+        let _ = OneTry {
+            writer: rt.stderr(),
+        }
+        .write_fmt(error);
+        return USAGE;
     }
+    let shown = OneTry {
+        writer: rt.stdout(),
+    }
+    .write_fmt(error);
+    u8::from(shown.is_err())
 }

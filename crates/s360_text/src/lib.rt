@@ -3,12 +3,14 @@
 #![tactic(auto)]
 
 mod digits;
+mod one_try;
 mod reading;
 mod script_fault;
 mod text;
 mod writing;
 
 pub use digits::number_in;
+pub use one_try::OneTry;
 pub use reading::{ReadFault, read_whole};
 pub use script_fault::ScriptFault;
 pub use text::Text;

@@ -1,10 +1,11 @@
 //! What the program does once its command line is read. Faults are found in the order of the steps.
 ghost use Rattle.std.specs.Prelude.{◌≡◌, ◌≢◌, ◌≤◌, true, false, length};
-ghost use Rattle.std.specs.Prelude.{IfErr, IfSome, OnOk, Err};
+ghost use Rattle.std.specs.Prelude.{IfErr, IfOk, IfSome, OnOk, Err};
+ghost use Rattle.std.specs.Io.KnownBytes.{Appends};
 ghost use Rattle.s360_model.specs.Storage.{is_storage_size};
 ghost use Rattle.s360_debug.specs.Debugger.{new_debugger};
 ghost use Rattle.s360_debug.specs.Lines.{lines_of};
-ghost use Rattle.s360_debug.specs.Script.{state_after_lines};
+ghost use Rattle.s360_debug.specs.Script.{answers_of, state_after_lines};
 ghost use Rattle.s360_setup.specs.Failures.{IsScriptFailure, IsAnsweringFailure};
 ghost use Rattle.s360dbg.specs.Failures.{IsRunFailure};
 ghost use Rattle.s360_setup.specs.declared.failure.Failure.TheVariants.{StorageSize};
@@ -13,7 +14,8 @@ use s360_beginning::set_up;
 use s360_debug::carry_out;
 use s360_journal::Session;
 use s360_setup::{Failure, LIMIT, Options, Part, Program, open, tell};
-use std::io::{self, Input, IsTerminal, Read};
+use std::alloc::Global;
+use std::io::{self, Input, IsTerminal, Read, Write};
 
 /// What a person is told from whose terminal the script is read. All of it is read before its first
 /// line is carried out.
@@ -39,27 +41,29 @@ fn answer_script(rt: &HostRuntime, session: &mut Session, name: Option<&str>) ->
     match name {
         Some(name) => {
             let mut file = open(rt, Part::Script, name)?;
-            answer_on_output(rt, session, &mut file)
+            let _writer = answer(rt.alloc(), session, &mut file, io::writer(rt))?;
         }
         None => {
             tell_terminal(rt);
-            answer_on_output(rt, session, &mut rt.reader())
+            let _writer = answer(rt.alloc(), session, &mut rt.reader(), io::writer(rt))?;
         }
     }
+    Ok(())
 }
 
-/// Carries out the script that a reader has left, and writes its answers to standard output.
-fn answer_on_output<R: Read>(
-    rt: &HostRuntime,
+/// Carries out the script that a reader has left, and answers the writer, which has its answers.
+fn answer<R: Read, W: Write + Drop>(
+    alloc: Global,
     session: &mut Session,
     reader: &mut R,
-) -> Result<(), Failure>
+    writer: W,
+) -> Result<W, Failure>
     ensures length { OnOk result (IfSome (R.remaining reader.old) (λ text. length text ≤ 1048576)) }
+    ensures answers { IfOk result (λ w. IfSome (R.remaining reader.old) (λ text. Appends (W.contents writer) (W.contents w) (answers_of session.old text))) }
     ensures state { OnOk result (IfSome (R.remaining reader.old) (λ text. session.new ≡ (state_after_lines (new_debugger session.old) (lines_of text)).session)) }
     ensures failure { IfErr result IsScriptFailure }
 {
-    let _writer = carry_out(rt.alloc(), session, reader, io::writer(rt))?;
-    Ok(())
+    Ok(carry_out(alloc, session, reader, writer)?)
 }
 
 /// Where a person is at the terminal from which the script is read, says what is waited for.

@@ -1,2 +1,3 @@
 mod Conversations
+mod Failing
 mod Notes

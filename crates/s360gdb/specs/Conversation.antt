@@ -6,42 +6,51 @@ use Rattle.s360_packet.specs.declared.receiver.Acknowledging.TheVariants.{On}
 use Rattle.s360_remote.specs.Connecting.{Connected, IsTaken}
 use Rattle.s360_remote.specs.Driven.{Driven}
 use Rattle.s360_remote.specs.declared.errand.Errand.{Errand}
-use Rattle.s360gdb.specs.Saving.{IsRun}
+use Rattle.s360gdb.specs.Saving.{IsRun, Known}
 
 -- nothing has come
 abbrev pub new_connection : Connected
 new_connection = record { receiving = between_packets 16384; acknowledging = On; ended = false }
 
+-- how far a conversation is: its connection and its target, and what is known of the program's host
+pub record Talking : Type 0 where
+  pub connection : Connected
+  pub target : Driven
+  pub known : Known
+
 -- a byte came, was answered, and what was left to do is done and answered too; files of the host have these contents, as far as
 -- they are known
-abbrev pub IsTalk : {F : Type 0} → (F → Option (List ℕ)) → ℕ → Connected → Driven → Connected → Driven → List ℕ → Type 0
-IsTalk contents byte c d e t answers =
-    (errand : Errand) × (first : List ℕ) × (second : List ℕ) × IsTaken c.ended byte c d e t errand first × IsRun contents errand second × (answers ≡ first ++ second)
+abbrev pub IsTalk : {F : Type 0} → (F → Option (List ℕ)) → ℕ → Talking → Talking → List ℕ → Type 0
+IsTalk contents byte s t answers =
+    (errand : Errand) × (first : List ℕ) × (second : List ℕ)
+    × IsTaken s.connection.ended byte s.connection s.target t.connection t.target errand first
+    × IsRun contents errand s.known t.known second × (answers ≡ first ++ second)
 
 -- bytes came one after another, and were answered so
-abbrev pub IsConversation : {F : Type 0} → (F → Option (List ℕ)) → List ℕ → Connected → Driven → Connected → Driven → List ℕ → Type 0
-IsConversation contents [] c d e t answers = (e ≡ c) × (t ≡ d) × (answers ≡ [])
-IsConversation contents (byte ∷ bytes) c d e t answers =
-    (f : Connected) × (u : Driven) × (first : List ℕ) × (rest : List ℕ)
-    × IsTalk contents byte c d f u first × IsConversation contents bytes f u e t rest × (answers ≡ first ++ rest)
+abbrev pub IsConversation : {F : Type 0} → (F → Option (List ℕ)) → List ℕ → Talking → Talking → List ℕ → Type 0
+IsConversation contents [] s t answers = (t ≡ s) × (answers ≡ [])
+IsConversation contents (byte ∷ bytes) s t answers =
+    (mid : Talking) × (first : List ℕ) × (rest : List ℕ)
+    × IsTalk contents byte s mid first × IsConversation contents bytes mid t rest × (answers ≡ first ++ rest)
 
 -- the bytes that were read of a reader, of which the last read gave at most 4,096: gdb had not left before it; and their
 -- answers, which a writer has
-pub record IsServed {F : Type 0} (contents : F → Option (List ℕ)) (old new : Option (List ℕ)) (d t : Driven) (silent answered : Option (List ℕ)) (e : Connected) : Type 0 where
+pub record IsServed {F : Type 0} (contents : F → Option (List ℕ)) (old new : Option (List ℕ)) (s t : Talking) (silent answered : Option (List ℕ)) : Type 0 where
   pub before : List ℕ
   pub last : List ℕ
-  pub connection : Connected
-  pub target : Driven
+  pub mid : Talking
   pub first : List ℕ
   pub rest : List ℕ
   pub read : Consumes old new (before ++ last)
   pub few : length last ≤ 4096
-  pub begun : IsConversation contents before new_connection d connection target first
-  pub stays : connection.ended ≡ false
-  pub ended : IsConversation contents last connection target e t rest
+  pub begun : IsConversation contents before s mid first
+  pub stays : mid.connection.ended ≡ false
+  pub ended : IsConversation contents last mid t rest
   pub written : Appends silent answered (first ++ rest)
 
 -- until gdb has left, or the reader has no more, or more was read than a file can have
-abbrev pub IsServedWhole : {F : Type 0} → (F → Option (List ℕ)) → Option (List ℕ) → Option (List ℕ) → Driven → Driven → Option (List ℕ) → Option (List ℕ) → Type 0
-IsServedWhole contents old new d t silent answered =
-    (e : Connected) × (s : IsServed contents old new d t silent answered e) × ((e.ended ≡ true) ⊎ (IsAtEnd new ⊎ (18446744073709551615 ≤ length (s.before ++ s.last))))
+abbrev pub IsServedWhole : {F : Type 0} → (F → Option (List ℕ)) → Option (List ℕ) → Option (List ℕ) → Driven → Known → Driven → Known → Option (List ℕ) → Option (List ℕ) → Type 0
+IsServedWhole contents old new d k e l silent answered =
+    (c : Connected)
+    × (s : IsServed contents old new (record { connection = new_connection; target = d; known = k }) (record { connection = c; target = e; known = l }) silent answered)
+    × ((c.ended ≡ true) ⊎ (IsAtEnd new ⊎ (18446744073709551615 ≤ length (s.before ++ s.last))))

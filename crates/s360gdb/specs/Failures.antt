@@ -4,11 +4,15 @@ use Rattle.s360_setup.specs.declared.failure.Part.TheVariants.{Connection}
 use Rattle.s360_setup.specs.declared.failure.Fault.TheVariants.{ReadFailed, WriteFailed}
 use Rattle.s360_setup.specs.declared.failure.Failure.{Failure}
 use Rattle.s360_setup.specs.declared.failure.Failure.TheVariants.{Memory, Part}
-use Rattle.s360_setup.specs.Failures.{IsSetUpFailure, IsAnsweringFailure}
+use Rattle.s360_setup.specs.Failures.{IsSetUpFailure, IsAnsweringFailure, IsScriptFailure}
 
 -- those that serving gdb ends with
 abbrev pub IsServingFailure : Failure → Type 0
 IsServingFailure failure = (failure ≡ Part Connection ReadFailed) ⊎ ((failure ≡ Part Connection WriteFailed) ⊎ (failure ≡ Memory))
+
+-- those that carrying out a script and serving gdb after it ends with
+abbrev pub IsServingAfterFailure : Failure → Type 0
+IsServingAfterFailure failure = IsScriptFailure failure ⊎ IsServingFailure failure
 
 -- those of the whole program
 abbrev pub IsRunFailure : Failure → Type 0

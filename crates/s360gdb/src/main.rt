@@ -2,6 +2,8 @@
 #![tactic(auto)]
 
 mod file;
+mod host;
+mod opening;
 mod program;
 
 use s360_setup::{Program, start};

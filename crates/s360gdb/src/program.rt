@@ -1,26 +1,29 @@
 //! What the program does once its command line is read. Faults are found in the order of the steps.
-ghost use Rattle.std.specs.Prelude.{◌≡◌, ◌++◌, ℕ, List, true, false, IfErr, OnOk, Err};
+ghost use Rattle.std.specs.Prelude.{◌≡◌, ◌++◌, ℕ, List, true, false, IfErr, IfOk, OnOk, Err};
 ghost use Rattle.std.specs.Io.KnownBytes.{Appends};
 ghost use Rattle.s360_model.specs.Storage.{is_storage_size};
-ghost use Rattle.s360_setup.specs.Failures.{IsAnsweringFailure};
+ghost use Rattle.s360_setup.specs.Failures.{IsScriptFailure};
 ghost use Rattle.s360_setup.specs.Partial.{IsBegun};
+ghost use Rattle.s360gdb.specs.Beginning.{IsServedAfter};
 ghost use Rattle.s360gdb.specs.Conversation.{IsConversation, IsServedWhole};
-ghost use Rattle.s360gdb.specs.Failures.{IsServingFailure, IsRunFailure};
+ghost use Rattle.s360gdb.specs.Failures.{IsServingFailure, IsRunFailure, IsServingAfterFailure};
 ghost use Rattle.s360gdb.specs.Notes.{note_of_dropped};
-ghost use Rattle.s360gdb.specs.Saving.{IsRun};
+ghost use Rattle.s360gdb.specs.Saving.{IsRun, known_of};
 ghost use Rattle.s360_setup.specs.declared.failure.Failure.TheVariants.{Memory, StorageSize};
 
 use crate::file::write_file;
+use crate::host::Host;
+use crate::opening::Opening;
 use itoa::Buffer;
 use s360_beginning::set_up;
 use s360_debug::carry_out;
+use s360_machine::Machine;
 use s360_record::Recording;
 use s360_remote::{Connection, Errand, Replies, Target};
 use s360_setup::{Failure, Fault, LIMIT, Options, Part, Program, open, tell};
 use s360_text::{Untaken, write_whole};
-use std::alloc::{AllocError, Global};
-use std::fs::Files;
-use std::io::{Input, Read, Write};
+use std::alloc::AllocError;
+use std::io::{self, Input, Read, Write};
 
 /// A read is of at most so many bytes.
 const CHUNK: usize = 4_096;
@@ -32,58 +35,72 @@ pub(crate) fn run(rt: &HostRuntime, options: Options<'_>) -> Result<(), Failure>
     ensures failure { IfErr result IsRunFailure }
 {
     let machine = set_up(rt, rt.alloc(), options)?;
-    let mut recording = Recording::new(rt.alloc(), machine, LIMIT);
-    answer_script(rt, &mut recording, options.script)?;
-    serve_on_output(rt, recording)
+    match options.script {
+        Some(name) => serve_on_output(rt, machine, &mut open(rt, Part::Script, name)?),
+        None => serve_on_output(rt, machine, &mut io::empty()),
+    }
 }
 
-/// Carries out the script in a file, if one is named, and writes its answers to standard error: standard output is gdb's.
-fn answer_script(
+/// Carries out the script that a reader has, and serves gdb on standard input and output. The answers of the script go to
+/// standard error.
+fn serve_on_output<S: Read>(
     rt: &HostRuntime,
-    recording: &mut Recording,
-    name: Option<&str>,
+    machine: Machine,
+    script: &mut S,
 ) -> Result<(), Failure>
-    ensures limit { OnOk result (recording.new.limit ≡ recording.old.limit) }
-    ensures failure { IfErr result IsAnsweringFailure }
+    ensures failure { IfErr result IsServingAfterFailure }
 {
-    if let Some(name) = name {
-        let mut script = open(rt, Part::Script, name)?;
-        let _writer = carry_out(rt.alloc(), recording, &mut script, rt.stderr())?;
-    }
+    let host = Host {
+        alloc: rt.alloc(),
+        files: rt,
+        notes: rt.stderr(),
+    };
+    let (reader, writer) = (&mut rt.reader(), &mut rt.stdout());
+    let _host = serve_after_script(host, machine, script, reader, writer)?;
     Ok(())
 }
 
-/// Serves gdb over a recording, on standard input and output.
-fn serve_on_output(rt: &HostRuntime, recording: Recording) -> Result<(), Failure>
-    requires { recording.limit ≡ 10000000 }
-    ensures failure { IfErr result IsServingFailure }
+/// Carries out over a machine the script that a reader has, whose answers are notes, and serves gdb over what stands then.
+fn serve_after_script<F: Opening + Drop, N: Write + Drop, S: Read, R: Read, W: Write>(
+    host: Host<F, N>,
+    machine: Machine,
+    script: &mut S,
+    reader: &mut R,
+    writer: &mut W,
+) -> Result<Host<F, N>, Failure>
+    ensures served { IfOk result (λ after. IsServedAfter F.File.contents machine.whole (S.remaining script.old) (known_of F.asked N.contents host) (known_of F.asked N.contents after) (R.remaining reader.old) (R.remaining reader.new) (W.contents writer.old) (W.contents writer.new)) }
+    ensures failure { IfErr result IsServingAfterFailure }
 {
-    let mut target = Target::new(rt.alloc(), recording, LIMIT);
-    serve(
-        rt,
-        rt.alloc(),
-        &mut target,
-        &mut rt.reader(),
-        &mut rt.stdout(),
-        &mut rt.stderr(),
-    )
+    let Host {
+        alloc,
+        files,
+        notes,
+    } = host;
+    let mut recording = Recording::new(alloc, machine, LIMIT);
+    let notes = carry_out(alloc, &mut recording, script, notes)?;
+    let mut host = Host {
+        alloc,
+        files,
+        notes,
+    };
+    let mut target = Target::new(alloc, recording, LIMIT);
+    serve(&mut host, &mut target, reader, writer)?;
+    Ok(host)
 }
 
-/// Serves gdb until it leaves, or until what it sends has ended. `notes` are told how many recorded changes it drops, and
-/// what it saves is written among `files`.
-fn serve<F: Files, R: Read, W: Write, N: Write>(
-    files: &F,
-    alloc: Global,
+/// Serves gdb until it leaves, or until what it sends has ended. The host's notes are told how many recorded changes it drops, and
+/// what it saves is written among the host's files.
+fn serve<F: Opening, N: Write, R: Read, W: Write>(
+    host: &mut Host<F, N>,
     target: &mut Target,
     reader: &mut R,
     writer: &mut W,
-    notes: &mut N,
 ) -> Result<(), Failure>
-    ensures served { OnOk result (IsServedWhole F.File.contents (R.remaining reader.old) (R.remaining reader.new) target.old target.new (W.contents writer.old) (W.contents writer.new)) }
+    ensures served { OnOk result (IsServedWhole F.File.contents (R.remaining reader.old) (R.remaining reader.new) target.old (known_of F.asked N.contents host.old) target.new (known_of F.asked N.contents host.new) (W.contents writer.old) (W.contents writer.new)) }
     ensures failure { IfErr result IsServingFailure }
 {
-    let mut connection = Connection::new(alloc)?;
-    let mut replies = Replies::new(alloc);
+    let mut connection = Connection::new(host.alloc)?;
+    let mut replies = Replies::new(host.alloc);
     let mut chunk = [0; CHUNK];
     // Each read but the last gives a byte at least.
     for _read in 0..u64::MAX {
@@ -96,14 +113,7 @@ fn serve<F: Files, R: Read, W: Write, N: Write>(
         if len == 0 {
             break;
         }
-        let taken = take_all(
-            files,
-            &mut connection,
-            target,
-            &mut replies,
-            &chunk[..len],
-            notes,
-        );
+        let taken = take_all(host, &mut connection, target, &mut replies, &chunk[..len]);
         // What was answered before memory was wanted is written too.
         let written = write_whole(writer, replies.as_bytes());
         taken?;
@@ -116,42 +126,40 @@ fn serve<F: Files, R: Read, W: Write, N: Write>(
 }
 
 /// Takes bytes that gdb sent, adds what is answered, and does what is left to do. Those behind its leave are dropped.
-fn take_all<F: Files, N: Write>(
-    files: &F,
+fn take_all<F: Opening, N: Write>(
+    host: &mut Host<F, N>,
     connection: &mut Connection,
     target: &mut Target,
     replies: &mut Replies,
     bytes: &[u8],
-    notes: &mut N,
 ) -> Result<(), Failure>
-    ensures answered { OnOk result ((answers : List ℕ) × IsConversation F.File.contents bytes.now connection.old target.old connection.new target.new answers × (replies.new ≡ replies.old ++ answers)) }
+    ensures answered { OnOk result ((answers : List ℕ) × IsConversation F.File.contents bytes.now (record { connection = connection.old; target = target.old; known = known_of F.asked N.contents host.old }) (record { connection = connection.new; target = target.new; known = known_of F.asked N.contents host.new }) answers × (replies.new ≡ replies.old ++ answers)) }
     ensures failure { IfErr result (λ failure. failure ≡ Memory) }
 {
     for byte in bytes {
         let errand = connection.take(*byte, target, replies)?;
-        run_errand(files, errand, replies, notes)?;
+        run_errand(host, errand, replies)?;
     }
     Ok(())
 }
 
 /// Does what is left to do once a byte was taken, and adds what is answered then.
-fn run_errand<F: Files, N: Write>(
-    files: &F,
+fn run_errand<F: Opening, N: Write>(
+    host: &mut Host<F, N>,
     errand: Errand,
     replies: &mut Replies,
-    notes: &mut N,
 ) -> Result<(), AllocError>
-    ensures { OnOk result ((answers : List ℕ) × IsRun F.File.contents errand answers × (replies.new ≡ replies.old ++ answers)) }
+    ensures { OnOk result ((answers : List ℕ) × IsRun F.File.contents errand (known_of F.asked N.contents host.old) (known_of F.asked N.contents host.new) answers × (replies.new ≡ replies.old ++ answers)) }
 {
     match errand {
         Errand::Nothing => Ok(()),
         Errand::TellDropped(count) => {
             // gdb is served all the same where this is not taken.
-            let _ = tell_dropped(count, notes);
+            let _ = tell_dropped(count, &mut host.notes);
             Ok(())
         }
         Errand::Write(file) => {
-            let outcome = write_file(files, &file);
+            let outcome = write_file(&mut host.files, &file);
             replies.push_written(file.amount, outcome)
         }
     }
