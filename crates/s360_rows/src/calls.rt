@@ -2,13 +2,13 @@
 //! of them is there where a line is no command or memory is out.
 use crate::rows::Words;
 use s360_debug::read_command;
-use s360_journal::{Answer, Call, Places, Report, Session, Withdrawal};
+use s360_journal::{Answer, Breaks, Call, Places, Report, RunEnd, Session, Withdrawal};
 use s360_machine::{Bytes, Event, Patch, Refusal};
 use s360_store::Place;
-use std::alloc::Global;
+use std::alloc::{AllocError, Global};
 
 /// The call that a line asks of a session: how many changes stand, a step back, going back to a change, a withdrawal, the
-/// last change of a byte or a register, or the event that it offers.
+/// last change of a byte or a register, a run with no breakpoint, or the event that it offers.
 pub(crate) fn call(alloc: Global, line: &str) -> Option<Call> {
     match line.split_once(" ") {
         None if line == "standing" => Some(Call::Standing),
@@ -17,6 +17,9 @@ pub(crate) fn call(alloc: Global, line: &str) -> Option<Call> {
         Some(("withdraw", number)) => Some(Call::Withdraw(number.parse().ok()?)),
         Some(("last", "p")) => Some(Call::LastChange(Place::Psw)),
         Some(("last", place)) => Some(Call::LastChange(place_of(place)?)),
+        Some(("run", most)) => Some(Call::Run(Breaks::new(), most.parse().ok()?)),
+        Some(("advance", line)) => Some(Call::Advance(event(alloc, line)?)),
+        Some(("preview", line)) => Some(Call::Preview(event(alloc, line)?)),
         _ => Some(Call::Forward(event(alloc, line)?)),
     }
 }
@@ -89,10 +92,25 @@ pub(crate) fn text_of_report(alloc: Global, report: &Result<Report, Refusal>) ->
     }
 }
 
+/// What a run was answered, and how many of its events were accepted.
+fn text_of_run(alloc: Global, accepted: u32, end: &Result<RunEnd, AllocError>) -> Option<String> {
+    match end {
+        Ok(RunEnd::Refused(refusal)) => format!(in alloc; "ran {accepted} {refusal}").ok(),
+        Ok(RunEnd::Idle) => format!(in alloc; "ran {accepted} idle").ok(),
+        Ok(RunEnd::Break) => format!(in alloc; "ran {accepted} break").ok(),
+        Ok(RunEnd::Done) => format!(in alloc; "ran {accepted} done").ok(),
+        Err(_) => None,
+    }
+}
+
 /// What a call was answered.
 pub(crate) fn text_of_answer(alloc: Global, answer: &Answer) -> Option<String> {
     match answer {
-        Answer::Forwarded(report) => text_of_report(alloc, report),
+        Answer::Forwarded(report) | Answer::Previewed(report) => text_of_report(alloc, report),
+        Answer::Advanced(Ok(())) => format!(in alloc; "advanced").ok(),
+        Answer::Advanced(Err(Refusal::Memory)) => None,
+        Answer::Advanced(Err(refusal)) => format!(in alloc; "{refusal}").ok(),
+        Answer::Ran { accepted, end } => text_of_run(alloc, *accepted, end),
         Answer::TookBack(Ok(event)) => format!(in alloc; "{event:?}").ok(),
         Answer::TookBack(Err(fault)) => format!(in alloc; "{fault}").ok(),
         Answer::WentBack(number) => format!(in alloc; "until {number}").ok(),
