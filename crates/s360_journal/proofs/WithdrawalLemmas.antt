@@ -12,7 +12,7 @@ use Rattle.s360_store.specs.Places.{CorePlace, core_place_of, core_with_value, w
 use Rattle.s360_store.specs.Places.CorePlace.{psw, register, byte, key}
 use Rattle.s360_machine.specs.declared.event.Event.{Event}
 use Rattle.s360_machine.specs.Change.{Change, after_swap}
-use Rattle.s360_machine.specs.Machine.{Whole, seen, storage_size}
+use Rattle.s360_machine.specs.Machine.{Machine, Whole, seen, storage_size}
 use Rattle.s360_machine.specs.Refusals.{refusal_of}
 use Rattle.s360_journal.specs.History.{AreHistory, Entry, IsHistory, entries_of, unwound}
 use Rattle.s360_journal.specs.Offers.{with_events}
@@ -51,6 +51,37 @@ pub size-session : (w : Whole) (es : List Event) (xs : List Change) (limit : ℕ
 size-session w es xs limit s h view =
     ap storage_size (sym (machine_of-session w es xs limit s h view)) ∙ sym (size-unwound w (reverse (entries_of es xs)))
     ∙ ap (λ (t : Standing). storage_size (seen t.start)) view
+
+-- ---- nor whether fetches are protected
+
+profile-with_value : (m : Core) (p : Place) (v : ℕ) → (with_value m p v).storage.fetch_protection ≡ m.storage.fetch_protection
+profile-with_value m p v =
+    let by : (o : Option CorePlace) → (option_map_or (λ q. core_with_value q v m) o m).storage.fetch_protection ≡ m.storage.fetch_protection
+    = λ o. elim o as (λ x. (option_map_or (λ q. core_with_value q v m) x m).storage.fetch_protection ≡ m.storage.fetch_protection) [
+      | None ↦ refl
+      | Some q ↦ elim q as (λ x. (core_with_value x v m).storage.fetch_protection ≡ m.storage.fetch_protection) [
+        | psw ↦ refl
+        | register n ↦ refl
+        | byte a ↦ refl
+        | key b ↦ refl
+      ]
+    ]
+    in by (core_place_of p)
+
+profile-after_exchange : (m : Core) (cs : List Cell) → (after_exchange m cs).storage.fetch_protection ≡ m.storage.fetch_protection
+profile-after_exchange m [] = refl
+profile-after_exchange m (c ∷ cs) = profile-after_exchange (with_value m c.place c.value) cs ∙ profile-with_value m c.place c.value
+
+profile-unwound : (w : Whole) (xs : List Entry) → (unwound w xs).core.storage.fetch_protection ≡ w.core.storage.fetch_protection
+profile-unwound w [] = refl
+profile-unwound w (x ∷ xs) = profile-unwound (after_swap w x.changes) xs ∙ profile-after_exchange w.core x.changes.cells
+
+pub profile-session : (w : Whole) (es : List Event) (xs : List Change) (limit : ℕ) (s : Standing) → AreHistory w es xs
+    → record { start = unwound w (reverse (entries_of es xs)); events = es; limit = limit } ≡ s
+    → (machine_of s).core.storage.fetch_protection ≡ s.start.core.storage.fetch_protection
+profile-session w es xs limit s h view =
+    ap (λ (m : Machine). m.core.storage.fetch_protection) (sym (machine_of-session w es xs limit s h view))
+    ∙ sym (profile-unwound w (reverse (entries_of es xs))) ∙ ap (λ (t : Standing). t.start.core.storage.fetch_protection) view
 
 -- ---- what stands is not refused where it is run again
 

@@ -1,14 +1,16 @@
 //! Lists of session calls. The contract of `run_calls` is what the whole stands for: after any list of
 //! calls, whatever each answered, the machine is its start with the standing events run again, none of
 //! which is refused on the way.
-ghost use Rattle.std.specs.Prelude.{◌≡◌, ◌≤◌, IfOk, OnErr, []};
+ghost use Rattle.std.specs.Prelude.{◌≡◌, ◌≤◌, IfOk, OnErr};
 ghost use Rattle.s360_machine.specs.Machine.{seen};
 ghost use Rattle.s360_journal.specs.Rerun.{rerun, AreAccepted};
-ghost use Rattle.s360_journal.specs.Calls.{IsAnswer, IsRun, standing_events};
+ghost use Rattle.s360_journal.specs.Calls.{IsAnswer, IsRun, new_session, standing_events};
 ghost use Rattle.s360_journal.specs.Standing.{Standing as State};
+ghost use Rattle.s360_journal.specs.declared.calls.Call.TheVariants.{Run};
 
 use crate::breaks::Breaks;
 use crate::report::Report;
+use crate::running::RunEnd;
 use crate::session::{NothingStands, Session};
 use crate::withdrawing::Withdrawal;
 use s360_machine::{Event, Machine, Refusal};
@@ -21,6 +23,12 @@ use std::collections::VecDeque;
 pub enum Call {
     /// `Session::forward`
     Forward(Event),
+    /// `Session::advance`
+    Advance(Event),
+    /// `Session::preview`
+    Preview(Event),
+    /// `Session::run`
+    Run(Breaks, u32),
     /// `Session::back`
     Back,
     /// `Session::back_until`
@@ -40,6 +48,15 @@ pub enum Call {
 pub enum Answer {
     /// Of `Session::forward`.
     Forwarded(Result<Report, Refusal>),
+    /// Of `Session::advance`.
+    Advanced(Result<(), Refusal>),
+    /// Of `Session::preview`.
+    Previewed(Result<Report, Refusal>),
+    /// Of `Session::run`, with the number of events that were accepted.
+    Ran {
+        accepted: u32,
+        end: Result<RunEnd, AllocError>,
+    },
     /// Of `Session::back`.
     TookBack(Result<Event, NothingStands>),
     /// Of `Session::back_until` and `Session::back_to`.
@@ -68,6 +85,9 @@ impl Session {
     {
         match call {
             Call::Forward(event) => Answer::Forwarded(self.forward(event)),
+            Call::Advance(event) => Answer::Advanced(self.advance(event)),
+            Call::Preview(event) => Answer::Previewed(self.preview(event)),
+            Call::Run(breaks, most) => self.perform_run(&breaks, most),
             Call::Back => Answer::TookBack(self.back()),
             Call::BackUntil(breaks) => Answer::WentBack(self.back_until(&breaks)),
             Call::BackTo(number) => Answer::WentBack(self.back_to(number)),
@@ -75,6 +95,16 @@ impl Session {
             Call::Standing => Answer::Stands(self.standing()),
             Call::LastChange(place) => Answer::LastChanged(self.last_change(place)),
         }
+    }
+
+    /// A run, of which the accepted events are counted.
+    fn perform_run(&mut self, breaks: &Breaks, most: u32) -> Answer
+        ensures { IsAnswer self.old (Run breaks.now most) result self.new }
+    {
+        let before = self.standing();
+        let end = self.run(breaks, most);
+        let accepted = self.standing() - before;
+        Answer::Ran { accepted, end }
     }
 
     /// Calls one after another. Want of memory for their answers leaves the session as it was.
@@ -101,9 +131,9 @@ pub fn run_calls(
     calls: Vec<Call>,
 ) -> Result<Outcome, AllocError>
     requires { limit ≤ 10000000 }
-    ensures machine { IfOk result (λ o. seen o.machine.whole ≡ rerun (seen start.whole) (standing_events [] calls.items o.answers.items)) }
-    ensures accepted { IfOk result (λ o. AreAccepted (seen start.whole) (standing_events [] calls.items o.answers.items)) }
-    ensures answers { IfOk result (λ o. (end : State) × IsRun (record { start = start.whole; events = []; limit = limit }) calls.items o.answers.items end) }
+    ensures machine { IfOk result (λ o. seen o.machine.whole ≡ rerun (seen start.whole) (standing_events (new_session start.whole limit) calls.items o.answers.items)) }
+    ensures accepted { IfOk result (λ o. AreAccepted (seen start.whole) (standing_events (new_session start.whole limit) calls.items o.answers.items)) }
+    ensures answers { IfOk result (λ o. (end : State) × IsRun (new_session start.whole limit) calls.items o.answers.items end) }
 {
     let mut session = Session::new(alloc, start, limit);
     let answers = session.perform_all(calls)?;

@@ -16,9 +16,10 @@ pub enum Report {
     Idle,
 }
 
-/// Whether the last of the changes, if there is one, has no place.
+/// Whether the last of the changes has no place, or there is none.
 pub(crate) fn is_idle(changes: &Packed) -> bool
-    ensures { IfSome (slice_get changes.now (length changes.now - 1)) (λ x. IsTrue result ↔ (places_of_change x ≡ [])) }
+    ensures last { IfSome (slice_get changes.now (length changes.now - 1)) (λ x. IsTrue result ↔ (places_of_change x ≡ [])) }
+    ensures none { changes.now ≡ [] → IsTrue result }
 {
     let number = changes.len();
     number == 0 || changes.last_count() == 0

@@ -40,9 +40,10 @@ pub trait Reversible {
     fn last_change(&self, place: Place) -> Option<u32>
         ensures { result ≡ last_change_of (seen (standing_of self.now).start) (standing_of self.now).events place };
 
-    /// Whether the last change that stands altered nothing.
+    /// Whether the last change that stands altered nothing, or none stands.
     fn is_idle(&self) -> bool
-        ensures { (s : Standing) (e : Event) → IsAfter (standing_of self.now) s e → (IsTrue result ↔ (alteration s e ≡ [])) };
+        ensures last { (s : Standing) (e : Event) → IsAfter (standing_of self.now) s e → (IsTrue result ↔ (alteration s e ≡ [])) }
+        ensures nothing { (standing_of self.now).events ≡ [] → IsTrue result };
 
     /// Runs an event, which then stands, also where it alters nothing, and reports nothing of it. A refused one changes
     /// nothing.

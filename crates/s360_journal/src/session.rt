@@ -97,11 +97,13 @@ impl Session {
         self.alloc
     }
 
-    /// The machine: the start with the standing events run again, none of which is refused, or alters the size of storage.
+    /// The machine: the start with the standing events run again, none of which is refused, or alters the size of storage or
+    /// whether fetches are protected.
     pub fn machine(&self) -> &Machine
         ensures rerun { seen result.now.whole ≡ rerun (seen self.now.start) self.now.events }
         ensures accepted { AreAccepted (seen self.now.start) self.now.events }
         ensures size { storage_size (machine_of self.now) ≡ storage_size (seen self.now.start) }
+        ensures profile { (machine_of self.now).core.storage.fetch_protection ≡ self.now.start.core.storage.fetch_protection }
     {
         &self.machine
     }
@@ -157,9 +159,10 @@ impl Session {
         Report::of_last(self.alloc, &self.changes)
     }
 
-    /// Whether the last change that stands altered nothing.
+    /// Whether the last change that stands altered nothing, or none stands.
     pub fn is_idle(&self) -> bool
-        ensures { (s : Standing) (e : Event) → IsAfter self.now s e → (IsTrue result ↔ (alteration s e ≡ [])) }
+        ensures last { (s : Standing) (e : Event) → IsAfter self.now s e → (IsTrue result ↔ (alteration s e ≡ [])) }
+        ensures nothing { self.now.events ≡ [] → IsTrue result }
     {
         is_idle(&self.changes)
     }

@@ -71,6 +71,7 @@ impl Recording {
         ensures accepted { AreAccepted (seen self.now.start) self.now.events }
         ensures few { length self.now.events ≤ self.now.limit }
         ensures size { storage_size (machine_of (session_of self.now)) ≡ storage_size (seen self.now.start) }
+        ensures profile { (machine_of (session_of self.now)).core.storage.fetch_protection ≡ self.now.start.core.storage.fetch_protection }
     {
         self.session.machine()
     }
@@ -112,18 +113,12 @@ impl Recording {
         self.session.last_event()
     }
 
-    /// Whether the last change that stands altered nothing.
+    /// Whether the last change that stands altered nothing, or none stands.
     pub fn is_idle(&self) -> bool
-        ensures { (s : Standing) (e : Event) → IsAfter (session_of self.now) s e → (IsTrue result ↔ (alteration s e ≡ [])) }
+        ensures last { (s : Standing) (e : Event) → IsAfter (session_of self.now) s e → (IsTrue result ↔ (alteration s e ≡ [])) }
+        ensures nothing { standing_events self.now ≡ [] → IsTrue result }
     {
         self.session.is_idle()
-    }
-
-    /// Why an event is refused, but for want of memory. It takes no memory.
-    pub fn refusal(&self, event: &Event) -> Option<Refusal>
-        ensures { result ≡ refusal_in (session_of self.now) event.now }
-    {
-        self.session.refusal(event)
     }
 
     /// The event that comes next in the record, for a copy of which memory may be taken; at its end the one whose turn it is.
@@ -244,18 +239,6 @@ impl Recording {
             }
         }
         Ok(self.standing())
-    }
-
-    /// Goes back to a change and again to where it was: to the very machine, and the very record. Want of memory leaves it at
-    /// that change.
-    pub fn back_and_again(&mut self, number: u32) -> Result<(), AllocError>
-        ensures ok { OnOk result (self.new ≡ self.old) }
-        ensures err { OnErr result (self.new ≡ with_standing self.old (min number self.old.standing)) }
-    {
-        let standing = self.standing();
-        let _stand = self.back_to(number);
-        let _stand = self.again_to(standing)?;
-        Ok(())
     }
 
     /// Withdraws a change, counted from 1: the recording is as if its event had never been, and what does not stand is

@@ -22,7 +22,7 @@ const EACH_KIND: &str = "back
 patch s 0 1A12
 patch r 1 7FFFFFFF
 patch r 2 1
-patch s 300 01
+advance patch s 300 01
 patch s 301 02
 last s 301
 back
@@ -30,7 +30,8 @@ last s 301
 patch r 2 1
 standing
 patch s 2000 01
-step
+preview step
+run 1
 last r 1
 patch r 3 1
 standing
@@ -48,7 +49,7 @@ const ANSWERS: &str = "nothing stands
 [Byte(0), Byte(1)]
 [Register(1)]
 [Register(2)]
-[Byte(768)]
+advanced
 [Byte(769)]
 Some(5)
 Patch(Bytes { at: 769, bytes: Bytes { items: [2] } })
@@ -57,6 +58,7 @@ idle
 5
 outside storage
 [Psw, Register(1)]
+ran 1 done
 Some(6)
 journal full
 6

@@ -2,10 +2,10 @@
 use crate::fault::Fault;
 use crate::rows::Words;
 use s360_debug::read_command;
-use s360_journal::{Answer, Breaks, Call, Places, Report, Session, Withdrawal};
+use s360_journal::{Answer, Breaks, Call, Places, Report, RunEnd, Session, Withdrawal};
 use s360_machine::{Bytes, Event, Patch, Refusal};
 use s360_store::Place;
-use std::alloc::Global;
+use std::alloc::{AllocError, Global};
 
 /// A breakpoint at an address.
 fn break_at(address: &str) -> Result<Breaks, Fault> {
@@ -15,7 +15,8 @@ fn break_at(address: &str) -> Result<Breaks, Fault> {
 }
 
 /// The call that a line asks of a session: how many changes stand, a step back, going back to a change or to a
-/// breakpoint, a withdrawal, the last change of a byte or a register, or the event that it offers.
+/// breakpoint, a withdrawal, the last change of a byte or a register, a run with no breakpoint, or the event that it
+/// offers.
 pub(crate) fn call(alloc: Global, line: &str) -> Result<Call, Fault> {
     Ok(match line.split_once(" ") {
         None if line == "standing" => Call::Standing,
@@ -24,6 +25,9 @@ pub(crate) fn call(alloc: Global, line: &str) -> Result<Call, Fault> {
         Some(("to", number)) => Call::BackTo(number.parse()?),
         Some(("withdraw", number)) => Call::Withdraw(number.parse()?),
         Some(("last", place)) => Call::LastChange(place_of(place)?),
+        Some(("run", most)) => Call::Run(Breaks::new(), most.parse()?),
+        Some(("advance", line)) => Call::Advance(event(alloc, line)?),
+        Some(("preview", line)) => Call::Preview(event(alloc, line)?),
         _ => Call::Forward(event(alloc, line)?),
     })
 }
@@ -100,10 +104,29 @@ pub(crate) fn text_of_report(
     }
 }
 
+/// What a run was answered, and how many of its events were accepted.
+fn text_of_run(
+    alloc: Global,
+    accepted: u32,
+    end: &Result<RunEnd, AllocError>,
+) -> Result<String, Fault> {
+    match end {
+        Ok(RunEnd::Refused(refusal)) => Ok(format!(in alloc; "ran {accepted} {refusal}")?),
+        Ok(RunEnd::Idle) => Ok(format!(in alloc; "ran {accepted} idle")?),
+        Ok(RunEnd::Break) => Ok(format!(in alloc; "ran {accepted} break")?),
+        Ok(RunEnd::Done) => Ok(format!(in alloc; "ran {accepted} done")?),
+        Err(_) => Err(Fault::Memory),
+    }
+}
+
 /// What a call was answered.
 pub(crate) fn text_of_answer(alloc: Global, answer: &Answer) -> Result<String, Fault> {
     Ok(match answer {
-        Answer::Forwarded(report) => text_of_report(alloc, report)?,
+        Answer::Forwarded(report) | Answer::Previewed(report) => text_of_report(alloc, report)?,
+        Answer::Advanced(Ok(())) => format!(in alloc; "advanced")?,
+        Answer::Advanced(Err(Refusal::Memory)) => return Err(Fault::Memory),
+        Answer::Advanced(Err(refusal)) => format!(in alloc; "{refusal}")?,
+        Answer::Ran { accepted, end } => text_of_run(alloc, *accepted, end)?,
         Answer::TookBack(Ok(event)) => format!(in alloc; "{event:?}")?,
         Answer::TookBack(Err(fault)) => format!(in alloc; "{fault}")?,
         Answer::WentBack(number) => format!(in alloc; "until {number}")?,

@@ -10,12 +10,12 @@ pub returns-then-stops : goal.returns-then-stops
 returns-then-stops g c =
     let stops : c.stops.result ≡ is_at_breakpoint (machine_of (g.S.Reversible.standing_of c.args.session.now)) c.args.breaks.now
     = c.stops.ensures ∙ ap (λ (m : Machine). is_at_breakpoint m c.args.breaks.now) c.machine.ensures.rerun
-    in λ s e is. sym (end-changed (alteration s e) _ (not-idle _ (alteration s e) c.if-is_idle.false (c.is_idle.ensures s e is))
+    in λ s e is. sym (end-changed (alteration s e) _ (not-idle _ (alteration s e) c.if-is_idle.false (c.is_idle.ensures.last s e is))
     ∙ ap (λ b. if b then Some Break else None) (sym stops ∙ c.if-stops.true))
 
 pub returns : goal.returns
 returns g c =
     let stops : c.stops.result ≡ is_at_breakpoint (machine_of (g.S.Reversible.standing_of c.args.session.now)) c.args.breaks.now
     = c.stops.ensures ∙ ap (λ (m : Machine). is_at_breakpoint m c.args.breaks.now) c.machine.ensures.rerun
-    in λ s e is. sym (end-changed (alteration s e) _ (not-idle _ (alteration s e) c.if-is_idle.false (c.is_idle.ensures s e is))
+    in λ s e is. sym (end-changed (alteration s e) _ (not-idle _ (alteration s e) c.if-is_idle.false (c.is_idle.ensures.last s e is))
     ∙ ap (λ b. if b then Some Break else None) (sym stops ∙ c.if-stops.false))
