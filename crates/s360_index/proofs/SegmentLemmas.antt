@@ -1,11 +1,12 @@
 -- The bytes of storage in segments, after a change.
-use Rattle.std.proofs.Common.{◌≡◌, ◌≢◌, ◌<◌, ◌≤◌, ◌+◌, ◌++◌, ◌⊎◌, ◌∙◌, ℕ, zero, suc, Some, Result, Ok, Err, List, [], ◌∷◌, true, false, refl, ap, sym, subst, inl, inr, set, length, arith, ◌-◌, take, replicate}
+use Rattle.std.proofs.Common.{◌≡◌, ◌≢◌, ◌<◌, ◌≤◌, ◌+◌, ◌++◌, ◌⊎◌, ◌∙◌, ℕ, zero, suc, Option, Some, None, Result, Ok, Err, List, [], ◌∷◌, true, false, refl, ap, sym, subst, inl, inr, set, length, arith, ◌-◌, take, replicate}
 use Rattle.std.specs.List.{AllZip, slice_get}
 use Rattle.std.specs.Prelude.{OnErr, slice_index_or}
 use Rattle.std.proofs.lemmas.Bool.{and_from, and_left, and_parts, and_right, cases_eq, cases_lt, cond-true, cond-false, le-leb, leb-true, lt-leb, lt-ltb, le-ltb, ltb-true}
 use Rattle.std.proofs.lemmas.List.{get_or_append_left, get_or-append_right, get_or_past, length-set, length_push, take_all}
 use Rattle.std.proofs.lemmas.List.Elements.{length_all_zip}
-use Rattle.std.proofs.lemmas.Option.{get_or_from_slice_get, same_Some, slice_get-get_or, slice_get_read, slice_get_within}
+use Rattle.std.proofs.lemmas.Option.{get_or_from_slice_get, same_Some, slice_get-get_or, slice_get_cases, slice_get_read, slice_get_within}
+use Rattle.indexmap.proofs.IndexTableLemmas.Probe.{pigeonhole}
 use Rattle.s360_index.specs.declared.segments.Segment.{Segment}
 use Rattle.s360_index.specs.declared.segments.Segments.{Segments}
 use Rattle.s360_index.specs.Numbers.{with_number, without_number}
@@ -103,6 +104,36 @@ label-below s a w l = elim (cases_lt a (length s.labels.items)) [
   | inl m ↦ w.labelled a m
   | inr m ↦ omega (arith, l, get_or_past s.labels.items a 0 m)
 ]
+
+-- no two segments begin at one byte, so that there are few
+abbrev start_of : Option Segment → ℕ
+start_of None = 0
+start_of (Some g) = g.start
+
+record Begins (s : Segments) (i : ℕ) : Type 0 where
+  pub within : start_of (slice_get s.segments.items i) < length s.labels.items
+  pub its : label s (start_of (slice_get s.segments.items i)) ≡ i
+
+begins : (s : Segments) (i : ℕ) → AreSegments s → 0 < i → i < length s.segments.items → Begins s i
+begins s i w some l = elim (slice_get_cases s.segments.items i).1 [
+  | inl p ↦
+      let is : IsSegment s i p.0 = w.whole i p.0 some p.2
+      in let start : start_of (slice_get s.segments.items i) ≡ p.0.start = ap start_of p.2
+      in record { within = omega (arith, is.some, is.inside, start); its = ap (label s) start ∙ is.has p.0.start (omega arith) is.some }
+  | inr p ↦ absurd (omega (arith, p.0, l))
+]
+
+pub segments-few : (s : Segments) → AreSegments s → length s.segments.items ≤ 1048577
+segments-few s w =
+    let count : ℕ = length s.segments.items - 1
+    in let begun : (i : ℕ) → i < count → Begins s (i + 1) = λ i l. begins s (i + 1) w (omega arith) (omega (arith, l))
+    in omega (
+      arith,
+      w.few,
+      pigeonhole count (length s.labels.items) (λ i. start_of (slice_get s.segments.items (i + 1)))
+          (λ i l. (begun i l).within)
+          (λ i j l m e. omega (arith, (begun i l).its, (begun j m).its, ap (label s) e)),
+    )
 
 -- two parts of a segment, the one up to a byte and the one from it on
 pub record AreParts (old low high : Segment) (at : ℕ) : Type 0 where
@@ -232,6 +263,7 @@ split-whole s t i at old kept new w p =
     in let below : (a : ℕ) → label s a < length s.segments.items = λ a. label-below s a w (omega (arith, within))
     in let long : length t.labels.items ≡ length s.labels.items = p.labels.same_length
     in record {
+      few = omega (arith, w.few, long);
       labelled = λ a l. elim (cases_between new.start new.end a) [
         | inl m ↦ omega (arith, inside a m.0 m.1, count)
         | inr m ↦ omega (arith, outside a m, below a, count)
@@ -293,8 +325,9 @@ segment-of s at i g w e n r =
     in record { some = some; is = is; segment = segment; first = inside.0; last = inside.1 }
 
 -- all bytes before an address have labels
-pub grow-whole : (s t : Segments) → AreSegments s → length s.labels.items ≤ length t.labels.items → ((a : ℕ) → label t a ≡ label s a) → t.segments.items ≡ s.segments.items → 0 < length s.segments.items → AreSegments t
-grow-whole s t w l same e some = record {
+pub grow-whole : (s t : Segments) → AreSegments s → length s.labels.items ≤ length t.labels.items → length t.labels.items ≤ 1048576 → ((a : ℕ) → label t a ≡ label s a) → t.segments.items ≡ s.segments.items → 0 < length s.segments.items → AreSegments t
+grow-whole s t w l few same e some = record {
+  few = few;
   labelled = λ a m. omega (arith, same a, label-below s a w some, ap (λ (gs : List Segment). length gs) e);
   unaltered = ap (λ (gs : List Segment). numbers_of_segment (slice_get gs 0)) e ∙ w.unaltered;
   whole = λ i g m h.
@@ -316,6 +349,7 @@ first-whole s t g w l e f n =
       | inr m ↦ omega (arith, m)
     ]
     in record {
+      few = omega (arith, none, ap (λ (xs : List ℕ). length xs) l);
       labelled = λ a m. absurd (omega (arith, m, none, ap (λ (xs : List ℕ). length xs) l));
       unaltered = ap (λ (gs : List Segment). numbers_of_segment (slice_get gs 0)) only ∙ n;
       whole = λ i h m k. absurd (omega (arith, m, slice_get_within (g ∷ []) i h (sym (ap (λ (gs : List Segment). slice_get gs i) only) ∙ k)));
@@ -361,6 +395,7 @@ make-whole s t new w p =
     in let outside : (a : ℕ) → (a < new.start) ⊎ (new.end ≤ a) → label t a ≡ label s a = λ a h. Relabelled-outside _ _ new.start new.end _ a p.labels h
     in let long : length t.labels.items ≡ length s.labels.items = p.labels.same_length
     in record {
+      few = omega (arith, w.few, long);
       labelled = λ a l. elim (cases_between new.start new.end a) [
         | inl m ↦ omega (arith, inside a m.0 m.1, count)
         | inr m ↦ omega (arith, outside a m, below a, count)
@@ -469,6 +504,7 @@ pub renumber-whole : (s t : Segments) (i : ℕ) (g h : Segment) → AreSegments 
 renumber-whole s t i g h w p =
     let count : length t.segments.items ≡ length s.segments.items = ap (λ (gs : List Segment). length gs) p.segments ∙ length-set s.segments.items i h
     in record {
+      few = omega (arith, w.few, ap (λ (xs : List ℕ). length xs) p.labels);
       labelled = λ a l. omega (arith, same-label a p, count, w.labelled a (omega (arith, l, ap (λ (xs : List ℕ). length xs) p.labels)));
       unaltered =
           ap numbers_of_segment (ap (λ (gs : List Segment). slice_get gs 0) p.segments ∙ slice_get-set_other s.segments.items i 0 h (let n : 0 ≢ i = omega (arith, p.some) in n)) ∙ w.unaltered;
@@ -617,6 +653,7 @@ pub AreSegments-copied : (s t : Segments) → t.labels.items ≡ s.labels.items 
 AreSegments-copied s t labels z whole =
     let long : length t.labels.items ≡ length s.labels.items = ap (λ ls. length ls) labels
     in record {
+      few = omega (arith, whole.few, long);
       labelled = λ a l.
           omega (arith, whole.labelled a (omega (arith, l, long)), label-copied s t a labels, length_all_zip IsSameSegment s.segments.items t.segments.items z);
       unaltered = numbers-same s.segments.items t.segments.items 0 z ∙ whole.unaltered;

@@ -29,8 +29,10 @@ pub record IsSameSegment (g h : Segment) : Type 0 where
   pub end : h.end ≡ g.end
   pub numbers : h.numbers.items ≡ g.numbers.items
 
--- each byte is in one, no number is of the bytes that no change has altered, and those of each other follow each other
+-- each byte is in one, no number is of the bytes that no change has altered, those of each other follow each other, and
+-- there are no more bytes than a storage has
 pub record AreSegments (s : Segments) : Type 0 where
+  pub few : length s.labels.items ≤ 1048576
   pub labelled : (a : ℕ) → a < length s.labels.items → label s a < length s.segments.items
   pub unaltered : numbers_of_segment (slice_get s.segments.items 0) ≡ []
   pub whole : (i : ℕ) (g : Segment) → 0 < i → slice_get s.segments.items i ≡ Some g → IsSegment s i g

@@ -5,6 +5,7 @@ ghost use Rattle.s360_store.specs.declared.place.Place.{Place as APlace};
 ghost use Rattle.s360_store.specs.Spans.{IsSpan, places_of_span};
 ghost use Rattle.s360_index.specs.Histories.{Gains, GainsInPart, Loses, numbers, numbers_among};
 ghost use Rattle.s360_index.specs.Numbers.{with_number, without_number};
+ghost use Rattle.s360_index.specs.Sizes.{IsSpanWithinSize};
 ghost use Rattle.s360_index.specs.Views.{other_numbers};
 
 use crate::numbers::{put_number, take_number};
@@ -134,7 +135,7 @@ impl Index {
     /// them as they were.
     #[inline(always)]
     pub fn put(&mut self, span: Span, number: u32) -> Result<(), AllocError>
-        requires { IsSpan span }
+        requires { IsSpanWithinSize span }
         ensures ok { OnOk result (Gains number (places_of_span span) self.old self.new) }
         ensures err { OnErr result (GainsInPart number (places_of_span span) self.old self.new) }
     {

@@ -130,6 +130,7 @@ impl Segments {
     /// Labels all bytes before an end.
     fn grow(&mut self, end: usize) -> Result<(), AllocError>
         requires whole { AreSegments self.old }
+        requires few { end ≤ 1048576 }
         ensures whole { AreSegments self.new }
         ensures numbers { KeepsNumbers self.old self.new }
         ensures grown { OnOk result (Grown self.new end) }
@@ -160,9 +161,7 @@ impl Segments {
         ensures labels { length self.new.labels.items ≡ length self.old.labels.items }
         ensures cut { OnOk result (IsCut self.new at) }
     {
-        let Ok(label) = u32::try_from(self.segments.len()) else {
-            return Err(AllocError);
-        };
+        let label = self.segments.len() as u32;
         self.segments.reserve(1)?;
         let segment = &mut self.segments[index];
         let numbers = segment.numbers.clone()?;
@@ -216,9 +215,7 @@ impl Segments {
         ensures cuts { OnOk result (IsCut self.new end) }
         ensures err { OnErr result (KeepsNumbers self.old self.new) }
     {
-        let Ok(label) = u32::try_from(self.segments.len()) else {
-            return Err(AllocError);
-        };
+        let label = self.segments.len() as u32;
         let past = end_of_unaltered(&self.labels, start, end);
         let mut numbers = Vec::new(self.alloc);
         numbers.push(number)?;
@@ -261,6 +258,7 @@ impl Segments {
     pub(crate) fn put(&mut self, address: u32, count: u32, number: u32) -> Result<(), AllocError>
         requires whole { AreSegments self.old }
         requires some { 0 < count }
+        requires inside { address + count ≤ 1048576 }
         ensures whole { AreSegments self.new }
         ensures ok { OnOk result (Gained number address (address + count) self.old self.new) }
         ensures err { OnErr result (GainedInPart number address (address + count) self.old self.new) }

@@ -11,6 +11,7 @@ use Rattle.s360_store.specs.Places.{same_place}
 use Rattle.s360_store.specs.declared.span.Span.{Span}
 use Rattle.s360_store.specs.Spans.{AreSpans, IsSpan, places_of_span, places_of_spans}
 use Rattle.s360_index.specs.Histories.{Gains, GainsInPart, Histories, Loses, numbers}
+use Rattle.s360_index.specs.Sizes.{AreSpansWithinSize, IsSpanWithinSize}
 use Rattle.s360_index.specs.Numbers.{MayGain, MayLose, ends_with, is_number, with_number, without_number}
 use Rattle.s360_machine.specs.declared.event.Event.{Event}
 use Rattle.s360_machine.specs.Machine.{Machine, Whole, seen}
@@ -357,13 +358,13 @@ err-any (Err e) P p = p
 pub record Indexing (k : ℕ) (g h : Histories) (all left : List Span) : Type 0 where
   pub past : List Place
   pub places : places_of_spans all ≡ past ++ places_of_spans left
-  pub whole : AreSpans left
+  pub whole : AreSpansWithinSize left
   pub gains : Gains k past g h
 
-pub indexing-begun : (k : ℕ) (g : Histories) (all : List Span) → AreSpans all → Indexing k g g all all
+pub indexing-begun : (k : ℕ) (g : Histories) (all : List Span) → AreSpansWithinSize all → Indexing k g g all all
 indexing-begun k g all w = record { past = []; places = refl; whole = w; gains = λ p. refl }
 
-pub indexing-span : (k : ℕ) (g h : Histories) (all left next : List Span) (s : Span) → left ≡ s ∷ next → Indexing k g h all left → IsSpan s × AreSpans next
+pub indexing-span : (k : ℕ) (g h : Histories) (all left next : List Span) (s : Span) → left ≡ s ∷ next → Indexing k g h all left → IsSpanWithinSize s × AreSpansWithinSize next
 indexing-span k g h all left next s e i = rw e at i.whole
 
 past-span : (all left next : List Span) (s : Span) (past : List Place) → left ≡ s ∷ next → places_of_spans all ≡ past ++ places_of_spans left

@@ -11,3 +11,4 @@ pub mod RunLemmas
 pub mod LawLemmas
 pub mod RunningLemmas
 pub mod SpanLemmas
+pub mod SizeLemmas

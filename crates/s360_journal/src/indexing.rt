@@ -1,8 +1,10 @@
 //! The number of the last change, in the index at the places that the change alters.
 ghost use Rattle.std.specs.Prelude.{◌≡◌, ◌<◌, ◌-◌, length, slice_get, take, IfSome, OnErr, OnOk};
-ghost use Rattle.s360_store.specs.Spans.{AreSpans, places_of_spans};
+ghost use Rattle.s360_store.specs.Spans.{places_of_spans};
 ghost use Rattle.s360_index.specs.Histories.{Gains, GainsInPart, Loses};
+ghost use Rattle.s360_index.specs.Sizes.{AreSpansWithinSize, AreWithinSize};
 ghost use Rattle.s360_fixed.specs.Plain.{IsFit, cells_of_plain};
+ghost use Rattle.s360_machine.specs.Change.{places_of_change};
 ghost use Rattle.s360_machine.specs.Changes.{change_of_core};
 ghost use Rattle.s360_machine.specs.ChangeSpans.{spans_within};
 ghost use Rattle.s360_journal.specs.Indexed.{IsIndexOf, MayIndex};
@@ -19,7 +21,7 @@ pub(crate) const PSW: Span = Span::Place(Place::Psw);
 /// Puts a number at the places of a change that stands within its row. Want of memory leaves it at some of them.
 #[inline(always)]
 fn put_within(index: &mut Index, spans: SpansWithin, number: u32) -> Result<(), AllocError>
-    requires { AreSpans (spans_within spans) }
+    requires { AreSpansWithinSize (spans_within spans) }
     ensures ok { OnOk result (Gains number (places_of_spans (spans_within spans)) index.old index.new) }
     ensures err { OnErr result (GainsInPart number (places_of_spans (spans_within spans)) index.old index.new) }
 {
@@ -42,6 +44,7 @@ fn put_within(index: &mut Index, spans: SpansWithin, number: u32) -> Result<(), 
 fn put_last(index: &mut Index, changes: &Packed, number: u32) -> Result<(), AllocError>
     requires some { 0 < number }
     requires last { number ≡ length changes.now }
+    requires size { IfSome (slice_get changes.now (number - 1)) (λ x. AreWithinSize (places_of_change x)) }
     requires index { IsIndexOf index.old (take (number - 1) changes.now) }
     ensures ok { OnOk result (IsIndexOf index.new changes.now) }
     ensures err { OnErr result (IfSome (slice_get changes.now (number - 1)) (λ x. MayIndex index.new (take (number - 1) changes.now) x)) }
@@ -118,6 +121,7 @@ pub(crate) fn index_plain(
     requires last { number ≡ length changes.now }
     requires fit { IsFit plain.now }
     requires plain { IfSome (slice_get changes.now (number - 1)) (λ x. x ≡ change_of_core (cells_of_plain plain.now)) }
+    requires size { AreWithinSize (places_of_change (change_of_core (cells_of_plain plain.now))) }
     requires index { IsIndexOf index.old (take (number - 1) changes.now) }
     ensures ok { OnOk result (IsIndexOf index.new changes.now) }
     ensures err { OnErr result (IsIndexOf index.new (take (number - 1) changes.now)) }
@@ -131,6 +135,7 @@ pub(crate) fn index_plain(
 pub(crate) fn index_last(index: &mut Index, changes: &Packed, number: u32) -> Result<(), AllocError>
     requires some { 0 < number }
     requires last { number ≡ length changes.now }
+    requires size { IfSome (slice_get changes.now (number - 1)) (λ x. AreWithinSize (places_of_change x)) }
     requires index { IsIndexOf index.old (take (number - 1) changes.now) }
     ensures ok { OnOk result (IsIndexOf index.new changes.now) }
     ensures err { OnErr result (IsIndexOf index.new (take (number - 1) changes.now)) }

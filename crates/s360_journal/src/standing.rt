@@ -1,6 +1,7 @@
 //! How an event comes to stand whose change was appended, and how the last change is taken back.
 ghost use Rattle.std.specs.Prelude.{◌≡◌, ◌<◌, ◌-◌, ◌++◌, ◌∷◌, [], length, slice_get, take, IfSome, OnErr, OnOk};
-ghost use Rattle.s360_machine.specs.Change.{CanSwap, HasRoom};
+ghost use Rattle.s360_index.specs.Sizes.{AreWithinSize};
+ghost use Rattle.s360_machine.specs.Change.{CanSwap, HasRoom, places_of_change};
 ghost use Rattle.s360_fixed.specs.Plain.{IsFit, cells_of_plain};
 ghost use Rattle.s360_machine.specs.declared.event.Event.TheVariants.{Cpu};
 ghost use Rattle.s360_machine.specs.Changes.{change_of_core};
@@ -13,6 +14,7 @@ use crate::indexing::{index_last, index_plain, unindex_last};
 use s360_fixed::Plain;
 use s360_index::Index;
 use s360_machine::{Event, Machine, Packed};
+use s360_store::GREATEST_SIZE;
 use std::alloc::AllocError;
 
 /// Makes the last of the changes, for which the machine has room. Want of memory takes the change out of the list again.
@@ -32,6 +34,8 @@ fn make_last(
     ensures err_changes { OnErr result (changes.new ≡ take (length changes.old - 1) changes.old) }
     ensures err_index { OnErr result (IsIndexOf index.new changes.new) }
 {
+    // So the index can have each byte.
+    prove!(machine.storage().size() <= GREATEST_SIZE);
     let count = changes.len();
     if index_last(index, changes, count).is_err() {
         changes.drop_last();
@@ -52,6 +56,7 @@ fn record(
 ) -> Result<(), AllocError>
     requires few { length changes.old < 10000000 }
     requires fit { IsFit plain.now }
+    requires size { AreWithinSize (places_of_change (change_of_core (cells_of_plain plain.now))) }
     requires index { IsIndexOf index.old changes.old }
     ensures events { OnOk result (events.new ≡ events.old ++ Cpu ∷ []) }
     ensures changes { OnOk result (changes.new ≡ changes.old ++ change_of_core (cells_of_plain plain.now) ∷ []) }
@@ -94,6 +99,8 @@ pub(crate) fn stand_plain(
     ensures err_changes { OnErr result (changes.new ≡ changes.old) }
     ensures err_index { OnErr result (IsIndexOf index.new changes.new) }
 {
+    // So the index can have each byte.
+    prove!(machine.storage().size() <= GREATEST_SIZE);
     machine.swap_plain(&mut plain);
     let recorded = record(events, changes, index, &plain);
     if recorded.is_err() {

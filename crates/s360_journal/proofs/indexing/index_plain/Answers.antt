@@ -4,7 +4,12 @@ use Rattle.s360_machine.specs.Change.{Change}
 use Rattle.s360_machine.specs.Changes.{change_of_core}
 use Rattle.s360_machine.specs.ChangeSpans.{AreSpansOf, spans_within}
 use Rattle.s360_journal.proofs.IndexLemmas.{IsLastOf, err-from, index-all, index-some, last-of, ok-from}
+use Rattle.s360_journal.proofs.SizeLemmas.{spans-within}
 use Rattle.s360_journal.proofs.indexing.index_plain.Goals as goal
+
+pub put_within-put-requires : goal.put_within-put-requires
+put_within-put-requires c =
+    spans-within (spans_within c.of.result) (change_of_core (cells_of_plain c.args.plain.now)) c.of.ensures c.requires.size
 
 pub all_or_none-requires-clause-ok : goal.all_or_none-requires-clause-ok
 all_or_none-requires-clause-ok c =

@@ -2,7 +2,14 @@ use Rattle.std.proofs.Common.{◌-◌, take}
 use Rattle.s360_machine.specs.Change.{Change}
 use Rattle.s360_machine.specs.ChangeSpans.{AreSpansOf, spans_within, spans_apart}
 use Rattle.s360_journal.proofs.IndexLemmas.{IsLastOf, err-any, index-all, indexing-all, indexing-begun, indexing-more, indexing-part, last-of, ok-from}
+use Rattle.s360_journal.proofs.SizeLemmas.{spans-within}
 use Rattle.s360_journal.proofs.indexing.put_last.Goals as goal
+
+pub put_within-requires : goal.put_within-requires
+put_within-requires c =
+    let last : (x : Change) × IsLastOf c.args.changes.now c.args.number x = last-of c.args.changes.now c.args.number c.requires.some c.requires.last
+    in let spans : AreSpansOf (spans_within c.in-Within.spans) last.0 = rw last.1.found_last at c.in-Within.ensures
+    in spans-within (spans_within c.in-Within.spans) last.0 spans (rw last.1.found at c.requires.size)
 
 pub returns-in-Within-clause-ok : goal.returns-in-Within-clause-ok
 returns-in-Within-clause-ok c =
@@ -15,7 +22,8 @@ pub loop-span-init : goal.loop-span-init
 loop-span-init c =
     let last : (x : Change) × IsLastOf c.args.changes.now c.args.number x = last-of c.args.changes.now c.args.number c.requires.some c.requires.last
     in let spans : AreSpansOf (spans_apart c.into_iter-span-iterator.result) last.0 = rw c.into_iter-span-iterator.ensures.into_iter_gives (rw last.1.found_last at c.in-Apart.ensures)
-    in indexing-begun c.args.number c.args.index.now (spans_apart c.into_iter-span-iterator.result) spans.whole
+    in indexing-begun c.args.number c.args.index.now (spans_apart c.into_iter-span-iterator.result)
+    (spans-within (spans_apart c.into_iter-span-iterator.result) last.0 spans (rw last.1.found at c.requires.size))
 
 pub loop-span-preserved : goal.loop-span-preserved
 loop-span-preserved c =

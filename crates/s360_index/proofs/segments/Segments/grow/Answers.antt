@@ -27,4 +27,5 @@ returns-in_ok-resize-clause-whole c =
     let mid : Segments = c.if-is_empty.self
     in let all = filled c
     in grow-whole mid _ all.0 (omega (arith, c.if-len-end.true, c.len.ensures, c.in_ok-resize.ensures.len, mid.labels.ok.0, c.resize.new.self.ok.0))
+    (omega (arith, c.requires.few, c.in_ok-resize.ensures.len, c.resize.new.self.ok.0))
     (λ a. label-more mid.labels.items _ c.args.end _ a mid.labels.ok.0 (omega (arith, c.if-len-end.true, c.len.ensures)) c.in_ok-resize.ensures.items) refl all.1

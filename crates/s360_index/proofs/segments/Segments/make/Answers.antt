@@ -5,7 +5,7 @@ use Rattle.std.proofs.lemmas.List.{with_items_is}
 use Rattle.std.proofs.lemmas.Option.{get_or_from_slice_get}
 use Rattle.s360_index.specs.declared.segments.Segment.{Segment}
 use Rattle.s360_index.specs.declared.segments.Segments.{Segments}
-use Rattle.s360_index.proofs.SegmentLemmas.{IsMade, Relabelled-same, make-cut, make-cuts, make-gained, make-whole, past-first}
+use Rattle.s360_index.proofs.SegmentLemmas.{IsMade, Relabelled-same, make-cut, make-cuts, make-gained, make-whole, past-first, segments-few}
 use Rattle.s360_index.proofs.segments.Segments.make.Goals as goal
 
 -- the segments at the end, and the new one of them
@@ -31,8 +31,11 @@ made c =
       segments = c.in_ok-push-2.ensures.items;
       labels = Relabelled-same _ _ _ _ _ _ _ _ c.relabel.ensures (sym c.deref_mut.ensures.value)
           (with_items_is s.labels c.relabel.new.labels (omega (arith, c.relabel.ensures.same_length, c.deref_mut.ensures.len)))
-          (omega (arith, c.in-Ok.ensures.1, c.len.ensures, s.segments.ok.0));
+          (omega (arith, c.len-label.ensures, s.segments.ok.0));
     }
+
+pub overflow_cast-label : goal.overflow_cast-label
+overflow_cast-label c = omega (arith, segments-few c.args.self.now c.requires.whole, c.len-label.ensures, c.args.self.now.segments.ok.0)
 
 pub returns-clause-whole : goal.returns-clause-whole
 returns-clause-whole c = make-whole _ _ _ c.requires.whole (made c)

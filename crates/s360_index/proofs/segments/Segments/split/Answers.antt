@@ -4,7 +4,7 @@ use Rattle.std.proofs.lemmas.List.{with_items_is}
 use Rattle.std.proofs.lemmas.List.Elements.{same_from_all_zip}
 use Rattle.s360_index.specs.declared.segments.Segment.{Segment}
 use Rattle.s360_index.specs.declared.segments.Segments.{Segments}
-use Rattle.s360_index.proofs.SegmentLemmas.{AreParts, IsReadAt, IsSplit, Relabelled-same, read-inside, renumber-whole, split-cut, split-cuts, split-numbers, split-whole}
+use Rattle.s360_index.proofs.SegmentLemmas.{AreParts, IsReadAt, IsSplit, Relabelled-same, read-inside, renumber-whole, segments-few, split-cut, split-cuts, split-numbers, split-whole}
 use Rattle.s360_index.proofs.segments.Segments.split.Goals as goal
 use Rattle.s360_index.proofs.segments.Segments.split.Goals.{then-at-segment, else-at-segment}
 
@@ -31,7 +31,7 @@ parted-by c kept e l k p =
       segments = c.push_reserved.ensures.items ∙ ap (λ (gs : List Segment). gs ++ new c ∷ []) (e ∙ ap (λ (gs : List Segment). set gs c.args.index kept) c.in_ok-reserve.ensures.items);
       labels = Relabelled-same _ _ _ _ _ _ _ _ c.relabel.ensures (sym (c.deref_mut.ensures.value ∙ l))
           (with_items_is c.if-at-segment.self.labels c.relabel.new.labels (omega (arith, c.relabel.ensures.same_length, c.deref_mut.ensures.len)))
-          (omega (arith, c.in-Ok.ensures.1, c.len.ensures, s.segments.ok.0));
+          (omega (arith, c.len-label.ensures, s.segments.ok.0));
       kept_numbers = k;
       new_numbers = same_from_all_zip _ _ _ c.in_ok-numbers.ensures.cases.0 (λ x y h. search rules);
       parts = p;
@@ -56,6 +56,9 @@ parted c =
                 (inr (record { first = refl; cut = refl; next = ap (λ x. x.0) w.start-is; last = ap (λ x. x.1) w.start-is })),
           )
     ]
+
+pub overflow_cast-label : goal.overflow_cast-label
+overflow_cast-label c = omega (arith, segments-few c.args.self.now c.requires.whole, c.len-label.ensures, c.args.self.now.segments.ok.0)
 
 pub returns-clause-whole : goal.returns-clause-whole
 returns-clause-whole c = split-whole _ _ _ _ _ _ _ c.requires.whole (parted c).1
