@@ -135,6 +135,12 @@ fn of_words() -> [u64; 6] {
     ]
 }
 
+/// The numbers that calls have answered.
+fn told(rt: &HostRuntime, alloc: Global, numbers: &[u64]) -> Result<String, Fault> {
+    end(rt)?;
+    Ok(format!(in alloc; "{numbers:?}")?)
+}
+
 /// A session, of which calls are made between marks.
 #[derive(Drop)]
 struct Counted<'a> {
@@ -151,12 +157,6 @@ impl<'a> Counted<'a> {
         end(self.rt)?;
         self.session.forward(event.ok().ok_or(Fault::Unforeseen)?)?;
         Ok(String::new(alloc))
-    }
-
-    /// The numbers that calls have answered.
-    fn told(&self, alloc: Global, numbers: &[u64]) -> Result<String, Fault> {
-        end(self.rt)?;
-        Ok(format!(in alloc; "{numbers:?}")?)
     }
 
     /// What a device of a name shows where it is to begin a command.
@@ -178,15 +178,15 @@ impl<'a> Counted<'a> {
     fn of_machine(&self, alloc: Global, calls: &str) -> Result<String, Fault> {
         let machine = self.session.machine();
         match calls {
-            "Machine" => self.told(alloc, &of_machine(machine)),
-            "Storage" => self.told(alloc, &of_storage(machine.storage())),
-            "Media" => self.told(alloc, &of_media(machine)),
+            "Machine" => told(self.rt, alloc, &of_machine(machine)),
+            "Storage" => told(self.rt, alloc, &of_storage(machine.storage())),
+            "Media" => told(self.rt, alloc, &of_media(machine)),
             "Tape" => match machine.tape(TAPE) {
-                Some(tape) => self.told(alloc, &of_tape(tape)),
+                Some(tape) => told(self.rt, alloc, &of_tape(tape)),
                 None => Err(Fault::Unforeseen),
             },
-            "Units" => self.told(alloc, &of_idle_units(machine.storage())),
-            _ => self.told(alloc, &of_words()),
+            "Units" => told(self.rt, alloc, &of_idle_units(machine.storage())),
+            _ => told(self.rt, alloc, &of_words()),
         }
     }
 }
@@ -199,32 +199,37 @@ impl<'a> Subject for Counted<'a> {
         }
         begin(self.rt, calls)?;
         match calls {
-            "Session::standing" => self.told(alloc, &[u64::from(self.session.standing())]),
+            "Session::standing" => told(self.rt, alloc, &[u64::from(self.session.standing())]),
             "Session::last_change" => {
                 let last = self.session.last_change(place_of(words.rest())?);
-                self.told(alloc, &[u64::from(last.unwrap_or(0))])
+                told(self.rt, alloc, &[u64::from(last.unwrap_or(0))])
             }
             "Session::changes_of" => {
                 let changes = self.session.changes_of(place_of(words.rest())?);
-                self.told(alloc, &[changes.len() as u64])
+                told(self.rt, alloc, &[changes.len() as u64])
             }
             "Session::back_to" => {
                 let number = self.session.back_to(words.word());
-                self.told(alloc, &[u64::from(number)])
+                told(self.rt, alloc, &[u64::from(number)])
             }
             "Session::back_until" => {
                 let mut breaks = Breaks::new();
                 breaks.add(words.word());
                 let number = self.session.back_until(&breaks);
-                self.told(alloc, &[u64::from(number), u64::from(breaks.len())])
+                told(
+                    self.rt,
+                    alloc,
+                    &[u64::from(number), u64::from(breaks.len())],
+                )
             }
             "Session::back" => {
                 let stood = self.session.back().is_ok();
-                self.told(alloc, &[stood as u64])
+                told(self.rt, alloc, &[stood as u64])
             }
             "Device" => {
                 let (device, command) = (words.next_word(), words.below(0x100) as u8);
-                self.told(alloc, &self.of_device(device, command))
+                let numbers = self.of_device(device, command);
+                told(self.rt, alloc, &numbers)
             }
             _ => self.of_machine(alloc, calls),
         }
