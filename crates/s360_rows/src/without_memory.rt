@@ -284,6 +284,7 @@ fn exchanged(rt: &HostRuntime) -> Result<[u64; 3], Fault> {
     prove!(storage.size() >= LEAST_SIZE);
     storage.swap_run(0x601, &mut bytes);
     end(rt)?;
+    prove!(storage.size() >= LEAST_SIZE);
     Ok([
         u64::from(storage.word(0x600)),
         u64::from(storage.key(1).number()),
