@@ -15,3 +15,6 @@ returns-in_err-open-in-Some-clause-failure c =
 
 pub returns-in-None-clause-failure : goal.returns-in-None-clause-failure
 returns-in-None-clause-failure c = IfErr-weaker _ IsServingAfterFailure IsRunFailure is_run_failure c.serve_on_output-in-None.ensures.failure
+
+pub returns-in_ok-open-in-Some-clause-failure : goal.returns-in_ok-open-in-Some-clause-failure
+returns-in_ok-open-in-Some-clause-failure c = IfErr-weaker _ IsServingAfterFailure IsRunFailure is_run_failure c.serve_on_output.ensures.failure
