@@ -32,6 +32,7 @@ DECK = ["--reader", str(TOP / "examples/cards.deck")]
 FETCH = "--fetch"
 CARD = 80
 DAMAGED = "damaged"
+INTERRUPT = b"\x03"
 # A sum is what follows `#`, up to the second digit or the first byte that is none.
 SUM = re.compile(rb"[0-9a-fA-F]?[^$]", re.DOTALL)
 DATA_OF_A_PACKET = re.compile(rb"(?:[^#$}]|}[^#$])*", re.DOTALL)
@@ -65,14 +66,21 @@ class Connection:
     def take(self, sent):
         sent, at = self.unfinished + sent, 0
         self.unfinished = b""
-        while (at := sent.find(b"$", at)) >= 0 and not self.target.ended:
-            end, packet = packet_at(sent, at + 1)
+        while (start := sent.find(b"$", at)) >= 0 and not self.target.ended:
+            self.pass_over(sent[at:start])
+            end, packet = packet_at(sent, start + 1)
             if packet is not None:
                 self.answer(packet)
-            elif b"$" not in sent[at + 1 :]:
-                self.unfinished = sent[at:]
+            elif b"$" not in sent[start + 1 :]:
+                self.unfinished = sent[start:]
                 return
             at = end
+        self.pass_over(sent[at:])
+
+    def pass_over(self, between):
+        """Bytes between packets: Ctrl-C is one of them."""
+        if INTERRUPT in between:
+            self.target.interrupt()
 
     def answer(self, packet):
         if self.acknowledges:

@@ -13,7 +13,9 @@ from .machine import OPERATING
 from .savings import Savings
 
 MEMORY, ADDRESS, MALFORMED, FULL = b"E0c", b"E0e", b"E16", b"E1c"
-OK, TRAP = b"OK", b"T05"
+OK, TRAP, QUIET, INTERRUPT = b"OK", b"T05", b"T00", b"T02"
+BREAKPOINT = b"T05swbreak:;"
+RECORD_START, RECORD_END = b"T05replaylog:begin;", b"T05replaylog:end;"
 MOST_POINTS = 64
 WORDS, LACKING = 18, 17 * 8 + 16 * 16
 NUMBER = rb"([0-9a-fA-F]{1,8})"
@@ -22,6 +24,8 @@ PAIRS = rb"((?:[0-9a-fA-F]{2})*)"
 THREAD = rb"(-1|[0-9a-fA-F]{1,8})"
 # A pause is looked for within so many events.
 MOST_EVENTS = 3000
+AT_START = "start of what was recorded\n"
+AT_END = "end of what was recorded\n"
 # The lines of a script, as help tells of them, and then those of gdb's user too.
 LINES = [
     "step: a CPU event",
@@ -162,6 +166,11 @@ class Target:
         self.inquiries = Inquiries(self.recording)
         self.savings = Savings()
         self.breaks, self.watches = set(), []
+        self.untold = []  # bytes that were altered with the one that was told last
+        self.is_interrupted = False
+        self.is_moved = False  # by the last line of gdb's user
+        self.is_stop_due = False
+        self.is_extended = False
         self.ended = False
         self.told = []  # what is said on standard error
         self.description = description()
@@ -298,48 +307,82 @@ class Target:
         return answer
 
     def altered(self, change):
-        """The address of the first watched byte that a change altered."""
+        """Of each watch the address of the first byte that a change altered."""
         places = set(change.places)
-        watched = (byte for at, count in self.watches for byte in range(at, at + count))
-        return next((byte for byte in watched if f"s{byte:06X}" in places), None)
+        watched = (range(at, at + count) for at, count in self.watches)
+        first = (next((byte for byte in run if f"s{byte:06X}" in places), None) for run in watched)
+        return [byte for byte in first if byte is not None]
 
-    # Forward.
+    def tell_altered(self, change):
+        """The stop at a change of watched bytes, if it altered one. The others are told next."""
+        self.untold = self.altered(change)
+        return self.tell_untold()
+
+    def tell_untold(self):
+        """The stop at an altered byte that gdb was not told of, if there is one."""
+        return [b"T05watch:%x;" % self.untold.pop(0)] if self.untold else None
+
+    # Going on and back.
+
+    def resumed(self, move):
+        """What is still to be told comes before the machine moves."""
+        if self.is_interrupted:
+            self.is_interrupted = False
+            return [INTERRUPT]
+        return self.tell_untold() or move()
 
     def step(self):
-        return self.go_on(lambda change: TRAP if is_cpu(change) else None, TRAP)
+        if self.is_stop_due:
+            self.is_stop_due = False
+            return [TRAP]
+        end = [said(AT_END), QUIET]
+        return self.resumed(lambda: self.go_on(lambda change: TRAP if is_cpu(change) else None, end))
 
     def resume(self):
-        stop = b"T05swbreak:;"
-        return self.go_on(lambda _change: stop if self.is_at_breakpoint() else None, b"T00")
+        reached = lambda _change: BREAKPOINT if self.is_at_breakpoint() else None
+        return self.resumed(lambda: self.go_on(reached, [RECORD_END]))
 
-    def go_on(self, reached, quiet):
+    def go_on(self, reached, end):
         """Runs events to a pause. If there is none within so many, all is as it was."""
         recording = self.recording
         standing, later = len(recording.changes), list(recording.later)
         for _ in range(MOST_EVENTS):
-            if (answer := self.turn(reached, quiet)) is not None:
+            if (answer := self.turn(reached, end)) is not None:
                 return answer
         while len(recording.changes) > standing:
             recording.take_back()
         recording.later = later
+        return self.endless()
+
+    def endless(self):
         raise Endless
 
-    def turn(self, reached, quiet):
+    def turn(self, reached, end):
         """Runs the event whose turn it is, and answers why the machine pauses then, if it does."""
         recording = self.recording
         is_recorded = bool(recording.later)
         if is_recorded:
             recording.happen(recording.later[-1].event, recording.later[-1].act)
+        elif self.is_at_rest():
+            return [said(self.why_idle(recording.changes[-1])), QUIET]
         else:
             recording.happen(*recording.offered())
         change = recording.changes[-1]
-        if (at := self.altered(change)) is not None:
-            return [b"T05watch:%x;" % at]
-        if not change.places:
-            return [b"O" + self.why_idle(change).encode().hex().encode(), quiet]
-        if (stop := reached(change)) is not None:
-            return [stop]
-        return [b"T05replaylog:end;"] if is_recorded and not recording.later else None
+        if (answer := self.tell_altered(change)) is not None:
+            return answer
+        if not is_recorded and not change.places:
+            return [said(self.why_idle(change)), QUIET]
+        is_end = is_recorded and not recording.later
+        stop = reached(change)
+        if is_end and stop != BREAKPOINT:
+            return end
+        return [stop] if stop is not None else None
+
+    def is_at_rest(self):
+        """Whether the event whose turn it is was run last, and altered nothing."""
+        recording = self.recording
+        last = recording.changes[-1] if recording.changes else None
+        return last is not None and not last.places and last.event[0] == recording.offered()[0]
 
     def why_idle(self, change):
         machine, name = self.machine, change.event[0]
@@ -352,41 +395,51 @@ class Target:
         waits = machine.psw_field(49, 1)
         return f"idle: the {'CPU waits' if waits else 'instruction altered nothing'}\n"
 
-    # Backward.
-
     def step_back(self):
-        return self.go_back(lambda change: TRAP if is_cpu(change) else None)
+        start = [said(AT_START), QUIET]
+        return self.resumed(lambda: self.go_back(lambda change: TRAP if is_cpu(change) else None, start))
 
     def resume_back(self):
-        return self.go_back(lambda _change: b"T05swbreak:;" if self.is_at_breakpoint() else None)
+        reached = lambda _change: BREAKPOINT if self.is_at_breakpoint() else None
+        return self.resumed(lambda: self.go_back(reached, [RECORD_START]))
 
-    def go_back(self, reached):
+    def go_back(self, reached, start):
         while self.recording.changes:
             change = self.recording.changes[-1]
             self.recording.take_back()
-            if (at := self.altered(change)) is not None:
-                return [b"T05watch:%x;" % at]
+            if (answer := self.tell_altered(change)) is not None:
+                return answer
             if (stop := reached(change)) is not None:
                 return [stop]
-        return [b"T05replaylog:begin;"]
+        return start
+
+    def interrupt(self):
+        """The byte 03 came between packets."""
+        self.is_interrupted = True
 
     # The rest.
 
     def part_of_description(self, offset, count):
-        rest, count = self.description[int(offset, 16) :], int(count, 16)
-        return [b"l" + rest if len(rest) <= count else b"m" + rest[:count]]
+        return part(self.description, offset, count)
 
     def line(self, digits):
         """A line that saves, an inquiry, or a line of the script language."""
         line = bytes.fromhex(digits.decode())
+        standing = len(self.recording.changes)
         self.recording.dropped = 0
         asked = self.savings.answers(line, self.machine) or self.inquiries.answers(line)
         answers = HELP if line == b"help" else asked or self.answers_to(line)
+        self.is_moved = len(self.recording.changes) != standing
         if self.recording.dropped:
             answers = [*answers, f"dropped {self.recording.dropped} recorded changes"]
         if not answers:
             return [OK]
         return ["".join(f"{answer}\n" for answer in answers).encode().hex().encode()]
+
+    def has_moved(self):
+        """Whether the last line moved the machine. If so the next step is a stop where it is."""
+        self.is_stop_due = self.is_moved
+        return [b"%d" % self.is_moved]
 
     def answers_to(self, line):
         # What a script skips has no answer.
@@ -395,16 +448,36 @@ class Target:
         fault = fault_of(line)
         return [fault] if fault else self.recording.answer(line.decode())
 
+    def part_of_map(self, offset, count):
+        """All of storage can be written, and nothing else is there."""
+        size = b"<memory type='ram' start='0x0' length='0x%x'/>" % self.machine.size
+        return part(b"<memory-map>%s</memory-map>" % size, offset, count)
+
     def thread(self, number):
         """There is one thread, whose number is 1; 0 is any, and -1 all of them."""
         return [OK if number == b"-1" or int(number, 16) <= 1 else b"E03"]
 
     def leave(self, *_process):
-        self.ended = True
+        self.ended = not self.is_extended
         return [OK]
 
     def kill(self):
-        self.ended = True
+        self.ended = not self.is_extended
+        return []
+
+    def extend(self):
+        """gdb starts the machine anew instead of leaving."""
+        self.is_extended = True
+        return [OK]
+
+    def start_anew(self, *_words):
+        self.restart()
+        return [TRAP]
+
+    def restart(self, *_words):
+        """All changes are taken back, and stay recorded."""
+        while self.recording.changes:
+            self.recording.take_back()
         return []
 
 
@@ -412,11 +485,23 @@ def is_cpu(change):
     return change.event[0] == "cpu"
 
 
+def part(text, offset, count):
+    """A part of a text, and whether it's the last."""
+    rest, count = text[int(offset, 16) :], int(count, 16)
+    return [b"l" + rest if len(rest) <= count else b"m" + rest[:count]]
+
+
+def said(text):
+    """A text for gdb's user, which comes before a stop."""
+    return b"O" + text.encode().hex().encode()
+
+
 SUPPORTED = b"PacketSize=4000;qXfer:features:read+;ReverseStep+;ReverseContinue+;swbreak+"
-SUPPORTED += b";QStartNoAckMode+"
+SUPPORTED += b";QStartNoAckMode+;qXfer:memory-map:read+"
 PLAIN = {b"?": TRAP, b"qSupported": SUPPORTED, b"qC": b"QC1", b"qAttached": b"1"}
 PLAIN |= {b"qfThreadInfo": b"m1", b"qsThreadInfo": b"l", b"QStartNoAckMode": OK}
 NAMED = {b"g": Target.all_registers, b"s": Target.step, b"c": Target.resume, b"k": Target.kill}
+NAMED |= {b"!": Target.extend, b"qs360.moved": Target.has_moved}
 NAMED |= {b"bs": Target.step_back, b"bc": Target.resume_back, b"D": Target.leave}
 # The name of a request, what follows it, and what answers it.
 FORMS = [
@@ -435,7 +520,10 @@ FORMS = [
     (b"T", THREAD, Target.thread),
     (b"qSupported:", b".*", lambda target: [SUPPORTED]),
     (b"qXfer:features:read:", rb"target\.xml:" + TWO, Target.part_of_description),
+    (b"qXfer:memory-map:read:", rb":" + TWO, Target.part_of_map),
     (b"vKill;", NUMBER, Target.leave),
+    (b"vRun;", b".*", Target.start_anew),
+    (b"R", b".*", Target.restart),
     (b"Z0,", TWO, Target.insert_break),
     (b"Z1,", TWO, Target.insert_break),
     (b"Z2,", TWO, Target.insert_watch),

@@ -1,6 +1,6 @@
 -- What a byte that comes from gdb makes of a connection and its target, and what is answered (gdb manual, "Remote Serial
 -- Protocol", "Packet Acknowledgment").
-use Rattle.std.specs.Prelude.{◌≡◌, ◌⊎◌, ℕ, Bool, true, false, List, [], ◌++◌, Option, Some, None, Ok, Err}
+use Rattle.std.specs.Prelude.{◌≡◌, ◌⊎◌, ℕ, Bool, true, false, not, ◌&&◌, List, [], ◌++◌, Option, Some, None, Ok, Err}
 use Rattle.std.specs.Option.{option_to_list}
 use Rattle.s360_packet.specs.Receiving.{Receiving, acknowledgement_of, after_byte, received_at}
 use Rattle.s360_packet.specs.Requests.{Reading, reading_of}
@@ -9,12 +9,15 @@ use Rattle.s360_packet.specs.declared.answer.Answer.TheVariants as answer
 use Rattle.s360_packet.specs.declared.receiver.Acknowledging.{Acknowledging}
 use Rattle.s360_packet.specs.declared.receiver.Acknowledging.TheVariants.{Off}
 use Rattle.s360_packet.specs.declared.receiver.Received.{Received}
-use Rattle.s360_packet.specs.declared.receiver.Received.TheVariants.{Packet, TooLong, Damaged}
+use Rattle.s360_packet.specs.declared.receiver.Received.TheVariants.{Packet, TooLong, Damaged, Interrupt as Interrupted}
+use Rattle.s360_packet.specs.declared.answer.Stop.TheVariants.{Interrupt}
+use Rattle.s360_packet.specs.declared.request.Request.{Request}
+use Rattle.s360_packet.specs.declared.request.Request.TheVariants.{Step, Continue, StepBack, ContinueBack}
 use Rattle.s360_packet.specs.declared.request.RequestFault.{RequestFault}
 use Rattle.s360_packet.specs.declared.request.RequestFault.TheVariants as fault
 use Rattle.s360_remote.specs.Driven.{Driven}
 use Rattle.s360_remote.specs.ErrorNumbers.{error_of}
-use Rattle.s360_remote.specs.Replies.{packet_of}
+use Rattle.s360_remote.specs.Replies.{packet_of, stop_packet}
 use Rattle.s360_remote.specs.Serving.{IsBegun, IsServed}
 use Rattle.s360_remote.specs.declared.errand.Errand.{Errand}
 use Rattle.s360_remote.specs.declared.errand.Errand.TheVariants.{Nothing, TellDropped, Write}
@@ -22,10 +25,13 @@ use Rattle.s360_remote.specs.declared.error_number.ErrorNumber.TheVariants.{Malf
 use Rattle.s360_remote.specs.declared.serving.Then.{Then}
 use Rattle.s360_remote.specs.declared.serving.Then.TheVariants as then
 
--- what has come of packets, whether they are acknowledged, and whether gdb has left
+-- what has come of packets, whether they are acknowledged, whether gdb starts the machine anew where it would leave it, whether its
+-- user has interrupted the machine, and whether gdb has left
 pub record Connected : Type 0 where
   pub receiving : Receiving
   pub acknowledging : Acknowledging
+  pub extended : Bool
+  pub interrupted : Bool
   pub ended : Bool
 
 -- how a connection goes on
@@ -34,7 +40,8 @@ going c then.GoOn = c
 going c (then.Dropped n) = c
 going c (then.Save file) = c
 going c then.StopAcknowledging = record c { acknowledging = Off }
-going c then.End = record c { ended = true }
+going c then.Extend = record c { extended = true }
+going c then.End = record c { ended = not c.extended }
 
 -- what is left to do: to tell how many recorded changes a write dropped, or to write a file
 abbrev pub errand_of : Then → Errand
@@ -52,18 +59,35 @@ answer_to_fault fault.Memory = error_of Memory
 abbrev pub IsLeft : Connected → Driven → Connected → Driven → Errand → Type 0
 IsLeft c d e t errand = (e ≡ c) × (t ≡ d) × (errand ≡ Nothing)
 
+-- a request to go on or back
+abbrev pub is_to_move : Request → Bool
+is_to_move Step = true
+is_to_move Continue = true
+is_to_move StepBack = true
+is_to_move ContinueBack = true
+is_to_move other = false
+
 -- the request is carried out; or memory lacks for it
-abbrev pub IsAnswered : Reading → Connected → Driven → Connected → Driven → Errand → List ℕ → Type 0
-IsAnswered (Err f) c d e t errand packets = IsLeft c d e t errand × (packets ≡ packet_of (answer_to_fault f))
-IsAnswered (Ok request) c d e t errand packets =
+abbrev pub IsCarriedOut : Request → Connected → Driven → Connected → Driven → Errand → List ℕ → Type 0
+IsCarriedOut request c d e t errand packets =
     ((next : Then) × IsServed request d t next packets × (e ≡ going c next) × (errand ≡ errand_of next))
     ⊎ (((t ≡ d) ⊎ IsBegun request d t) × (e ≡ c) × (errand ≡ Nothing) × (packets ≡ packet_of (error_of Memory)))
 
--- a packet came
+-- a request to move the machine that gdb's user has interrupted is answered by that alone
+abbrev pub IsMet : Bool → Request → Connected → Driven → Connected → Driven → Errand → List ℕ → Type 0
+IsMet true request c d e t errand packets = IsLeft (record c { interrupted = false }) d e t errand × (packets ≡ stop_packet Interrupt)
+IsMet false request c d e t errand packets = IsCarriedOut request c d e t errand packets
+
+abbrev pub IsAnswered : Reading → Connected → Driven → Connected → Driven → Errand → List ℕ → Type 0
+IsAnswered (Err f) c d e t errand packets = IsLeft c d e t errand × (packets ≡ packet_of (answer_to_fault f))
+IsAnswered (Ok request) c d e t errand packets = IsMet (c.interrupted && is_to_move request) request c d e t errand packets
+
+-- a packet came, or gdb's user interrupts the machine
 abbrev pub IsReceived : Received → Connected → Driven → Connected → Driven → Errand → List ℕ → Type 0
 IsReceived Packet c d e t errand packets = IsAnswered (reading_of c.receiving.bytes) c d e t errand packets
 IsReceived TooLong c d e t errand packets = IsLeft c d e t errand × (packets ≡ packet_of (error_of Malformed))
 IsReceived Damaged c d e t errand packets = IsLeft c d e t errand × (packets ≡ [])
+IsReceived Interrupted c d e t errand packets = IsLeft (record c { interrupted = true }) d e t errand × (packets ≡ [])
 
 -- a byte completed a packet, or none
 abbrev pub IsCompleted : Option Received → Connected → Driven → Connected → Driven → Errand → List ℕ → Type 0

@@ -1,18 +1,36 @@
 -- What a target is seen as.
-use Rattle.std.specs.Prelude.{ℕ, List, Option}
+use Rattle.std.specs.Prelude.{ℕ, Bool, false, List, [], ◌∷◌, Option}
 use Rattle.s360_record.specs.Recorded.{Recorded}
 use Rattle.s360_remote.specs.Forward.{Paused}
 use Rattle.s360_remote.specs.Points.{Points}
+use Rattle.s360_remote.specs.declared.pause.Pause.{Pause}
+use Rattle.s360_remote.specs.declared.pause.Pause.TheVariants.{Watch}
+
+-- what gdb is still to be told: watched bytes that were altered together with one that it was told of; that the machine stands
+-- where it does; and, if gdb asks, whether the last line of its user moved the machine
+pub record Untold : Type 0 where
+  pub altered : List ℕ
+  pub stop : Bool
+  pub moved : Bool
+
+abbrev pub nothing_untold : Untold
+nothing_untold = record { altered = []; stop = false; moved = false }
 
 -- the recording, the points at which it stops, the breakpoints that lines of gdb's user set, how many recorded events the last
--- write or line dropped, and where the recording stood before the last inquiry that went elsewhere
+-- write or line dropped, where the recording stood before the last inquiry that went elsewhere, and what gdb is still to be told
 pub record Driven : Type 0 where
   pub recorded : Recorded
   pub points : Points
   pub own : List ℕ
   pub dropped : ℕ
   pub stood : Option ℕ
+  pub untold : Untold
+
+-- gdb is told of one of the bytes alone
+abbrev pub others_of : Pause → List ℕ
+others_of (Watch (at ∷ others)) = others
+others_of other = []
 
 -- the target, where the machine went to
 abbrev pub moved_to : Driven → Paused → Driven
-moved_to d paused = record d { recorded = paused.state }
+moved_to d paused = record d { recorded = paused.state; untold = record d.untold { altered = others_of paused.why } }

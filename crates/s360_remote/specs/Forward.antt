@@ -1,21 +1,23 @@
 -- How the machine goes on, for gdb's `s` and `c` (gdb manual, "Packets", "Reverse Execution").
-use Rattle.std.specs.Prelude.{◌≡◌, ◌<◌, ◌≤◌, ℕ, zero, suc, ◌+◌, ◌-◌, Bool, true, false, nat_eq, List, [], ◌∷◌, Option, Some, None, length}
+use Rattle.std.specs.Prelude.{◌≡◌, ◌<◌, ◌≤◌, ℕ, zero, suc, ◌+◌, ◌-◌, Bool, true, false, nat_eq, ◌&&◌, if◌then◌else◌, List, [], ◌∷◌, Option, Some, None, length}
 use Rattle.std.specs.Option.{unwrap_or}
 use Rattle.s360_store.specs.declared.place.Place.{Place}
 use Rattle.s360_machine.specs.declared.event.Event.{Event}
-use Rattle.s360_machine.specs.declared.event.Event.TheVariants.{Cpu}
+use Rattle.s360_machine.specs.declared.event.Event.TheVariants.{Cpu, Channel}
+use Rattle.s360_machine.specs.declared.event_kind.EventKind.{EventKind}
+use Rattle.s360_machine.specs.declared.event_kind.EventKind.TheVariants.{Cpu as cpu_kind, Channel as channel_kind}
 use Rattle.s360_machine.specs.declared.refusal.Refusal.{Refusal}
 use Rattle.s360_journal.specs.Breakpoints.{is_at_breakpoint}
 use Rattle.s360_machine.specs.Machine.{seen}
 use Rattle.s360_journal.specs.Rerun.{AreAccepted}
 use Rattle.s360_journal.specs.Running.{next_event}
-use Rattle.s360_journal.specs.Standing.{alteration, machine_of, refusal_in}
+use Rattle.s360_journal.specs.Standing.{alteration, last_kind_of, last_of, machine_of, refusal_in}
 use Rattle.s360_record.specs.Forwarding.{IsMet, state_after}
-use Rattle.s360_record.specs.Recorded.{Recorded, next_recorded, rest_of, session_of, with_event, with_standing}
+use Rattle.s360_record.specs.Recorded.{Recorded, next_recorded, rest_of, session_of, standing_events, with_event, with_standing}
 use Rattle.s360_record.specs.declared.forwarding.Forwarded.{Forwarded}
-use Rattle.s360_remote.specs.Points.{Points, byte_altered_by, watched_bytes}
+use Rattle.s360_remote.specs.Points.{Points, bytes_altered_by}
 use Rattle.s360_remote.specs.declared.pause.Pause.{Pause}
-use Rattle.s360_remote.specs.declared.pause.Pause.TheVariants.{Refused, Watch, Idle, Break, Stepped, RecordEnd}
+use Rattle.s360_remote.specs.declared.pause.Pause.TheVariants.{Refused, Watch, Idle, Break, Stepped, RecordEnd, Slice}
 use Rattle.s360_remote.specs.declared.pause.Reach.{Reach}
 use Rattle.s360_remote.specs.declared.pause.Reach.TheVariants.{Step, Stop}
 
@@ -59,21 +61,27 @@ abbrev pub pause_of : Reach → Pause
 pause_of Step = Stepped
 pause_of Stop = Break
 
--- why the machine pauses after an event that altered these places, the first of the reasons that hold: a watched byte was
--- altered, nothing was, the event was as far as was asked, the record ended
-abbrev pub pause_with : Option ℕ → List Place → Bool → Bool → Reach → Option Pause
-pause_with (Some at) places reached ended reach = Some (Watch at)
-pause_with None [] reached ended reach = Some Idle
-pause_with None (p ∷ ps) true ended reach = Some (pause_of reach)
-pause_with None (p ∷ ps) false true reach = Some RecordEnd
-pause_with None (p ∷ ps) false false reach = None
+-- an event altered these places, and it was not recorded: nothing is left to do
+abbrev pub is_idle : Option Event → List Place → Bool
+is_idle None [] = true
+is_idle next places = false
+
+-- why the machine pauses after an event, the first of the reasons that hold: watched bytes were altered, nothing is left to do,
+-- the event was as far as was asked, the record ended. The end of the record comes before a step.
+abbrev pub pause_with : List ℕ → Bool → Bool → Bool → Reach → Option Pause
+pause_with (at ∷ others) idle reached ended reach = Some (Watch (at ∷ others))
+pause_with [] true reached ended reach = Some Idle
+pause_with [] false true true Step = Some RecordEnd
+pause_with [] false true ended reach = Some (pause_of reach)
+pause_with [] false false true reach = Some RecordEnd
+pause_with [] false false false reach = None
 
 -- why it pauses after the event whose turn it is was accepted, if it does
 unfoldable pub pause_after : Points → Reach → Recorded → Option Pause
 pause_after p reach r =
     let after = after_turn r
     in let e = event_of_turn r
-    in pause_with (byte_altered_by after (watched_bytes p.watches) after.standing) (alteration (session_of r) e) (is_reached reach p.breaks after e) (is_end_of (next_recorded r) after) reach
+    in pause_with (bytes_altered_by after p.watches after.standing) (is_idle (next_recorded r) (alteration (session_of r) e)) (is_reached reach p.breaks after e) (is_end_of (next_recorded r) after) reach
 
 -- why it pauses with an event that may be refused
 abbrev pub refused_or : Option Refusal → Option Pause → Option Pause
@@ -97,14 +105,38 @@ abbrev pub paused_by : Option Pause → Recorded → Paused → Paused
 paused_by (Some why) state others = record { state = state; why = why }
 paused_by None state others = others
 
--- the machine goes on for at most so many turns
-unfoldable pub resumed : Points → Reach → Recorded → ℕ → Paused
-resumed p reach r zero = record { state = r; why = Idle }
-resumed p reach r (suc n) = paused_by (pause_of_turn p reach r) (state_of_turn r) (resumed p reach (state_of_turn r) n)
+-- turns follow, so many at most
+unfoldable pub turns_of : Points → Reach → Recorded → ℕ → Paused
+turns_of p reach r zero = record { state = r; why = Slice }
+turns_of p reach r (suc n) = paused_by (pause_of_turn p reach r) (state_of_turn r) (turns_of p reach (state_of_turn r) n)
 
--- more turns than events can be recorded, so that the machine pauses within them
+-- an event of this kind was the one whose turn it is
+abbrev pub is_turn_of : Option EventKind → Event → Bool
+is_turn_of (Some cpu_kind) Cpu = true
+is_turn_of (Some (channel_kind u)) (Channel v) = nat_eq u.0 v.0
+is_turn_of last next = false
+
+-- an event altered nothing
+abbrev pub is_in_vain : List Place → Bool
+is_in_vain [] = true
+is_in_vain (p ∷ ps) = false
+
+-- the last change altered nothing
+abbrev pub was_in_vain : Option Event → Recorded → Bool
+was_in_vain (Some last) r = is_in_vain (alteration (session_of (with_standing r (r.standing - 1))) last)
+was_in_vain None r = false
+
+-- all that was recorded stands, and the event whose turn it is was the last and altered nothing: it would alter nothing again
+unfoldable pub is_at_rest : Recorded → Bool
+is_at_rest r = nat_eq r.standing (length r.events) && was_in_vain (last_of (standing_events r)) r && is_turn_of (last_kind_of (standing_events r)) (next_event (machine_of (session_of r)))
+
+-- the machine goes on; where it is at rest nothing more is run
+abbrev pub resumed : Points → Reach → Recorded → ℕ → Paused
+resumed p reach r n = if is_at_rest r then record { state = r; why = Idle } else turns_of p reach r n
+
+-- so many events are run, or taken back, before gdb is let in
 abbrev pub most_turns : ℕ
-most_turns = 10000001
+most_turns = 100000
 
 -- of an accepted record: what was taken back is run again by the next turn, which leads to the very state that was
 abbrev pub TurnRunsAgain : Type 0

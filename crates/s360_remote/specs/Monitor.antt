@@ -31,6 +31,7 @@ pub record IsCarriedOut (line : List ℕ) (d t : Driven) (said : List ℕ) : Typ
   pub state : line ≢ codes "help" → debugger_of t ≡ state_after_line (debugger_of d) line
   pub points : t.points ≡ d.points
   pub stood : t.stood ≡ d.stood
+  pub untold : t.untold ≡ d.untold
   pub help : line ≡ codes "help" → (t ≡ d) × (said ≡ HELP.now)
 
 -- after want of memory: some first ones of the events stand that it would have run, or it was carried out and its text is lost
@@ -39,6 +40,7 @@ pub record IsLineBegun (line : List ℕ) (d t : Driven) : Type 0 where
       ⊎ (debugger_of t ≡ state_after_line (debugger_of d) line)
   pub points : t.points ≡ d.points
   pub stood : t.stood ≡ d.stood
+  pub untold : t.untold ≡ d.untold
   pub help : line ≡ codes "help" → t ≡ d
 
 -- what a line asks of: the recording, and where it stood before

@@ -1,7 +1,7 @@
 -- Where gdb asks the machine to stop: breakpoints, and bytes of storage that are watched (gdb manual, "Packets", `Z0` to
 -- `Z2`).
-use Rattle.std.specs.Prelude.{ℕ, Bool, not, ◌&&◌, ◌||◌, nat_eq, nat_le, if◌then◌else◌, max, List, [], ◌∷◌, ◌++◌, length, Option}
-use Rattle.std.specs.List.{filter, find, flat_map, list_any, range_with_len}
+use Rattle.std.specs.Prelude.{ℕ, Bool, not, ◌&&◌, ◌||◌, ◌+◌, nat_eq, nat_le, nat_lt, if◌then◌else◌, List, [], ◌∷◌, ◌++◌, length, Option}
+use Rattle.std.specs.List.{filter, filter_map, find, list_any, range_with_len}
 use Rattle.std.specs.Option.{unwrap_or}
 use Rattle.s360_store.specs.declared.place.Place.TheVariants.{Byte}
 use Rattle.s360_machine.specs.Machine.{seen}
@@ -18,22 +18,25 @@ pub record Points : Type 0 where
   pub breaks : List ℕ
   pub watches : List Watched
 
--- the addresses of the watched bytes, in the order in which they were set
-abbrev pub watched_bytes : List Watched → List ℕ
-watched_bytes watches = flat_map (λ w. range_with_len w.at w.count) watches
-
 -- the last standing change of a byte, 0 if there is none
 abbrev pub last_change_at : Recorded → ℕ → ℕ
 last_change_at r at = unwrap_or (last_change_of (seen r.start) (standing_events r) (Byte at)) 0
 
--- the first watched byte that the change of this number was the last to alter
+-- the first of some bytes that the change of this number was the last to alter
 abbrev pub byte_altered_by : Recorded → List ℕ → ℕ → Option ℕ
 byte_altered_by r bytes number = find (λ at. nat_eq (last_change_at r at) number) bytes
 
--- the last change of any of them, 0 if there is none
-abbrev pub last_change_among : Recorded → List ℕ → ℕ
-last_change_among r [] = 0
-last_change_among r (at ∷ bytes) = max (last_change_at r at) (last_change_among r bytes)
+-- that of each watch which has one
+abbrev pub bytes_altered_by : Recorded → List Watched → ℕ → List ℕ
+bytes_altered_by r watches number = filter_map (λ w. byte_altered_by r (range_with_len w.at w.count) number) watches
+
+-- a byte is one of those from an address on
+abbrev pub has_byte : Watched → ℕ → Bool
+has_byte w at = nat_le w.at at && nat_lt at (w.at + w.count)
+
+-- a byte is watched
+abbrev pub is_watched : List Watched → ℕ → Bool
+is_watched watches at = list_any (λ w. has_byte w at) watches
 
 -- so many runs of bytes can be watched
 abbrev pub most_watches : ℕ

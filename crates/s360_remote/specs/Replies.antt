@@ -13,13 +13,16 @@ use Rattle.s360_packet.specs.Target.{register_text, register_value}
 use Rattle.s360_packet.specs.declared.answer.Answer.{Answer}
 use Rattle.s360_packet.specs.declared.answer.Answer.TheVariants.{Done}
 use Rattle.s360_packet.specs.declared.answer.Stop.{Stop}
-use Rattle.s360_packet.specs.declared.answer.Stop.TheVariants.{Trap, Watch as watch, Breakpoint, HistoryBegin, HistoryEnd}
+use Rattle.s360_packet.specs.declared.answer.Stop.TheVariants.{Trap, Quiet, Watch as watch, Breakpoint, HistoryBegin, HistoryEnd}
 use Rattle.s360_packet.specs.declared.target.RegisterValue.{RegisterValue}
 use Rattle.s360_remote.specs.ErrorNumbers.{error_of}
 use Rattle.s360_remote.specs.Registers.{words_of}
 use Rattle.s360_remote.specs.declared.error_number.ErrorNumber.TheVariants.{Address, Malformed}
 use Rattle.s360_remote.specs.declared.pause.Pause.{Pause}
-use Rattle.s360_remote.specs.declared.pause.Pause.TheVariants.{Refused, Watch, Idle, Break, Stepped, RecordEnd, RecordStart}
+use Rattle.s360_remote.specs.declared.pause.Pause.TheVariants.{Refused, Watch, Idle, Break, Stepped, RecordEnd, RecordStart, Slice}
+use Rattle.s360_remote.specs.declared.pause.Reach.{Reach}
+use Rattle.s360_remote.specs.declared.pause.Reach.TheVariants.{Step}
+use Rattle.s360_remote.specs.declared.pause.Reach.TheVariants as reach
 
 abbrev pub packet_of : Answer → List ℕ
 packet_of a = framed (answer_text a)
@@ -62,13 +65,22 @@ idle_words_of true other waits = codes "idle: the event altered nothing\n"
 abbrev pub idle_words : Machine → Option EventKind → List ℕ
 idle_words m last = idle_words_of (is_operating m.control.run_state) last (wait_of m.core.psw)
 
+-- the end of the record that the machine came to: a step is told by a text, since gdb stops at what it knows as the end of
+-- history only where it went on to a stop
+abbrev pub end_packets : Reach → List ℕ → Stop → List ℕ
+end_packets Step words end = console_packet words ++ stop_packet Quiet
+end_packets reach.Stop words end = stop_packet end
+
 -- what tells why the machine pauses: where nothing is left to do, or an event is refused, a text and the stop that stands for
--- it; m is the machine then, and the last event is that which stands last
-abbrev pub pause_packets : Stop → Machine → Option EventKind → Pause → List ℕ
-pause_packets halt m last (Refused refusal) = console_packet (refused_text refusal) ++ stop_packet halt
-pause_packets halt m last Idle = console_packet (idle_words m last) ++ stop_packet halt
-pause_packets halt m last (Watch at) = stop_packet (watch at)
-pause_packets halt m last Break = stop_packet Breakpoint
-pause_packets halt m last Stepped = stop_packet Trap
-pause_packets halt m last RecordEnd = stop_packet HistoryEnd
-pause_packets halt m last RecordStart = stop_packet HistoryBegin
+-- it; m is the machine then, and the last event is that which stands last. A breakpoint where gdb has none lets it in, and it
+-- goes on by itself.
+abbrev pub pause_packets : Reach → Machine → Option EventKind → Pause → List ℕ
+pause_packets reach m last (Refused refusal) = console_packet (refused_text refusal) ++ stop_packet Quiet
+pause_packets reach m last Idle = console_packet (idle_words m last) ++ stop_packet Quiet
+pause_packets reach m last (Watch []) = stop_packet Trap
+pause_packets reach m last (Watch (at ∷ others)) = stop_packet (watch at)
+pause_packets reach m last Break = stop_packet Breakpoint
+pause_packets reach m last Stepped = stop_packet Trap
+pause_packets reach m last RecordEnd = end_packets reach (codes "end of what was recorded\n") HistoryEnd
+pause_packets reach m last RecordStart = end_packets reach (codes "start of what was recorded\n") HistoryBegin
+pause_packets reach m last Slice = stop_packet Breakpoint

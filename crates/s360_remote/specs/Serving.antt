@@ -1,6 +1,6 @@
 -- What a request makes of the target, and what it is answered (gdb manual, "Packets", "Stop Reply Packets", "General Query
 -- Packets").
-use Rattle.std.specs.Prelude.{◌≡◌, ◌≢◌, ◌⊎◌, ⊤, ℕ, zero, suc, ◌+◌, ◌^◌, Bool, true, false, nat_eq, nat_lt, if◌then◌else◌, Option, Some, None, List, [], length, take, Result, Ok, Err}
+use Rattle.std.specs.Prelude.{◌≡◌, ◌≢◌, ◌⊎◌, ⊤, ℕ, zero, suc, ◌+◌, ◌^◌, Bool, true, false, nat_eq, nat_lt, not, if◌then◌else◌, Option, Some, None, List, [], length, take, Result, Ok, Err}
 use Rattle.byteorder.specs.Endian.{IsRead, big_number}
 use Rattle.s360_machine.specs.Machine.{Machine, storage_size}
 use Rattle.s360_journal.specs.Breakpoints.{has_room_for, with_address, without_address}
@@ -11,28 +11,30 @@ use Rattle.s360_packet.specs.Framing.{framed}
 use Rattle.s360_packet.specs.declared.answer.Answer.{Answer}
 use Rattle.s360_packet.specs.declared.answer.Answer.TheVariants as answer
 use Rattle.s360_packet.specs.declared.answer.Stop.{Stop}
-use Rattle.s360_packet.specs.declared.answer.Stop.TheVariants.{Trap, Quiet}
+use Rattle.s360_packet.specs.declared.answer.Stop.TheVariants.{Trap}
 use Rattle.s360_packet.specs.declared.request.Point.{Point}
 use Rattle.s360_packet.specs.declared.request.Point.TheVariants.{Write as write}
 use Rattle.s360_packet.specs.declared.request.Thread.{Thread}
 use Rattle.s360_packet.specs.declared.request.Thread.TheVariants.{Numbered}
 use Rattle.s360_packet.specs.declared.request.Request.{Request}
-use Rattle.s360_packet.specs.declared.request.Request.TheVariants.{Stopped, Registers, WriteRegisters, Register, WriteRegister, Storage, WriteStorage, Step, Continue, StepBack, ContinueBack, Insert, Remove, Supported, Description, Select, IsAlive, CurrentThread, Attached, FirstThreads, NextThreads, StopAcknowledging, Command, Detach, Kill, KillProcess}
-use Rattle.s360_record.specs.Recorded.{session_of, standing_events}
-use Rattle.s360_remote.specs.Backward.{back_to_stop, stepped_back}
+use Rattle.s360_packet.specs.declared.request.Request.TheVariants.{Stopped, Registers, WriteRegisters, Register, WriteRegister, Storage, WriteStorage, Step, Continue, StepBack, ContinueBack, Insert, Remove, Supported, Description, MemoryMap, HasMoved, Extend, Restart, Run, Select, IsAlive, CurrentThread, Attached, FirstThreads, NextThreads, StopAcknowledging, Command, Detach, Kill, KillProcess}
+use Rattle.s360_record.specs.Recorded.{session_of, standing_events, with_standing}
+use Rattle.s360_remote.specs.Backward.{gone_back}
 use Rattle.s360_remote.specs.Driven.{Driven, moved_to}
 use Rattle.s360_remote.specs.ErrorNumbers.{error_of}
 use Rattle.s360_remote.specs.Forward.{Paused, most_turns, resumed}
 use Rattle.s360_inquiry.specs.Reading.{inquiry_of}
 use Rattle.s360_remote.specs.Monitor.{IsAnswered, IsBegun as IsMonitorBegun}
 use Rattle.s360_saving.specs.Reading.{Asked, saving_of}
-use Rattle.s360_remote.specs.Points.{Points, has_room_for_watch, watched_bytes, with_watch, without_watch}
+use Rattle.s360_remote.specs.Points.{Points, has_room_for_watch, with_watch, without_watch}
 use Rattle.s360_remote.specs.Registers.{words_of}
-use Rattle.s360_remote.specs.Replies.{line_text, packet_of, pause_packets, register_of_number, storage_text}
+use Rattle.s360_remote.specs.Replies.{line_text, packet_of, pause_packets, register_of_number, stop_packet, storage_text}
 use Rattle.s360_remote.specs.Saving.{IsSavingServed}
+use Rattle.s360_remote.specs.Untold.{after_stop, stop_before}
 use Rattle.s360_remote.specs.Writing.{IsWriteEnd, Write, register_write, registers_write, storage_write}
 use Rattle.s360_remote.specs.declared.error_number.ErrorNumber.{ErrorNumber}
 use Rattle.s360_remote.specs.declared.error_number.ErrorNumber.TheVariants.{NoThread, Address, Full, Malformed, Memory}
+use Rattle.s360_remote.specs.declared.pause.Reach.{Reach}
 use Rattle.s360_remote.specs.declared.pause.Reach.TheVariants as reach
 use Rattle.s360_remote.specs.declared.serving.Then.{Then}
 use Rattle.s360_remote.specs.declared.serving.Then.TheVariants as then
@@ -42,10 +44,30 @@ machine_now d = machine_of (session_of d.recorded)
 
 -- ---- requests that go on or back
 
+abbrev pub told_first : Driven → Option Stop
+told_first d = stop_before d.untold d.points.watches
+
+abbrev pub after_told : Driven → Driven
+after_told d = record d { untold = after_stop d.untold d.points.watches }
+
 -- the machine paused: the target is as it was but for the machine, and gdb is told why
-abbrev pub IsPaused : Stop → Paused → Driven → Driven → Then → List ℕ → Type 0
-IsPaused halt paused d t next packets =
-    (t ≡ moved_to d paused) × (next ≡ then.GoOn) × (packets ≡ pause_packets halt (machine_now t) (last_kind_of (standing_events t.recorded)) paused.why)
+abbrev pub IsPaused : Reach → Paused → Driven → Driven → Then → List ℕ → Type 0
+IsPaused reach paused d t next packets =
+    (t ≡ moved_to d paused) × (next ≡ then.GoOn) × (packets ≡ pause_packets reach (machine_now t) (last_kind_of (standing_events t.recorded)) paused.why)
+
+-- gdb was told what it was still to be told, and the machine stays where it is; else it goes on or back
+abbrev pub IsResumed : Option Stop → Reach → Paused → Driven → Driven → Then → List ℕ → Type 0
+IsResumed (Some stop) reach paused d t next packets = (t ≡ after_told d) × (next ≡ then.GoOn) × (packets ≡ stop_packet stop)
+IsResumed None reach paused d t next packets = IsPaused reach paused d t next packets
+
+-- after want of memory: likewise, or the machine moved so
+abbrev pub IsResumedBegun : Option Stop → Driven → Driven → Type 0 → Type 0
+IsResumedBegun (Some stop) d t moved = t ≡ after_told d
+IsResumedBegun None d t moved = moved
+
+-- the machine is started anew: it goes back to the start of the record, and nothing else is told
+abbrev pub started_anew : Driven → Driven
+started_anew d = record d { recorded = with_standing d.recorded 0; untold = record d.untold { altered = []; stop = false } }
 
 -- ---- requests that write
 
@@ -124,6 +146,7 @@ told CurrentThread m = answer_text answer.Thread
 told Attached m = answer_text answer.Attached
 told FirstThreads m = answer_text answer.FirstThreads
 told NextThreads m = answer_text answer.NoMoreThreads
+told (MemoryMap offset count) m = answer_text (answer.MemoryMap (storage_size m) offset count)
 told Stopped m = answer_text (answer.Stopped Trap)
 told (Select thread) m = answer_text (thread_answer thread)
 told (IsAlive thread) m = answer_text (thread_answer thread)
@@ -131,16 +154,25 @@ told other m = answer_text answer.Done
 
 -- ---- lines of gdb's user
 
+-- once a line was carried out, gdb may ask whether it moved the machine
+abbrev pub with_moved : Driven → Driven → Driven
+with_moved d t = record t { untold = record t.untold { moved = not (nat_eq t.recorded.standing d.recorded.standing) } }
+
 -- a line that saves makes nothing of the target; any other is carried out, and answered at once
 abbrev pub IsCommandServed : Option (Result Asked LineFault) → List ℕ → Driven → Driven → Then → List ℕ → Type 0
 IsCommandServed (Some asked) line d t next packets = (t ≡ d) × IsSavingServed asked (machine_now d) next packets
 IsCommandServed None line d t next packets =
-    (next ≡ then.GoOn) × ((text : List ℕ) × IsAnswered (inquiry_of line) line d t text × (packets ≡ framed (line_text text)))
+    (next ≡ then.GoOn) × ((u : Driven) × (text : List ℕ) × IsAnswered (inquiry_of line) line d u text × (t ≡ with_moved d u) × (packets ≡ framed (line_text text)))
 
 -- the same after want of memory
 abbrev pub IsCommandBegun : Option (Result Asked LineFault) → List ℕ → Driven → Driven → Type 0
 IsCommandBegun (Some asked) line d t = t ≡ d
-IsCommandBegun None line d t = IsMonitorBegun (inquiry_of line) line d t
+IsCommandBegun None line d t = (u : Driven) × IsMonitorBegun (inquiry_of line) line d u × (t ≡ with_moved d u)
+
+-- gdb is told whether the last line moved the machine. Where it did gdb looks at all anew, and is then told that the machine
+-- stands where it does.
+abbrev pub after_asking : Driven → Driven
+after_asking d = if d.untold.moved then record d { untold = record d.untold { altered = []; stop = true } } else d
 
 -- ---- all requests
 
@@ -149,32 +181,38 @@ abbrev pub then_after : Request → Then
 then_after Detach = then.End
 then_after (KillProcess n) = then.End
 then_after StopAcknowledging = then.StopAcknowledging
+then_after Extend = then.Extend
 then_after other = then.GoOn
 
 abbrev pub IsServed : Request → Driven → Driven → Then → List ℕ → Type 0
-IsServed Step d t next packets = IsPaused Trap (resumed d.points reach.Step d.recorded most_turns) d t next packets
-IsServed Continue d t next packets = IsPaused Quiet (resumed d.points reach.Stop d.recorded most_turns) d t next packets
-IsServed StepBack d t next packets = IsPaused Trap (stepped_back (watched_bytes d.points.watches) d.recorded d.recorded.standing) d t next packets
-IsServed ContinueBack d t next packets = IsPaused Quiet (back_to_stop d.points d.recorded) d t next packets
+IsServed Step d t next packets = IsResumed (told_first d) reach.Step (resumed d.points reach.Step d.recorded most_turns) d t next packets
+IsServed Continue d t next packets = IsResumed (told_first d) reach.Stop (resumed d.points reach.Stop d.recorded most_turns) d t next packets
+IsServed StepBack d t next packets = IsResumed (told_first d) reach.Step (gone_back d.points reach.Step d.recorded most_turns) d t next packets
+IsServed ContinueBack d t next packets = IsResumed (told_first d) reach.Stop (gone_back d.points reach.Stop d.recorded most_turns) d t next packets
 IsServed (WriteStorage at bytes) d t next packets = IsWritten (storage_write d at bytes) d t next packets
 IsServed (WriteRegister number word) d t next packets = IsWritten (register_write d number word) d t next packets
 IsServed (WriteRegisters bytes) d t next packets = AreAllWritten bytes d t next packets
 IsServed (Insert point at kind) d t next packets = (t ≡ record d { points = points_with point at kind d }) × (next ≡ then.GoOn) × (packets ≡ packet_of (insert_answer point at kind d))
 IsServed (Remove point at kind) d t next packets = (t ≡ record d { points = points_without point at kind d }) × (next ≡ then.GoOn) × (packets ≡ packet_of answer.Done)
 IsServed (Command line) d t next packets = IsCommandServed (saving_of line) line d t next packets
+IsServed HasMoved d t next packets = (t ≡ after_asking d) × (next ≡ then.GoOn) × (packets ≡ packet_of (answer.Moved d.untold.moved))
+IsServed Run d t next packets = (t ≡ started_anew d) × (next ≡ then.GoOn) × (packets ≡ stop_packet Trap)
+IsServed Restart d t next packets = (t ≡ started_anew d) × (next ≡ then.GoOn) × (packets ≡ [])
 IsServed Kill d t next packets = (t ≡ d) × (next ≡ then.End) × (packets ≡ [])
 IsServed other d t next packets = (t ≡ d) × (next ≡ then_after other) × (packets ≡ framed (told other (machine_now d)))
 
 -- after want of memory: some first ones of its events stand, or all that it makes is there and its answer is lost
 abbrev pub IsBegun : Request → Driven → Driven → Type 0
-IsBegun Step d t = (n : ℕ) × (t ≡ moved_to d (resumed d.points reach.Step d.recorded n))
-IsBegun Continue d t = (n : ℕ) × (t ≡ moved_to d (resumed d.points reach.Stop d.recorded n))
-IsBegun StepBack d t = t ≡ moved_to d (stepped_back (watched_bytes d.points.watches) d.recorded d.recorded.standing)
-IsBegun ContinueBack d t = t ≡ moved_to d (back_to_stop d.points d.recorded)
+IsBegun Step d t = IsResumedBegun (told_first d) d t ((n : ℕ) × (t ≡ moved_to d (resumed d.points reach.Step d.recorded n)))
+IsBegun Continue d t = IsResumedBegun (told_first d) d t ((n : ℕ) × (t ≡ moved_to d (resumed d.points reach.Stop d.recorded n)))
+IsBegun StepBack d t = IsResumedBegun (told_first d) d t (t ≡ moved_to d (gone_back d.points reach.Step d.recorded most_turns))
+IsBegun ContinueBack d t = IsResumedBegun (told_first d) d t (t ≡ moved_to d (gone_back d.points reach.Stop d.recorded most_turns))
 IsBegun (WriteStorage at bytes) d t = IsWriteBegun (storage_write d at bytes) d t
 IsBegun (WriteRegister number word) d t = IsWriteBegun (register_write d number word) d t
 IsBegun (WriteRegisters bytes) d t = AreAllBegun bytes d t
 IsBegun (Insert point at kind) d t = t ≡ record d { points = points_with point at kind d }
 IsBegun (Remove point at kind) d t = t ≡ record d { points = points_without point at kind d }
 IsBegun (Command line) d t = IsCommandBegun (saving_of line) line d t
+IsBegun HasMoved d t = t ≡ after_asking d
+IsBegun Run d t = t ≡ started_anew d
 IsBegun other d t = t ≡ d

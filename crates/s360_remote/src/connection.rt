@@ -4,22 +4,25 @@ ghost use Rattle.std.specs.Option.{option_to_list};
 ghost use Rattle.s360_packet.specs.Receiving.{acknowledgement_of, between_packets};
 ghost use Rattle.s360_packet.specs.Requests.{reading_of};
 ghost use Rattle.s360_packet.specs.declared.receiver.Acknowledging.TheVariants.{On};
-ghost use Rattle.s360_remote.specs.Connecting.{IsAnswered, IsReceived, IsTaken, answer_to_fault, errand_of, going};
+ghost use Rattle.s360_remote.specs.Connecting.{IsAnswered, IsReceived, IsTaken, answer_to_fault, errand_of, going, is_to_move};
 
 use crate::errand::Errand;
 use crate::error_number::ErrorNumber;
 use crate::replies::Replies;
 use crate::serving::Then;
 use crate::target::Target;
-use s360_packet::{Acknowledging, Answer, Received, Receiver, RequestFault, read_request};
+use s360_packet::{Acknowledging, Answer, Received, Receiver, Request, RequestFault, Stop, read_request};
 use std::alloc::{AllocError, Global};
 use std::marker::Model;
 
-/// A connection: what has come of packets, whether they are acknowledged, and whether gdb has left.
+/// A connection: what has come of packets, whether they are acknowledged, whether gdb starts the machine anew where it would
+/// leave it, whether its user has interrupted the machine, and whether gdb has left.
 #[derive(Drop)]
 pub struct Connection {
     receiver: Receiver,
     acknowledging: Acknowledging,
+    extended: bool,
+    interrupted: bool,
     ended: bool,
     alloc: Global,
 }
@@ -29,17 +32,19 @@ impl Model for Connection {
 
     ghost Value = { Connected };
 
-    ghost view = { λ c. record { receiving = c.receiver; acknowledging = c.acknowledging; ended = c.ended } };
+    ghost view = { λ c. record { receiving = c.receiver; acknowledging = c.acknowledging; extended = c.extended; interrupted = c.interrupted; ended = c.ended } };
 }
 
 impl Connection {
     /// A connection on which nothing came yet.
     pub fn new(alloc: Global) -> Result<Connection, AllocError>
-        ensures { IfOk result (λ c. c ≡ record { receiving = between_packets 16384; acknowledging = On; ended = false }) }
+        ensures { IfOk result (λ c. c ≡ record { receiving = between_packets 16384; acknowledging = On; extended = false; interrupted = false; ended = false }) }
     {
         Ok(Connection {
             receiver: Receiver::new(alloc, crate::PACKET_SIZE as usize)?,
             acknowledging: Acknowledging::On,
+            extended: false,
+            interrupted: false,
             ended: false,
             alloc,
         })
@@ -98,6 +103,10 @@ impl Connection {
                 Ok(Errand::Nothing)
             }
             Received::Damaged => Ok(Errand::Nothing),
+            Received::Interrupt => {
+                self.interrupted = true;
+                Ok(Errand::Nothing)
+            }
         }
     }
 
@@ -112,6 +121,11 @@ impl Connection {
                 return Ok(Errand::Nothing);
             }
         };
+        if self.interrupted && is_to_move(&request) {
+            self.interrupted = false;
+            replies.push(Answer::Stopped(Stop::Interrupt))?;
+            return Ok(Errand::Nothing);
+        }
         let mut answered = Replies::new(self.alloc);
         match target.serve(request, &mut answered) {
             Ok(next) => {
@@ -138,12 +152,26 @@ impl Connection {
                 self.acknowledging = Acknowledging::Off;
                 Errand::Nothing
             }
+            Then::Extend => {
+                self.extended = true;
+                Errand::Nothing
+            }
             Then::End => {
-                self.ended = true;
+                self.ended = !self.extended;
                 Errand::Nothing
             }
         }
     }
+}
+
+/// Whether a request is to go on or back.
+fn is_to_move(request: &Request) -> bool
+    ensures { result ≡ is_to_move request.now }
+{
+    matches!(
+        request,
+        Request::Step | Request::Continue | Request::StepBack | Request::ContinueBack
+    )
 }
 
 /// What tells that data is no request.

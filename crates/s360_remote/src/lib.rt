@@ -14,6 +14,7 @@ mod replies;
 mod saving;
 mod serving;
 mod target;
+mod untold;
 mod writing;
 
 pub use connection::Connection;
@@ -21,7 +22,7 @@ pub use errand::Errand;
 pub use error_number::ErrorNumber;
 pub use laws::{both_words_are_the_psw, turn_runs_again};
 pub use pause::{Pause, Reach};
-pub use points::{Points, Watch};
+pub use points::{Altered, Points, Watch};
 pub use registers::{patch_of_psw, patch_of_word, words_of};
 pub use replies::Replies;
 pub use serving::Then;

@@ -146,6 +146,7 @@ fn carry_out(target: &mut Target, line: &[u8]) -> Result<Text, AllocError>
     ensures state { OnOk result (debugger_of target.new ≡ state_after_line (debugger_of target.old) line.now) }
     ensures points { target.new.points ≡ target.old.points }
     ensures stood { target.new.stood ≡ target.old.stood }
+    ensures untold { target.new.untold ≡ target.old.untold }
     ensures memory { OnErr result (StandsAfterReading (reading_of line.now) (debugger_of target.old) (debugger_of target.new).session ⊎ (debugger_of target.new ≡ state_after_line (debugger_of target.old) line.now)) }
 {
     target.counting.dropped = 0;

@@ -2,6 +2,7 @@
 ghost use Rattle.std.specs.Prelude.{◌≡◌};
 ghost use Rattle.s360_remote.specs.Forward.{pause_of};
 
+use crate::points::Altered;
 use s360_machine::Refusal;
 
 /// How far the machine goes on.
@@ -26,13 +27,13 @@ impl Reach {
 }
 
 /// Why the machine pauses.
-#[derive(Clone, Copy)]
+#[derive(Drop)]
 pub enum Pause {
     /// The next event was refused.
     Refused(Refusal),
-    /// The watched byte at this address was altered, or is altered by the change that comes next if the machine went back.
-    Watch(u32),
-    /// The last event altered nothing.
+    /// Watched bytes were altered, at least one, or are altered by the change that comes next if the machine went back.
+    Watch(Altered),
+    /// Nothing is left to do: the event whose turn it is alters nothing.
     Idle,
     /// The CPU operates at a breakpoint.
     Break,
@@ -42,4 +43,6 @@ pub enum Pause {
     RecordEnd,
     /// Nothing stands.
     RecordStart,
+    /// So much was run, or taken back, that gdb is let in.
+    Slice,
 }

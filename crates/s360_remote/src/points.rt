@@ -1,10 +1,10 @@
 //! Where gdb asks the machine to stop. Source: gdb manual, "Packets", `Z0` to `Z2`.
-ghost use Rattle.std.specs.Prelude.{◌≡◌, ◌<◌, ◌+◌, ◌^◌, [], SomeIff};
-ghost use Rattle.std.specs.List.{range_with_len};
+ghost use Rattle.std.specs.Prelude.{◌≡◌, ◌<◌, ◌+◌, ◌^◌, ◌++◌, ◌∷◌, [], drop, slice_get, SomeIff};
+ghost use Rattle.std.specs.List.{filter, range_with_len};
 ghost use Rattle.s360_journal.specs.Breakpoints.{has_room_for, is_at_breakpoint, with_address, without_address};
 ghost use Rattle.s360_machine.specs.Machine.{seen};
-ghost use Rattle.s360_remote.specs.Points.{byte_altered_by, last_change_among, last_change_at, watched_bytes};
-ghost use Rattle.s360_remote.specs.Points.{has_room_for_watch, with_watch, without_watch};
+ghost use Rattle.s360_remote.specs.Points.{byte_altered_by, bytes_altered_by, last_change_at};
+ghost use Rattle.s360_remote.specs.Points.{has_byte, has_room_for_watch, is_watched, with_watch, without_watch};
 
 use arrayvec::ArrayVec;
 use s360_journal::Breaks;
@@ -57,15 +57,11 @@ impl Watch {
         None
     }
 
-    /// The number of the last change of any of them, 0 if there is none.
-    fn last_change(self, recording: &Recording) -> u32
-        ensures { result ≡ last_change_among recording.now (range_with_len self.at self.count) }
+    /// Whether a byte is one of them.
+    fn has(self, at: u32) -> bool
+        ensures { result ≡ has_byte self at }
     {
-        let mut last = 0;
-        for at in self.at..self.at + self.count {
-            last = last.max(last_change_at(recording, at));
-        }
-        last
+        self.at <= at && at < self.at + self.count
     }
 }
 
@@ -74,6 +70,53 @@ fn last_change_at(recording: &Recording, at: u32) -> u32
     ensures { result ≡ last_change_at recording.now at }
 {
     recording.last_change(Place::Byte(at)).unwrap_or(0)
+}
+
+/// Addresses of watched bytes that one change altered, one of each watch at most. A contract sees their list.
+#[derive(Drop)]
+pub struct Altered {
+    addresses: ArrayVec<u32, MOST>,
+}
+
+impl Model for Altered {
+    ghost use Rattle.std.specs.Prelude.{List, ℕ};
+
+    ghost Value = { List ℕ };
+
+    ghost view = { λ a. a.addresses.items };
+}
+
+impl Altered {
+    /// None.
+    pub(crate) fn new() -> Altered
+        ensures { result ≡ [] }
+    {
+        Altered {
+            addresses: ArrayVec::new(),
+        }
+    }
+
+    /// Whether there are none.
+    pub(crate) fn is_empty(&self) -> bool
+        ensures { result ≡ is_none self.now }
+    {
+        self.addresses.is_empty()
+    }
+
+    /// Takes the first away, if there is one.
+    pub(crate) fn take_first(&mut self) -> Option<u32>
+        ensures first { result ≡ slice_get self.old 0 }
+        ensures others { self.new ≡ drop 1 self.old }
+    {
+        self.addresses.pop_at(0)
+    }
+
+    /// Leaves those out that are no longer watched.
+    pub(crate) fn keep_watched(&mut self, points: &Points)
+        ensures { self.new ≡ filter (λ at. is_watched points.now.watches at) self.old }
+    {
+        self.addresses.retain(|at| points.is_watched(*at));
+    }
 }
 
 /// The breakpoints and the watched bytes. A contract sees both in the order in which they were set. No call takes memory.
@@ -142,26 +185,23 @@ impl Points {
         self.breaks.stops(machine)
     }
 
-    /// The address of the first watched byte that the change of this number was the last to alter.
-    pub(crate) fn byte_altered_by(&self, recording: &Recording, number: u32) -> Option<u32>
-        ensures { result ≡ byte_altered_by recording.now (watched_bytes self.now.watches) number }
+    /// Whether a byte is watched.
+    fn is_watched(&self, at: u32) -> bool
+        ensures { result ≡ is_watched self.now.watches at }
     {
-        for watch in self.watches.as_slice() {
-            if let Some(at) = watch.byte_altered_by(recording, number) {
-                return Some(at);
-            }
-        }
-        None
+        self.watches.as_slice().iter().any(|watch| watch.has(at))
     }
 
-    /// The number of the last change of a watched byte, 0 if there is none.
-    pub(crate) fn last_change(&self, recording: &Recording) -> u32
-        ensures { result ≡ last_change_among recording.now (watched_bytes self.now.watches) }
+    /// Of each watch the first byte that the change of this number was the last to alter, if it altered one.
+    pub(crate) fn bytes_altered_by(&self, recording: &Recording, number: u32) -> Altered
+        ensures { result ≡ bytes_altered_by recording.now self.now.watches number }
     {
-        let mut last = 0;
+        let mut altered = Altered::new();
         for watch in self.watches.as_slice() {
-            last = last.max(watch.last_change(recording));
+            if let Some(at) = watch.byte_altered_by(recording, number) {
+                altered.addresses.push(at);
+            }
         }
-        last
+        altered
     }
 }

@@ -5,26 +5,28 @@ ghost use Rattle.s360_language.specs.Names.{refused_text};
 ghost use Rattle.s360_machine.specs.Machine.{storage_size};
 ghost use Rattle.s360_packet.specs.Answers.{registers_text};
 ghost use Rattle.s360_packet.specs.Framing.{framed};
-ghost use Rattle.s360_packet.specs.declared.answer.Answer.TheVariants.{Done};
+ghost use Rattle.s360_packet.specs.declared.answer.Answer.TheVariants.{Done, Moved};
 ghost use Rattle.s360_record.specs.Recorded.{standing_events};
-ghost use Rattle.s360_remote.specs.Driven.{moved_to};
+ghost use Rattle.s360_remote.specs.Backward.{gone_back};
+ghost use Rattle.s360_remote.specs.Driven.{Driven, moved_to, others_of};
 ghost use Rattle.s360_remote.specs.Forward.{most_turns, resumed};
 ghost use Rattle.s360_inquiry.specs.Reading.{inquiry_of};
 ghost use Rattle.s360_remote.specs.Monitor.{IsAnswered, IsBegun as IsMonitorBegun};
 ghost use Rattle.s360_remote.specs.Registers.{words_of};
-ghost use Rattle.s360_remote.specs.Replies.{console_packet, idle_words, idle_words_of, line_text};
-ghost use Rattle.s360_remote.specs.Replies.{packet_of, pause_packets, register_of_number, storage_text};
-ghost use Rattle.s360_remote.specs.Serving.{AreAllBegun, AreAllWritten, IsBegun, IsPaused, IsServed, IsTold};
-ghost use Rattle.s360_remote.specs.Serving.{IsCommandBegun, IsCommandServed};
+ghost use Rattle.s360_remote.specs.Replies.{console_packet, end_packets, idle_words, idle_words_of, line_text};
+ghost use Rattle.s360_remote.specs.Replies.{packet_of, pause_packets, register_of_number, stop_packet, storage_text};
+ghost use Rattle.s360_remote.specs.Serving.{AreAllBegun, AreAllWritten, IsBegun, IsResumed, IsResumedBegun, IsServed, IsTold};
+ghost use Rattle.s360_remote.specs.Serving.{IsCommandBegun, IsCommandServed, after_asking, started_anew, told_first, with_moved};
 ghost use Rattle.s360_remote.specs.Serving.{after_write, insert_answer, machine_now, points_with, points_without, then_after, thread_answer, told};
 ghost use Rattle.s360_saving.specs.Reading.{saving_of};
 ghost use Rattle.s360_remote.specs.declared.error_number.ErrorNumber.TheVariants.{Memory};
+ghost use Rattle.s360_remote.specs.declared.pause.Pause.TheVariants.{Watch};
 ghost use Rattle.s360_remote.specs.declared.serving.Then.TheVariants.{GoOn};
 
 use crate::error_number::ErrorNumber;
 use crate::monitor::monitor;
 use crate::pause::{Pause, Reach};
-use crate::points::Watch;
+use crate::points::{Altered, Watch as WatchedBytes};
 use crate::registers::words_of;
 use crate::replies::Replies;
 use crate::saving::save;
@@ -48,7 +50,9 @@ pub enum Then {
     Save(FileToWrite),
     /// With the next request, and packets are acknowledged no longer.
     StopAcknowledging,
-    /// Not at all.
+    /// With the next request, and gdb starts the machine anew where it would leave it.
+    Extend,
+    /// Not at all, unless gdb starts the machine anew.
     End,
 }
 
@@ -63,16 +67,10 @@ impl Target {
         ensures begun { OnErr result (IsBegun request self.old self.new) }
     {
         match request {
-            Request::Step => self.go_on(Reach::Step, Stop::Trap, replies),
-            Request::Continue => self.go_on(Reach::Stop, Stop::Quiet, replies),
-            Request::StepBack => {
-                let pause = self.step_back();
-                self.tell_pause(pause, Stop::Trap, replies)
-            }
-            Request::ContinueBack => {
-                let pause = self.back_to_stop();
-                self.tell_pause(pause, Stop::Quiet, replies)
-            }
+            Request::Step => self.resume(Reach::Step, replies),
+            Request::Continue => self.resume(Reach::Stop, replies),
+            Request::StepBack => self.resume_back(Reach::Step, replies),
+            Request::ContinueBack => self.resume_back(Reach::Stop, replies),
             Request::WriteRegisters(bytes) => self.write_all_registers(bytes.as_slice(), replies),
             Request::WriteRegister { number, word } => {
                 let written = self.write_register(number, word);
@@ -85,6 +83,16 @@ impl Target {
             Request::Insert { point, at, kind } => self.insert(point, at, kind, replies),
             Request::Remove { point, at, kind } => self.remove(point, at, kind, replies),
             Request::Command(line) => self.answer_line(&line, replies),
+            Request::HasMoved => self.tell_moved(replies),
+            Request::Run => {
+                self.start_anew();
+                replies.push(Answer::Stopped(Stop::Trap))?;
+                Ok(Then::GoOn)
+            }
+            Request::Restart => {
+                self.start_anew();
+                Ok(Then::GoOn)
+            }
             Request::Kill => Ok(Then::End),
             other => self.tell(&other, replies),
         }
@@ -112,6 +120,11 @@ impl Target {
             Request::Description { offset, count } => {
                 replies.push(Answer::Description { offset, count })
             }
+            Request::MemoryMap { offset, count } => replies.push(Answer::MemoryMap {
+                size: self.machine().storage().size(),
+                offset,
+                count,
+            }),
             Request::Select(thread) | Request::IsAlive(thread) => {
                 replies.push(thread_answer(thread))
             }
@@ -155,18 +168,50 @@ impl Target {
         replies.push(Answer::Bytes(storage.bytes(at, count)))
     }
 
-    /// Lets the machine go on, and tells why it pauses.
-    fn go_on(
-        &mut self,
-        reach: Reach,
-        quiet: Stop,
-        replies: &mut Replies,
-    ) -> Result<Then, AllocError>
-        ensures served { IfOk result (λ next. (packets : List ℕ) × IsPaused quiet (resumed self.old.points reach self.old.recorded most_turns) self.old self.new next packets × (replies.new ≡ replies.old ++ packets)) }
-        ensures begun { OnErr result ((n : ℕ) × (self.new ≡ moved_to self.old (resumed self.old.points reach self.old.recorded n))) }
+    /// Tells what gdb is still to be told, or goes on and tells why the machine pauses.
+    fn resume(&mut self, reach: Reach, replies: &mut Replies) -> Result<Then, AllocError>
+        ensures served { IfOk result (λ next. (packets : List ℕ) × IsResumed (told_first self.old) reach (resumed self.old.points reach self.old.recorded most_turns) self.old self.new next packets × (replies.new ≡ replies.old ++ packets)) }
+        ensures begun { OnErr result (IsResumedBegun (told_first self.old) self.old self.new ((n : ℕ) × (self.new ≡ moved_to self.old (resumed self.old.points reach self.old.recorded n)))) }
     {
-        let pause = self.forward(reach)?;
-        self.tell_pause(pause, quiet, replies)
+        if let Some(stop) = self.untold.take_stop(&self.points) {
+            return tell_stop(stop, replies);
+        }
+        let pause = self.go_on(reach)?;
+        self.tell_pause(pause, reach, replies)
+    }
+
+    /// Tells what gdb is still to be told, or goes back and tells why the machine pauses.
+    fn resume_back(&mut self, reach: Reach, replies: &mut Replies) -> Result<Then, AllocError>
+        ensures served { IfOk result (λ next. (packets : List ℕ) × IsResumed (told_first self.old) reach (gone_back self.old.points reach self.old.recorded most_turns) self.old self.new next packets × (replies.new ≡ replies.old ++ packets)) }
+        ensures begun { OnErr result (IsResumedBegun (told_first self.old) self.old self.new (self.new ≡ moved_to self.old (gone_back self.old.points reach self.old.recorded most_turns))) }
+    {
+        if let Some(stop) = self.untold.take_stop(&self.points) {
+            return tell_stop(stop, replies);
+        }
+        let pause = self.go_back(reach);
+        self.tell_pause(pause, reach, replies)
+    }
+
+    /// Tells whether the last line of gdb's user moved the machine.
+    fn tell_moved(&mut self, replies: &mut Replies) -> Result<Then, AllocError>
+        ensures state { self.new ≡ after_asking self.old }
+        ensures answer { IfOk result (λ next. (next ≡ GoOn) × (replies.new ≡ replies.old ++ packet_of (Moved self.old.untold.moved))) }
+    {
+        if self.untold.moved {
+            self.untold.altered = Altered::new();
+            self.untold.stop = true;
+        }
+        replies.push(Answer::Moved(self.untold.moved))?;
+        Ok(Then::GoOn)
+    }
+
+    /// Takes all changes back, which stay recorded. It takes no memory.
+    fn start_anew(&mut self)
+        ensures { self.new ≡ started_anew self.old }
+    {
+        let _standing = self.counting.recording.back_to(0);
+        self.untold.altered = Altered::new();
+        self.untold.stop = false;
     }
 
     /// Gives all registers the words of these bytes; what the machine lacks is left out.
@@ -231,7 +276,7 @@ impl Target {
         match point {
             Point::Software | Point::Hardware => self.points.remove_break(at),
             Point::Write => {
-                if let Some(watch) = Watch::new(at, kind) {
+                if let Some(watch) = WatchedBytes::new(at, kind) {
                     self.points.remove_watch(watch);
                 }
             }
@@ -241,14 +286,14 @@ impl Target {
     }
 
     /// So many bytes from an address on, if they are in storage.
-    fn watch_in_storage(&self, at: u32, count: u32) -> Option<Watch>
+    fn watch_in_storage(&self, at: u32, count: u32) -> Option<WatchedBytes>
         ensures { SomeIff result (at + count ≤ storage_size (machine_now self.now)) (record { at = at; count = count }) }
     {
         let size = u64::from(self.machine().storage().size());
         if u64::from(at) + u64::from(count) > size {
             return None;
         }
-        Watch::new(at, count)
+        WatchedBytes::new(at, count)
     }
 
     /// Carries a line of gdb's user out, and tells its answer, or hands up the file that it saves.
@@ -264,11 +309,13 @@ impl Target {
 
     /// Carries a line out that saves nothing, and tells its answer. A line without one is done.
     fn answer_at_once(&mut self, line: &[u8], replies: &mut Replies) -> Result<Then, AllocError>
-        ensures served { IfOk result (λ next. (next ≡ GoOn) × ((text : List ℕ) × IsAnswered (inquiry_of line.now) line.now self.old self.new text × (replies.new ≡ replies.old ++ framed (line_text text)))) }
-        ensures begun { OnErr result (IsMonitorBegun (inquiry_of line.now) line.now self.old self.new) }
+        ensures served { IfOk result (λ next. (next ≡ GoOn) × ((carried : Driven) × (text : List ℕ) × IsAnswered (inquiry_of line.now) line.now self.old carried text × (self.new ≡ with_moved self.old carried) × (replies.new ≡ replies.old ++ framed (line_text text)))) }
+        ensures begun { OnErr result ((carried : Driven) × IsMonitorBegun (inquiry_of line.now) line.now self.old carried × (self.new ≡ with_moved self.old carried)) }
     {
-        let text = monitor(self, line)?;
-        tell_line(&text, replies)?;
+        let standing = self.standing();
+        let text = monitor(self, line);
+        self.untold.moved = self.standing() != standing;
+        tell_line(&text?, replies)?;
         Ok(Then::GoOn)
     }
 
@@ -294,38 +341,50 @@ impl Target {
         }
     }
 
-    /// Tells why the machine pauses. If nothing is left to do, or an event was refused, a text says so before the stop.
+    /// Tells why the machine pauses. Of altered bytes the first is told, and the others are left to be told.
     fn tell_pause(
-        &self,
+        &mut self,
         pause: Pause,
-        quiet: Stop,
+        reach: Reach,
         replies: &mut Replies,
     ) -> Result<Then, AllocError>
+        ensures state { self.new ≡ record self.old { untold = record self.old.untold { altered = others_of pause } } }
         ensures next { IfOk result (λ next. next ≡ GoOn) }
-        ensures packets { OnOk result (replies.new ≡ replies.old ++ pause_packets quiet (machine_now self.now) (last_kind_of (standing_events self.now.recorded)) pause) }
-    {
-        self.push_pause(pause, quiet, replies)?;
-        Ok(Then::GoOn)
-    }
-
-    /// Adds what tells why the machine pauses.
-    fn push_pause(&self, pause: Pause, quiet: Stop, replies: &mut Replies) -> Result<(), AllocError>
-        ensures { OnOk result (replies.new ≡ replies.old ++ pause_packets quiet (machine_now self.now) (last_kind_of (standing_events self.now.recorded)) pause) }
+        ensures packets { OnOk result (replies.new ≡ replies.old ++ pause_packets reach (machine_now self.old) (last_kind_of (standing_events self.old.recorded)) pause) }
     {
         match pause {
+            Pause::Watch(mut altered) => {
+                let first = altered.take_first();
+                self.untold.altered = altered;
+                tell_stop(first.map_or(Stop::Trap, |at| Stop::Watch { at }), replies)
+            }
+            pause => {
+                self.untold.altered = Altered::new();
+                self.push_pause(&pause, reach, replies)?;
+                Ok(Then::GoOn)
+            }
+        }
+    }
+
+    /// Adds what tells why the machine pauses, if it is for no watched byte. If nothing is left to do, or an event was refused, a
+    /// text says so before the stop.
+    fn push_pause(&self, pause: &Pause, reach: Reach, replies: &mut Replies) -> Result<(), AllocError>
+        requires { (altered : List ℕ) → pause.now ≢ Watch altered }
+        ensures { OnOk result (replies.new ≡ replies.old ++ pause_packets reach (machine_now self.now) (last_kind_of (standing_events self.now.recorded)) pause.now) }
+    {
+        match *pause {
             Pause::Refused(refusal) => {
                 self.tell_refusal(refusal, replies)?;
-                replies.push(Answer::Stopped(quiet))
+                replies.push(Answer::Stopped(Stop::Quiet))
             }
             Pause::Idle => {
                 self.tell_idle(replies)?;
-                replies.push(Answer::Stopped(quiet))
+                replies.push(Answer::Stopped(Stop::Quiet))
             }
-            Pause::Watch(at) => replies.push(Answer::Stopped(Stop::Watch { at })),
-            Pause::Break => replies.push(Answer::Stopped(Stop::Breakpoint)),
-            Pause::Stepped => replies.push(Answer::Stopped(Stop::Trap)),
-            Pause::RecordEnd => replies.push(Answer::Stopped(Stop::HistoryEnd)),
-            Pause::RecordStart => replies.push(Answer::Stopped(Stop::HistoryBegin)),
+            Pause::Break | Pause::Slice => replies.push(Answer::Stopped(Stop::Breakpoint)),
+            Pause::RecordEnd => push_end(reach, "end of what was recorded\n", Stop::HistoryEnd, replies),
+            Pause::RecordStart => push_end(reach, "start of what was recorded\n", Stop::HistoryBegin, replies),
+            Pause::Stepped | Pause::Watch(_) => replies.push(Answer::Stopped(Stop::Trap)),
         }
     }
 
@@ -351,6 +410,27 @@ impl Target {
     }
 }
 
+/// Tells a stop.
+fn tell_stop(stop: Stop, replies: &mut Replies) -> Result<Then, AllocError>
+    ensures { IfOk result (λ next. (next ≡ GoOn) × (replies.new ≡ replies.old ++ stop_packet stop)) }
+{
+    replies.push(Answer::Stopped(stop))?;
+    Ok(Then::GoOn)
+}
+
+/// Adds what tells an end of the record: to a step these words, and else the stop at the end of what gdb knows as history.
+fn push_end(reach: Reach, words: &str, end: Stop, replies: &mut Replies) -> Result<(), AllocError>
+    ensures { OnOk result (replies.new ≡ replies.old ++ end_packets reach words.now end) }
+{
+    match reach {
+        Reach::Step => {
+            replies.push(Answer::Console(words.as_bytes()))?;
+            replies.push(Answer::Stopped(Stop::Quiet))
+        }
+        Reach::Stop => replies.push(Answer::Stopped(end)),
+    }
+}
+
 /// How serving goes on after a request that changes nothing.
 fn then_after(request: &Request) -> Then
     ensures { result ≡ then_after request.now }
@@ -358,6 +438,7 @@ fn then_after(request: &Request) -> Then
     match *request {
         Request::Detach | Request::KillProcess(_) => Then::End,
         Request::StopAcknowledging => Then::StopAcknowledging,
+        Request::Extend => Then::Extend,
         _ => Then::GoOn,
     }
 }

@@ -7,23 +7,25 @@ ghost use Rattle.s360_journal.specs.Breakpoints.{is_at_breakpoint};
 ghost use Rattle.s360_journal.specs.Rerun.{AreAccepted};
 ghost use Rattle.s360_journal.specs.Standing.{IsAfter, Standing, alteration, machine_of};
 ghost use Rattle.s360_record.specs.Recorded.{Recorded, next_recorded, session_of, standing_events, with_standing};
-ghost use Rattle.s360_remote.specs.Backward.{back_to_stop, is_cpu_last, stepped_back};
-ghost use Rattle.s360_remote.specs.Driven.{moved_to};
-ghost use Rattle.s360_remote.specs.Forward.{IsTurn, is_end_of, is_reached, most_turns, pause_after};
+ghost use Rattle.s360_remote.specs.Driven.{nothing_untold};
+ghost use Rattle.s360_remote.specs.Backward.{gone_back, is_cpu_last, one_back, pause_back};
+ghost use Rattle.s360_remote.specs.Forward.{IsTurn, is_at_rest, is_end_of, is_reached, is_turn_of, most_turns, pause_after};
 ghost use Rattle.s360_remote.specs.Forward.{pause_of_turn, resumed, state_of_turn};
-ghost use Rattle.s360_remote.specs.Points.{byte_altered_by, last_change_among, watched_bytes};
+ghost use Rattle.s360_remote.specs.Points.{bytes_altered_by};
+ghost use Rattle.s360_remote.specs.declared.pause.Pause.TheVariants.{Slice};
 
 use crate::counting::Counting;
 use crate::pause::{Pause, Reach};
-use crate::points::Points;
-use s360_journal::Breaks;
-use s360_machine::{EventKind, Machine, Refusal};
+use crate::points::{Altered, Points};
+use crate::untold::Untold;
+use s360_journal::{Breaks, next_event};
+use s360_machine::{Event, EventKind, Machine, Refusal};
 use s360_record::{Forwarded, Recording};
 use std::alloc::{AllocError, Global};
 use std::marker::Model;
 
-/// More events than can be recorded.
-const TURNS: u32 = 10_000_001;
+/// So many events are run, or taken back, before gdb is let in: about a third of a second's.
+const TURNS: u32 = 100_000;
 
 /// A recording and the points at which it stops.
 #[derive(Drop)]
@@ -34,6 +36,7 @@ pub struct Target {
     pub(crate) own_breaks: Breaks,
     /// Where the recording stood before the last inquiry that went elsewhere.
     pub(crate) stood: Option<u32>,
+    pub(crate) untold: Untold,
     pub(crate) limit: u32,
     pub(crate) alloc: Global,
 }
@@ -44,7 +47,7 @@ impl Model for Target {
 
     ghost Value = { Driven };
 
-    ghost view = { λ t. record { recorded = t.counting.recording; points = t.points; own = t.own_breaks; dropped = t.counting.dropped; stood = t.stood } };
+    ghost view = { λ t. record { recorded = t.counting.recording; points = t.points; own = t.own_breaks; dropped = t.counting.dropped; stood = t.stood; untold = t.untold } };
 
     ghost invariant = { λ t. t.limit ≡ t.counting.recording.limit };
 }
@@ -53,7 +56,7 @@ impl Target {
     /// A target over a recording, of which at most `limit` events may be recorded, with no points.
     pub fn new(alloc: Global, recording: Recording, limit: u32) -> Target
         requires { limit ≡ recording.limit }
-        ensures { result ≡ record { recorded = recording; points = record { breaks = []; watches = [] }; own = []; dropped = 0; stood = None } }
+        ensures { result ≡ record { recorded = recording; points = record { breaks = []; watches = [] }; own = []; dropped = 0; stood = None; untold = nothing_untold } }
     {
         Target {
             counting: Counting {
@@ -63,6 +66,7 @@ impl Target {
             points: Points::new(),
             own_breaks: Breaks::new(),
             stood: None,
+            untold: Untold::nothing(),
             limit,
             alloc,
         }
@@ -79,55 +83,55 @@ impl Target {
     }
 
     /// Goes on, and answers why the machine pauses. After want of memory some first ones of the events stand.
-    pub fn forward(&mut self, reach: Reach) -> Result<Pause, AllocError>
+    pub fn go_on(&mut self, reach: Reach) -> Result<Pause, AllocError>
         ensures pause { IfOk result (λ pause. pause ≡ (resumed self.old.points reach self.old.recorded most_turns).why) }
-        ensures state { OnOk result (self.new ≡ moved_to self.old (resumed self.old.points reach self.old.recorded most_turns)) }
-        ensures memory { OnErr result ((n : ℕ) × (self.new ≡ moved_to self.old (resumed self.old.points reach self.old.recorded n))) }
+        ensures state { OnOk result (self.new ≡ record self.old { recorded = (resumed self.old.points reach self.old.recorded most_turns).state }) }
+        ensures memory { OnErr result ((n : ℕ) × (resumed self.old.points reach self.old.recorded n ≡ record { state = self.new.recorded; why = Slice }) × (self.new ≡ record self.old { recorded = self.new.recorded })) }
     {
+        if self.is_at_rest() {
+            return Ok(Pause::Idle);
+        }
         for _turn in 0..TURNS {
             if let Some(pause) = self.take_turn(reach)? {
                 return Ok(pause);
             }
         }
-        Ok(Pause::Idle)
+        Ok(Pause::Slice)
     }
 
-    /// Takes changes back up to and with one event of the CPU, and answers why the machine pauses. It takes no memory.
-    pub fn step_back(&mut self) -> Pause
-        ensures pause { result ≡ (stepped_back (watched_bytes self.old.points.watches) self.old.recorded self.old.recorded.standing).why }
-        ensures state { self.new ≡ moved_to self.old (stepped_back (watched_bytes self.old.points.watches) self.old.recorded self.old.recorded.standing) }
+    /// Goes back, and answers why the machine pauses. It takes no memory.
+    pub fn go_back(&mut self, reach: Reach) -> Pause
+        ensures pause { result ≡ (gone_back self.old.points reach self.old.recorded most_turns).why }
+        ensures state { self.new ≡ record self.old { recorded = (gone_back self.old.points reach self.old.recorded most_turns).state } }
     {
-        while self.standing() > 0 {
-            let altered = self.byte_altered_by(self.standing());
-            let is_cpu = self.is_cpu_last();
-            self.back();
-            if let Some(at) = altered {
-                return Pause::Watch(at);
+        for _change in 0..TURNS {
+            if self.standing() == 0 {
+                return Pause::RecordStart;
             }
-            if is_cpu {
-                return Pause::Stepped;
+            if let Some(pause) = self.take_back(reach) {
+                return pause;
             }
         }
-        Pause::RecordStart
+        Pause::Slice
     }
 
-    /// Takes changes back to the last stop, and answers why the machine pauses there. It takes no memory.
-    pub fn back_to_stop(&mut self) -> Pause
-        ensures pause { result ≡ (back_to_stop self.old.points self.old.recorded).why }
-        ensures state { self.new ≡ moved_to self.old (back_to_stop self.old.points self.old.recorded) }
+    /// Takes the last change back, and answers why the machine pauses then, if it does.
+    fn take_back(&mut self, reach: Reach) -> Option<Pause>
+        requires { 0 < self.old.recorded.standing }
+        ensures pause { result ≡ pause_back self.old.points reach self.old.recorded }
+        ensures state { self.new ≡ record self.old { recorded = one_back self.old.recorded } }
     {
-        let change = self.last_change();
-        let altered = self.byte_altered_by(change);
-        while self.standing() > 0 {
-            self.back();
-            if self.standing() < change {
-                return Pause::Watch(altered.unwrap_or(0));
-            }
-            if self.is_at_breakpoint() {
-                return Pause::Break;
-            }
+        let altered = self.bytes_altered_by(self.standing());
+        let is_cpu = self.is_cpu_last();
+        self.back();
+        if !altered.is_empty() {
+            return Some(Pause::Watch(altered));
         }
-        Pause::RecordStart
+        let is_reached = match reach {
+            Reach::Step => is_cpu,
+            Reach::Stop => self.is_at_breakpoint(),
+        };
+        is_reached.then_some(reach.pause())
     }
 
     /// Runs the event whose turn it is, and answers why the machine pauses then, if it does.
@@ -148,19 +152,28 @@ impl Target {
     fn pause_after(&self, reach: Reach, forwarded: Forwarded) -> Option<Pause>
         ensures { (before : Recorded) → IsTurn before self.now.recorded forwarded → result ≡ pause_after self.now.points reach before }
     {
-        if let Some(at) = self.byte_altered_by(self.standing()) {
-            return Some(Pause::Watch(at));
+        let altered = self.bytes_altered_by(self.standing());
+        if !altered.is_empty() {
+            return Some(Pause::Watch(altered));
         }
-        if self.is_idle() {
+        if forwarded != Forwarded::Again && self.is_idle() {
             return Some(Pause::Idle);
         }
-        if self.is_reached(reach) {
+        let is_end = self.is_at_end(forwarded);
+        if self.is_reached(reach) && !(is_end && reach == Reach::Step) {
             return Some(reach.pause());
         }
-        if self.is_at_end(forwarded) {
-            return Some(Pause::RecordEnd);
-        }
-        None
+        is_end.then_some(Pause::RecordEnd)
+    }
+
+    /// Whether the event whose turn it is was the last, and altered nothing.
+    fn is_at_rest(&self) -> bool
+        ensures { result ≡ is_at_rest self.now.recorded }
+    {
+        let recording = &self.counting.recording;
+        self.standing() == recording.recorded()
+            && recording.is_idle()
+            && is_turn_of(recording.last_event(), next_event(recording.machine()))
     }
 
     /// Whether the last change that stands altered nothing.
@@ -212,19 +225,12 @@ impl Target {
         self.counting.recording.standing()
     }
 
-    /// The first watched byte that the change of this number was the last to alter.
-    fn byte_altered_by(&self, number: u32) -> Option<u32>
-        ensures { result ≡ byte_altered_by self.now.recorded (watched_bytes self.now.points.watches) number }
+    /// Of each watch the first byte that the change of this number was the last to alter, if it altered one.
+    fn bytes_altered_by(&self, number: u32) -> Altered
+        ensures { result ≡ bytes_altered_by self.now.recorded self.now.points.watches number }
     {
         self.points
-            .byte_altered_by(&self.counting.recording, number)
-    }
-
-    /// The number of the last change of a watched byte, 0 if there is none.
-    fn last_change(&self) -> u32
-        ensures { result ≡ last_change_among self.now.recorded (watched_bytes self.now.points.watches) }
-    {
-        self.points.last_change(&self.counting.recording)
+            .bytes_altered_by(&self.counting.recording, number)
     }
 
     /// Takes back the last change that stands.
@@ -233,5 +239,16 @@ impl Target {
         ensures { self.new ≡ record self.old { recorded = with_standing self.old.recorded (self.old.recorded.standing - 1) } }
     {
         let _taken = self.counting.recording.back();
+    }
+}
+
+/// Whether an event, of which the kind is known, was the one whose turn it is.
+fn is_turn_of(last: Option<EventKind>, next: Event) -> bool
+    ensures { result ≡ is_turn_of last next }
+{
+    match (last, next) {
+        (Some(EventKind::Cpu), Event::Cpu) => true,
+        (Some(EventKind::Channel(last)), Event::Channel(unit)) => last == unit,
+        _ => false,
     }
 }
