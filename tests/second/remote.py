@@ -5,6 +5,7 @@ Sources: gdb manual, "Remote Serial Protocol" and "Reverse Execution"; docs/refe
 import re
 
 from .channels import UNITS, Program
+from .conditions import conditions_in, holds
 from .core import WORD
 from .debugger import MOST_PATCHED, Debugger
 from .inquiries import Inquiries
@@ -21,6 +22,7 @@ WORDS, LACKING = 18, 17 * 8 + 16 * 16
 NUMBER = rb"([0-9a-fA-F]{1,8})"
 TWO = NUMBER + rb"," + NUMBER
 PAIRS = rb"((?:[0-9a-fA-F]{2})*)"
+CONDITIONS = rb"(?:;(.*))?"
 THREAD = rb"(-1|[0-9a-fA-F]{1,8})"
 # A pause is looked for within so many events.
 MOST_EVENTS = 3000
@@ -165,7 +167,7 @@ class Target:
         self.recording = self.recording_type(*media, **options)
         self.inquiries = Inquiries(self.recording)
         self.savings = Savings()
-        self.breaks, self.watches = set(), []
+        self.breaks, self.watches = {}, []  # of each address the conditions of which one has to hold
         self.untold = []  # bytes that were altered with the one that was told last
         self.is_interrupted = False
         self.is_moved = False  # by the last line of gdb's user
@@ -275,15 +277,18 @@ class Target:
 
     # Points.
 
-    def insert_break(self, at, _kind):
-        at = int(at, 16)
+    def insert_break(self, at, _kind, conditions):
+        """A further one at an address takes the place of the conditions that it had."""
+        at, conditions = int(at, 16), conditions_in(conditions or b"")
+        if conditions is None:
+            return [MALFORMED]
         if at not in self.breaks and len(self.breaks) == MOST_POINTS:
             return [FULL]
-        self.breaks.add(at)
+        self.breaks[at] = conditions
         return [OK]
 
     def remove_break(self, at, _kind):
-        self.breaks.discard(int(at, 16))
+        self.breaks.pop(int(at, 16), None)
         return [OK]
 
     def insert_watch(self, at, count):
@@ -304,14 +309,19 @@ class Target:
         own, self.recording.breakpoints = self.recording.breakpoints, self.breaks
         answer = self.recording.is_at_breakpoint()
         self.recording.breakpoints = own
-        return answer
+        return answer and self.is_to_stop(self.breaks[self.words()[1]])
+
+    def is_to_stop(self, conditions):
+        return not conditions or any(holds(one, self.words(), self.machine) for one in conditions)
 
     def altered(self, change):
-        """Of each watch the address of the first byte that a change altered."""
-        places = set(change.places)
-        watched = (range(at, at + count) for at, count in self.watches)
-        first = (next((byte for byte in run if f"s{byte:06X}" in places), None) for run in watched)
-        return [byte for byte in first if byte is not None]
+        """The watched bytes that a change altered: the first of each watch that has none before."""
+        places, told = set(change.places), []
+        for at, count in self.watches:
+            run = range(at, at + count)
+            if not any(byte in run for byte in told):
+                told += [byte for byte in run if f"s{byte:06X}" in places][:1]
+        return told
 
     def tell_altered(self, change):
         """The stop at a change of watched bytes, if it altered one. The others are told next."""
@@ -319,8 +329,12 @@ class Target:
         return self.tell_untold()
 
     def tell_untold(self):
-        """The stop at an altered byte that gdb was not told of, if there is one."""
+        """The stop at an altered byte that gdb was not told of, if it watches one of them."""
+        self.untold = [at for at in self.untold if self.is_watched(at)]
         return [b"T05watch:%x;" % self.untold.pop(0)] if self.untold else None
+
+    def is_watched(self, at):
+        return any(first <= at < first + count for first, count in self.watches)
 
     # Going on and back.
 
@@ -329,12 +343,12 @@ class Target:
         if self.is_interrupted:
             self.is_interrupted = False
             return [INTERRUPT]
-        return self.tell_untold() or move()
-
-    def step(self):
         if self.is_stop_due:
             self.is_stop_due = False
             return [TRAP]
+        return self.tell_untold() or move()
+
+    def step(self):
         end = [said(AT_END), QUIET]
         return self.resumed(lambda: self.go_on(lambda change: TRAP if is_cpu(change) else None, end))
 
@@ -438,7 +452,8 @@ class Target:
 
     def has_moved(self):
         """Whether the last line moved the machine. If so the next step is a stop where it is."""
-        self.is_stop_due = self.is_moved
+        if self.is_moved:
+            self.is_stop_due, self.untold = True, []
         return [b"%d" % self.is_moved]
 
     def answers_to(self, line):
@@ -478,6 +493,7 @@ class Target:
         """All changes are taken back, and stay recorded."""
         while self.recording.changes:
             self.recording.take_back()
+        self.is_stop_due, self.untold = False, []
         return []
 
 
@@ -497,7 +513,7 @@ def said(text):
 
 
 SUPPORTED = b"PacketSize=4000;qXfer:features:read+;ReverseStep+;ReverseContinue+;swbreak+"
-SUPPORTED += b";QStartNoAckMode+;qXfer:memory-map:read+"
+SUPPORTED += b";QStartNoAckMode+;qXfer:memory-map:read+;ConditionalBreakpoints+"
 PLAIN = {b"?": TRAP, b"qSupported": SUPPORTED, b"qC": b"QC1", b"qAttached": b"1"}
 PLAIN |= {b"qfThreadInfo": b"m1", b"qsThreadInfo": b"l", b"QStartNoAckMode": OK}
 NAMED = {b"g": Target.all_registers, b"s": Target.step, b"c": Target.resume, b"k": Target.kill}
@@ -524,8 +540,8 @@ FORMS = [
     (b"vKill;", NUMBER, Target.leave),
     (b"vRun;", b".*", Target.start_anew),
     (b"R", b".*", Target.restart),
-    (b"Z0,", TWO, Target.insert_break),
-    (b"Z1,", TWO, Target.insert_break),
+    (b"Z0,", TWO + CONDITIONS, Target.insert_break),
+    (b"Z1,", TWO + CONDITIONS, Target.insert_break),
     (b"Z2,", TWO, Target.insert_watch),
     (b"z0,", TWO, Target.remove_break),
     (b"z1,", TWO, Target.remove_break),

@@ -8,23 +8,23 @@ set target-charset IBM037
 
 python
 class Renew(gdb.Command):
-    """Look at the machine anew, as after each line of monitor.
+    """Look at the machine anew, if the last line of monitor moved it.
 
-What gdb has kept of it is dropped, and each watch takes its value anew. If the line moved the
-machine, gdb stops where it is."""
+What gdb has kept of the machine is dropped, each watch takes its value anew, and gdb stops."""
 
     def __init__(self):
         super().__init__("s360-renew", gdb.COMMAND_RUNNING)
 
     def invoke(self, _words, _from_terminal):
+        if gdb.selected_inferior().connection.send_packet("qs360.moved") != b"1":
+            return
         gdb.execute("maintenance flush register-cache", to_string=True)
         gdb.execute("maintenance flush dcache", to_string=True)
         for point in gdb.breakpoints():
-            if point.type != gdb.BP_BREAKPOINT and point.enabled:
+            if point.type == gdb.BP_HARDWARE_WATCHPOINT and point.enabled:
                 point.enabled = False
                 point.enabled = True
-        if gdb.selected_inferior().connection.send_packet("qs360.moved") == b"1":
-            gdb.execute("stepi")
+        gdb.execute("stepi")
 
 
 class Refuse(gdb.Command):

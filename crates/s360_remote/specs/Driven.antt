@@ -1,5 +1,5 @@
 -- What a target is seen as.
-use Rattle.std.specs.Prelude.{ℕ, Bool, false, List, [], ◌∷◌, Option}
+use Rattle.std.specs.Prelude.{ℕ, Bool, false, List, [], drop, Option}
 use Rattle.s360_record.specs.Recorded.{Recorded}
 use Rattle.s360_remote.specs.Forward.{Paused}
 use Rattle.s360_remote.specs.Points.{Points}
@@ -28,7 +28,7 @@ pub record Driven : Type 0 where
 
 -- gdb is told of one of the bytes alone
 abbrev pub others_of : Pause → List ℕ
-others_of (Watch (at ∷ others)) = others
+others_of (Watch altered) = drop 1 altered
 others_of other = []
 
 -- the target, where the machine went to

@@ -1,8 +1,8 @@
 -- Where gdb asks the machine to stop: breakpoints, and bytes of storage that are watched (gdb manual, "Packets", `Z0` to
 -- `Z2`).
 use Rattle.std.specs.Prelude.{ℕ, Bool, not, ◌&&◌, ◌||◌, ◌+◌, nat_eq, nat_le, nat_lt, if◌then◌else◌, List, [], ◌∷◌, ◌++◌, length, Option}
-use Rattle.std.specs.List.{filter, filter_map, find, list_any, range_with_len}
-use Rattle.std.specs.Option.{unwrap_or}
+use Rattle.std.specs.List.{filter, find, fold, list_any, range_with_len}
+use Rattle.std.specs.Option.{option_to_list, unwrap_or}
 use Rattle.s360_store.specs.declared.place.Place.TheVariants.{Byte}
 use Rattle.s360_machine.specs.Machine.{seen}
 use Rattle.s360_journal.specs.Rerun.{last_change_of}
@@ -26,13 +26,18 @@ last_change_at r at = unwrap_or (last_change_of (seen r.start) (standing_events 
 abbrev pub byte_altered_by : Recorded → List ℕ → ℕ → Option ℕ
 byte_altered_by r bytes number = find (λ at. nat_eq (last_change_at r at) number) bytes
 
--- that of each watch which has one
-abbrev pub bytes_altered_by : Recorded → List Watched → ℕ → List ℕ
-bytes_altered_by r watches number = filter_map (λ w. byte_altered_by r (range_with_len w.at w.count) number) watches
-
 -- a byte is one of those from an address on
 abbrev pub has_byte : Watched → ℕ → Bool
 has_byte w at = nat_le w.at at && nat_lt at (w.at + w.count)
+
+-- that of one watch more: gdb looks at each watch that has a byte which it is told of
+abbrev pub with_altered : Recorded → ℕ → List ℕ → Watched → List ℕ
+with_altered r number told w = if list_any (λ at. has_byte w at) told then told else told ++ option_to_list (byte_altered_by r (range_with_len w.at w.count) number)
+
+-- the watched bytes that gdb is told of one after another: those that the change of this number was the last to alter, one of
+-- each watch at most
+abbrev pub bytes_altered_by : Recorded → List Watched → ℕ → List ℕ
+bytes_altered_by r watches number = fold (λ told w. with_altered r number told w) [] watches
 
 -- a byte is watched
 abbrev pub is_watched : List Watched → ℕ → Bool

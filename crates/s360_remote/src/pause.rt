@@ -1,5 +1,6 @@
 //! Where the machine pauses. Source: gdb manual, "Stop Reply Packets" and "Reverse Execution".
 ghost use Rattle.std.specs.Prelude.{◌≡◌};
+ghost use Rattle.s360_remote.specs.Driven.{others_of};
 ghost use Rattle.s360_remote.specs.Forward.{pause_of};
 
 use crate::points::Altered;
@@ -45,4 +46,19 @@ pub enum Pause {
     RecordStart,
     /// So much was run, or taken back, that gdb is let in.
     Slice,
+}
+
+impl Pause {
+    /// The altered bytes beside the first, of which gdb is told.
+    pub(crate) fn others(self) -> Altered
+        ensures { result ≡ others_of self }
+    {
+        match self {
+            Pause::Watch(mut altered) => {
+                let _first = altered.take_first();
+                altered
+            }
+            _ => Altered::new(),
+        }
+    }
 }

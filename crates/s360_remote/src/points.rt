@@ -1,6 +1,6 @@
 //! Where gdb asks the machine to stop. Source: gdb manual, "Packets", `Z0` to `Z2`.
 ghost use Rattle.std.specs.Prelude.{◌≡◌, ◌<◌, ◌+◌, ◌^◌, ◌++◌, ◌∷◌, [], drop, slice_get, SomeIff};
-ghost use Rattle.std.specs.List.{filter, range_with_len};
+ghost use Rattle.std.specs.List.{filter, list_any, range_with_len};
 ghost use Rattle.s360_journal.specs.Breakpoints.{has_room_for, is_at_breakpoint, with_address, without_address};
 ghost use Rattle.s360_machine.specs.Machine.{seen};
 ghost use Rattle.s360_remote.specs.Points.{byte_altered_by, bytes_altered_by, last_change_at};
@@ -103,6 +103,20 @@ impl Altered {
         self.addresses.is_empty()
     }
 
+    /// Whether a watch has one of them.
+    fn is_in(&self, watch: Watch) -> bool
+        ensures { result ≡ list_any (λ at. has_byte watch at) self.now }
+    {
+        self.addresses.as_slice().iter().any(|at| watch.has(*at))
+    }
+
+    /// The first, if there is one.
+    pub(crate) fn first(&self) -> Option<u32>
+        ensures { result ≡ slice_get self.now 0 }
+    {
+        self.addresses.as_slice().first().copied()
+    }
+
     /// Takes the first away, if there is one.
     pub(crate) fn take_first(&mut self) -> Option<u32>
         ensures first { result ≡ slice_get self.old 0 }
@@ -192,12 +206,16 @@ impl Points {
         self.watches.as_slice().iter().any(|watch| watch.has(at))
     }
 
-    /// Of each watch the first byte that the change of this number was the last to alter, if it altered one.
+    /// The watched bytes that the change of this number was the last to alter: the first of each watch that has none of those
+    /// before.
     pub(crate) fn bytes_altered_by(&self, recording: &Recording, number: u32) -> Altered
         ensures { result ≡ bytes_altered_by recording.now self.now.watches number }
     {
         let mut altered = Altered::new();
         for watch in self.watches.as_slice() {
+            if altered.is_in(*watch) {
+                continue;
+            }
             if let Some(at) = watch.byte_altered_by(recording, number) {
                 altered.addresses.push(at);
             }

@@ -20,13 +20,12 @@ ghost use Rattle.s360_remote.specs.Serving.{IsCommandBegun, IsCommandServed, aft
 ghost use Rattle.s360_remote.specs.Serving.{after_write, insert_answer, machine_now, points_with, points_without, then_after, thread_answer, told};
 ghost use Rattle.s360_saving.specs.Reading.{saving_of};
 ghost use Rattle.s360_remote.specs.declared.error_number.ErrorNumber.TheVariants.{Memory};
-ghost use Rattle.s360_remote.specs.declared.pause.Pause.TheVariants.{Watch};
 ghost use Rattle.s360_remote.specs.declared.serving.Then.TheVariants.{GoOn};
 
 use crate::error_number::ErrorNumber;
 use crate::monitor::monitor;
 use crate::pause::{Pause, Reach};
-use crate::points::{Altered, Watch as WatchedBytes};
+use crate::points::{Altered, Watch};
 use crate::registers::words_of;
 use crate::replies::Replies;
 use crate::saving::save;
@@ -276,7 +275,7 @@ impl Target {
         match point {
             Point::Software | Point::Hardware => self.points.remove_break(at),
             Point::Write => {
-                if let Some(watch) = WatchedBytes::new(at, kind) {
+                if let Some(watch) = Watch::new(at, kind) {
                     self.points.remove_watch(watch);
                 }
             }
@@ -286,14 +285,14 @@ impl Target {
     }
 
     /// So many bytes from an address on, if they are in storage.
-    fn watch_in_storage(&self, at: u32, count: u32) -> Option<WatchedBytes>
+    fn watch_in_storage(&self, at: u32, count: u32) -> Option<Watch>
         ensures { SomeIff result (at + count ≤ storage_size (machine_now self.now)) (record { at = at; count = count }) }
     {
         let size = u64::from(self.machine().storage().size());
         if u64::from(at) + u64::from(count) > size {
             return None;
         }
-        WatchedBytes::new(at, count)
+        Watch::new(at, count)
     }
 
     /// Carries a line of gdb's user out, and tells its answer, or hands up the file that it saves.
@@ -352,29 +351,19 @@ impl Target {
         ensures next { IfOk result (λ next. next ≡ GoOn) }
         ensures packets { OnOk result (replies.new ≡ replies.old ++ pause_packets reach (machine_now self.old) (last_kind_of (standing_events self.old.recorded)) pause) }
     {
-        match pause {
-            Pause::Watch(mut altered) => {
-                let first = altered.take_first();
-                self.untold.altered = altered;
-                tell_stop(first.map_or(Stop::Trap, |at| Stop::Watch { at }), replies)
-            }
-            pause => {
-                self.untold.altered = Altered::new();
-                self.push_pause(&pause, reach, replies)?;
-                Ok(Then::GoOn)
-            }
-        }
+        let pushed = self.push_pause(&pause, reach, replies);
+        self.untold.altered = pause.others();
+        pushed?;
+        Ok(Then::GoOn)
     }
 
-    /// Adds what tells why the machine pauses, if it is for no watched byte. If nothing is left to do, or an event was refused, a
-    /// text says so before the stop.
+    /// Adds what tells why the machine pauses. If nothing is left to do, or an event was refused, a text says so before the stop.
     fn push_pause(&self, pause: &Pause, reach: Reach, replies: &mut Replies) -> Result<(), AllocError>
-        requires { (altered : List ℕ) → pause.now ≢ Watch altered }
         ensures { OnOk result (replies.new ≡ replies.old ++ pause_packets reach (machine_now self.now) (last_kind_of (standing_events self.now.recorded)) pause.now) }
     {
-        match *pause {
+        match pause {
             Pause::Refused(refusal) => {
-                self.tell_refusal(refusal, replies)?;
+                self.tell_refusal(*refusal, replies)?;
                 replies.push(Answer::Stopped(Stop::Quiet))
             }
             Pause::Idle => {
@@ -384,7 +373,11 @@ impl Target {
             Pause::Break | Pause::Slice => replies.push(Answer::Stopped(Stop::Breakpoint)),
             Pause::RecordEnd => push_end(reach, "end of what was recorded\n", Stop::HistoryEnd, replies),
             Pause::RecordStart => push_end(reach, "start of what was recorded\n", Stop::HistoryBegin, replies),
-            Pause::Stepped | Pause::Watch(_) => replies.push(Answer::Stopped(Stop::Trap)),
+            Pause::Watch(altered) => replies.push(Answer::Stopped(match altered.first() {
+                Some(at) => Stop::Watch { at },
+                None => Stop::Trap,
+            })),
+            Pause::Stepped => replies.push(Answer::Stopped(Stop::Trap)),
         }
     }
 

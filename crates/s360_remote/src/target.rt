@@ -225,7 +225,7 @@ impl Target {
         self.counting.recording.standing()
     }
 
-    /// Of each watch the first byte that the change of this number was the last to alter, if it altered one.
+    /// The watched bytes that the change of this number was the last to alter, one of each watch at most.
     fn bytes_altered_by(&self, number: u32) -> Altered
         ensures { result ≡ bytes_altered_by self.now.recorded self.now.points.watches number }
     {
