@@ -1,10 +1,10 @@
 -- What gdb 13.1 sent and was answered, and packets of the manual, which the definitions have to give.
-use Rattle.std.specs.Prelude.{◌≡◌, refl, codes, Ok, Err, Some, None, [], ◌∷◌}
+use Rattle.std.specs.Prelude.{◌≡◌, ◌++◌, refl, codes, Ok, Err, Some, None, [], ◌∷◌}
 use Rattle.std.specs.Fmt.{digits}
 use Rattle.hex.specs.Hex.{decode_pairs}
 use Rattle.s360_packet.specs.Framing.{framed}
 use Rattle.s360_packet.specs.Receiving.{between_packets, received_along}
-use Rattle.s360_packet.specs.declared.receiver.Received.TheVariants.{Packet, TooLong, Damaged}
+use Rattle.s360_packet.specs.declared.receiver.Received.TheVariants.{Packet, TooLong, Damaged, Interrupt}
 use Rattle.s360_packet.specs.Requests.{reading_of}
 use Rattle.s360_packet.specs.declared.request.Point.TheVariants.{Write}
 use Rattle.s360_packet.specs.declared.request.Thread.TheVariants.{Every}
@@ -24,11 +24,14 @@ empty_packet = refl
 pub escaped_packet : framed (0x7D ∷ []) ≡ codes "$}]#da"
 escaped_packet = refl
 
--- `$g#67` between other bytes; with a wrong sum; with more data than was told
-pub packet_between : received_along (between_packets 4) (0x03 ∷ codes "+$g#67") ≡ None ∷ None ∷ None ∷ None ∷ None ∷ None ∷ Some Packet ∷ []
+-- `$g#67` between other bytes, of which one is Ctrl-C; Ctrl-C within a packet; a wrong sum; more data than was told
+pub packet_between : received_along (between_packets 4) (0x03 ∷ codes "+$g#67") ≡ Some Interrupt ∷ None ∷ None ∷ None ∷ None ∷ None ∷ Some Packet ∷ []
 packet_between = refl
 
 pub wrong_sum : received_along (between_packets 4) (codes "$g#68") ≡ None ∷ None ∷ None ∷ None ∷ Some Damaged ∷ []
+pub interrupt_within : received_along (between_packets 4) (codes "$" ++ (0x03 ∷ codes "#03")) ≡ None ∷ None ∷ None ∷ None ∷ Some Packet ∷ []
+interrupt_within = refl
+
 wrong_sum = refl
 
 pub too_long : received_along (between_packets 1) (codes "$OK#9a") ≡ None ∷ None ∷ None ∷ None ∷ None ∷ Some TooLong ∷ []
