@@ -12,7 +12,7 @@ use Rattle.s360_packet.specs.declared.request.Thread.TheVariants.{Every}
 use Rattle.s360_packet.specs.declared.request.Request.TheVariants.{Storage, WriteStorage, WriteRegister, Insert, InsertIf, Description, MemoryMap, Select, Command, Restart, Run, Supported}
 use Rattle.s360_packet.specs.declared.request.RequestFault.TheVariants.{Unknown, Malformed}
 use Rattle.s360_packet.specs.Answers.{answer_text}
-use Rattle.s360_packet.specs.declared.answer.Answer.TheVariants.{Error, Supported as told, Stopped}
+use Rattle.s360_packet.specs.declared.answer.Answer.TheVariants.{Error, MemoryMap as map, Supported as told, Stopped}
 use Rattle.s360_packet.specs.declared.answer.Stop.TheVariants.{Watch}
 
 -- packets, the empty one among them; a byte that is escaped, as the manual has it
@@ -101,7 +101,12 @@ watch_answer = refl
 pub error_answer : answer_text (Error 1) ≡ codes "E01"
 error_answer = refl
 
+pub map_answer : answer_text (map 0x40000 0 0x1000)
+    ≡ codes "l<memory-map><memory type='ram' start='0x0' length='0x40000'/></memory-map>"
+unfolding digits
+map_answer = refl
+
 pub supported_answer : answer_text (told 0x4000)
-    ≡ codes "PacketSize=4000;qXfer:features:read+;ReverseStep+;ReverseContinue+;swbreak+;QStartNoAckMode+"
+    ≡ codes "PacketSize=4000;qXfer:features:read+;ReverseStep+;ReverseContinue+;swbreak+;QStartNoAckMode+;qXfer:memory-map:read+;ConditionalBreakpoints+"
 unfolding digits
 supported_answer = refl
