@@ -1,7 +1,7 @@
 -- The fields of requests, as they are written, are read.
-use Rattle.std.proofs.Common.{◌≡◌, ◌≢◌, ◌<◌, ◌≤◌, ◌+◌, ◌*◌, ◌/◌, ◌%◌, ◌^◌, ◌++◌, ℕ, zero, suc, Ok, List, [], ◌∷◌, Bool, true, false, cond, not, refl, ap, ◌∙◌, length, nat_lt, nat_le, nat_eq, take, drop, codes, arith, rules, eq-eqb}
+use Rattle.std.proofs.Common.{◌≡◌, ◌≢◌, ◌<◌, ◌≤◌, ◌+◌, ◌*◌, ◌/◌, ◌%◌, ◌^◌, ◌++◌, ℕ, zero, suc, Ok, Err, List, [], ◌∷◌, Bool, true, false, cond, not, refl, ap, ◌∙◌, length, nat_lt, nat_le, nat_eq, take, drop, codes, arith, rules, eq-eqb}
 use native.Mathlib.Numerals.{unary_clauses}
-use Rattle.std.proofs.lemmas.Bool.{and_parts, eqb-true, eqb-false, lt-ltb, le-leb}
+use Rattle.std.proofs.lemmas.Bool.{and_parts, eqb-true, eqb-false, lt-ltb, le-leb, le-ltb}
 use Rattle.std.proofs.lemmas.Bool.Decides.{nat_tests}
 use Rattle.std.proofs.lemmas.List.{length-append}
 use Rattle.std.proofs.lemmas.Str.{digit_value-digit_char}
@@ -13,6 +13,7 @@ use Rattle.s360_packet.specs.Hexadecimal.{number_text, word_text}
 use Rattle.s360_packet.proofs.DigitLemmas.{digit_read, not_true}
 use Rattle.s360_packet.specs.RequestTexts.{two_texts}
 use Rattle.s360_packet.specs.Requests.{Part, is_text, number_in, word_in, parted, two_numbers}
+use Rattle.s360_packet.specs.declared.request.RequestFault.TheVariants.{Malformed}
 
 -- the digits of a number before others: what passes each digit passes them, and the value goes on from the number
 record AreDigitsOf (p : ℕ → Bool) (n width : ℕ) (more ds : List ℕ) : Type 0 where
@@ -79,6 +80,9 @@ no_comma d low = search (rules, nat_tests)
 no_colon : EachDigitPasses (λ b. not (nat_eq b 0x3A))
 no_colon d low = search (rules, nat_tests)
 
+no_semicolon : EachDigitPasses (λ b. not (nat_eq b 0x3B))
+no_semicolon d low = search (rules, nat_tests)
+
 no_equals : EachDigitPasses (λ b. not (nat_eq b 0x3D))
 no_equals d low = search (rules, nat_tests)
 
@@ -111,16 +115,37 @@ parted_at c xs ys h =
     let within : nat_lt (length xs) (length (xs ++ c ∷ ys)) ≡ true = lt-ltb (length xs) (length (xs ++ c ∷ ys)) (omega (arith, length-append xs (c ∷ ys)))
     in rw (prefix_before c xs ys h, within, take_before c xs ys, drop_behind c xs ys) refl
 
+prefix_whole : (c : ℕ) (xs : List ℕ) → list_all (λ b. not (nat_eq b c)) xs ≡ true → prefix_len (λ b. not (nat_eq b c)) xs ≡ length xs
+prefix_whole c [] h = refl
+prefix_whole c (x ∷ xs) h =
+    let parts = and_parts (not (nat_eq x c)) (list_all (λ b. not (nat_eq b c)) xs) h
+    in let rest = prefix_whole c xs parts.1
+    in rw (parts.0, rest) (omega arith)
+
+-- a text that does not have the byte is not parted
+pub not_parted : (c : ℕ) (xs : List ℕ) → list_all (λ b. not (nat_eq b c)) xs ≡ true → parted c xs ≡ Err Malformed
+not_parted c xs h =
+    let end : nat_lt (length xs) (length xs) ≡ false = le-ltb (length xs) (length xs) (omega arith)
+    in rw (prefix_whole c xs h, end) refl
+
 pub two_read : (first second : ℕ) → first < 2 ^ 32 → second < 2 ^ 32 → two_numbers (two_texts first second) ≡ Ok (first, second)
 two_read first second low high =
     let found = number_digits (λ b. not (nat_eq b 0x2C)) no_comma first low
     in rw (parted_at 0x2C (number_text first) (number_text second) found.pass, number_read first low, number_read second high) refl
 
+-- two numbers do not have a byte that is neither a digit nor what parts them
+two_without : (c : ℕ) → EachDigitPasses (λ b. not (nat_eq b c)) → nat_eq 0x2C c ≡ false → (first second : ℕ) → first < 2 ^ 32 → second < 2 ^ 32
+    → list_all (λ b. not (nat_eq b c)) (two_texts first second) ≡ true
+two_without c each comma first second low high =
+    let one = number_digits (λ b. not (nat_eq b c)) each first low
+    in let other = number_digits (λ b. not (nat_eq b c)) each second high
+    in list_all-append (λ b. not (nat_eq b c)) (number_text first) (0x2C ∷ number_text second) one.pass (rw comma other.pass)
+
 pub two_without_colon : (first second : ℕ) → first < 2 ^ 32 → second < 2 ^ 32 → list_all (λ b. not (nat_eq b 0x3A)) (two_texts first second) ≡ true
-two_without_colon first second low high =
-    let one = number_digits (λ b. not (nat_eq b 0x3A)) no_colon first low
-    in let other = number_digits (λ b. not (nat_eq b 0x3A)) no_colon second high
-    in list_all-append (λ b. not (nat_eq b 0x3A)) (number_text first) (0x2C ∷ number_text second) one.pass other.pass
+two_without_colon first second low high = two_without 0x3A no_colon refl first second low high
+
+pub two_without_semicolon : (first second : ℕ) → first < 2 ^ 32 → second < 2 ^ 32 → list_all (λ b. not (nat_eq b 0x3B)) (two_texts first second) ≡ true
+two_without_semicolon first second low high = two_without 0x3B no_semicolon refl first second low high
 
 pub number_without_equals : (n : ℕ) → n < 2 ^ 32 → list_all (λ b. not (nat_eq b 0x3D)) (number_text n) ≡ true
 number_without_equals n low = let found = number_digits (λ b. not (nat_eq b 0x3D)) no_equals n low in found.pass

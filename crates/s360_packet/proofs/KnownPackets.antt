@@ -1,17 +1,18 @@
 -- What gdb 13.1 sent and was answered, and packets of the manual, which the definitions have to give.
-use Rattle.std.specs.Prelude.{◌≡◌, refl, codes, Ok, Err, Some, None, [], ◌∷◌}
+use Rattle.std.specs.Prelude.{◌≡◌, ◌++◌, refl, codes, Ok, Err, Some, None, [], ◌∷◌}
 use Rattle.std.specs.Fmt.{digits}
 use Rattle.hex.specs.Hex.{decode_pairs}
 use Rattle.s360_packet.specs.Framing.{framed}
 use Rattle.s360_packet.specs.Receiving.{between_packets, received_along}
-use Rattle.s360_packet.specs.declared.receiver.Received.TheVariants.{Packet, TooLong, Damaged}
+use Rattle.s360_packet.specs.declared.receiver.Received.TheVariants.{Packet, TooLong, Damaged, Interrupt}
 use Rattle.s360_packet.specs.Requests.{reading_of}
+use Rattle.s360_packet.specs.declared.request.Breakpoint.TheVariants.{Software}
 use Rattle.s360_packet.specs.declared.request.Point.TheVariants.{Write}
 use Rattle.s360_packet.specs.declared.request.Thread.TheVariants.{Every}
-use Rattle.s360_packet.specs.declared.request.Request.TheVariants.{Storage, WriteStorage, WriteRegister, Insert, Description, Select, Command, Supported}
+use Rattle.s360_packet.specs.declared.request.Request.TheVariants.{Storage, WriteStorage, WriteRegister, Insert, InsertIf, Description, MemoryMap, Select, Command, Restart, Run, Supported}
 use Rattle.s360_packet.specs.declared.request.RequestFault.TheVariants.{Unknown, Malformed}
 use Rattle.s360_packet.specs.Answers.{answer_text}
-use Rattle.s360_packet.specs.declared.answer.Answer.TheVariants.{Error, Supported as told, Stopped}
+use Rattle.s360_packet.specs.declared.answer.Answer.TheVariants.{Error, MemoryMap as map, Supported as told, Stopped}
 use Rattle.s360_packet.specs.declared.answer.Stop.TheVariants.{Watch}
 
 -- packets, the empty one among them; a byte that is escaped, as the manual has it
@@ -24,9 +25,12 @@ empty_packet = refl
 pub escaped_packet : framed (0x7D ∷ []) ≡ codes "$}]#da"
 escaped_packet = refl
 
--- `$g#67` between other bytes; with a wrong sum; with more data than was told
-pub packet_between : received_along (between_packets 4) (0x03 ∷ codes "+$g#67") ≡ None ∷ None ∷ None ∷ None ∷ None ∷ None ∷ Some Packet ∷ []
+-- `$g#67` between other bytes, of which one is Ctrl-C; Ctrl-C within a packet; a wrong sum; more data than was told
+pub packet_between : received_along (between_packets 4) (0x03 ∷ codes "+$g#67") ≡ Some Interrupt ∷ None ∷ None ∷ None ∷ None ∷ None ∷ Some Packet ∷ []
 packet_between = refl
+
+pub interrupt_within : received_along (between_packets 4) (codes "$" ++ (0x03 ∷ codes "#03")) ≡ None ∷ None ∷ None ∷ None ∷ Some Packet ∷ []
+interrupt_within = refl
 
 pub wrong_sum : received_along (between_packets 4) (codes "$g#68") ≡ None ∷ None ∷ None ∷ None ∷ Some Damaged ∷ []
 wrong_sum = refl
@@ -44,6 +48,19 @@ register_request = refl
 pub watch_request : reading_of (codes "Z2,604,4") ≡ Ok (Insert Write 0x604 4)
 watch_request = refl
 
+pub conditions_request : reading_of (codes "Z0,200,2;X3,220127X3,220027;cmds:0,X3,220127")
+    ≡ Ok (InsertIf Software 0x200 2 (codes "X3,220127X3,220027;cmds:0,X3,220127"))
+conditions_request = refl
+
+pub map_request : reading_of (codes "qXfer:memory-map:read::0,ffb") ≡ Ok (MemoryMap 0 0xFFB)
+map_request = refl
+
+pub restart_request : reading_of (codes "R0") ≡ Ok Restart
+restart_request = refl
+
+pub run_request : reading_of (codes "vRun;2f62696e;31") ≡ Ok Run
+run_request = refl
+
 pub description_request : reading_of (codes "qXfer:features:read:target.xml:0,1000") ≡ Ok (Description 0 0x1000)
 description_request = refl
 
@@ -60,7 +77,7 @@ probe_request = refl
 pub supported_request : reading_of (codes "qSupported:multiprocess+;swbreak+") ≡ Ok Supported
 supported_request = refl
 
--- requests that are not known, and one that is not whole
+-- requests that are not known, one that is not whole, a watch with conditions, and a map that is named
 pub must_reply_empty : reading_of (codes "vMustReplyEmpty") ≡ Err Unknown
 must_reply_empty = refl
 
@@ -70,6 +87,12 @@ trace_status = refl
 pub no_count : reading_of (codes "m604") ≡ Err Malformed
 no_count = refl
 
+pub watch_with_conditions : reading_of (codes "Z2,604,4;X3,220127") ≡ Err Malformed
+watch_with_conditions = refl
+
+pub named_map : reading_of (codes "qXfer:memory-map:read:map:0,ffb") ≡ Err Malformed
+named_map = refl
+
 -- answers
 pub watch_answer : answer_text (Stopped (Watch 0x604)) ≡ codes "T05watch:604;"
 unfolding digits
@@ -78,7 +101,12 @@ watch_answer = refl
 pub error_answer : answer_text (Error 1) ≡ codes "E01"
 error_answer = refl
 
+pub map_answer : answer_text (map 0x40000 0 0x1000)
+    ≡ codes "l<memory-map><memory type='ram' start='0x0' length='0x40000'/></memory-map>"
+unfolding digits
+map_answer = refl
+
 pub supported_answer : answer_text (told 0x4000)
-    ≡ codes "PacketSize=4000;qXfer:features:read+;ReverseStep+;ReverseContinue+;swbreak+;QStartNoAckMode+"
+    ≡ codes "PacketSize=4000;qXfer:features:read+;ReverseStep+;ReverseContinue+;swbreak+;QStartNoAckMode+;qXfer:memory-map:read+;ConditionalBreakpoints+"
 unfolding digits
 supported_answer = refl

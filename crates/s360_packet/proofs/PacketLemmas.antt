@@ -1,5 +1,5 @@
 -- A packet that is sent is received.
-use Rattle.std.proofs.Common.{◌≡◌, ◌<◌, ◌≤◌, ◌+◌, ◌-◌, ◌*◌, ◌/◌, ◌%◌, ◌++◌, ℕ, zero, suc, inl, inr, Some, None, List, [], ◌∷◌, Bool, true, false, cond, not, ◌||◌, refl, ap, ◌∙◌, length, nat_lt, nat_eq, replicate, sum, bit_xor, arith, rules, eq-eqb, append_assoc}
+use Rattle.std.proofs.Common.{◌≡◌, ◌<◌, ◌≤◌, ◌+◌, ◌-◌, ◌*◌, ◌/◌, ◌%◌, ◌++◌, ℕ, zero, suc, inl, inr, Some, None, List, [], ◌∷◌, Bool, true, false, cond, not, ◌||◌, refl, ap, ◌∙◌, length, map, nat_lt, nat_eq, replicate, sum, bit_xor, arith, rules, eq-eqb, append_assoc}
 use Rattle.std.proofs.lemmas.Bool.{and_parts, cases_lt, eqb-true, le-ltb, lt-ltb}
 use Rattle.std.proofs.lemmas.Bool.Decides.{nat_tests}
 use Rattle.std.proofs.lemmas.List.{append-nil, length-append, replicate-append-replicate}
@@ -8,7 +8,7 @@ use Rattle.std.proofs.lemmas.Str.{digit_value-digit_char}
 use Rattle.std.specs.List.{fold, list_all}
 use Rattle.std.specs.Char.{digit_char}
 use Rattle.s360_packet.specs.Framing.{two_digits, escaped_byte, escaped, framed}
-use Rattle.s360_packet.specs.Receiving.{Receiving, with_data, after_byte, received_at, after_bytes, received_along}
+use Rattle.s360_packet.specs.Receiving.{Receiving, with_data, after_byte, received_between, received_at, after_bytes, received_along}
 use Rattle.s360_packet.specs.declared.receiver.Stage.TheVariants.{Between, Data}
 use Rattle.s360_packet.specs.declared.receiver.Received.{Received}
 use Rattle.s360_packet.specs.declared.receiver.Received.TheVariants.{Packet, TooLong}
@@ -237,12 +237,12 @@ packet_too_long r bytes over =
     in packet_comes r bytes found.0 true found.1
 
 pub between_dropped : (r : Receiving) (bytes : List ℕ) → r.stage ≡ Between → list_all (λ byte. not (nat_eq byte 0x24)) bytes ≡ true
-    → (after_bytes r bytes ≡ r) × (received_along r bytes ≡ replicate (length bytes) None)
+    → (after_bytes r bytes ≡ r) × (received_along r bytes ≡ map received_between bytes)
 between_dropped r [] between none = (refl, refl)
 between_dropped r (byte ∷ bytes) between none =
     let parts = and_parts (not (nat_eq byte 0x24)) (list_all (λ b. not (nat_eq b 0x24)) bytes) none
     in let other : nat_eq byte 0x24 ≡ false = not_true (nat_eq byte 0x24) parts.0
     in let same : after_byte r byte ≡ r = rw (other, between) refl
-    in let nothing : received_at r byte ≡ None = rw (other, between) refl
+    in let only : received_at r byte ≡ received_between byte = rw (other, between) refl
     in let rest = between_dropped r bytes between parts.1
-    in (ap (λ q. after_bytes q bytes) same ∙ rest.0, rw (nothing, same, rest.1) refl)
+    in (ap (λ q. after_bytes q bytes) same ∙ rest.0, rw (only, same, rest.1) refl)

@@ -1,5 +1,5 @@
 -- What the definitions come to.
-use Rattle.std.specs.Prelude.{◌≡◌, ◌≤◌, ◌<◌, ◌-◌, ℕ, true, not, nat_eq, Ok, Option, Some, None, List, [], ◌∷◌, ◌++◌, length, replicate}
+use Rattle.std.specs.Prelude.{◌≡◌, ◌≤◌, ◌<◌, ◌-◌, ℕ, true, not, nat_eq, Ok, Option, Some, None, List, [], ◌∷◌, ◌++◌, length, map, replicate}
 use Rattle.std.specs.List.{flat_map, list_all, range_with_len}
 use Rattle.s360_packet.specs.Answers.{answer_text, registers_text}
 use Rattle.s360_packet.specs.Target.{register_value}
@@ -10,7 +10,7 @@ use Rattle.s360_packet.specs.RequestTexts.{request_text, binary_write_text, IsRe
 use Rattle.s360_packet.specs.declared.request.Request.{Request}
 use Rattle.s360_packet.specs.declared.request.Request.TheVariants.{WriteStorage}
 use Rattle.s360_packet.specs.Framing.{framed}
-use Rattle.s360_packet.specs.Receiving.{Receiving, received_along, after_bytes}
+use Rattle.s360_packet.specs.Receiving.{Receiving, received_between, received_along, after_bytes}
 use Rattle.s360_packet.specs.declared.receiver.Stage.TheVariants.{Between}
 use Rattle.s360_packet.specs.declared.receiver.Received.{Received}
 use Rattle.s360_packet.specs.declared.receiver.Received.TheVariants.{Packet, TooLong}
@@ -34,11 +34,11 @@ abbrev pub PacketsTooLongAreTold : Type 0
 PacketsTooLongAreTold =
     (r : Receiving) (bytes : List ℕ) → r.size < length bytes → received_along r (framed bytes) ≡ at_the_last TooLong (length (framed bytes))
 
--- bytes between packets are dropped
+-- bytes between packets change nothing, and of them only Ctrl-C completes something
 abbrev pub BytesBetweenAreDropped : Type 0
 BytesBetweenAreDropped =
     (r : Receiving) (bytes : List ℕ) → r.stage ≡ Between → list_all (λ byte. not (nat_eq byte 0x24)) bytes ≡ true
-    → (after_bytes r bytes ≡ r) × (received_along r bytes ≡ replicate (length bytes) None)
+    → (after_bytes r bytes ≡ r) × (received_along r bytes ≡ map received_between bytes)
 
 -- what `p` answers of a register that there is
 abbrev pub answer_of_register : Option RegisterValue → List ℕ

@@ -1,10 +1,11 @@
--- What a stream of bytes means to who receives it (gdb manual, "Remote Serial Protocol", "Overview").
+-- What a stream of bytes means to who receives it (gdb manual, "Remote Serial Protocol", "Overview" and
+-- "Interrupts").
 use Rattle.std.specs.Prelude.{ℕ, ◌+◌, ◌*◌, ◌%◌, nat_eq, nat_lt, Bool, true, false, if◌then◌else◌, Option, Some, None, List, [], ◌∷◌, ◌++◌, length, bit_xor}
 use Rattle.std.specs.Char.{digit_value, is_digit}
 use Rattle.s360_packet.specs.declared.receiver.Stage.{Stage}
 use Rattle.s360_packet.specs.declared.receiver.Stage.TheVariants.{Between, Data, Escape, FirstDigit, LastDigit}
 use Rattle.s360_packet.specs.declared.receiver.Received.{Received}
-use Rattle.s360_packet.specs.declared.receiver.Received.TheVariants.{Packet, TooLong, Damaged}
+use Rattle.s360_packet.specs.declared.receiver.Received.TheVariants.{Packet, TooLong, Damaged, Interrupt}
 use Rattle.s360_packet.specs.declared.receiver.Acknowledging.{Acknowledging}
 use Rattle.s360_packet.specs.declared.receiver.Acknowledging.TheVariants.{On, Off}
 
@@ -72,8 +73,12 @@ whole_packet r first byte =
     if is_digit byte 16 then (if nat_eq (first * 16 + digit_value byte) r.total then (if r.overlong then TooLong else Packet) else Damaged)
     else Damaged
 
+-- between packets only Ctrl-C means something, by which gdb's user interrupts the machine
+abbrev pub received_between : ℕ → Option Received
+received_between byte = if nat_eq byte 0x03 then Some Interrupt else None
+
 abbrev pub received_in : Stage → Receiving → ℕ → Option Received
-received_in Between r byte = None
+received_in Between r byte = received_between byte
 received_in Data r byte = None
 received_in Escape r byte = if nat_eq byte 0x23 then Some Damaged else None
 received_in FirstDigit r byte = if is_digit byte 16 then None else Some Damaged
@@ -92,8 +97,9 @@ abbrev pub received_along : Receiving → List ℕ → List (Option Received)
 received_along r [] = []
 received_along r (byte ∷ bytes) = received_at r byte ∷ received_along (after_byte r byte) bytes
 
--- `+` for a packet that was right, `-` for one that wasn't
+-- `+` for a packet that was right, `-` for one that wasn't; Ctrl-C is no packet
 abbrev pub acknowledgement_of : Acknowledging → Received → Option ℕ
 acknowledgement_of Off came = None
+acknowledgement_of On Interrupt = None
 acknowledgement_of On Damaged = Some 0x2D
 acknowledgement_of On came = Some 0x2B

@@ -2,21 +2,26 @@
 use Rattle.std.specs.Prelude.{◌≢◌, ℕ, ◌<◌, ◌^◌, List, ◌++◌, codes, length, ⊤}
 use Rattle.hex.specs.Hex.{IsBytes}
 use Rattle.s360_packet.specs.Hexadecimal.{bytes_text, word_text, number_text}
+use Rattle.s360_packet.specs.declared.request.Breakpoint.{Breakpoint}
+use Rattle.s360_packet.specs.declared.request.Breakpoint.TheVariants.{Software, Hardware}
 use Rattle.s360_packet.specs.declared.request.Point.{Point}
-use Rattle.s360_packet.specs.declared.request.Point.TheVariants.{Software, Hardware, Write}
+use Rattle.s360_packet.specs.declared.request.Point.TheVariants.{Break, Write}
 use Rattle.s360_packet.specs.declared.request.Thread.{Thread}
 use Rattle.s360_packet.specs.declared.request.Thread.TheVariants.{Every, Any, Numbered}
 use Rattle.s360_packet.specs.declared.request.Request.{Request}
-use Rattle.s360_packet.specs.declared.request.Request.TheVariants.{Stopped, Registers, WriteRegisters, Register, WriteRegister, Storage, WriteStorage, Step, Continue, StepBack, ContinueBack, Insert, Remove, Supported, Description, Select, IsAlive, CurrentThread, Attached, FirstThreads, NextThreads, StopAcknowledging, Command, Detach, Kill, KillProcess}
+use Rattle.s360_packet.specs.declared.request.Request.TheVariants.{Stopped, Registers, WriteRegisters, Register, WriteRegister, Storage, WriteStorage, Step, Continue, StepBack, ContinueBack, Insert, InsertIf, Remove, Supported, Description, MemoryMap, HasMoved, Select, IsAlive, CurrentThread, Attached, FirstThreads, NextThreads, StopAcknowledging, Command, Extend, Restart, Run, Detach, Kill, KillProcess}
 
 -- two numbers, parted by `,`
 abbrev pub two_texts : ℕ → ℕ → List ℕ
 two_texts first second = number_text first ++ (codes "," ++ number_text second)
 
 -- what stands behind `Z` or `z`
+abbrev pub breakpoint_text : Breakpoint → List ℕ
+breakpoint_text Software = codes "0,"
+breakpoint_text Hardware = codes "1,"
+
 abbrev pub point_text : Point → List ℕ
-point_text Software = codes "0,"
-point_text Hardware = codes "1,"
+point_text (Break point) = breakpoint_text point
 point_text Write = codes "2,"
 
 abbrev pub thread_text : Thread → List ℕ
@@ -45,9 +50,12 @@ request_text Continue = codes "c"
 request_text StepBack = codes "bs"
 request_text ContinueBack = codes "bc"
 request_text (Insert point at kind) = codes "Z" ++ (point_text point ++ two_texts at kind)
+request_text (InsertIf point at kind conditions) = codes "Z" ++ (breakpoint_text point ++ (two_texts at kind ++ (codes ";" ++ conditions)))
 request_text (Remove point at kind) = codes "z" ++ (point_text point ++ two_texts at kind)
 request_text Supported = codes "qSupported"
 request_text (Description offset count) = codes "qXfer:features:read:target.xml:" ++ two_texts offset count
+request_text (MemoryMap offset count) = codes "qXfer:memory-map:read::" ++ two_texts offset count
+request_text HasMoved = codes "qs360.moved"
 request_text (Select thread) = codes "Hg" ++ thread_text thread
 request_text (IsAlive thread) = codes "T" ++ thread_text thread
 request_text CurrentThread = codes "qC"
@@ -56,6 +64,9 @@ request_text FirstThreads = codes "qfThreadInfo"
 request_text NextThreads = codes "qsThreadInfo"
 request_text StopAcknowledging = codes "QStartNoAckMode"
 request_text (Command bytes) = codes "qRcmd," ++ bytes_text bytes
+request_text Extend = codes "!"
+request_text Restart = codes "R00"
+request_text Run = codes "vRun;"
 request_text Detach = codes "D"
 request_text Kill = codes "k"
 request_text (KillProcess number) = codes "vKill;" ++ number_text number
@@ -80,8 +91,10 @@ IsRequest (WriteRegister number word) = IsWord number × IsWord word
 IsRequest (Storage at count) = IsWord at × IsWord count
 IsRequest (WriteStorage at bytes) = IsWord at × IsData bytes
 IsRequest (Insert point at kind) = IsWord at × IsWord kind
+IsRequest (InsertIf point at kind conditions) = IsWord at × IsWord kind
 IsRequest (Remove point at kind) = IsWord at × IsWord kind
 IsRequest (Description offset count) = IsWord offset × IsWord count
+IsRequest (MemoryMap offset count) = IsWord offset × IsWord count
 IsRequest (Select thread) = IsThread thread
 IsRequest (IsAlive thread) = IsThread thread
 IsRequest (Command bytes) = IsData bytes

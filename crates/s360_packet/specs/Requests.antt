@@ -7,12 +7,14 @@ use Rattle.std.specs.Option.{option_map, ok_or}
 use Rattle.std.specs.Result.{result_ok}
 use Rattle.hex.specs.Hex.{decode_of}
 use Rattle.s360_text.specs.Digits.{number_of_digits}
+use Rattle.s360_packet.specs.declared.request.Breakpoint.{Breakpoint}
+use Rattle.s360_packet.specs.declared.request.Breakpoint.TheVariants.{Software, Hardware}
 use Rattle.s360_packet.specs.declared.request.Point.{Point}
-use Rattle.s360_packet.specs.declared.request.Point.TheVariants.{Software, Hardware, Write}
+use Rattle.s360_packet.specs.declared.request.Point.TheVariants.{Break, Write}
 use Rattle.s360_packet.specs.declared.request.Thread.{Thread}
 use Rattle.s360_packet.specs.declared.request.Thread.TheVariants.{Every, Any, Numbered}
 use Rattle.s360_packet.specs.declared.request.Request.{Request}
-use Rattle.s360_packet.specs.declared.request.Request.TheVariants.{Stopped, Registers, WriteRegisters, Register, WriteRegister, Storage, WriteStorage, Step, Continue, StepBack, ContinueBack, Insert, Remove, Supported, Description, Select, IsAlive, CurrentThread, Attached, FirstThreads, NextThreads, StopAcknowledging, Command, Detach, Kill, KillProcess}
+use Rattle.s360_packet.specs.declared.request.Request.TheVariants.{Stopped, Registers, WriteRegisters, Register, WriteRegister, Storage, WriteStorage, Step, Continue, StepBack, ContinueBack, Insert, InsertIf, Remove, Supported, Description, MemoryMap, HasMoved, Select, IsAlive, CurrentThread, Attached, FirstThreads, NextThreads, StopAcknowledging, Command, Extend, Restart, Run, Detach, Kill, KillProcess}
 use Rattle.s360_packet.specs.declared.request.RequestFault.{RequestFault}
 use Rattle.s360_packet.specs.declared.request.RequestFault.TheVariants.{Unknown, Malformed, Memory}
 
@@ -71,7 +73,8 @@ named_query text =
     else (if is_text text (codes "qfThreadInfo") then Some FirstThreads
     else (if is_text text (codes "qsThreadInfo") then Some NextThreads
     else (if is_text text (codes "QStartNoAckMode") then Some StopAcknowledging
-    else None)))))
+    else (if is_text text (codes "qs360.moved") then Some HasMoved
+    else None))))))
 
 -- a request of nothing but its name
 abbrev pub named_request : List ℕ → Option Request
@@ -84,7 +87,8 @@ named_request text =
     else (if is_text text (codes "bc") then Some ContinueBack
     else (if is_text text (codes "D") then Some Detach
     else (if is_text text (codes "k") then Some Kill
-    else named_query text)))))))
+    else (if is_text text (codes "!") then Some Extend
+    else named_query text))))))))
 
 -- `m` address `,` count
 abbrev pub storage_reading : List ℕ → Reading
@@ -118,6 +122,14 @@ write_registers_reading text = and_then (bytes_in text) (λ bytes. Ok (WriteRegi
 abbrev pub insert_reading : Point → List ℕ → Reading
 insert_reading point text = and_then (two_numbers text) (λ field. Ok (Insert point field.0 field.1))
 
+-- `Z` of a breakpoint may have `;` and conditions behind it, which are taken as they stand
+abbrev pub breakpoint_parted : Breakpoint → List ℕ → Part (List ℕ × List ℕ) → Reading
+breakpoint_parted point text (Ok parts) = and_then (two_numbers parts.0) (λ field. Ok (InsertIf point field.0 field.1 parts.1))
+breakpoint_parted point text (Err f) = insert_reading (Break point) text
+
+abbrev pub breakpoint_reading : Breakpoint → List ℕ → Reading
+breakpoint_reading point text = breakpoint_parted point text (parted 0x3B text)
+
 abbrev pub remove_reading : Point → List ℕ → Reading
 remove_reading point text = and_then (two_numbers text) (λ field. Ok (Remove point field.0 field.1))
 
@@ -128,11 +140,16 @@ select_reading text = and_then (thread_in text) (λ thread. Ok (Select thread))
 abbrev pub alive_reading : List ℕ → Reading
 alive_reading text = and_then (thread_in text) (λ thread. Ok (IsAlive thread))
 
--- `qXfer:features:read:` annex `:` offset `,` count, where the one annex is `target.xml`
+-- the one annex that there is, `:`, offset `,` count
+abbrev pub extent_in : List ℕ → List ℕ → Part (ℕ × ℕ)
+extent_in annex text = and_then (ok_or (behind annex text) Malformed) two_numbers
+
+-- `qXfer:features:read:`, where the annex is `target.xml`, and `qXfer:memory-map:read:`, where it is empty
 abbrev pub description_reading : List ℕ → Reading
-description_reading text =
-    and_then (ok_or (behind (codes "target.xml:") text) Malformed) (λ rest.
-    and_then (two_numbers rest) (λ field. Ok (Description field.0 field.1)))
+description_reading text = and_then (extent_in (codes "target.xml:") text) (λ field. Ok (Description field.0 field.1))
+
+abbrev pub memory_map_reading : List ℕ → Reading
+memory_map_reading text = and_then (extent_in (codes ":") text) (λ field. Ok (MemoryMap field.0 field.1))
 
 -- `qRcmd,` bytes
 abbrev pub command_reading : List ℕ → Reading
@@ -149,20 +166,22 @@ reading_behind None reading other = other
 
 abbrev pub point_reading : List ℕ → Reading
 point_reading text =
-    reading_behind (behind (codes "Z0,") text) (insert_reading Software)
-    (reading_behind (behind (codes "Z1,") text) (insert_reading Hardware)
-    (reading_behind (behind (codes "Z2,") text) (insert_reading Write)
-    (reading_behind (behind (codes "z0,") text) (remove_reading Software)
-    (reading_behind (behind (codes "z1,") text) (remove_reading Hardware)
+    reading_behind (behind (codes "Z2,") text) (insert_reading Write)
+    (reading_behind (behind (codes "z0,") text) (remove_reading (Break Software))
+    (reading_behind (behind (codes "z1,") text) (remove_reading (Break Hardware))
     (reading_behind (behind (codes "z2,") text) (remove_reading Write)
-    (Err Unknown))))))
+    (Err Unknown))))
 
+-- what stands behind `vRun;` and `R` is of no account
 abbrev pub query_reading : List ℕ → Reading
 query_reading text =
     reading_behind (behind (codes "qSupported:") text) (λ features. Ok Supported)
     (reading_behind (behind (codes "qXfer:features:read:") text) description_reading
+    (reading_behind (behind (codes "qXfer:memory-map:read:") text) memory_map_reading
     (reading_behind (behind (codes "vKill;") text) kill_reading
-    (point_reading text)))
+    (reading_behind (behind (codes "vRun;") text) (λ program. Ok Run)
+    (reading_behind (behind (codes "R") text) (λ rest. Ok Restart)
+    (point_reading text))))))
 
 -- the address that `s` and `c` may have in the standard isn't taken here
 abbrev pub thread_reading : List ℕ → Reading
@@ -183,7 +202,9 @@ fields_reading text =
     (reading_behind (behind (codes "P") text) write_register_reading
     (reading_behind (behind (codes "G") text) write_registers_reading
     (reading_behind (behind (codes "qRcmd,") text) command_reading
-    (thread_reading text)))))))
+    (reading_behind (behind (codes "Z0,") text) (breakpoint_reading Software)
+    (reading_behind (behind (codes "Z1,") text) (breakpoint_reading Hardware)
+    (thread_reading text)))))))))
 
 -- a request of nothing but its name, or else one with fields
 abbrev pub named_or : Option Request → Reading → Reading
@@ -197,6 +218,7 @@ reading_of text = named_or (named_request text) (fields_reading text)
 abbrev pub TakesMemory : Request → Type 0
 TakesMemory (WriteRegisters bytes) = ⊤
 TakesMemory (WriteStorage at bytes) = ⊤
+TakesMemory (InsertIf point at kind conditions) = ⊤
 TakesMemory (Command bytes) = ⊤
 TakesMemory r = ⊥
 

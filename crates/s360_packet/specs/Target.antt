@@ -1,9 +1,10 @@
--- What gdb is told of the target (gdb manual, "Target Descriptions", "General Query Packets", "Packets").
+-- What gdb is told of the target (gdb manual, "Target Descriptions", "Memory Map Format", "General Query Packets",
+-- "Packets").
 use Rattle.std.specs.Prelude.{ℕ, nat_lt, nat_le, if◌then◌else◌, Option, Some, None, List, [], ◌∷◌, ◌++◌, codes, drop, take, length, slice_index, replicate}
 use Rattle.std.specs.List.{flat_map}
 use Rattle.s360_packet.specs.declared.target.RegisterValue.{RegisterValue}
 use Rattle.s360_packet.specs.declared.target.RegisterValue.TheVariants.{Word, NoWord, NoDoubleword}
-use Rattle.s360_packet.specs.Hexadecimal.{word_text}
+use Rattle.s360_packet.specs.Hexadecimal.{word_text, number_text}
 
 -- a register: its name, how many bits it has, its type and its group
 abbrev pub register_line : List ℕ → List ℕ → List ℕ
@@ -43,12 +44,17 @@ description =
     ++ (feature (codes "fpr") float_registers
     ++ codes "</target>")))
 
+-- the text of the memory map: storage, which has so many bytes, from address 0 on
+abbrev pub memory_map : ℕ → List ℕ
+memory_map size = codes "<memory-map><memory type='ram' start='0x0' length='0x" ++ (number_text size ++ codes "'/></memory-map>")
+
 -- a part of a text behind `m`, or behind `l` if nothing of the text is left after it
 abbrev pub part_of_text : List ℕ → ℕ → List ℕ
 part_of_text rest count = if nat_le (length rest) count then codes "l" ++ rest else codes "m" ++ take count rest
 
-abbrev pub part_of : ℕ → ℕ → List ℕ
-part_of offset count = part_of_text (drop offset description) count
+-- that part which begins at an offset
+abbrev pub part_of : List ℕ → ℕ → ℕ → List ℕ
+part_of text offset count = part_of_text (drop offset text) count
 
 -- 18 registers of the machine, then 16 access registers and one for floating-point control, of a word each, and
 -- 16 floating-point registers of a doubleword, which it lacks

@@ -6,7 +6,7 @@ ghost use Rattle.s360_packet.specs.Hexadecimal.{number_text};
 ghost use Rattle.s360_packet.specs.Target.{register_text};
 
 use crate::pieces::{push_bytes, push_number, push_text, push_two_digits, push_word};
-use crate::target::{REGISTERS, RegisterValue, push_description};
+use crate::target::{REGISTERS, RegisterValue, description, push_memory_map, push_part};
 use std::alloc::{AllocError, Global};
 
 /// A word has so many digits.
@@ -16,8 +16,10 @@ const WORD_DIGITS: usize = 8;
 const LACKING_DIGITS: usize = 17 * WORD_DIGITS + 16 * 2 * WORD_DIGITS;
 
 /// What the target can do beyond what each can.
-const FEATURES: &str =
-    ";qXfer:features:read+;ReverseStep+;ReverseContinue+;swbreak+;QStartNoAckMode+";
+const FEATURES: &str = "\
+    ;qXfer:features:read+;ReverseStep+;ReverseContinue+;swbreak+;QStartNoAckMode+\
+    ;qXfer:memory-map:read+;ConditionalBreakpoints+\
+";
 
 /// Why the machine stopped.
 #[derive(Clone, Copy)]
@@ -26,6 +28,8 @@ pub enum Stop {
     Trap,
     /// Nothing is left to do: the program has stopped by itself.
     Quiet,
+    /// gdb's user interrupted it.
+    Interrupt,
     /// A watched byte was altered.
     Watch { at: u32 },
     /// The next instruction stands at a breakpoint of gdb's own.
@@ -57,6 +61,10 @@ pub enum Answer<'a> {
     Console(&'a [u8]),
     /// A part of the target's description: so many bytes from an offset on.
     Description { offset: u32, count: u32 },
+    /// A part of the memory map, of storage that has `size` bytes: so many bytes of the map from an offset on.
+    MemoryMap { size: u32, offset: u32, count: u32 },
+    /// Whether the last line of gdb's user moved the machine.
+    Moved(bool),
     /// What the target can do, and how many bytes of data a packet has at most.
     Supported { size: u32 },
     /// The one thread, whose number is 1.
@@ -89,8 +97,14 @@ pub fn write_answer(alloc: Global, out: &mut Vec<u8>, answer: Answer<'_>) -> Res
             push_bytes(out, text)
         }
         Answer::Description { offset, count } => {
-            push_description(out, offset as usize, count as usize)
+            push_part(out, description().as_bytes(), offset, count)
         }
+        Answer::MemoryMap {
+            size,
+            offset,
+            count,
+        } => push_memory_map(alloc, out, size, offset, count),
+        Answer::Moved(moved) => push_text(out, if moved { "1" } else { "0" }),
         Answer::Supported { size } => push_supported(alloc, out, size),
         Answer::Thread => push_text(out, "QC1"),
         Answer::Attached => push_text(out, "1"),
@@ -106,6 +120,7 @@ fn push_stop(alloc: Global, out: &mut Vec<u8>, stop: Stop) -> Result<(), AllocEr
     match stop {
         Stop::Trap => push_text(out, "T05"),
         Stop::Quiet => push_text(out, "T00"),
+        Stop::Interrupt => push_text(out, "T02"),
         Stop::Watch { at } => {
             push_text(out, "T05watch:")?;
             push_number(alloc, out, u64::from(at))?;

@@ -4,7 +4,7 @@ ghost use Rattle.s360_packet.specs.Laws.{BytesBetweenAreDropped};
 ghost use Rattle.s360_packet.specs.Laws.{RequestsAreReadBack, BinaryWritesAreReadBack};
 
 /// Data that is sent as a packet is received as that data, at the packet's last byte. If it is more than was told,
-/// that is told there. Bytes between packets are dropped.
+/// that is told there. Bytes between packets change nothing, and of them only Ctrl-C completes something.
 pub fn packets_are_read_back()
     ensures whole { PacketsAreReadBack }
     ensures too_long { PacketsTooLongAreTold }

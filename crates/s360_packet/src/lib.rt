@@ -17,6 +17,6 @@ pub use answer::{Answer, Stop, write_answer};
 pub use framing::frame;
 pub use laws::{all_registers_are_each, packets_are_read_back, requests_are_read_back};
 pub use receiver::{Acknowledging, Received, Receiver, Stage};
-pub use request::{Payload, Point, Request, RequestFault, Thread};
+pub use request::{Breakpoint, Payload, Point, Request, RequestFault, Thread};
 pub use request_reader::read_request;
 pub use target::{REGISTERS, RegisterValue, description, register_value};

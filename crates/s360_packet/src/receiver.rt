@@ -1,5 +1,5 @@
-//! Packets as they are received, a byte at a time. Source: gdb manual, "Remote Serial Protocol", "Overview"
-//! and "Packet Acknowledgment".
+//! Packets as they are received, a byte at a time. Source: gdb manual, "Remote Serial Protocol", "Overview",
+//! "Packet Acknowledgment" and "Interrupts".
 ghost use Rattle.std.specs.Prelude.{◌≡◌, ◌≤◌, Some, None, IfOk, length};
 ghost use Rattle.s360_packet.specs.Receiving.{between_packets, after_byte, received_at};
 ghost use Rattle.s360_packet.specs.Receiving.{begun, ended, with_data, after_data, after_escape, after_first};
@@ -8,6 +8,9 @@ ghost use Rattle.s360_packet.specs.Receiving.{acknowledgement_of};
 
 use std::alloc::{AllocError, Global};
 use std::marker::Model;
+
+/// The byte of Ctrl-C.
+const INTERRUPT: u8 = 0x03;
 
 /// What a byte completed.
 #[derive(Clone, Copy, PartialEq, Eq)]
@@ -18,6 +21,8 @@ pub enum Received {
     TooLong,
     /// A packet whose sum is wrong, or no two hexadecimal digits, or that ends with an escape.
     Damaged,
+    /// The byte by which gdb's user interrupts the machine, between packets.
+    Interrupt,
 }
 
 /// Whether packets are acknowledged.
@@ -35,7 +40,7 @@ impl Received {
         ensures { result ≡ acknowledgement_of acknowledging self }
     {
         match (acknowledging, self) {
-            (Acknowledging::Off, _) => None,
+            (Acknowledging::Off, _) | (Acknowledging::On, Received::Interrupt) => None,
             (Acknowledging::On, Received::Damaged) => Some(b'-'),
             (Acknowledging::On, Received::Packet | Received::TooLong) => Some(b'+'),
         }
@@ -102,6 +107,7 @@ impl Receiver {
             return None;
         }
         match self.stage {
+            Stage::Between if byte == INTERRUPT => Some(Received::Interrupt),
             Stage::Between => None,
             Stage::Data => {
                 self.take_in_data(byte);

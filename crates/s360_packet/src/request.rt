@@ -43,13 +43,20 @@ impl Payload {
     }
 }
 
+/// How the instruction at an address stops the machine.
+#[derive(Clone, Copy, PartialEq, Eq)]
+pub enum Breakpoint {
+    /// `0`: by a software breakpoint.
+    Software,
+    /// `1`: by a hardware breakpoint.
+    Hardware,
+}
+
 /// What stops the machine: a breakpoint, or a byte that is altered.
 #[derive(Clone, Copy, PartialEq, Eq)]
 pub enum Point {
-    /// `0`: the instruction at an address, by a software breakpoint.
-    Software,
-    /// `1`: the instruction at an address, by a hardware breakpoint.
-    Hardware,
+    /// The instruction at an address.
+    Break(Breakpoint),
     /// `2`: a byte from an address on that is written.
     Write,
 }
@@ -77,11 +84,20 @@ pub enum Request {
     /// `p`: the register of this number in the target's description.
     Register(u32),
     /// `P`: the register of this number is given a word.
-    WriteRegister { number: u32, word: u32 },
+    WriteRegister {
+        number: u32,
+        word: u32,
+    },
     /// `m`: so many bytes of storage from an address on.
-    Storage { at: u32, count: u32 },
+    Storage {
+        at: u32,
+        count: u32,
+    },
     /// `M` and `X`: storage from an address on is given these bytes. By none, gdb asks whether `X` is known.
-    WriteStorage { at: u32, bytes: Payload },
+    WriteStorage {
+        at: u32,
+        bytes: Payload,
+    },
     /// `s`: a step forward.
     Step,
     /// `c`: forward to the next stop.
@@ -91,13 +107,38 @@ pub enum Request {
     /// `bc`: back to the last stop.
     ContinueBack,
     /// `Z`: a stop is set, of so many bytes from an address on.
-    Insert { point: Point, at: u32, kind: u32 },
+    Insert {
+        point: Point,
+        at: u32,
+        kind: u32,
+    },
+    /// `Z`: a breakpoint is set, which has what stands behind the first `;` as conditions.
+    InsertIf {
+        point: Breakpoint,
+        at: u32,
+        kind: u32,
+        conditions: Payload,
+    },
     /// `z`: a stop is taken out.
-    Remove { point: Point, at: u32, kind: u32 },
+    Remove {
+        point: Point,
+        at: u32,
+        kind: u32,
+    },
     /// `qSupported`: what the target can do.
     Supported,
     /// `qXfer:features:read:target.xml`: so many bytes of the target's description from an offset on.
-    Description { offset: u32, count: u32 },
+    Description {
+        offset: u32,
+        count: u32,
+    },
+    /// `qXfer:memory-map:read`: so many bytes of the memory map from an offset on.
+    MemoryMap {
+        offset: u32,
+        count: u32,
+    },
+    /// `qs360.moved`, a query of our own: whether the last line of gdb's user moved the machine.
+    HasMoved,
     /// `H`: the thread that later requests are about.
     Select(Thread),
     /// `T`: whether a thread is there.
@@ -114,6 +155,12 @@ pub enum Request {
     StopAcknowledging,
     /// `qRcmd`: a line of gdb's user for the target.
     Command(Payload),
+    /// `!`: gdb is to start the machine anew instead of leaving.
+    Extend,
+    /// `R`: the machine is started anew, and nothing is answered.
+    Restart,
+    /// `vRun`: the machine is started anew.
+    Run,
     /// `D`: gdb leaves.
     Detach,
     /// `k`: the machine is ended, and nothing is answered.

@@ -4,11 +4,12 @@ ghost use Rattle.s360_packet.specs.Requests.{Reads, reading_of, fields_reading, 
 ghost use Rattle.s360_packet.specs.Requests.{named_request, named_query, thread_reading};
 ghost use Rattle.s360_packet.specs.Requests.{storage_reading, write_reading, register_reading, write_register_reading};
 ghost use Rattle.s360_packet.specs.Requests.{write_registers_reading, insert_reading, remove_reading, select_reading};
+ghost use Rattle.s360_packet.specs.Requests.{breakpoint_reading, memory_map_reading, extent_in};
 ghost use Rattle.s360_packet.specs.Requests.{alive_reading, description_reading, command_reading, kill_reading};
 ghost use Rattle.s360_packet.specs.Requests.{bytes_in};
 
 use crate::fields::{behind, bytes, is, number, parted, thread, two_numbers, word};
-use crate::request::{Payload, Point, Request, RequestFault};
+use crate::request::{Breakpoint, Payload, Point, Request, RequestFault};
 use std::alloc::Global;
 
 /// The request that a packet's data is. A fault is answered whatever memory there is, and only a request that
@@ -42,6 +43,8 @@ fn named_request(text: &[u8]) -> Option<Request>
         Some(Request::Detach)
     } else if is(text, "k") {
         Some(Request::Kill)
+    } else if is(text, "!") {
+        Some(Request::Extend)
     } else {
         named_query(text)
     }
@@ -63,12 +66,14 @@ fn named_query(text: &[u8]) -> Option<Request>
         Some(Request::NextThreads)
     } else if is(text, "QStartNoAckMode") {
         Some(Request::StopAcknowledging)
+    } else if is(text, "qs360.moved") {
+        Some(Request::HasMoved)
     } else {
         None
     }
 }
 
-/// A request with fields: of storage, of registers, or a line for the target.
+/// A request with fields: of storage, of registers, a line for the target, or a breakpoint.
 fn read_fields(alloc: Global, text: &[u8]) -> Result<Request, RequestFault>
     ensures { Reads (fields_reading text.now) result }
 {
@@ -86,6 +91,10 @@ fn read_fields(alloc: Global, text: &[u8]) -> Result<Request, RequestFault>
         read_write_registers(alloc, rest)
     } else if let Some(rest) = behind(text, "qRcmd,") {
         read_line(alloc, rest)
+    } else if let Some(rest) = behind(text, "Z0,") {
+        read_breakpoint(alloc, Breakpoint::Software, rest)
+    } else if let Some(rest) = behind(text, "Z1,") {
+        read_breakpoint(alloc, Breakpoint::Hardware, rest)
     } else {
         read_thread(text)
     }
@@ -110,7 +119,7 @@ fn read_thread(text: &[u8]) -> Result<Request, RequestFault>
     }
 }
 
-/// A query with fields, or the end of a process.
+/// A query with fields, or the end or the start of a process.
 fn read_query(text: &[u8]) -> Result<Request, RequestFault>
     ensures { result ≡ query_reading text.now }
 {
@@ -118,27 +127,29 @@ fn read_query(text: &[u8]) -> Result<Request, RequestFault>
         Ok(Request::Supported)
     } else if let Some(rest) = behind(text, "qXfer:features:read:") {
         read_description(rest)
+    } else if let Some(rest) = behind(text, "qXfer:memory-map:read:") {
+        read_memory_map(rest)
     } else if let Some(rest) = behind(text, "vKill;") {
         read_kill(rest)
+    } else if let Some(_) = behind(text, "vRun;") {
+        Ok(Request::Run)
+    } else if let Some(_) = behind(text, "R") {
+        Ok(Request::Restart)
     } else {
         read_point(text)
     }
 }
 
-/// A request that sets a stop, or takes it out.
+/// A request that sets a watch, or takes a stop out.
 fn read_point(text: &[u8]) -> Result<Request, RequestFault>
     ensures { result ≡ point_reading text.now }
 {
-    if let Some(rest) = behind(text, "Z0,") {
-        read_insert(Point::Software, rest)
-    } else if let Some(rest) = behind(text, "Z1,") {
-        read_insert(Point::Hardware, rest)
-    } else if let Some(rest) = behind(text, "Z2,") {
+    if let Some(rest) = behind(text, "Z2,") {
         read_insert(Point::Write, rest)
     } else if let Some(rest) = behind(text, "z0,") {
-        read_remove(Point::Software, rest)
+        read_remove(Point::Break(Breakpoint::Software), rest)
     } else if let Some(rest) = behind(text, "z1,") {
-        read_remove(Point::Hardware, rest)
+        read_remove(Point::Break(Breakpoint::Hardware), rest)
     } else if let Some(rest) = behind(text, "z2,") {
         read_remove(Point::Write, rest)
     } else {
@@ -214,6 +225,23 @@ fn read_insert(point: Point, text: &[u8]) -> Result<Request, RequestFault>
     Ok(Request::Insert { point, at, kind })
 }
 
+/// `Z` of a breakpoint, with conditions or without.
+fn read_breakpoint(alloc: Global, point: Breakpoint, text: &[u8]) -> Result<Request, RequestFault>
+    ensures { Reads (breakpoint_reading point text.now) result }
+{
+    let Ok((head, conditions)) = parted(text, b';') else {
+        return read_insert(Point::Break(point), text);
+    };
+    let (at, kind) = two_numbers(head)?;
+    let conditions = Payload::new(conditions.to_vec(alloc)?);
+    Ok(Request::InsertIf {
+        point,
+        at,
+        kind,
+        conditions,
+    })
+}
+
 /// `z`
 fn read_remove(point: Point, text: &[u8]) -> Result<Request, RequestFault>
     ensures { result ≡ remove_reading point text.now }
@@ -238,15 +266,30 @@ fn read_alive(text: &[u8]) -> Result<Request, RequestFault>
     Ok(Request::IsAlive(thread))
 }
 
-/// `qXfer:features:read`, of the one annex that there is.
+/// `qXfer:features:read`
 fn read_description(text: &[u8]) -> Result<Request, RequestFault>
     ensures { result ≡ description_reading text.now }
 {
-    let Some(rest) = behind(text, "target.xml:") else {
-        return Err(RequestFault::Malformed);
-    };
-    let (offset, count) = two_numbers(rest)?;
+    let (offset, count) = extent("target.xml:", text)?;
     Ok(Request::Description { offset, count })
+}
+
+/// `qXfer:memory-map:read`
+fn read_memory_map(text: &[u8]) -> Result<Request, RequestFault>
+    ensures { result ≡ memory_map_reading text.now }
+{
+    let (offset, count) = extent(":", text)?;
+    Ok(Request::MemoryMap { offset, count })
+}
+
+/// The offset and the count of bytes behind the one annex that there is, and its `:`.
+fn extent(annex: &str, text: &[u8]) -> Result<(u32, u32), RequestFault>
+    ensures { result ≡ extent_in annex.now text.now }
+{
+    match behind(text, annex) {
+        Some(rest) => two_numbers(rest),
+        None => Err(RequestFault::Malformed),
+    }
 }
 
 /// `qRcmd`

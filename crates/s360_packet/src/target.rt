@@ -1,10 +1,10 @@
 //! The target that gdb is told of, `target.xml`: its architecture and its registers, in the order that numbers
-//! them. Source: gdb manual, "Target Descriptions", "S/390 and System z Features"; gdb's s390-core32.xml,
-//! s390-acr.xml and s390-fpr.xml.
+//! them; and the map of its memory. Source: gdb manual, "Target Descriptions", "S/390 and System z Features",
+//! "Memory Map Format"; gdb's s390-core32.xml, s390-acr.xml and s390-fpr.xml.
 ghost use Rattle.std.specs.Prelude.{◌≡◌, ◌++◌, OnOk, IfOk};
-ghost use Rattle.s360_packet.specs.Target.{description, part_of, register_value};
+ghost use Rattle.s360_packet.specs.Target.{description, memory_map, part_of, register_value};
 
-use std::alloc::AllocError;
+use std::alloc::{AllocError, Global};
 
 /// How many registers the machine has for gdb, each of a word: the two words of the PSW, and the general registers.
 pub const REGISTERS: usize = 18;
@@ -106,22 +106,39 @@ pub fn register_value(words: &[u32; REGISTERS], number: u32) -> Option<RegisterV
     }
 }
 
-/// Adds a part of the description, so many bytes from an offset on, behind `m`, or behind `l` if it is the last.
-pub(crate) fn push_description(
+/// Adds a part of the memory map, of storage that has `size` bytes.
+pub(crate) fn push_memory_map(
+    alloc: Global,
     out: &mut Vec<u8>,
-    offset: usize,
-    length: usize,
+    size: u32,
+    offset: u32,
+    count: u32,
 ) -> Result<(), AllocError>
-    ensures { OnOk result (out.new.items ≡ out.old.items ++ part_of offset length) }
+    ensures { OnOk result (out.new.items ≡ out.old.items ++ part_of (memory_map size) offset count) }
 {
-    let text = description().as_bytes();
-    let rest = &text[offset.min(text.len())..];
-    if rest.len() <= length {
+    let map = format!(in alloc;
+        "<memory-map><memory type='ram' start='0x0' length='0x{size:x}'/></memory-map>"
+    )?;
+    push_part(out, map.as_bytes(), offset, count)
+}
+
+/// Adds a part of a text, so many bytes from an offset on, behind `m`, or behind `l` if it is the last.
+pub(crate) fn push_part(
+    out: &mut Vec<u8>,
+    text: &[u8],
+    offset: u32,
+    count: u32,
+) -> Result<(), AllocError>
+    ensures { OnOk result (out.new.items ≡ out.old.items ++ part_of text.now offset count) }
+{
+    let rest = &text[text.len().min(offset as usize)..];
+    let count = count as usize;
+    if rest.len() <= count {
         out.push(b'l')?;
         out.extend_from_slice(rest)?;
     } else {
         out.push(b'm')?;
-        out.extend_from_slice(&rest[..length])?;
+        out.extend_from_slice(&rest[..count])?;
     }
     Ok(())
 }
