@@ -1,4 +1,5 @@
 pub mod Answers
+pub mod Conditions
 pub mod Framing
 pub mod Hexadecimal
 pub mod Laws

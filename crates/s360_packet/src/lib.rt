@@ -4,6 +4,7 @@
 #![tactic(auto)]
 
 mod answer;
+mod condition;
 mod fields;
 mod framing;
 mod laws;
@@ -14,6 +15,7 @@ mod request_reader;
 mod target;
 
 pub use answer::{Answer, Stop, write_answer};
+pub use condition::read_condition;
 pub use framing::frame;
 pub use laws::{all_registers_are_each, packets_are_read_back, requests_are_read_back};
 pub use receiver::{Acknowledging, Received, Receiver, Stage};

@@ -244,7 +244,7 @@ impl Target {
         ensures answer { IfOk result (λ next. (next ≡ GoOn) × (replies.new ≡ replies.old ++ packet_of (insert_answer point at kind self.old))) }
     {
         let is_set = match point {
-            Point::Software | Point::Hardware => self.points.add_break(at),
+            Point::Break(_) => self.points.add_break(at),
             Point::Write => match self.watch_in_storage(at, kind) {
                 Some(watch) => self.points.add_watch(watch),
                 None => {
@@ -273,7 +273,7 @@ impl Target {
         ensures answer { IfOk result (λ next. (next ≡ GoOn) × (replies.new ≡ replies.old ++ packet_of Done)) }
     {
         match point {
-            Point::Software | Point::Hardware => self.points.remove_break(at),
+            Point::Break(_) => self.points.remove_break(at),
             Point::Write => {
                 if let Some(watch) = Watch::new(at, kind) {
                     self.points.remove_watch(watch);

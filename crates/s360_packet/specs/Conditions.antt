@@ -1,0 +1,18 @@
+-- The conditions of a breakpoint (gdb manual, "Packets", `Z0`): a list of expressions, one behind another.
+use Rattle.std.specs.Prelude.{ℕ, ◌*◌, nat_lt, if◌then◌else◌, Err, Ok, List, codes, take, drop, length}
+use Rattle.std.specs.Option.{ok_or}
+use Rattle.s360_packet.specs.Requests.{Part, and_then, behind, bytes_in, number_in, parted}
+use Rattle.s360_packet.specs.declared.request.RequestFault.TheVariants.{Malformed}
+
+-- so many bytes in two digits each, and what stands behind them
+abbrev pub bytes_and_rest : ℕ → List ℕ → Part (List ℕ × List ℕ)
+bytes_and_rest count text =
+    if nat_lt (length text) (count * 2) then Err Malformed
+    else and_then (bytes_in (take (count * 2) text)) (λ bytes. Ok (bytes, drop (count * 2) text))
+
+-- the bytes of the first expression, and what stands behind it: `X` number of bytes `,` bytes
+abbrev pub condition_in : List ℕ → Part (List ℕ × List ℕ)
+condition_in text =
+    and_then (ok_or (behind (codes "X") text) Malformed) (λ rest.
+    and_then (parted 0x2C rest) (λ parts.
+    and_then (number_in parts.0) (λ count. bytes_and_rest count parts.1)))
