@@ -1,0 +1,5 @@
+pub mod Evaluation
+pub mod Instructions
+pub mod Reading
+pub mod Target
+pub mod Values
