@@ -1,1 +1,3 @@
+mod FetchLemmas
 mod NumberLemmas
+mod ReadingLemmas

@@ -127,8 +127,13 @@ pub(crate) fn first_astray(instructions: &[Placed]) -> Option<u16>
 fn goes_on(jump: Option<u16>, behind: &[Placed]) -> bool
     ensures { result ≡ goes_on jump behind.now }
 {
-    match jump {
-        Some(to) => behind.iter().any(|placed| placed.at == to),
-        None => true,
+    let Some(to) = jump else {
+        return true;
+    };
+    for placed in behind {
+        if placed.at == to {
+            return true;
+        }
     }
+    false
 }

@@ -1,9 +1,8 @@
 //! Numbers in bytes, of operands and of storage: the most significant byte stands first. Source: gdb manual, "The GDB
 //! Agent Expression Mechanism", "Bytecode Descriptions".
-ghost use Rattle.std.specs.Prelude.{◌≡◌, ◌<◌, ◌≤◌, ◌^◌, ◌+◌, length, slice_get, MatchOption};
-ghost use Rattle.std.specs.Bool.{MatchBool};
+ghost use Rattle.std.specs.Prelude.{◌≡◌, ◌<◌, ◌≤◌, ◌^◌, ◌+◌, length};
 ghost use Rattle.s360_condition.specs.Reading.{big_endian};
-ghost use Rattle.s360_condition.specs.Target.{fetched, byte_value};
+ghost use Rattle.s360_condition.specs.Target.{byte_value, fetched};
 
 use crate::fault::EvaluationFault;
 use crate::readable::Readable;
@@ -25,13 +24,14 @@ pub(crate) fn number_of(bytes: &[u8]) -> u64
     number
 }
 
-/// The number in at most 8 bytes of storage from an address on.
+/// The number in 1 to 8 bytes of storage from an address on.
 pub(crate) fn fetch<T: Readable>(
     target: &T,
     address: u64,
     count: usize,
 ) -> Result<u64, EvaluationFault>
-    requires { count ≤ 8 }
+    requires some { 0 < count }
+    requires few { count ≤ 8 }
     ensures { result ≡ fetched (T.target_of target.now) address count }
 {
     let mut bytes: ArrayVec<u8, MOST_BYTES> = ArrayVec::new();

@@ -1,7 +1,7 @@
 //! The instructions of an expression, by the manual's names. Source: gdb manual, "The GDB Agent Expression Mechanism",
 //! "Bytecode Descriptions", whose stacks stand here as there: `a b ⇒ c` takes `b` from the top and `a` below it, and
 //! leaves `c`.
-ghost use Rattle.std.specs.Prelude.{◌≡◌, ◌≤◌};
+ghost use Rattle.std.specs.Prelude.{◌≡◌, ◌<◌, ◌≤◌};
 ghost use Rattle.s360_condition.specs.Instructions.{bytes_of_width, jump_of};
 
 /// The instructions `a b ⇒ c`.
@@ -71,6 +71,7 @@ impl Width {
     /// So many bytes.
     pub(crate) fn bytes(self) -> usize
         ensures value { result ≡ bytes_of_width self }
+        ensures some { 0 < result }
         ensures few { result ≤ 8 }
     {
         match self {
