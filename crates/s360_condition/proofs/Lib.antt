@@ -1,3 +1,3 @@
-mod FetchLemmas
+mod KnownExpressions
 mod NumberLemmas
 mod ReadingLemmas

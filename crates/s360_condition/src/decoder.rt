@@ -71,11 +71,7 @@ fn instruction_with(code: u8, operand: u64) -> Option<Instruction>
 }
 
 /// The instruction at an offset, from its code and the bytes behind it, and how many bytes its operand has.
-fn instruction_at(
-    at: u16,
-    code: u8,
-    bytes: &[u8],
-) -> Result<(Instruction, usize), ExpressionFault>
+fn instruction_at(at: u16, code: u8, bytes: &[u8]) -> Result<(Instruction, usize), ExpressionFault>
     ensures instruction { result ≡ instruction_at at code bytes.now }
     ensures within { IfOk result (λ found. found.1 ≤ length bytes.now) }
 {
@@ -90,10 +86,7 @@ fn instruction_at(
 }
 
 /// The instructions of the bytes of an expression.
-pub(crate) fn instructions_in(
-    alloc: Global,
-    bytes: &[u8],
-) -> Result<Vec<Placed>, ExpressionFault>
+pub(crate) fn instructions_in(alloc: Global, bytes: &[u8]) -> Result<Vec<Placed>, ExpressionFault>
     requires { length bytes.now ≤ 4096 }
     ensures { MatchResult result (λ found. instructions_in bytes.now 0 0 ≡ Ok found.items) (λ fault. (fault ≡ Memory) ⊎ (instructions_in bytes.now 0 0 ≡ Err fault)) }
 {

@@ -66,7 +66,11 @@ pub(crate) fn carry_out<T: Readable>(
         }
         Instruction::IfGoto(to) => {
             let a = stack.pop()?;
-            Ok(if a == 0 { Next::Following } else { Next::At(to) })
+            Ok(if a == 0 {
+                Next::Following
+            } else {
+                Next::At(to)
+            })
         }
         Instruction::Goto(to) => Ok(Next::At(to)),
         Instruction::End => Ok(Next::Ended(stack.pop()?)),
