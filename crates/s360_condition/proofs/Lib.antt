@@ -1,3 +1,4 @@
 mod KnownExpressions
 mod NumberLemmas
+mod PcLemmas
 mod ReadingLemmas

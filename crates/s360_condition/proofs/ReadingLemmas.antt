@@ -20,7 +20,7 @@ pub record IsReadUpTo (bytes : List ℕ) (at : ℕ) (done : List Placed) : Type 
   pub within : at ≤ length bytes
   pub rest : onto done (instructions_in (drop at bytes) at 0) ≡ instructions_in bytes 0 0
 
-behind_operand : (bytes : List ℕ) (at operand : ℕ) → operand ≤ length bytes → instructions_in bytes at operand ≡ instructions_in (drop operand bytes) (at + operand) 0
+pub behind_operand : (bytes : List ℕ) (at operand : ℕ) → operand ≤ length bytes → instructions_in bytes at operand ≡ instructions_in (drop operand bytes) (at + operand) 0
 behind_operand [] at zero h = refl
 behind_operand [] at (suc operand) h = absurd (omega arith)
 behind_operand (byte ∷ bytes) at zero h = let same : at + 0 ≡ at = omega arith in rw same refl
