@@ -1,0 +1,4 @@
+mod KnownExpressions
+mod NumberLemmas
+mod PcLemmas
+mod ReadingLemmas
