@@ -20,12 +20,12 @@ abbrev pub one_back : Recorded → Recorded
 one_back r = with_standing r (r.standing - 1)
 
 -- the change that is taken back is as far as was asked
-abbrev pub is_reached_back : Reach → List ℕ → Recorded → Bool
-is_reached_back reach breaks r = option_map_or (λ e. is_reached reach breaks (one_back r) e) (last_of (standing_events r)) false
+abbrev pub is_reached_back : Reach → Points → Recorded → Bool
+is_reached_back reach p r = option_map_or (λ e. is_reached reach p (one_back r) e) (last_of (standing_events r)) false
 
 -- why the machine pauses once the last change was taken back, if it does
 unfoldable pub pause_back : Points → Reach → Recorded → Option Pause
-pause_back p reach r = pause_with (bytes_altered_by r p.watches r.standing) false (is_reached_back reach p.breaks r) false reach
+pause_back p reach r = pause_with (bytes_altered_by r p.watches r.standing) false (is_reached_back reach p r) false reach
 
 -- nothing stands, or else changes are taken back
 abbrev pub unless_start : Recorded → Paused → Paused

@@ -7,7 +7,6 @@ use Rattle.s360_machine.specs.declared.event.Event.TheVariants.{Cpu, Channel}
 use Rattle.s360_machine.specs.declared.event_kind.EventKind.{EventKind}
 use Rattle.s360_machine.specs.declared.event_kind.EventKind.TheVariants.{Cpu as cpu_kind, Channel as channel_kind}
 use Rattle.s360_machine.specs.declared.refusal.Refusal.{Refusal}
-use Rattle.s360_journal.specs.Breakpoints.{is_at_breakpoint}
 use Rattle.s360_machine.specs.Machine.{seen}
 use Rattle.s360_journal.specs.Rerun.{AreAccepted}
 use Rattle.s360_journal.specs.Running.{next_event}
@@ -15,7 +14,7 @@ use Rattle.s360_journal.specs.Standing.{alteration, last_kind_of, last_of, machi
 use Rattle.s360_record.specs.Forwarding.{IsMet, state_after}
 use Rattle.s360_record.specs.Recorded.{Recorded, next_recorded, rest_of, session_of, standing_events, with_event, with_standing}
 use Rattle.s360_record.specs.declared.forwarding.Forwarded.{Forwarded}
-use Rattle.s360_remote.specs.Points.{Points, bytes_altered_by}
+use Rattle.s360_remote.specs.Points.{Points, bytes_altered_by, is_at_stop}
 use Rattle.s360_remote.specs.declared.pause.Pause.{Pause}
 use Rattle.s360_remote.specs.declared.pause.Pause.TheVariants.{Refused, Watch, Idle, Break, Stepped, RecordEnd, Slice}
 use Rattle.s360_remote.specs.declared.pause.Reach.{Reach}
@@ -53,9 +52,9 @@ is_cpu Cpu = true
 is_cpu e = false
 
 -- the event is as far as was asked: an event of the CPU, or one after which the CPU operates at a breakpoint
-abbrev pub is_reached : Reach → List ℕ → Recorded → Event → Bool
-is_reached Step breaks after e = is_cpu e
-is_reached Stop breaks after e = is_at_breakpoint (machine_of (session_of after)) breaks
+abbrev pub is_reached : Reach → Points → Recorded → Event → Bool
+is_reached Step p after e = is_cpu e
+is_reached Stop p after e = is_at_stop (machine_of (session_of after)) p
 
 abbrev pub pause_of : Reach → Pause
 pause_of Step = Stepped
@@ -81,7 +80,7 @@ unfoldable pub pause_after : Points → Reach → Recorded → Option Pause
 pause_after p reach r =
     let after = after_turn r
     in let e = event_of_turn r
-    in pause_with (bytes_altered_by after p.watches after.standing) (is_idle (next_recorded r) (alteration (session_of r) e)) (is_reached reach p.breaks after e) (is_end_of (next_recorded r) after) reach
+    in pause_with (bytes_altered_by after p.watches after.standing) (is_idle (next_recorded r) (alteration (session_of r) e)) (is_reached reach p after e) (is_end_of (next_recorded r) after) reach
 
 -- why it pauses with an event that may be refused
 abbrev pub refused_or : Option Refusal → Option Pause → Option Pause

@@ -5,8 +5,10 @@ pub mod Backward
 pub mod Driven
 pub mod Replies
 pub mod ErrorNumbers
+pub mod Untold
 pub mod Writing
 pub mod Monitor
 pub mod Saving
 pub mod Serving
+pub mod Conditions
 pub mod Connecting

@@ -4,19 +4,52 @@ use Rattle.std.specs.Prelude.{ℕ, Bool, not, ◌&&◌, ◌||◌, ◌+◌, nat_e
 use Rattle.std.specs.List.{filter, find, fold, list_any, range_with_len}
 use Rattle.std.specs.Option.{option_to_list, unwrap_or}
 use Rattle.s360_store.specs.declared.place.Place.TheVariants.{Byte}
-use Rattle.s360_machine.specs.Machine.{seen}
+use Rattle.s360_condition.specs.Evaluation.{holds}
+use Rattle.s360_condition.specs.Target.{Target}
+use Rattle.s360_condition.specs.declared.instruction.Placed.{Placed}
+use Rattle.s360_model.specs.Psw.{instruction_address_of}
+use Rattle.s360_machine.specs.Machine.{Machine, seen}
+use Rattle.s360_journal.specs.Breakpoints.{has_room_for, is_at_breakpoint, with_address, without_address}
 use Rattle.s360_journal.specs.Rerun.{last_change_of}
 use Rattle.s360_record.specs.Recorded.{Recorded, standing_events}
+use Rattle.s360_remote.specs.Registers.{words_of}
+
+-- conditions of the breakpoint at an address, of which one has to hold: each is the instructions of an expression
+pub record Conditional : Type 0 where
+  pub at : ℕ
+  pub conditions : List (List Placed)
 
 -- so many bytes from an address on
 pub record Watched : Type 0 where
   pub at : ℕ
   pub count : ℕ
 
--- the breakpoints and the watched bytes
+-- the breakpoints, the conditions that they have, and the watched bytes
 pub record Points : Type 0 where
   pub breaks : List ℕ
+  pub conditional : List Conditional
   pub watches : List Watched
+
+-- without the conditions of the breakpoint at an address
+abbrev pub without_conditions : List Conditional → ℕ → List Conditional
+without_conditions conditional at = filter (λ c. not (nat_eq c.at at)) conditional
+
+-- with these in their place, if there are any
+abbrev pub with_conditions : List Conditional → ℕ → List (List Placed) → List Conditional
+with_conditions conditional at [] = without_conditions conditional at
+with_conditions conditional at (c ∷ cs) = without_conditions conditional at ++ record { at = at; conditions = c ∷ cs } ∷ []
+
+-- a breakpoint at an address has conditions of which none holds
+abbrev pub is_passed : Target → ℕ → Conditional → Bool
+is_passed target at c = nat_eq c.at at && not (list_any (λ e. holds target e) c.conditions)
+
+-- what conditions read of a machine: the words of its registers, and storage
+abbrev pub target_of : Machine → Target
+target_of m = record { registers = words_of m; storage = m.core.storage.bytes }
+
+-- the CPU operates at a breakpoint which has no conditions, or one that holds
+abbrev pub is_at_stop : Machine → Points → Bool
+is_at_stop m p = is_at_breakpoint m p.breaks && not (list_any (λ c. is_passed (target_of m) (instruction_address_of m.core.psw) c) p.conditional)
 
 -- the last standing change of a byte, 0 if there is none
 abbrev pub last_change_at : Recorded → ℕ → ℕ
@@ -69,3 +102,11 @@ with_watch watches w = if has_watch watches w || is_full watches then watches el
 -- without these bytes, the others in their order
 abbrev pub without_watch : List Watched → Watched → List Watched
 without_watch watches w = filter (λ v. not (are_same_bytes v w)) watches
+
+-- with a breakpoint at an address, and these conditions in place of others; they stay as they are if no more can be set
+abbrev pub with_break : Points → ℕ → List (List Placed) → Points
+with_break p at conditions =
+    if has_room_for p.breaks at then record p { breaks = with_address p.breaks at; conditional = with_conditions p.conditional at conditions } else p
+
+abbrev pub without_break : Points → ℕ → Points
+without_break p at = record p { breaks = without_address p.breaks at; conditional = without_conditions p.conditional at }

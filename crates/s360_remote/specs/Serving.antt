@@ -2,12 +2,14 @@
 -- Packets").
 use Rattle.std.specs.Prelude.{◌≡◌, ◌≢◌, ◌⊎◌, ⊤, ℕ, zero, suc, ◌+◌, ◌^◌, Bool, true, false, nat_eq, nat_lt, not, if◌then◌else◌, Option, Some, None, List, [], length, take, Result, Ok, Err}
 use Rattle.byteorder.specs.Endian.{IsRead, big_number}
+use Rattle.s360_condition.specs.declared.instruction.Placed.{Placed}
 use Rattle.s360_machine.specs.Machine.{Machine, storage_size}
-use Rattle.s360_journal.specs.Breakpoints.{has_room_for, with_address, without_address}
+use Rattle.s360_journal.specs.Breakpoints.{has_room_for}
 use Rattle.s360_journal.specs.Standing.{last_kind_of, machine_of}
 use Rattle.s360_language.specs.declared.command.LineFault.{LineFault}
 use Rattle.s360_packet.specs.Answers.{answer_text, registers_text}
 use Rattle.s360_packet.specs.Framing.{framed}
+use Rattle.s360_packet.specs.Requests.{Part}
 use Rattle.s360_packet.specs.declared.answer.Answer.{Answer}
 use Rattle.s360_packet.specs.declared.answer.Answer.TheVariants as answer
 use Rattle.s360_packet.specs.declared.answer.Stop.{Stop}
@@ -17,16 +19,17 @@ use Rattle.s360_packet.specs.declared.request.Point.TheVariants.{Write as write}
 use Rattle.s360_packet.specs.declared.request.Thread.{Thread}
 use Rattle.s360_packet.specs.declared.request.Thread.TheVariants.{Numbered}
 use Rattle.s360_packet.specs.declared.request.Request.{Request}
-use Rattle.s360_packet.specs.declared.request.Request.TheVariants.{Stopped, Registers, WriteRegisters, Register, WriteRegister, Storage, WriteStorage, Step, Continue, StepBack, ContinueBack, Insert, Remove, Supported, Description, MemoryMap, HasMoved, Extend, Restart, Run, Select, IsAlive, CurrentThread, Attached, FirstThreads, NextThreads, StopAcknowledging, Command, Detach, Kill, KillProcess}
+use Rattle.s360_packet.specs.declared.request.Request.TheVariants.{Stopped, Registers, WriteRegisters, Register, WriteRegister, Storage, WriteStorage, Step, Continue, StepBack, ContinueBack, Insert, InsertIf, Remove, Supported, Description, MemoryMap, HasMoved, Extend, Restart, Run, Select, IsAlive, CurrentThread, Attached, FirstThreads, NextThreads, StopAcknowledging, Command, Detach, Kill, KillProcess}
 use Rattle.s360_record.specs.Recorded.{session_of, standing_events, with_standing}
 use Rattle.s360_remote.specs.Backward.{gone_back}
+use Rattle.s360_remote.specs.Conditions.{conditions_in}
 use Rattle.s360_remote.specs.Driven.{Driven, moved_to}
 use Rattle.s360_remote.specs.ErrorNumbers.{error_of}
 use Rattle.s360_remote.specs.Forward.{Paused, most_turns, resumed}
 use Rattle.s360_inquiry.specs.Reading.{inquiry_of}
 use Rattle.s360_remote.specs.Monitor.{IsAnswered, IsBegun as IsMonitorBegun}
 use Rattle.s360_saving.specs.Reading.{Asked, saving_of}
-use Rattle.s360_remote.specs.Points.{Points, has_room_for_watch, with_watch, without_watch}
+use Rattle.s360_remote.specs.Points.{Points, has_room_for_watch, with_break, with_watch, without_break, without_watch}
 use Rattle.s360_remote.specs.Registers.{words_of}
 use Rattle.s360_remote.specs.Replies.{line_text, packet_of, pause_packets, register_of_number, stop_packet, storage_text}
 use Rattle.s360_remote.specs.Saving.{IsSavingServed}
@@ -122,12 +125,23 @@ insert_answer other at count d = set_if (has_room_for d.points.breaks at)
 
 abbrev pub points_with : Point → ℕ → ℕ → Driven → Points
 points_with write at count d = if is_in_storage d at count then record d.points { watches = with_watch d.points.watches (record { at = at; count = count }) } else d.points
-points_with other at count d = record d.points { breaks = with_address d.points.breaks at }
+points_with other at count d = with_break d.points at []
 
 -- no bytes beyond 2^32 are watched
 abbrev pub points_without : Point → ℕ → ℕ → Driven → Points
 points_without write at count d = if nat_lt (at + count) (2 ^ 32) then record d.points { watches = without_watch d.points.watches (record { at = at; count = count }) } else d.points
-points_without other at count d = record d.points { breaks = without_address d.points.breaks at }
+points_without other at count d = without_break d.points at
+
+-- a breakpoint with conditions, if they are right
+abbrev pub IsInsertedIf : Part (List (List Placed)) → ℕ → Driven → Driven → Then → List ℕ → Type 0
+IsInsertedIf (Ok conditions) at d t next packets =
+    (t ≡ record d { points = with_break d.points at conditions }) × (next ≡ then.GoOn) × (packets ≡ packet_of (set_if (has_room_for d.points.breaks at)))
+IsInsertedIf (Err f) at d t next packets = (t ≡ d) × (next ≡ then.GoOn) × (packets ≡ packet_of (error_of Malformed))
+
+-- after want of memory
+abbrev pub IsInsertIfBegun : Part (List (List Placed)) → ℕ → Driven → Driven → Type 0
+IsInsertIfBegun (Ok conditions) at d t = (t ≡ d) ⊎ (t ≡ record d { points = with_break d.points at conditions })
+IsInsertIfBegun (Err f) at d t = t ≡ d
 
 -- ---- requests that change nothing
 
@@ -193,6 +207,7 @@ IsServed (WriteStorage at bytes) d t next packets = IsWritten (storage_write d a
 IsServed (WriteRegister number word) d t next packets = IsWritten (register_write d number word) d t next packets
 IsServed (WriteRegisters bytes) d t next packets = AreAllWritten bytes d t next packets
 IsServed (Insert point at kind) d t next packets = (t ≡ record d { points = points_with point at kind d }) × (next ≡ then.GoOn) × (packets ≡ packet_of (insert_answer point at kind d))
+IsServed (InsertIf point at kind conditions) d t next packets = IsInsertedIf (conditions_in conditions) at d t next packets
 IsServed (Remove point at kind) d t next packets = (t ≡ record d { points = points_without point at kind d }) × (next ≡ then.GoOn) × (packets ≡ packet_of answer.Done)
 IsServed (Command line) d t next packets = IsCommandServed (saving_of line) line d t next packets
 IsServed HasMoved d t next packets = (t ≡ after_asking d) × (next ≡ then.GoOn) × (packets ≡ packet_of (answer.Moved d.untold.moved))
@@ -211,6 +226,7 @@ IsBegun (WriteStorage at bytes) d t = IsWriteBegun (storage_write d at bytes) d 
 IsBegun (WriteRegister number word) d t = IsWriteBegun (register_write d number word) d t
 IsBegun (WriteRegisters bytes) d t = AreAllBegun bytes d t
 IsBegun (Insert point at kind) d t = t ≡ record d { points = points_with point at kind d }
+IsBegun (InsertIf point at kind conditions) d t = IsInsertIfBegun (conditions_in conditions) at d t
 IsBegun (Remove point at kind) d t = t ≡ record d { points = points_without point at kind d }
 IsBegun (Command line) d t = IsCommandBegun (saving_of line) line d t
 IsBegun HasMoved d t = t ≡ after_asking d

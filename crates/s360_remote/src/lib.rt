@@ -1,6 +1,7 @@
 //! The target that gdb drives: a session beside what was recorded, of which gdb asks and which it alters.
 #![tactic(auto)]
 
+mod condition;
 mod connection;
 mod counting;
 mod errand;
@@ -9,6 +10,7 @@ mod laws;
 mod monitor;
 mod pause;
 mod points;
+mod readout;
 mod registers;
 mod replies;
 mod saving;

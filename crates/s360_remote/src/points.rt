@@ -1,16 +1,21 @@
 //! Where gdb asks the machine to stop. Source: gdb manual, "Packets", `Z0` to `Z2`.
-ghost use Rattle.std.specs.Prelude.{◌≡◌, ◌<◌, ◌+◌, ◌^◌, ◌++◌, ◌∷◌, [], drop, slice_get, SomeIff};
+ghost use Rattle.std.specs.Prelude.{◌≡◌, ◌<◌, ◌+◌, ◌^◌, [], drop, slice_get, IfOk, OnErr, OnOk, SomeIff};
 ghost use Rattle.std.specs.List.{filter, list_any, range_with_len};
-ghost use Rattle.s360_journal.specs.Breakpoints.{has_room_for, is_at_breakpoint, with_address, without_address};
+ghost use Rattle.s360_journal.specs.Breakpoints.{has_room_for};
 ghost use Rattle.s360_machine.specs.Machine.{seen};
+ghost use Rattle.s360_model.specs.Psw.{instruction_address_of};
+ghost use Rattle.s360_remote.specs.Points.{is_at_stop, is_passed, target_of, with_break, without_break, without_conditions};
 ghost use Rattle.s360_remote.specs.Points.{byte_altered_by, bytes_altered_by, last_change_at};
 ghost use Rattle.s360_remote.specs.Points.{has_byte, has_room_for_watch, is_watched, with_watch, without_watch};
 
+use crate::readout::Readout;
 use arrayvec::ArrayVec;
+use s360_condition::Expression;
 use s360_journal::Breaks;
 use s360_machine::Machine;
 use s360_record::Recording;
 use s360_store::Place;
+use std::alloc::{AllocError, Global};
 use std::marker::Model;
 
 /// So many runs of bytes can be watched.
@@ -133,10 +138,41 @@ impl Altered {
     }
 }
 
-/// The breakpoints and the watched bytes. A contract sees both in the order in which they were set. No call takes memory.
+/// The conditions of the breakpoint at an address.
+#[derive(Drop)]
+struct Conditional {
+    at: u32,
+    conditions: Vec<Expression>,
+}
+
+impl Model for Conditional {
+    ghost use Rattle.s360_remote.specs.Points.{Conditional as ConditionsAt};
+
+    ghost Value = { ConditionsAt };
+
+    ghost view = { λ c. record { at = c.at; conditions = c.conditions.items } };
+}
+
+impl Conditional {
+    /// Whether they are of the breakpoint at an address, and none of them holds.
+    fn is_passed(&self, target: &Readout<'_>, at: u32) -> bool
+        ensures { result ≡ is_passed target.now at self.now }
+    {
+        self.at == at
+            && !self
+                .conditions
+                .as_slice()
+                .iter()
+                .any(|condition| condition.holds(target))
+    }
+}
+
+/// The breakpoints, with the conditions that some have, and the watched bytes. A contract sees both in the order in which they
+/// were set.
 #[derive(Drop)]
 pub struct Points {
     breaks: Breaks,
+    conditional: Vec<Conditional>,
     watches: ArrayVec<Watch, MOST>,
 }
 
@@ -145,33 +181,62 @@ impl Model for Points {
 
     ghost Value = { BreaksAndWatches };
 
-    ghost view = { λ p. record { breaks = p.breaks; watches = p.watches.items } };
+    ghost view = { λ p. record { breaks = p.breaks; conditional = p.conditional.items; watches = p.watches.items } };
 }
 
 impl Points {
-    /// None.
-    pub fn new() -> Points
-        ensures { result ≡ record { breaks = []; watches = [] } }
+    /// None. It takes no memory.
+    pub fn new(alloc: Global) -> Points
+        ensures { result ≡ record { breaks = []; conditional = []; watches = [] } }
     {
         Points {
             breaks: Breaks::new(),
+            conditional: Vec::new(alloc),
             watches: ArrayVec::new(),
         }
     }
 
-    /// Sets a breakpoint at an address, which may have one. `false`, and nothing changes, if too many others are set.
+    /// Sets a breakpoint without conditions at an address, which may have one. `false`, and nothing changes, if too many others
+    /// are set. It takes no memory.
     pub fn add_break(&mut self, at: u32) -> bool
         ensures answer { result ≡ has_room_for self.old.breaks at }
-        ensures points { self.new ≡ record self.old { breaks = with_address self.old.breaks at } }
+        ensures points { self.new ≡ with_break self.old at [] }
     {
-        self.breaks.add(at)
+        if !self.breaks.add(at) {
+            return false;
+        }
+        self.remove_conditions(at);
+        true
+    }
+
+    /// Likewise with conditions in place of others. Want of memory changes nothing.
+    pub fn add_break_if(&mut self, at: u32, conditions: Vec<Expression>) -> Result<bool, AllocError>
+        ensures answer { IfOk result (λ set. set ≡ has_room_for self.old.breaks at) }
+        ensures points { OnOk result (self.new ≡ with_break self.old at conditions.items) }
+        ensures memory { OnErr result (self.new ≡ self.old) }
+    {
+        self.conditional.reserve(1)?;
+        let set = self.add_break(at);
+        if set && !conditions.is_empty() {
+            self.conditional
+                .push_reserved(Conditional { at, conditions });
+        }
+        Ok(set)
     }
 
     /// Clears the breakpoint at an address, if there is one.
     pub fn remove_break(&mut self, at: u32)
-        ensures { self.new ≡ record self.old { breaks = without_address self.old.breaks at } }
+        ensures { self.new ≡ without_break self.old at }
     {
         self.breaks.remove(at);
+        self.remove_conditions(at);
+    }
+
+    /// Takes the conditions away that the breakpoint at an address has.
+    fn remove_conditions(&mut self, at: u32)
+        ensures { self.new ≡ record self.old { conditional = without_conditions self.old.conditional at } }
+    {
+        self.conditional.retain(|set| set.at != at);
     }
 
     /// Watches bytes, which may be watched already. `false`, and nothing changes, if too many others are watched.
@@ -192,11 +257,26 @@ impl Points {
         self.watches.retain(|set| *set != watch);
     }
 
-    /// Whether the CPU operates at a breakpoint.
+    /// Whether the CPU operates at a breakpoint which has no conditions, or one that holds.
     pub(crate) fn stops(&self, machine: &Machine) -> bool
-        ensures { result ≡ is_at_breakpoint (seen machine.now.whole) self.now.breaks }
+        ensures { result ≡ is_at_stop (seen machine.now.whole) self.now }
     {
-        self.breaks.stops(machine)
+        self.breaks.stops(machine) && !self.is_passed(machine)
+    }
+
+    /// Whether the breakpoint at the next instruction has conditions of which none holds.
+    fn is_passed(&self, machine: &Machine) -> bool
+        ensures { result ≡ list_any (λ c. is_passed (target_of (seen machine.now.whole)) (instruction_address_of (seen machine.now.whole).core.psw) c) self.now.conditional }
+    {
+        if self.conditional.is_empty() {
+            return false;
+        }
+        let target = Readout::new(machine);
+        let at = machine.psw().instruction_address();
+        self.conditional
+            .as_slice()
+            .iter()
+            .any(|set| set.is_passed(&target, at))
     }
 
     /// Whether a byte is watched.

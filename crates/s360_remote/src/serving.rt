@@ -8,6 +8,7 @@ ghost use Rattle.s360_packet.specs.Framing.{framed};
 ghost use Rattle.s360_packet.specs.declared.answer.Answer.TheVariants.{Done, Moved};
 ghost use Rattle.s360_record.specs.Recorded.{standing_events};
 ghost use Rattle.s360_remote.specs.Backward.{gone_back};
+ghost use Rattle.s360_remote.specs.Conditions.{conditions_in};
 ghost use Rattle.s360_remote.specs.Driven.{Driven, moved_to, others_of};
 ghost use Rattle.s360_remote.specs.Forward.{most_turns, resumed};
 ghost use Rattle.s360_inquiry.specs.Reading.{inquiry_of};
@@ -16,12 +17,13 @@ ghost use Rattle.s360_remote.specs.Registers.{words_of};
 ghost use Rattle.s360_remote.specs.Replies.{console_packet, end_packets, idle_words, idle_words_of, line_text};
 ghost use Rattle.s360_remote.specs.Replies.{packet_of, pause_packets, register_of_number, stop_packet, storage_text};
 ghost use Rattle.s360_remote.specs.Serving.{AreAllBegun, AreAllWritten, IsBegun, IsResumed, IsResumedBegun, IsServed, IsTold};
-ghost use Rattle.s360_remote.specs.Serving.{IsCommandBegun, IsCommandServed, after_asking, started_anew, told_first, with_moved};
+ghost use Rattle.s360_remote.specs.Serving.{IsCommandBegun, IsCommandServed, IsInsertIfBegun, IsInsertedIf, after_asking, set_if, started_anew, told_first, with_moved};
 ghost use Rattle.s360_remote.specs.Serving.{after_write, insert_answer, machine_now, points_with, points_without, then_after, thread_answer, told};
 ghost use Rattle.s360_saving.specs.Reading.{saving_of};
 ghost use Rattle.s360_remote.specs.declared.error_number.ErrorNumber.TheVariants.{Memory};
 ghost use Rattle.s360_remote.specs.declared.serving.Then.TheVariants.{GoOn};
 
+use crate::condition::read_conditions;
 use crate::error_number::ErrorNumber;
 use crate::monitor::monitor;
 use crate::pause::{Pause, Reach};
@@ -33,7 +35,7 @@ use crate::target::Target;
 use byteorder::{BigEndian, ByteOrder};
 use s360_language::refusal_text;
 use s360_machine::{EventKind, Refusal};
-use s360_packet::{Answer, Payload, Point, REGISTERS, Request, Stop, Thread, register_value};
+use s360_packet::{Answer, Payload, Point, REGISTERS, Request, RequestFault, Stop, Thread, register_value};
 use s360_saving::{FileToWrite, read_saving};
 use s360_text::Text;
 use std::alloc::AllocError;
@@ -80,6 +82,9 @@ impl Target {
                 self.tell_written(written, replies)
             }
             Request::Insert { point, at, kind } => self.insert(point, at, kind, replies),
+            Request::InsertIf {
+                at, conditions, ..
+            } => self.insert_if(at, conditions.as_slice(), replies),
             Request::Remove { point, at, kind } => self.remove(point, at, kind, replies),
             Request::Command(line) => self.answer_line(&line, replies),
             Request::HasMoved => self.tell_moved(replies),
@@ -253,12 +258,28 @@ impl Target {
                 }
             },
         };
-        replies.push(if is_set {
-            Answer::Done
-        } else {
-            ErrorNumber::Full.answer()
-        })?;
-        Ok(Then::GoOn)
+        push_set(is_set, replies)
+    }
+
+    /// Sets a breakpoint with conditions.
+    fn insert_if(
+        &mut self,
+        at: u32,
+        conditions: &[u8],
+        replies: &mut Replies,
+    ) -> Result<Then, AllocError>
+        ensures served { IfOk result (λ next. (packets : List ℕ) × IsInsertedIf (conditions_in conditions.now) at self.old self.new next packets × (replies.new ≡ replies.old ++ packets)) }
+        ensures begun { OnErr result (IsInsertIfBegun (conditions_in conditions.now) at self.old self.new) }
+    {
+        let set = match read_conditions(self.alloc, conditions) {
+            Ok(conditions) => self.points.add_break_if(at, conditions)?,
+            Err(RequestFault::Memory) => return Err(AllocError),
+            Err(_) => {
+                replies.push(ErrorNumber::Malformed.answer())?;
+                return Ok(Then::GoOn);
+            }
+        };
+        push_set(set, replies)
     }
 
     /// Takes a point out, if it is set.
@@ -408,6 +429,18 @@ fn tell_stop(stop: Stop, replies: &mut Replies) -> Result<Then, AllocError>
     ensures { IfOk result (λ next. (next ≡ GoOn) × (replies.new ≡ replies.old ++ stop_packet stop)) }
 {
     replies.push(Answer::Stopped(stop))?;
+    Ok(Then::GoOn)
+}
+
+/// Tells whether a point was set, or no more can be.
+fn push_set(is_set: bool, replies: &mut Replies) -> Result<Then, AllocError>
+    ensures { IfOk result (λ next. (next ≡ GoOn) × (replies.new ≡ replies.old ++ packet_of (set_if is_set))) }
+{
+    replies.push(if is_set {
+        Answer::Done
+    } else {
+        ErrorNumber::Full.answer()
+    })?;
     Ok(Then::GoOn)
 }
 

@@ -3,7 +3,6 @@
 ghost use Rattle.std.specs.Prelude.{◌≡◌, ◌↔◌, ◌-◌, ◌<◌, ◌≤◌, ℕ, [], length, None, IfOk, IsTrue, OnErr, OnOk};
 ghost use Rattle.s360_machine.specs.Machine.{seen, storage_size};
 ghost use Rattle.s360_machine.specs.declared.event.Event.{Event as Happening};
-ghost use Rattle.s360_journal.specs.Breakpoints.{is_at_breakpoint};
 ghost use Rattle.s360_journal.specs.Rerun.{AreAccepted};
 ghost use Rattle.s360_journal.specs.Standing.{IsAfter, Standing, alteration, machine_of};
 ghost use Rattle.s360_record.specs.Recorded.{Recorded, next_recorded, session_of, standing_events, with_standing};
@@ -11,7 +10,7 @@ ghost use Rattle.s360_remote.specs.Driven.{nothing_untold};
 ghost use Rattle.s360_remote.specs.Backward.{gone_back, is_cpu_last, one_back, pause_back};
 ghost use Rattle.s360_remote.specs.Forward.{IsTurn, is_at_rest, is_end_of, is_reached, is_turn_of, most_turns, pause_after};
 ghost use Rattle.s360_remote.specs.Forward.{pause_of_turn, resumed, state_of_turn};
-ghost use Rattle.s360_remote.specs.Points.{bytes_altered_by};
+ghost use Rattle.s360_remote.specs.Points.{bytes_altered_by, is_at_stop};
 ghost use Rattle.s360_remote.specs.declared.pause.Pause.TheVariants.{Slice};
 
 use crate::counting::Counting;
@@ -56,14 +55,14 @@ impl Target {
     /// A target over a recording, of which at most `limit` events may be recorded, with no points.
     pub fn new(alloc: Global, recording: Recording, limit: u32) -> Target
         requires { limit ≡ recording.limit }
-        ensures { result ≡ record { recorded = recording; points = record { breaks = []; watches = [] }; own = []; dropped = 0; stood = None; untold = nothing_untold } }
+        ensures { result ≡ record { recorded = recording; points = record { breaks = []; conditional = []; watches = [] }; own = []; dropped = 0; stood = None; untold = nothing_untold } }
     {
         Target {
             counting: Counting {
                 recording,
                 dropped: 0,
             },
-            points: Points::new(),
+            points: Points::new(alloc),
             own_breaks: Breaks::new(),
             stood: None,
             untold: Untold::nothing(),
@@ -129,7 +128,7 @@ impl Target {
         }
         let is_reached = match reach {
             Reach::Step => is_cpu,
-            Reach::Stop => self.is_at_breakpoint(),
+            Reach::Stop => self.is_at_stop(),
         };
         is_reached.then_some(reach.pause())
     }
@@ -185,11 +184,11 @@ impl Target {
 
     /// Whether the last event is as far as was asked.
     fn is_reached(&self, reach: Reach) -> bool
-        ensures { (s : Standing) (e : Happening) → IsAfter (session_of self.now.recorded) s e → result ≡ is_reached reach self.now.points.breaks self.now.recorded e }
+        ensures { (s : Standing) (e : Happening) → IsAfter (session_of self.now.recorded) s e → result ≡ is_reached reach self.now.points self.now.recorded e }
     {
         match reach {
             Reach::Step => self.is_cpu_last(),
-            Reach::Stop => self.is_at_breakpoint(),
+            Reach::Stop => self.is_at_stop(),
         }
     }
 
@@ -210,9 +209,9 @@ impl Target {
         matches!(self.counting.recording.last_event(), Some(EventKind::Cpu))
     }
 
-    /// Whether the CPU operates at a breakpoint.
-    fn is_at_breakpoint(&self) -> bool
-        ensures { result ≡ is_at_breakpoint (machine_of (session_of self.now.recorded)) self.now.points.breaks }
+    /// Whether the CPU operates at a breakpoint which has no conditions, or one that holds.
+    fn is_at_stop(&self) -> bool
+        ensures { result ≡ is_at_stop (machine_of (session_of self.now.recorded)) self.now.points }
     {
         self.points.stops(self.counting.recording.machine())
     }
