@@ -1,7 +1,9 @@
 -- The machine goes on, turn by turn.
-use Rattle.std.proofs.Common.{◌≡◌, ◌≢◌, ◌<◌, ◌+◌, ◌-◌, ◌++◌, ◌∙◌, ℕ, suc, Bool, true, false, nat_eq, List, [], ◌∷◌, Option, Some, None, refl, ap, sym, arith, length}
+use Rattle.std.proofs.Common.{◌≡◌, ◌≢◌, ◌+◌, ◌-◌, ◌++◌, ◌∙◌, ℕ, Bool, true, false, nat_eq, List, [], ◌∷◌, Option, Some, None, refl, ap, sym, arith, length}
 use Rattle.std.proofs.Common.{length-append, length-take}
+use Rattle.std.proofs.lemmas.Bool.{true≢false}
 use Rattle.std.proofs.lemmas.List.{take_all}
+use Rattle.std.specs.Prelude.{IsTrue, ◌↔◌}
 use Rattle.std.specs.List.{slice_get}
 use Rattle.std.specs.Option.{option_map, option_map_or, unwrap_or}
 use Rattle.s360_store.specs.declared.place.Place.{Place}
@@ -18,10 +20,10 @@ use Rattle.s360_record.specs.Recorded.{Recorded, next_recorded, rest_of, session
 use Rattle.s360_record.specs.declared.forwarding.Forwarded.{Forwarded}
 use Rattle.s360_record.specs.declared.forwarding.Forwarded.TheVariants.{New, Again, Dropped}
 use Rattle.s360_remote.specs.Backward.{is_cpu_last}
-use Rattle.s360_remote.specs.Forward.{IsTurn, after_event_of, after_turn, event_of_turn, is_cpu, is_end_of, is_reached, pause_after, pause_of, pause_of_turn, pause_with, paused_by, refused_or, resumed, state_of_turn, unless_refused}
-use Rattle.s360_remote.specs.Points.{Points, byte_altered_by, watched_bytes}
+use Rattle.s360_remote.specs.Forward.{IsTurn, after_event_of, after_turn, event_of_turn, is_cpu, is_end_of, is_idle, is_reached, pause_after, pause_of_turn, pause_with, refused_or, state_of_turn, unless_refused}
+use Rattle.s360_remote.specs.Points.{Points, bytes_altered_by}
 use Rattle.s360_remote.specs.declared.pause.Pause.{Pause}
-use Rattle.s360_remote.specs.declared.pause.Pause.TheVariants.{Refused, Watch, Idle, RecordEnd}
+use Rattle.s360_remote.specs.declared.pause.Pause.TheVariants.{Refused}
 use Rattle.s360_remote.specs.declared.pause.Reach.{Reach}
 
 -- ---- the event whose turn it is stands
@@ -72,29 +74,29 @@ after-turn r now f h = after-met r (next_recorded r) (event_of_turn r) f refl (f
 
 -- ---- why the machine pauses after it
 
-pub pause_after-is : (p : Points) (reach : Reach) (r now : Recorded) → after_turn r ≡ now
-    → pause_after p reach r ≡ pause_with (byte_altered_by now (watched_bytes p.watches) now.standing) (alteration (session_of r) (event_of_turn r)) (is_reached reach p.breaks now (event_of_turn r)) (is_end_of (next_recorded r) now) reach
+pub pause_after-is : (p : Points) (reach : Reach) (r now : Recorded) (f : Forwarded) (altered : List ℕ) (idle reached ended : Bool) → IsTurn r now f → altered ≡ bytes_altered_by now p.watches now.standing
+    → idle ≡ is_idle (next_recorded r) (alteration (session_of r) (event_of_turn r)) → reached ≡ is_reached reach p now (event_of_turn r) → ended ≡ is_end_of (next_recorded r) now
+    → pause_with altered idle reached ended reach ≡ pause_after p reach r
 unfolding pause_after
-pause_after-is p reach r now h =
-    ap (λ s. pause_with (byte_altered_by s (watched_bytes p.watches) s.standing) (alteration (session_of r) (event_of_turn r)) (is_reached reach p.breaks s (event_of_turn r)) (is_end_of (next_recorded r) s) reach) h
+pause_after-is p reach r now f altered idle reached ended turn h i k l =
+    ap (λ x. pause_with x idle reached ended reach) h ∙ ap (λ x. pause_with (bytes_altered_by now p.watches now.standing) x reached ended reach) i
+    ∙ ap (λ x. pause_with (bytes_altered_by now p.watches now.standing) (is_idle (next_recorded r) (alteration (session_of r) (event_of_turn r))) x ended reach) k
+    ∙ ap (λ x. pause_with (bytes_altered_by now p.watches now.standing) (is_idle (next_recorded r) (alteration (session_of r) (event_of_turn r))) (is_reached reach p now (event_of_turn r)) x reach) l
+    ∙ ap (λ s. pause_with (bytes_altered_by s p.watches s.standing) (is_idle (next_recorded r) (alteration (session_of r) (event_of_turn r))) (is_reached reach p s (event_of_turn r)) (is_end_of (next_recorded r) s) reach) (sym (after-turn r now f turn))
 
-pub pause-watch : (o : Option ℕ) (at : ℕ) (ps : List Place) (reached ended : Bool) (reach : Reach) → o ≡ Some at → Some (Watch at) ≡ pause_with o ps reached ended reach
-pause-watch o at ps reached ended reach h = rw h refl
+-- an event that was recorded leaves something to do
+idle-some : (o : Option Event) (e : Event) (ps : List Place) → o ≡ Some e → false ≡ is_idle o ps
+idle-some o e ps h = rw h refl
 
-pub pause-idle : (o : Option ℕ) (ps : List Place) (reached ended : Bool) (reach : Reach) → o ≡ None → ps ≡ [] → Some Idle ≡ pause_with o ps reached ended reach
-pause-idle o ps reached ended reach h none = rw (h, none) refl
+pub idle-again : (r now : Recorded) (ps : List Place) → IsTurn r now Again → false ≡ is_idle (next_recorded r) ps
+idle-again r now ps h = let some : next_recorded r ≡ Some (event_of_turn r) = h.met in idle-some (next_recorded r) (event_of_turn r) ps some
 
-pub pause-reached : (o : Option ℕ) (ps : List Place) (reached ended : Bool) (reach : Reach) → o ≡ None → ps ≢ [] → reached ≡ true → Some (pause_of reach) ≡ pause_with o ps reached ended reach
-pause-reached o [] reached ended reach h some is = absurd (some refl)
-pause-reached o (p ∷ ps) reached ended reach h some is = rw (h, is) refl
-
-pub pause-end : (o : Option ℕ) (ps : List Place) (reached ended : Bool) (reach : Reach) → o ≡ None → ps ≢ [] → reached ≡ false → ended ≡ true → Some RecordEnd ≡ pause_with o ps reached ended reach
-pause-end o [] reached ended reach h some is last = absurd (some refl)
-pause-end o (p ∷ ps) reached ended reach h some is last = rw (h, is, last) refl
-
-pub pause-none : (o : Option ℕ) (ps : List Place) (reached ended : Bool) (reach : Reach) → o ≡ None → ps ≢ [] → reached ≡ false → ended ≡ false → None ≡ pause_with o ps reached ended reach
-pause-none o [] reached ended reach h some is last = absurd (some refl)
-pause-none o (p ∷ ps) reached ended reach h some is last = rw (h, is, last) refl
+-- any other does if it altered something
+idle-by : (o : Option Event) (ps : List Place) (b : Bool) → o ≡ None → IsTrue b ↔ (ps ≡ []) → b ≡ is_idle o ps
+idle-by o [] true h is = rw h refl
+idle-by o [] false h is = absurd (true≢false (sym (is.1 refl)))
+idle-by o (p ∷ ps) true h is = absurd (let wrong : p ∷ ps ≡ [] = is.0 refl in cc)
+idle-by o (p ∷ ps) false h is = rw h refl
 
 -- the last event, as its kind alone
 kind-cpu : (e : Event) → kind_of_event e ≡ cpu_kind → is_cpu e ≡ true
@@ -146,6 +148,14 @@ ended o e now h = rw h refl
 pub end-again : (r now : Recorded) → IsTurn r now Again → is_end_of (next_recorded r) now ≡ nat_eq now.standing (length now.events)
 end-again r now h = let some : next_recorded r ≡ Some (event_of_turn r) = h.met in ended (next_recorded r) (event_of_turn r) now some
 
+pub idle-new : (r now : Recorded) (b : Bool) → IsTurn r now New → IsTrue b ↔ (alteration (session_of r) (event_of_turn r) ≡ []) → b ≡ is_idle (next_recorded r) (alteration (session_of r) (event_of_turn r))
+idle-new r now b h is = idle-by (next_recorded r) (alteration (session_of r) (event_of_turn r)) b (ap (λ l. slice_get l 0) h.met) is
+
+pub idle-dropped : (r now : Recorded) (n : ℕ) (b : Bool) → IsTurn r now (Dropped n) → IsTrue b ↔ (alteration (session_of r) (event_of_turn r) ≡ [])
+    → b ≡ is_idle (next_recorded r) (alteration (session_of r) (event_of_turn r))
+idle-dropped r now n b h is =
+    idle-by (next_recorded r) (alteration (session_of r) (event_of_turn r)) b (dropped-none r (next_recorded r) n refl (sym (first-or (next_recorded r) _)) h.met) is
+
 -- ---- turns
 
 pub turn-accepted : (p : Points) (reach : Reach) (r now : Recorded) (f : Forwarded) (pause : Option Pause) → refusal_in (session_of r) (event_of_turn r) ≡ None → IsTurn r now f → pause ≡ pause_after p reach r
@@ -163,35 +173,3 @@ turn-refused p reach r refusal some = (
   sym (ap (λ o. refused_or o (pause_after p reach r)) some),
   sym (ap (λ o. unless_refused o r (after_turn r)) some),
 )
-
--- so many turns were taken, and the machine did not pause
-abbrev pub IsGoing : Points → Reach → Recorded → Recorded → ℕ → Type 0
-IsGoing p reach start now turns = (n : ℕ) → resumed p reach start (turns + n) ≡ resumed p reach now n
-
-resumed-more : (p : Points) (reach : Reach) (r : Recorded) (m n : ℕ) → m ≡ suc n → resumed p reach r m ≡ paused_by (pause_of_turn p reach r) (state_of_turn r) (resumed p reach (state_of_turn r) n)
-unfolding resumed
-resumed-more p reach r m n h = rw h refl
-
-pub IsGoing-start : (p : Points) (reach : Reach) (r : Recorded) → IsGoing p reach r r 0
-IsGoing-start p reach r n = let same : 0 + n ≡ n = omega arith in ap (λ k. resumed p reach r k) same
-
-pub IsGoing-more : (p : Points) (reach : Reach) (start now next : Recorded) (turns : ℕ) → IsGoing p reach start now turns → pause_of_turn p reach now ≡ None → next ≡ state_of_turn now
-    → IsGoing p reach start next (turns + 1)
-IsGoing-more p reach start now next turns h none is n =
-    let same : turns + 1 + n ≡ turns + suc n = omega arith
-    in ap (λ k. resumed p reach start k) same ∙ h (suc n) ∙ resumed-more p reach now (suc n) n refl
-    ∙ ap (λ o. paused_by o (state_of_turn now) (resumed p reach (state_of_turn now) n)) none
-    ∙ ap (λ s. resumed p reach s n) (sym is)
-
-pub IsGoing-ended : (p : Points) (reach : Reach) (start now next : Recorded) (turns most : ℕ) (why : Pause) → IsGoing p reach start now turns → turns < most → pause_of_turn p reach now ≡ Some why
-    → next ≡ state_of_turn now → resumed p reach start most ≡ record { state = next; why = why }
-IsGoing-ended p reach start now next turns most why h less some is =
-    let left : turns + (most - turns) ≡ most = omega (arith, less)
-    in let more : most - turns ≡ suc (most - turns - 1) = omega (arith, less)
-    in ap (λ k. resumed p reach start k) (sym left) ∙ h (most - turns) ∙ resumed-more p reach now (most - turns) (most - turns - 1) more
-    ∙ ap (λ o. paused_by o (state_of_turn now) (resumed p reach (state_of_turn now) (most - turns - 1))) some
-    ∙ ap (λ s. record { state = s; why = why }) (sym is)
-
-pub IsGoing-all : (p : Points) (reach : Reach) (start now : Recorded) (turns most : ℕ) → IsGoing p reach start now turns → turns ≡ most → resumed p reach start most ≡ record { state = now; why = Idle }
-unfolding resumed
-IsGoing-all p reach start now turns most h all = let same : most ≡ turns + 0 = omega (arith, all) in ap (λ k. resumed p reach start k) same ∙ h 0

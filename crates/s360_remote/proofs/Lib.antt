@@ -1,8 +1,8 @@
 pub mod RegisterLemmas
 pub mod PointLemmas
+pub mod ConditionLemmas
 pub mod ForwardLemmas
-pub mod BackwardLemmas
-pub mod DrivenLemmas
+pub mod GoingLemmas
 pub mod WritingLemmas
 pub mod AgainLemmas
 pub mod MonitorLemmas

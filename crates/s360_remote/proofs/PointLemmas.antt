@@ -1,55 +1,13 @@
--- The last changes of watched bytes, byte by byte and run by run.
-use Rattle.std.proofs.Common.{◌≡◌, ◌≤◌, ◌<◌, ◌+◌, ◌++◌, ◌∙◌, ℕ, zero, suc, Bool, true, false, cond, List, [], ◌∷◌, Option, Some, None, refl, ap, sym, arith, length, max, drop, get_or, nat_eq}
-use Rattle.std.proofs.Common.{Ordering, is_lt, length-take, nat_cmp}
-use Rattle.std.proofs.lemmas.Cmp.{ranked}
-use Rattle.std.specs.Ordering.{ord_max}
-use Rattle.std.specs.declared.cmp.Ordering.TheVariants.{Less, Equal, Greater}
-use Rattle.std.specs.List.{find, range_with_len}
-use Rattle.std.specs.Option.{unwrap_or}
-use Rattle.s360_store.specs.declared.place.Place.{Place}
-use Rattle.s360_store.specs.declared.place.Place.TheVariants.{Byte}
-use Rattle.s360_machine.specs.declared.event.Event.{Event}
-use Rattle.s360_machine.specs.Machine.{Machine, seen}
-use Rattle.s360_machine.specs.Step.{after}
-use Rattle.s360_journal.specs.Rerun.{alters, last_numbered_from, or_else}
-use Rattle.s360_record.specs.Recorded.{Recorded, standing_events}
-use Rattle.s360_remote.specs.Points.{Watched, byte_altered_by, last_change_among, last_change_at, watched_bytes}
-
--- what is found in the first of two lists, and else in the second
-pub find-append : (f : ℕ → Bool) (xs ys : List ℕ) → find f (xs ++ ys) ≡ or_else (find f xs) (find f ys)
-find-append f [] ys = refl
-find-append f (x ∷ xs) ys =
-    let by : (b : Bool) → cond b (Some x) (find f (xs ++ ys)) ≡ or_else (cond b (Some x) (find f xs)) (find f ys)
-    = λ b. elim b as (λ c. cond c (Some x) (find f (xs ++ ys)) ≡ or_else (cond c (Some x) (find f xs)) (find f ys)) [ true ↦ refl | false ↦ find-append f xs ys ]
-    in by (f x)
-
-pub last_change_among-append : (r : Recorded) (xs ys : List ℕ) → last_change_among r (xs ++ ys) ≡ max (last_change_among r xs) (last_change_among r ys)
-last_change_among-append r [] ys = omega arith
-last_change_among-append r (x ∷ xs) ys = omega (arith, last_change_among-append r xs ys)
+-- The last changes of watched bytes, byte by byte and watch by watch.
+use Rattle.std.proofs.Common.{◌≡◌, ◌<◌, ◌+◌, ◌∙◌, ℕ, zero, suc, Bool, true, false, cond, List, [], ◌∷◌, Some, refl, ap, sym, subst, arith, length, drop, get_or, nat_eq}
+use Rattle.std.specs.List.{filter, fold, items_where_true, range_with_len}
+use Rattle.std.specs.List.Retain.{IsFiltered, ReturnsInTurn}
+use Rattle.s360_record.specs.Recorded.{Recorded}
+use Rattle.s360_remote.specs.Points.{Watched, byte_altered_by, last_change_at, with_altered}
 
 -- the bytes that remain, the first of them apart
 pub range-more : (at n m : ℕ) → n ≡ m + 1 → range_with_len at n ≡ at ∷ range_with_len (at + 1) m
 range-more at n m h = let same : n ≡ suc m = omega (arith, h) in ap (λ k. range_with_len at k) same
-
--- a last change is a number of those that stand
-last_numbered-within : (k : ℕ) (m : Machine) (es : List Event) (p : Place) → 0 < k → unwrap_or (last_numbered_from k m es p) 0 < k + length es
-last_numbered-within k m [] p h = omega (arith, h)
-last_numbered-within k m (e ∷ es) p h =
-    let later : unwrap_or (last_numbered_from (k + 1) (after m e) es p) 0 < k + 1 + length es = last_numbered-within (k + 1) (after m e) es p (omega (arith, h))
-    in let this : (b : Bool) → unwrap_or (cond b (Some k) None) 0 < k + length (e ∷ es)
-    = λ b. elim b as (λ c. unwrap_or (cond c (Some k) None) 0 < k + length (e ∷ es)) [ true ↦ omega (arith) | false ↦ omega (arith, h) ]
-    in let by : (o : Option ℕ) → unwrap_or o 0 < k + 1 + length es → unwrap_or (or_else o (cond (alters m e p) (Some k) None)) 0 < k + length (e ∷ es)
-    = λ o. elim o as (λ x. unwrap_or x 0 < k + 1 + length es → unwrap_or (or_else x (cond (alters m e p) (Some k) None)) 0 < k + length (e ∷ es))
-    [ None ↦ λ l. this (alters m e p) | Some n ↦ λ l. omega (arith, l) ]
-    in by (last_numbered_from (k + 1) (after m e) es p) later
-
-last_change_at-within : (r : Recorded) (at : ℕ) → last_change_at r at ≤ r.standing
-last_change_at-within r at =
-    omega (arith, last_numbered-within 1 (seen r.start) (standing_events r) (Byte at) (omega arith), length-take r.standing r.events)
-
-pub last_change_among-within : (r : Recorded) (bytes : List ℕ) → last_change_among r bytes ≤ r.standing
-last_change_among-within r [] = omega arith
-last_change_among-within r (at ∷ bytes) = omega (arith, last_change_at-within r at, last_change_among-within r bytes)
 
 -- ---- one byte more
 
@@ -58,34 +16,33 @@ pub altered-next : (r : Recorded) (number at n m : ℕ) (b : Bool) → n ≡ m +
 altered-next r number at n m b more is =
     ap (λ l. byte_altered_by r l number) (range-more at n m more) ∙ ap (λ x. cond x (Some at) (byte_altered_by r (range_with_len (at + 1) m) number)) is
 
-pub last-next : (r : Recorded) (at n m : ℕ) → n ≡ m + 1 → last_change_among r (range_with_len at n) ≡ max (last_change_at r at) (last_change_among r (range_with_len (at + 1) m))
-last-next r at n m more = ap (λ l. last_change_among r l) (range-more at n m more)
-
--- ---- one run more
+-- ---- one watch more
 
 at-index : (ws : List Watched) (i : ℕ) (w : Watched) → i < length ws → w ≡ get_or ws i w → drop i ws ≡ w ∷ drop (i + 1) ws
 at-index [] i w h is = absurd (omega (arith, h))
 at-index (v ∷ ws) zero w h is = ap (λ x. x ∷ ws) (sym is)
 at-index (v ∷ ws) (suc i) w h is = let more : suc i + 1 ≡ suc (i + 1) = omega arith in at-index ws i w (omega (arith, h)) is ∙ ap (λ k. w ∷ drop k (v ∷ ws)) (sym more)
 
-bytes-next : (ws : List Watched) (i : ℕ) (w : Watched) → i < length ws → w ≡ get_or ws i w → watched_bytes (drop i ws) ≡ range_with_len w.at w.count ++ watched_bytes (drop (i + 1) ws)
-bytes-next ws i w h is = ap (λ vs. watched_bytes vs) (at-index ws i w h is)
+pub altered-watch : (r : Recorded) (number : ℕ) (ws : List Watched) (i : ℕ) (w : Watched) (told more : List ℕ) → i < length ws → w ≡ get_or ws i w → more ≡ with_altered r number told w
+    → fold (λ t v. with_altered r number t v) told (drop i ws) ≡ fold (λ t v. with_altered r number t v) more (drop (i + 1) ws)
+altered-watch r number ws i w told more h is same =
+    ap (λ vs. fold (λ t v. with_altered r number t v) told vs) (at-index ws i w h is) ∙ ap (λ t. fold (λ t v. with_altered r number t v) t (drop (i + 1) ws)) (sym same)
 
-pub altered-run : (r : Recorded) (number : ℕ) (ws : List Watched) (i : ℕ) (w : Watched) (o : Option ℕ) → i < length ws → w ≡ get_or ws i w → o ≡ byte_altered_by r (range_with_len w.at w.count) number
-    → byte_altered_by r (watched_bytes (drop i ws)) number ≡ or_else o (byte_altered_by r (watched_bytes (drop (i + 1) ws)) number)
-altered-run r number ws i w o h is altered =
-    ap (λ l. byte_altered_by r l number) (bytes-next ws i w h is) ∙ find-append (λ at. nat_eq (last_change_at r at) number) (range_with_len w.at w.count) (watched_bytes (drop (i + 1) ws))
-    ∙ ap (λ x. or_else x (byte_altered_by r (watched_bytes (drop (i + 1) ws)) number)) (sym altered)
+-- ---- what stays of a vector
 
-pub last-run : (r : Recorded) (ws : List Watched) (i : ℕ) (w : Watched) → i < length ws → w ≡ get_or ws i w
-    → last_change_among r (watched_bytes (drop i ws)) ≡ max (last_change_among r (range_with_len w.at w.count)) (last_change_among r (watched_bytes (drop (i + 1) ws)))
-last-run r ws i w h is = ap (λ l. last_change_among r l) (bytes-next ws i w h is) ∙ last_change_among-append r (range_with_len w.at w.count) (watched_bytes (drop (i + 1) ws))
+module _ {X P : Type 0} (R : P → X → Bool → P → Type 0) (test : X → Bool) (f : P) (says : (x : X) (b : Bool) (g : P) → R f x b g → (b ≡ test x) × (g ≡ f)) where
+  first-by : (x : X) (bs : List Bool) (xs : List X) (b t : Bool) → b ≡ t → items_where_true bs xs ≡ filter test xs → items_where_true (b ∷ bs) (x ∷ xs) ≡ cond t (x ∷ filter test xs) (filter test xs)
+  first-by x bs xs true t is rest = ap (λ l. x ∷ l) rest ∙ ap (λ a. cond a (x ∷ filter test xs) (filter test xs)) is
+  first-by x bs xs false t is rest = rest ∙ ap (λ a. cond a (x ∷ filter test xs) (filter test xs)) is
 
--- the greater of two numbers, as `Ord::max` answers it
-ord_max-by : (a b : ℕ) (r : Ordering) → r ≡ nat_cmp b a → cond (is_lt r) a b ≡ max a b
-ord_max-by a b Less h = let less : b < a = ranked b a Less h in omega (arith, less)
-ord_max-by a b Equal h = let same : b ≡ a = ranked b a Equal h in omega (arith, same)
-ord_max-by a b Greater h = let more : a < b = ranked b a Greater h in omega (arith, more)
+  told-by : (q : P) (bs : List Bool) (xs : List X) → length bs ≡ length xs → ReturnsInTurn R f bs xs q → items_where_true bs xs ≡ filter test xs
+  told-by q [] [] same h = refl
+  told-by q [] (x ∷ xs) same h = absurd (omega (arith, same))
+  told-by q (b ∷ bs) [] same h = absurd h
+  told-by q (b ∷ bs) (x ∷ xs) same h =
+      let said = says x b h.0 h.1
+      in first-by x bs xs b (test x) said.0 (told-by q bs xs (omega (arith, same)) (subst (λ g. ReturnsInTurn R g bs xs q) said.1 h.2))
 
-pub ord_max-nat : (a b : ℕ) → ord_max nat_cmp a b ≡ max a b
-ord_max-nat a b = ord_max-by a b (nat_cmp b a) refl
+  -- where no call changes the closure, `retain` leaves what passes the test
+  pub filter-from_retained : (xs ys : List X) → IsFiltered R f xs ys → ys ≡ filter test xs
+  filter-from_retained xs ys h = h.4 ∙ told-by h.1 h.0 xs h.2 h.3

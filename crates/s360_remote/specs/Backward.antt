@@ -1,14 +1,14 @@
 -- How the machine goes back, for gdb's `bs` and `bc` (gdb manual, "Packets", "Reverse Execution"). The events stay in the
 -- record.
-use Rattle.std.specs.Prelude.{ℕ, zero, suc, ◌-◌, Bool, true, false, nat_eq, if◌then◌else◌, List, Option, Some, None}
+use Rattle.std.specs.Prelude.{ℕ, ◌-◌, Bool, true, false, nat_eq, if◌then◌else◌, List, Option, Some, None}
 use Rattle.std.specs.Option.{option_map_or}
 use Rattle.s360_machine.specs.declared.event.Event.{Event}
 use Rattle.s360_journal.specs.Standing.{last_of}
 use Rattle.s360_record.specs.Recorded.{Recorded, standing_events, with_standing}
-use Rattle.s360_remote.specs.Forward.{Paused, is_cpu, is_reached, pause_with, paused_by}
+use Rattle.s360_remote.specs.Forward.{Paused, is_cpu, is_reached, moved_by, pause_with}
 use Rattle.s360_remote.specs.Points.{Points, bytes_altered_by}
 use Rattle.s360_remote.specs.declared.pause.Pause.{Pause}
-use Rattle.s360_remote.specs.declared.pause.Pause.TheVariants.{RecordStart, Slice}
+use Rattle.s360_remote.specs.declared.pause.Pause.TheVariants.{RecordStart}
 use Rattle.s360_remote.specs.declared.pause.Reach.{Reach}
 
 -- the last of the events is one of the CPU
@@ -24,14 +24,13 @@ abbrev pub is_reached_back : Reach → Points → Recorded → Bool
 is_reached_back reach p r = option_map_or (λ e. is_reached reach p (one_back r) e) (last_of (standing_events r)) false
 
 -- why the machine pauses once the last change was taken back, if it does
-unfoldable pub pause_back : Points → Reach → Recorded → Option Pause
-pause_back p reach r = pause_with (bytes_altered_by r p.watches r.standing) false (is_reached_back reach p r) false reach
+abbrev pub pause_after_back : Points → Reach → Recorded → Option Pause
+pause_after_back p reach r = pause_with (bytes_altered_by r p.watches r.standing) false (is_reached_back reach p r) false reach
 
--- nothing stands, or else changes are taken back
-abbrev pub unless_start : Recorded → Paused → Paused
-unless_start r others = if nat_eq r.standing 0 then record { state = r; why = RecordStart } else others
+-- the last change is taken back, if one stands
+unfoldable pub pause_of_back : Points → Reach → Recorded → Option Pause
+pause_of_back p reach r = if nat_eq r.standing 0 then Some RecordStart else pause_after_back p reach r
 
--- changes are taken back, so many at most
-unfoldable pub gone_back : Points → Reach → Recorded → ℕ → Paused
-gone_back p reach r zero = record { state = r; why = Slice }
-gone_back p reach r (suc n) = unless_start r (paused_by (pause_back p reach r) (one_back r) (gone_back p reach (one_back r) n))
+-- the machine goes back
+abbrev pub gone_back : Points → Reach → Recorded → ℕ → Paused
+gone_back p reach r n = moved_by (pause_of_back p reach) one_back r n

@@ -66,11 +66,11 @@ is_idle None [] = true
 is_idle next places = false
 
 -- why the machine pauses after an event, the first of the reasons that hold: watched bytes were altered, nothing is left to do,
--- the event was as far as was asked, the record ended. The end of the record comes before a step.
+-- the event was as far as was asked, the record ended. The end of the record is told in place of a step.
 abbrev pub pause_with : List ℕ → Bool → Bool → Bool → Reach → Option Pause
 pause_with (at ∷ others) idle reached ended reach = Some (Watch (at ∷ others))
 pause_with [] true reached ended reach = Some Idle
-pause_with [] false true true Step = Some RecordEnd
+pause_with [] false reached true Step = Some RecordEnd
 pause_with [] false true ended reach = Some (pause_of reach)
 pause_with [] false false true reach = Some RecordEnd
 pause_with [] false false false reach = None
@@ -99,15 +99,15 @@ pause_of_turn p reach r = refused_or (refusal_in (session_of r) (event_of_turn r
 unfoldable pub state_of_turn : Recorded → Recorded
 state_of_turn r = unless_refused (refusal_in (session_of r) (event_of_turn r)) r (after_turn r)
 
--- a turn after which the machine pauses, or else others follow
+-- a move after which the machine pauses, or else others follow
 abbrev pub paused_by : Option Pause → Recorded → Paused → Paused
 paused_by (Some why) state others = record { state = state; why = why }
 paused_by None state others = others
 
--- turns follow, so many at most
-unfoldable pub turns_of : Points → Reach → Recorded → ℕ → Paused
-turns_of p reach r zero = record { state = r; why = Slice }
-turns_of p reach r (suc n) = paused_by (pause_of_turn p reach r) (state_of_turn r) (turns_of p reach (state_of_turn r) n)
+-- moves follow, so many at most, each with why the machine pauses then, if it does, and the state then
+unfoldable pub moved_by : (Recorded → Option Pause) → (Recorded → Recorded) → Recorded → ℕ → Paused
+moved_by pause state r zero = record { state = r; why = Slice }
+moved_by pause state r (suc n) = paused_by (pause r) (state r) (moved_by pause state (state r) n)
 
 -- an event of this kind was the one whose turn it is
 abbrev pub is_turn_of : Option EventKind → Event → Bool
@@ -131,7 +131,7 @@ is_at_rest r = nat_eq r.standing (length r.events) && was_in_vain (last_of (stan
 
 -- the machine goes on; where it is at rest nothing more is run
 abbrev pub resumed : Points → Reach → Recorded → ℕ → Paused
-resumed p reach r n = if is_at_rest r then record { state = r; why = Idle } else turns_of p reach r n
+resumed p reach r n = if is_at_rest r then record { state = r; why = Idle } else moved_by (pause_of_turn p reach) state_of_turn r n
 
 -- so many events are run, or taken back, before gdb is let in
 abbrev pub most_turns : ℕ

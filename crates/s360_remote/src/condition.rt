@@ -6,7 +6,7 @@ ghost use Rattle.s360_remote.specs.Conditions.{conditions_in, part_of_reading};
 
 use s360_condition::{Expression, ExpressionFault};
 use s360_packet::{RequestFault, read_condition};
-use std::alloc::Global;
+use std::alloc::{AllocError, Global};
 
 /// The expressions that a list has.
 pub(crate) fn read_conditions(alloc: Global, text: &[u8]) -> Result<Vec<Expression>, RequestFault>
@@ -16,7 +16,10 @@ pub(crate) fn read_conditions(alloc: Global, text: &[u8]) -> Result<Vec<Expressi
     let mut rest = text;
     while !rest.is_empty() {
         let (condition, behind) = read_condition(alloc, rest)?;
-        conditions.push(expression(alloc, condition.as_slice())?)?;
+        let condition = expression(alloc, condition.as_slice())?;
+        if let Err(fault) = conditions.push(condition) {
+            return Err(AllocError::from(fault).into());
+        }
         rest = behind;
     }
     Ok(conditions)

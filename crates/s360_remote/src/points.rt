@@ -1,12 +1,13 @@
 //! Where gdb asks the machine to stop. Source: gdb manual, "Packets", `Z0` to `Z2`.
-ghost use Rattle.std.specs.Prelude.{◌≡◌, ◌<◌, ◌+◌, ◌^◌, [], drop, slice_get, IfOk, OnErr, OnOk, SomeIff};
+ghost use Rattle.std.specs.Prelude.{◌≡◌, ◌<◌, ◌+◌, ◌^◌, [], ◌↔◌, ◌≤◌, drop, length, nat_eq, slice_get, vec_capacity, IfOk, IsTrue, OnErr, OnOk, SomeIff};
 ghost use Rattle.std.specs.List.{filter, list_any, range_with_len};
 ghost use Rattle.s360_journal.specs.Breakpoints.{has_room_for};
 ghost use Rattle.s360_machine.specs.Machine.{seen};
+ghost use Rattle.s360_condition.specs.Evaluation.{holds};
 ghost use Rattle.s360_model.specs.Psw.{instruction_address_of};
 ghost use Rattle.s360_remote.specs.Points.{is_at_stop, is_passed, target_of, with_break, without_break, without_conditions};
 ghost use Rattle.s360_remote.specs.Points.{byte_altered_by, bytes_altered_by, last_change_at};
-ghost use Rattle.s360_remote.specs.Points.{has_byte, has_room_for_watch, is_watched, with_watch, without_watch};
+ghost use Rattle.s360_remote.specs.Points.{has_byte, has_room_for_watch, is_watched, with_altered, with_watch, without_watch};
 
 use crate::readout::Readout;
 use arrayvec::ArrayVec;
@@ -103,7 +104,7 @@ impl Altered {
 
     /// Whether there are none.
     pub(crate) fn is_empty(&self) -> bool
-        ensures { result ≡ is_none self.now }
+        ensures { IsTrue result ↔ (self.now ≡ []) }
     {
         self.addresses.is_empty()
     }
@@ -113,6 +114,20 @@ impl Altered {
         ensures { result ≡ list_any (λ at. has_byte watch at) self.now }
     {
         self.addresses.as_slice().iter().any(|at| watch.has(*at))
+    }
+
+    /// Adds the first byte of a watch that the change of this number was the last to alter, if the watch has none of them yet.
+    fn add_byte_of(&mut self, watch: Watch, recording: &Recording, number: u32)
+        requires { length self.old < 64 }
+        ensures bytes { self.new ≡ with_altered recording.now number self.old watch }
+        ensures few { length self.new ≤ length self.old + 1 }
+    {
+        if self.is_in(watch) {
+            return;
+        }
+        if let Some(at) = watch.byte_altered_by(recording, number) {
+            self.addresses.push(at);
+        }
     }
 
     /// The first, if there is one.
@@ -158,12 +173,24 @@ impl Conditional {
     fn is_passed(&self, target: &Readout<'_>, at: u32) -> bool
         ensures { result ≡ is_passed target.now at self.now }
     {
+        self.is_at(at) && !self.has_one_that_holds(target)
+    }
+
+    /// Whether they are of the breakpoint at an address.
+    fn is_at(&self, at: u32) -> bool
+        ensures { result ≡ nat_eq self.now.at at }
+    {
         self.at == at
-            && !self
-                .conditions
-                .as_slice()
-                .iter()
-                .any(|condition| condition.holds(target))
+    }
+
+    /// Whether one of them holds.
+    fn has_one_that_holds(&self, target: &Readout<'_>) -> bool
+        ensures { result ≡ list_any (λ e. holds target.now e) self.now.conditions }
+    {
+        self.conditions
+            .as_slice()
+            .iter()
+            .any(|condition| condition.holds(target))
     }
 }
 
@@ -205,7 +232,7 @@ impl Points {
         if !self.breaks.add(at) {
             return false;
         }
-        self.remove_conditions(at);
+        remove_conditions(&mut self.conditional, at);
         true
     }
 
@@ -216,12 +243,15 @@ impl Points {
         ensures memory { OnErr result (self.new ≡ self.old) }
     {
         self.conditional.reserve(1)?;
-        let set = self.add_break(at);
-        if set && !conditions.is_empty() {
+        if !self.breaks.add(at) {
+            return Ok(false);
+        }
+        remove_conditions(&mut self.conditional, at);
+        if !conditions.is_empty() {
             self.conditional
                 .push_reserved(Conditional { at, conditions });
         }
-        Ok(set)
+        Ok(true)
     }
 
     /// Clears the breakpoint at an address, if there is one.
@@ -229,14 +259,7 @@ impl Points {
         ensures { self.new ≡ without_break self.old at }
     {
         self.breaks.remove(at);
-        self.remove_conditions(at);
-    }
-
-    /// Takes the conditions away that the breakpoint at an address has.
-    fn remove_conditions(&mut self, at: u32)
-        ensures { self.new ≡ record self.old { conditional = without_conditions self.old.conditional at } }
-    {
-        self.conditional.retain(|set| set.at != at);
+        remove_conditions(&mut self.conditional, at);
     }
 
     /// Watches bytes, which may be watched already. `false`, and nothing changes, if too many others are watched.
@@ -293,13 +316,17 @@ impl Points {
     {
         let mut altered = Altered::new();
         for watch in self.watches.as_slice() {
-            if altered.is_in(*watch) {
-                continue;
-            }
-            if let Some(at) = watch.byte_altered_by(recording, number) {
-                altered.addresses.push(at);
-            }
+            altered.add_byte_of(*watch, recording, number);
         }
         altered
     }
+}
+
+/// Takes the conditions away that the breakpoint at an address has. It takes no memory, and keeps what there is.
+fn remove_conditions(conditional: &mut Vec<Conditional>, at: u32)
+    ensures items { conditional.new.items ≡ without_conditions conditional.old.items at }
+    ensures bound { length conditional.new.items ≤ length conditional.old.items }
+    ensures capacity { vec_capacity conditional.new ≡ vec_capacity conditional.old }
+{
+    conditional.retain(|set| !set.is_at(at));
 }

@@ -11,12 +11,13 @@ use s360_store::Storage;
 use std::marker::Model;
 
 /// The words of a machine's registers, and its storage.
+#[derive(Drop)]
 pub(crate) struct Readout<'a> {
     words: [u32; REGISTERS],
     storage: &'a Storage,
 }
 
-impl Model for Readout<'_> {
+impl<'a> Model for Readout<'a> {
     ghost use Rattle.s360_condition.specs.Target.{Target};
 
     ghost Value = { Target };

@@ -7,8 +7,8 @@ ghost use Rattle.s360_journal.specs.Rerun.{AreAccepted};
 ghost use Rattle.s360_journal.specs.Standing.{IsAfter, Standing, alteration, machine_of};
 ghost use Rattle.s360_record.specs.Recorded.{Recorded, next_recorded, session_of, standing_events, with_standing};
 ghost use Rattle.s360_remote.specs.Driven.{nothing_untold};
-ghost use Rattle.s360_remote.specs.Backward.{gone_back, is_cpu_last, one_back, pause_back};
-ghost use Rattle.s360_remote.specs.Forward.{IsTurn, is_at_rest, is_end_of, is_reached, is_turn_of, most_turns, pause_after};
+ghost use Rattle.s360_remote.specs.Backward.{gone_back, is_cpu_last, one_back, pause_of_back};
+ghost use Rattle.s360_remote.specs.Forward.{IsTurn, event_of_turn, is_at_rest, is_end_of, is_idle, is_reached, is_turn_of, most_turns, pause_after, pause_with};
 ghost use Rattle.s360_remote.specs.Forward.{pause_of_turn, resumed, state_of_turn};
 ghost use Rattle.s360_remote.specs.Points.{bytes_altered_by, is_at_stop};
 ghost use Rattle.s360_remote.specs.declared.pause.Pause.TheVariants.{Slice};
@@ -103,10 +103,7 @@ impl Target {
         ensures pause { result ≡ (gone_back self.old.points reach self.old.recorded most_turns).why }
         ensures state { self.new ≡ record self.old { recorded = (gone_back self.old.points reach self.old.recorded most_turns).state } }
     {
-        for _change in 0..TURNS {
-            if self.standing() == 0 {
-                return Pause::RecordStart;
-            }
+        for _turn in 0..TURNS {
             if let Some(pause) = self.take_back(reach) {
                 return pause;
             }
@@ -114,23 +111,22 @@ impl Target {
         Pause::Slice
     }
 
-    /// Takes the last change back, and answers why the machine pauses then, if it does.
+    /// Takes the last change back, if one stands, and answers why the machine pauses then, if it does.
     fn take_back(&mut self, reach: Reach) -> Option<Pause>
-        requires { 0 < self.old.recorded.standing }
-        ensures pause { result ≡ pause_back self.old.points reach self.old.recorded }
+        ensures pause { result ≡ pause_of_back self.old.points reach self.old.recorded }
         ensures state { self.new ≡ record self.old { recorded = one_back self.old.recorded } }
     {
+        if self.standing() == 0 {
+            return Some(Pause::RecordStart);
+        }
         let altered = self.bytes_altered_by(self.standing());
         let is_cpu = self.is_cpu_last();
         self.back();
-        if !altered.is_empty() {
-            return Some(Pause::Watch(altered));
-        }
         let is_reached = match reach {
             Reach::Step => is_cpu,
             Reach::Stop => self.is_at_stop(),
         };
-        is_reached.then_some(reach.pause())
+        pause_with(altered, false, is_reached, false, reach)
     }
 
     /// Runs the event whose turn it is, and answers why the machine pauses then, if it does.
@@ -152,17 +148,20 @@ impl Target {
         ensures { (before : Recorded) → IsTurn before self.now.recorded forwarded → result ≡ pause_after self.now.points reach before }
     {
         let altered = self.bytes_altered_by(self.standing());
-        if !altered.is_empty() {
-            return Some(Pause::Watch(altered));
-        }
-        if forwarded != Forwarded::Again && self.is_idle() {
-            return Some(Pause::Idle);
-        }
+        let is_idle = self.is_idle_after(forwarded);
+        let is_reached = self.is_reached(reach);
         let is_end = self.is_at_end(forwarded);
-        if self.is_reached(reach) && !(is_end && reach == Reach::Step) {
-            return Some(reach.pause());
+        pause_with(altered, is_idle, is_reached, is_end, reach)
+    }
+
+    /// Whether an event that was not recorded altered nothing.
+    fn is_idle_after(&self, forwarded: Forwarded) -> bool
+        ensures { (before : Recorded) → IsTurn before self.now.recorded forwarded → result ≡ is_idle (next_recorded before) (alteration (session_of before) (event_of_turn before)) }
+    {
+        match forwarded {
+            Forwarded::Again => false,
+            Forwarded::New | Forwarded::Dropped(_) => self.is_idle(),
         }
-        is_end.then_some(Pause::RecordEnd)
     }
 
     /// Whether the event whose turn it is was the last, and altered nothing.
@@ -239,6 +238,35 @@ impl Target {
     {
         let _taken = self.counting.recording.back();
     }
+}
+
+/// Why the machine pauses after an event that altered these bytes, of which it is known whether nothing was left to do, whether it
+/// was as far as was asked, and whether the record ended.
+fn pause_with(
+    altered: Altered,
+    is_idle: bool,
+    is_reached: bool,
+    is_end: bool,
+    reach: Reach,
+) -> Option<Pause>
+    ensures { result ≡ pause_with altered is_idle is_reached is_end reach }
+{
+    if !altered.is_empty() {
+        return Some(Pause::Watch(altered));
+    }
+    if is_idle {
+        return Some(Pause::Idle);
+    }
+    if is_end && reach == Reach::Step {
+        return Some(Pause::RecordEnd);
+    }
+    if is_reached {
+        return Some(reach.pause());
+    }
+    if is_end {
+        return Some(Pause::RecordEnd);
+    }
+    None
 }
 
 /// Whether an event, of which the kind is known, was the one whose turn it is.

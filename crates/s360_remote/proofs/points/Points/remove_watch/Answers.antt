@@ -7,4 +7,5 @@ pub returns : goal.returns
 returns c =
     let left : c.retain.new.self.items ≡ without_watch c.self.inside.watches.items c.args.watch
     = filter-from_retain _ (λ (v : Watched). not (are_same_bytes v c.args.watch)) _ (λ x b f' y called. search rules) _ _ c.retain.ensures.filtered
-    in ap (λ ws. record { breaks = c.self.inside.breaks; watches = ws }) left ∙ ap (λ (p : Points). record p { watches = without_watch p.watches c.args.watch }) c.self.view_is
+    in ap (λ ws. record { breaks = c.self.inside.breaks; conditional = c.self.inside.conditional.items; watches = ws }) left
+    ∙ ap (λ (p : Points). record p { watches = without_watch p.watches c.args.watch }) c.self.view_is
