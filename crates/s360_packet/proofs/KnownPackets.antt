@@ -6,7 +6,7 @@ use Rattle.s360_packet.specs.Framing.{framed}
 use Rattle.s360_packet.specs.Receiving.{between_packets, received_along}
 use Rattle.s360_packet.specs.declared.receiver.Received.TheVariants.{Packet, TooLong, Damaged, Interrupt}
 use Rattle.s360_packet.specs.Requests.{reading_of}
-use Rattle.s360_packet.specs.declared.request.Breakpoint.TheVariants.{Software}
+use Rattle.s360_packet.specs.declared.request.Breakpoint.TheVariants.{Software, Hardware}
 use Rattle.s360_packet.specs.declared.request.Point.TheVariants.{Write}
 use Rattle.s360_packet.specs.declared.request.Thread.TheVariants.{Every}
 use Rattle.s360_packet.specs.declared.request.Request.TheVariants.{Storage, WriteStorage, WriteRegister, Insert, InsertIf, Description, MemoryMap, Select, Command, Restart, Run, Supported}
@@ -48,17 +48,19 @@ register_request = refl
 pub watch_request : reading_of (codes "Z2,604,4") ≡ Ok (Insert Write 0x604 4)
 watch_request = refl
 
-pub conditions_request : reading_of (codes "Z0,200,2;X3,220127X3,220027;cmds:0,X3,220127")
-    ≡ Ok (InsertIf Software 0x200 2 (codes "X3,220127X3,220027;cmds:0,X3,220127"))
+pub conditions_request : reading_of (codes "Z0,300,2;Xb,2600032a2022052a201327") ≡ Ok (InsertIf Software 0x300 2 (codes "Xb,2600032a2022052a201327"))
 conditions_request = refl
 
-pub map_request : reading_of (codes "qXfer:memory-map:read::0,ffb") ≡ Ok (MemoryMap 0 0xFFB)
+pub commands_request : reading_of (codes "Z1,300,2;X1,27;cmds:0,X1,27") ≡ Ok (InsertIf Hardware 0x300 2 (codes "X1,27;cmds:0,X1,27"))
+commands_request = refl
+
+pub map_request : reading_of (codes "qXfer:memory-map:read::0,1000") ≡ Ok (MemoryMap 0 0x1000)
 map_request = refl
 
 pub restart_request : reading_of (codes "R0") ≡ Ok Restart
 restart_request = refl
 
-pub run_request : reading_of (codes "vRun;2f62696e;31") ≡ Ok Run
+pub run_request : reading_of (codes "vRun;2f62696e2f78;6f6e65") ≡ Ok Run
 run_request = refl
 
 pub description_request : reading_of (codes "qXfer:features:read:target.xml:0,1000") ≡ Ok (Description 0 0x1000)
@@ -87,10 +89,10 @@ trace_status = refl
 pub no_count : reading_of (codes "m604") ≡ Err Malformed
 no_count = refl
 
-pub watch_with_conditions : reading_of (codes "Z2,604,4;X3,220127") ≡ Err Malformed
+pub watch_with_conditions : reading_of (codes "Z2,604,4;X1,27") ≡ Err Malformed
 watch_with_conditions = refl
 
-pub named_map : reading_of (codes "qXfer:memory-map:read:map:0,ffb") ≡ Err Malformed
+pub named_map : reading_of (codes "qXfer:memory-map:read:map:0,1000") ≡ Err Malformed
 named_map = refl
 
 -- answers

@@ -140,7 +140,7 @@ select_reading text = and_then (thread_in text) (λ thread. Ok (Select thread))
 abbrev pub alive_reading : List ℕ → Reading
 alive_reading text = and_then (thread_in text) (λ thread. Ok (IsAlive thread))
 
--- the one annex that there is, `:`, offset `,` count
+-- annex `:` offset `,` count, of the one annex that there is
 abbrev pub extent_in : List ℕ → List ℕ → Part (ℕ × ℕ)
 extent_in annex text = and_then (ok_or (behind annex text) Malformed) two_numbers
 

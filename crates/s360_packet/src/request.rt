@@ -112,7 +112,7 @@ pub enum Request {
         at: u32,
         kind: u32,
     },
-    /// `Z`: a breakpoint is set, which has what stands behind the first `;` as conditions.
+    /// `Z`: a breakpoint is set with conditions, the bytes behind the first `;` as they stand.
     InsertIf {
         point: Breakpoint,
         at: u32,
