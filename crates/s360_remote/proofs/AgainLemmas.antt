@@ -17,12 +17,12 @@ use Rattle.s360_record.proofs.RecordLemmas.{AreAccepted-next}
 use Rattle.s360_remote.specs.Forward.{TurnRunsAgain, after_event_of, after_turn, event_of_turn, state_of_turn, unless_refused}
 
 -- an event that stands between those before it and those after it
-record IsThere (es : List Event) (n : ℕ) : Type 0 where
-  event : Event
-  next : slice_get (drop n es) 0 ≡ Some event
-  split : es ≡ take n es ++ event ∷ drop (suc n) es
+pub record IsThere (es : List Event) (n : ℕ) : Type 0 where
+  pub event : Event
+  pub next : slice_get (drop n es) 0 ≡ Some event
+  pub split : es ≡ take n es ++ event ∷ drop (suc n) es
 
-there : (n : ℕ) (es : List Event) → n < length es → IsThere es n
+pub there : (n : ℕ) (es : List Event) → n < length es → IsThere es n
 there n [] h = absurd (omega (arith, h))
 there zero (x ∷ es) h = record { event = x; next = refl; split = refl }
 there (suc n) (x ∷ es) h =

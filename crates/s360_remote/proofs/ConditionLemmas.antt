@@ -1,11 +1,13 @@
 -- A list of conditions, read one after another.
-use Rattle.std.proofs.Common.{◌≡◌, ◌≢◌, ◌<◌, ◌≤◌, ◌+◌, ◌-◌, ◌++◌, ◌∙◌, ℕ, zero, suc, Result, Ok, Err, List, [], ◌∷◌, refl, ap, sym, arith, length, append_assoc, append-nil}
+use Rattle.std.proofs.Common.{◌≡◌, ◌≢◌, ◌<◌, ◌≤◌, ◌+◌, ◌-◌, ◌++◌, ◌∙◌, ℕ, zero, suc, Result, Ok, Err, List, [], ◌∷◌, refl, ap, sym, subst, inl, inr, arith, length, append_assoc, append-nil}
 use Rattle.std.proofs.Common.{length-append}
+use Rattle.std.specs.Prelude.{◌⊎◌, IsOk, MatchResult}
 use Rattle.s360_condition.specs.Reading.{reading_of}
 use Rattle.s360_condition.specs.declared.instruction.Placed.{Placed}
 use Rattle.s360_packet.specs.Conditions.{condition_in}
 use Rattle.s360_packet.specs.Requests.{Part, and_then}
 use Rattle.s360_packet.specs.declared.request.RequestFault.{RequestFault}
+use Rattle.s360_packet.specs.declared.request.RequestFault.TheVariants.{Memory}
 use Rattle.s360_remote.specs.Conditions.{conditions_from, conditions_in, part_of_reading}
 
 abbrev Condition : Type 0
@@ -65,9 +67,25 @@ IsReadSoFar-wrong text read rest bytes behind f h some is wrong =
     ∙ ap (λ p. and_then (and_then p (λ first. and_then (part_of_reading (reading_of first.0)) (λ c. and_then (conditions_from n first.1) (λ others. Ok (c ∷ others))))) (λ others. Ok (read ++ others))) is
     ∙ ap (λ p. and_then (and_then p (λ c. and_then (conditions_from n behind) (λ others. Ok (c ∷ others)))) (λ others. Ok (read ++ others))) wrong
 
+all-read : (n : ℕ) (read : List Condition) → and_then (conditions_from n []) (λ others. Ok (read ++ others)) ≡ Ok read
+all-read n read = ap (λ l. Ok l) (append-nil read)
+
 pub IsReadSoFar-all : (text : List ℕ) (read : List Condition) (rest : List ℕ) → IsReadSoFar text read rest → rest ≡ [] → conditions_in text ≡ Ok read
 IsReadSoFar-all text read rest h none =
     h.whole ∙ ap (λ l. and_then (conditions_from (length text - length read) l) (λ others. Ok (read ++ others))) none ∙ all-read (length text - length read) read
-  where
-    all-read : (n : ℕ) (read : List Condition) → and_then (conditions_from n []) (λ others. Ok (read ++ others)) ≡ Ok read
-    all-read n read = ap (λ l. Ok l) (append-nil read)
+
+-- ---- why a list is not read
+
+matches-err : {X F : Type 0} (r : Result X F) (P : X → Type 0) (Q : F → Type 0) (f : F) → r ≡ Err f → Q f → MatchResult r P Q
+matches-err (Ok x) P Q f h q = absurd (cc)
+matches-err (Err g) P Q f h q = let same : f ≡ g = cc in subst Q same q
+
+pub fault-found : {X : Type 0} (r : Result X RequestFault) (P : X → Type 0) (text : List ℕ) (read : List Condition) (rest : List ℕ) (f : RequestFault) → IsReadSoFar text read rest → 0 < length rest → r ≡ Err f
+    → (condition_in rest ≡ Err f) ⊎ (IsOk (condition_in rest) × (f ≡ Memory)) → MatchResult r P (λ fault. (conditions_in text ≡ Err fault) ⊎ (fault ≡ Memory))
+fault-found r P text read rest f h some is (inl wrong) = matches-err r P _ f is (inl (IsReadSoFar-fault text read rest f h some wrong))
+fault-found r P text read rest f h some is (inr lacks) = matches-err r P _ f is (inr lacks.1)
+
+pub wrong-found : {X : Type 0} (r : Result X RequestFault) (P : X → Type 0) (text : List ℕ) (read : List Condition) (rest bytes behind : List ℕ) (f : RequestFault) → IsReadSoFar text read rest → 0 < length rest
+    → condition_in rest ≡ Ok (bytes, behind) → r ≡ Err f → (part_of_reading (reading_of bytes) ≡ Err f) ⊎ (f ≡ Memory) → MatchResult r P (λ fault. (conditions_in text ≡ Err fault) ⊎ (fault ≡ Memory))
+wrong-found r P text read rest bytes behind f h some first is (inl wrong) = matches-err r P _ f is (inl (IsReadSoFar-wrong text read rest bytes behind f h some first wrong))
+wrong-found r P text read rest bytes behind f h some first is (inr lacks) = matches-err r P _ f is (inr lacks)

@@ -148,13 +148,19 @@ ended o e now h = rw h refl
 pub end-again : (r now : Recorded) → IsTurn r now Again → is_end_of (next_recorded r) now ≡ nat_eq now.standing (length now.events)
 end-again r now h = let some : next_recorded r ≡ Some (event_of_turn r) = h.met in ended (next_recorded r) (event_of_turn r) now some
 
-pub idle-new : (r now : Recorded) (b : Bool) → IsTurn r now New → IsTrue b ↔ (alteration (session_of r) (event_of_turn r) ≡ []) → b ≡ is_idle (next_recorded r) (alteration (session_of r) (event_of_turn r))
+idle-new : (r now : Recorded) (b : Bool) → IsTurn r now New → IsTrue b ↔ (alteration (session_of r) (event_of_turn r) ≡ []) → b ≡ is_idle (next_recorded r) (alteration (session_of r) (event_of_turn r))
 idle-new r now b h is = idle-by (next_recorded r) (alteration (session_of r) (event_of_turn r)) b (ap (λ l. slice_get l 0) h.met) is
 
-pub idle-dropped : (r now : Recorded) (n : ℕ) (b : Bool) → IsTurn r now (Dropped n) → IsTrue b ↔ (alteration (session_of r) (event_of_turn r) ≡ [])
+idle-dropped : (r now : Recorded) (n : ℕ) (b : Bool) → IsTurn r now (Dropped n) → IsTrue b ↔ (alteration (session_of r) (event_of_turn r) ≡ [])
     → b ≡ is_idle (next_recorded r) (alteration (session_of r) (event_of_turn r))
 idle-dropped r now n b h is =
     idle-by (next_recorded r) (alteration (session_of r) (event_of_turn r)) b (dropped-none r (next_recorded r) n refl (sym (first-or (next_recorded r) _)) h.met) is
+
+pub idle-other : (r now : Recorded) (f : Forwarded) (b : Bool) → (f ≡ Again → ⊥) → IsTurn r now f → IsTrue b ↔ (alteration (session_of r) (event_of_turn r) ≡ [])
+    → b ≡ is_idle (next_recorded r) (alteration (session_of r) (event_of_turn r))
+idle-other r now New b other h is = idle-new r now b h is
+idle-other r now Again b other h is = absurd (other refl)
+idle-other r now (Dropped n) b other h is = idle-dropped r now n b h is
 
 -- ---- turns
 

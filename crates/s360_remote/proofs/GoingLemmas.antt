@@ -1,11 +1,13 @@
 -- Moves follow one another until the machine pauses.
-use Rattle.std.proofs.Common.{◌≡◌, ◌<◌, ◌+◌, ◌-◌, ◌∙◌, ℕ, zero, suc, Option, Some, None, refl, ap, sym, arith}
+use Rattle.std.proofs.Common.{◌≡◌, ◌≢◌, ◌<◌, ◌+◌, ◌-◌, ◌∙◌, ℕ, zero, suc, Bool, true, false, nat_eq, List, Option, Some, None, refl, ap, sym, arith, eq-eqb, ne_eqb}
 use Rattle.s360_record.specs.Recorded.{Recorded}
+use Rattle.s360_remote.specs.Backward.{is_reached_back, pause_of_back}
 use Rattle.s360_remote.specs.Driven.{Driven}
-use Rattle.s360_remote.specs.Forward.{Paused, moved_by, paused_by}
-use Rattle.s360_remote.specs.Points.{Points}
+use Rattle.s360_remote.specs.Forward.{Paused, is_at_rest, moved_by, pause_of_turn, pause_with, paused_by, resumed, state_of_turn}
+use Rattle.s360_remote.specs.Points.{Points, bytes_altered_by}
 use Rattle.s360_remote.specs.declared.pause.Pause.{Pause}
-use Rattle.s360_remote.specs.declared.pause.Pause.TheVariants.{Slice}
+use Rattle.s360_remote.specs.declared.pause.Pause.TheVariants.{Idle, RecordStart, Slice}
+use Rattle.s360_remote.specs.declared.pause.Reach.{Reach}
 
 module _ (pause : Recorded → Option Pause) (state : Recorded → Recorded) where
   -- so many moves were made, and the machine did not pause
@@ -89,3 +91,24 @@ module _ (pause : Points → Recorded → Option Pause) (state : Recorded → Re
   pub IsDriving-all : (start now : Driven) (moves most : ℕ) → IsDriving start now moves → moves ≡ most → IsPausedAt start now Slice (moved_by (pause start.points) state start.recorded most)
   IsDriving-all start now moves most h all =
       paused-at start now Slice (moved_by (pause start.points) state start.recorded most) h.moved (IsGoing-all (pause start.points) state start.recorded now.recorded moves most h.going all)
+
+-- ---- the last change is taken back
+
+pub back-start : (p : Points) (reach : Reach) (r : Recorded) → r.standing ≡ 0 → Some RecordStart ≡ pause_of_back p reach r
+unfolding pause_of_back
+back-start p reach r none = let same : nat_eq r.standing 0 ≡ true = eq-eqb r.standing 0 none in rw same refl
+
+pub back-taken : (p : Points) (reach : Reach) (r : Recorded) (altered : List ℕ) (reached : Bool) → r.standing ≢ 0 → altered ≡ bytes_altered_by r p.watches r.standing → reached ≡ is_reached_back reach p r
+    → pause_with altered false reached false reach ≡ pause_of_back p reach r
+unfolding pause_of_back
+back-taken p reach r altered reached some h k =
+    let other : nat_eq r.standing 0 ≡ false = ne_eqb r.standing 0 some
+    in rw other (ap (λ x. pause_with x false reached false reach) h ∙ ap (λ x. pause_with (bytes_altered_by r p.watches r.standing) false x false reach) k)
+
+-- ---- the machine goes on
+
+pub resumed-rest : (p : Points) (reach : Reach) (r : Recorded) (n : ℕ) → is_at_rest r ≡ true → resumed p reach r n ≡ record { state = r; why = Idle }
+resumed-rest p reach r n rests = rw rests refl
+
+pub resumed-moved : (p : Points) (reach : Reach) (r : Recorded) (n : ℕ) → is_at_rest r ≡ false → resumed p reach r n ≡ moved_by (pause_of_turn p reach) state_of_turn r n
+resumed-moved p reach r n goes = rw goes refl

@@ -5,6 +5,7 @@ pub mod ForwardLemmas
 pub mod GoingLemmas
 pub mod WritingLemmas
 pub mod AgainLemmas
+pub mod RestLemmas
 pub mod MonitorLemmas
 pub mod ServingLemmas
 pub mod CommandLemmas

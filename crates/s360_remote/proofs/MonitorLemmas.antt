@@ -62,12 +62,13 @@ carried-skipped line d t h other is = record {
   state = λ _. ap (λ x. debugger_of x) is ∙ sym (state-skipped (debugger_of d) line h);
   points = ap (λ (x : Driven). x.points) is;
   stood = ap (λ (x : Driven). x.stood) is;
+  untold = ap (λ (x : Driven). x.untold) is;
   help = λ same. absurd (other same);
 }
 
 -- a line that was carried out, whose text is lost
 pub begun-carried : (line said : List ℕ) (d t : Driven) → IsCarriedOut line d t said → IsLineBegun line d t
-begun-carried line said d t h = record { stands = λ other. inr (h.state other); points = h.points; stood = h.stood; help = λ same. (h.help same).0 }
+begun-carried line said d t h = record { stands = λ other. inr (h.state other); points = h.points; stood = h.stood; untold = h.untold; help = λ same. (h.help same).0 }
 
 -- and so of an inquiry
 pub begun-answered : (asked : Option Asked) (line said : List ℕ) (d t : Driven) → IsAnswered asked line d t said → IsBegun asked line d t

@@ -1,21 +1,23 @@
 -- Requests that change nothing, and what is answered to a byte.
-use Rattle.std.proofs.Common.{◌≡◌, ◌++◌, ◌∙◌, inl, inr, ℕ, false, List, Some, Result, Ok, Err, refl, ap, sym, subst, append_assoc}
+use Rattle.std.proofs.Common.{◌≡◌, ◌++◌, ◌∙◌, inl, inr, ℕ, Bool, true, false, List, Some, Result, Ok, Err, refl, ap, sym, subst, append_assoc}
 use Rattle.std.specs.Option.{option_to_list}
-use Rattle.std.specs.Prelude.{IfOk, OnErr}
+use Rattle.std.specs.Prelude.{IfOk, OnErr, ◌&&◌}
 use Rattle.s360_packet.specs.Framing.{framed}
 use Rattle.s360_packet.specs.Receiving.{acknowledgement_of, after_byte, received_at}
-use Rattle.s360_packet.specs.Requests.{Reading, Reads}
+use Rattle.s360_packet.specs.Requests.{Reading, Reads, TakesMemory}
 use Rattle.s360_packet.specs.declared.receiver.Received.{Received}
 use Rattle.s360_packet.specs.declared.request.Payload.{Payload}
+use Rattle.s360_packet.specs.declared.answer.Stop.TheVariants.{Interrupt}
+use Rattle.s360_packet.specs.declared.request.Breakpoint.{Breakpoint}
 use Rattle.s360_packet.specs.declared.request.Point.{Point}
 use Rattle.s360_packet.specs.declared.request.Request.{Request}
-use Rattle.s360_packet.specs.declared.request.Request.TheVariants.{Stopped, Registers, WriteRegisters, Register, WriteRegister, Storage, WriteStorage, Step, Continue, StepBack, ContinueBack, Insert, Remove, Supported, Description, Select, IsAlive, CurrentThread, Attached, FirstThreads, NextThreads, StopAcknowledging, Command, Detach, Kill, KillProcess}
+use Rattle.s360_packet.specs.declared.request.Request.TheVariants.{Stopped, Registers, WriteRegisters, Register, WriteRegister, Storage, WriteStorage, Step, Continue, StepBack, ContinueBack, Insert, InsertIf, Remove, Supported, Description, MemoryMap, HasMoved, Extend, Restart, Run, Select, IsAlive, CurrentThread, Attached, FirstThreads, NextThreads, StopAcknowledging, Command, Detach, Kill, KillProcess}
 use Rattle.s360_packet.specs.declared.request.RequestFault.{RequestFault}
 use Rattle.s360_packet.specs.declared.request.RequestFault.TheVariants as fault
-use Rattle.s360_remote.specs.Connecting.{Connected, IsAnswered, IsCompleted, IsReceived, IsTaken, answer_to_fault, errand_of, going}
+use Rattle.s360_remote.specs.Connecting.{Connected, IsAnswered, IsCompleted, IsMet, IsReceived, IsTaken, answer_to_fault, errand_of, going, is_to_move}
 use Rattle.s360_remote.specs.Driven.{Driven}
 use Rattle.s360_remote.specs.ErrorNumbers.{error_of}
-use Rattle.s360_remote.specs.Replies.{packet_of}
+use Rattle.s360_remote.specs.Replies.{packet_of, stop_packet}
 use Rattle.s360_remote.specs.Serving.{IsBegun, IsServed, machine_now, then_after, told}
 use Rattle.s360_remote.specs.declared.errand.Errand.{Errand}
 use Rattle.s360_remote.specs.declared.errand.Errand.TheVariants.{Nothing}
@@ -40,8 +42,12 @@ pub record ChangesNothing (request : Request) : Type 0 where
   pub step_back : request ≡ StepBack → ⊥
   pub continue_back : request ≡ ContinueBack → ⊥
   pub insert : (x : Point) (y z : ℕ) → request ≡ Insert x y z → ⊥
+  pub insert_if : (x : Breakpoint) (y z : ℕ) (w : Payload) → request ≡ InsertIf x y z w → ⊥
   pub remove : (x : Point) (y z : ℕ) → request ≡ Remove x y z → ⊥
   pub command : (x : Payload) → request ≡ Command x → ⊥
+  pub has_moved : request ≡ HasMoved → ⊥
+  pub run : request ≡ Run → ⊥
+  pub restart : request ≡ Restart → ⊥
   pub kill : request ≡ Kill → ⊥
 
 pub served-told : (request : Request) (d : Driven) → ChangesNothing request → IsServed request d d (then_after request) (framed (told request (machine_now d))) × IsBegun request d d
@@ -57,9 +63,15 @@ served-told Continue d h = absurd (h.continue refl)
 served-told StepBack d h = absurd (h.step_back refl)
 served-told ContinueBack d h = absurd (h.continue_back refl)
 served-told (Insert x y z) d h = absurd (h.insert x y z refl)
+served-told (InsertIf x y z w) d h = absurd (h.insert_if x y z w refl)
 served-told (Remove x y z) d h = absurd (h.remove x y z refl)
 served-told Supported d h = ((refl, refl, refl), refl)
 served-told (Description offset count) d h = ((refl, refl, refl), refl)
+served-told (MemoryMap offset count) d h = ((refl, refl, refl), refl)
+served-told HasMoved d h = absurd (h.has_moved refl)
+served-told Extend d h = ((refl, refl, refl), refl)
+served-told Restart d h = absurd (h.restart refl)
+served-told Run d h = absurd (h.run refl)
 served-told (Select thread) d h = ((refl, refl, refl), refl)
 served-told (IsAlive thread) d h = ((refl, refl, refl), refl)
 served-told CurrentThread d h = ((refl, refl, refl), refl)
@@ -80,6 +92,45 @@ told-served request d next old new h is =
 
 -- ---- a packet's data
 
+-- a request for which memory is taken is none to move the machine
+stays : (r : Request) → TakesMemory r → is_to_move r ≡ false
+stays (WriteRegisters x) takes = refl
+stays (WriteStorage x y) takes = refl
+stays (InsertIf x y z w) takes = refl
+stays (Command x) takes = refl
+stays Stopped takes = absurd takes
+stays Registers takes = absurd takes
+stays (Register n) takes = absurd takes
+stays (WriteRegister x y) takes = absurd takes
+stays (Storage x y) takes = absurd takes
+stays Step takes = absurd takes
+stays Continue takes = absurd takes
+stays StepBack takes = absurd takes
+stays ContinueBack takes = absurd takes
+stays (Insert x y z) takes = absurd takes
+stays (Remove x y z) takes = absurd takes
+stays Supported takes = absurd takes
+stays (Description x y) takes = absurd takes
+stays (MemoryMap x y) takes = absurd takes
+stays HasMoved takes = absurd takes
+stays Extend takes = absurd takes
+stays Restart takes = absurd takes
+stays Run takes = absurd takes
+stays (Select x) takes = absurd takes
+stays (IsAlive x) takes = absurd takes
+stays CurrentThread takes = absurd takes
+stays Attached takes = absurd takes
+stays FirstThreads takes = absurd takes
+stays NextThreads takes = absurd takes
+stays StopAcknowledging takes = absurd takes
+stays Detach takes = absurd takes
+stays Kill takes = absurd takes
+stays (KillProcess n) takes = absurd takes
+
+and-false : (b m : Bool) → m ≡ false → (b && m) ≡ false
+and-false true m h = h
+and-false false m h = refl
+
 pub answered-fault : (reading : Reading) (c : Connected) (d : Driven) (f : RequestFault) (old new : List ℕ) → Reads reading (Err f) → new ≡ old ++ packet_of (answer_to_fault f)
     → (packets : List ℕ) × IsAnswered reading c d c d Nothing packets × (new ≡ old ++ packets)
 answered-fault (Err g) c d f old new h is =
@@ -89,23 +140,33 @@ answered-fault (Ok r) c d f old new (inl h) is = absurd (cc)
 answered-fault (Ok r) c d f old new (inr h) is =
     let wrong = h.1
     in let same : f ≡ fault.Memory = cc
-    in (packet_of (error_of Memory), inr (inl refl, refl, refl, refl), is ∙ ap (λ x. old ++ packet_of (answer_to_fault x)) same)
+    in let met : IsMet (c.interrupted && is_to_move r) r c d c d Nothing (packet_of (error_of Memory))
+    = subst (λ b. IsMet b r c d c d Nothing (packet_of (error_of Memory))) (sym (and-false c.interrupted (is_to_move r) (stays r h.0))) (inr (inl refl, refl, refl, refl))
+    in (packet_of (error_of Memory), met, is ∙ ap (λ x. old ++ packet_of (answer_to_fault x)) same)
+
+-- what a request that was read makes
+of-request : (reading : Reading) (c e : Connected) (d t : Driven) (request : Request) (errand : Errand) (packets : List ℕ) → Reads reading (Ok request)
+    → IsMet (c.interrupted && is_to_move request) request c d e t errand packets → IsAnswered reading c d e t errand packets
+of-request (Err g) c e d t request errand packets h met = absurd (cc)
+of-request (Ok r) c e d t request errand packets (inl h) met = let same : request ≡ r = cc in subst (λ x. IsMet (c.interrupted && is_to_move x) x c d e t errand packets) same met
+of-request (Ok r) c e d t request errand packets (inr h) met = let wrong = h.1 in absurd (cc)
+
+pub answered-interrupted : (reading : Reading) (c : Connected) (d : Driven) (request : Request) → Reads reading (Ok request) → (c.interrupted && is_to_move request) ≡ true
+    → IsAnswered reading c d (record c { interrupted = false }) d Nothing (stop_packet Interrupt)
+answered-interrupted reading c d request h is =
+    of-request reading c (record c { interrupted = false }) d d request Nothing (stop_packet Interrupt) h
+    (subst (λ b. IsMet b request c d (record c { interrupted = false }) d Nothing (stop_packet Interrupt)) (sym is) ((refl, refl, refl), refl))
 
 pub answered-request : (reading : Reading) (c e : Connected) (d t : Driven) (request : Request) (next : Then) (errand : Errand) (packets : List ℕ) → Reads reading (Ok request)
-    → IsServed request d t next packets → e ≡ going c next → errand ≡ errand_of next → IsAnswered reading c d e t errand packets
-answered-request (Err g) c e d t request next errand packets h served is count = absurd (cc)
-answered-request (Ok r) c e d t request next errand packets (inl h) served is count =
-    let same : request ≡ r = cc
-    in inl (next, subst (λ x. IsServed x d t next packets) same served, is, count)
-answered-request (Ok r) c e d t request next errand packets (inr h) served is count = let wrong = h.1 in absurd (cc)
+    → (c.interrupted && is_to_move request) ≡ false → IsServed request d t next packets → e ≡ going c next → errand ≡ errand_of next → IsAnswered reading c d e t errand packets
+answered-request reading c e d t request next errand packets h goes served is count =
+    of-request reading c e d t request errand packets h (subst (λ b. IsMet b request c d e t errand packets) (sym goes) (inl (next, served, is, count)))
 
-pub answered-memory : (reading : Reading) (c : Connected) (d t : Driven) (request : Request) → Reads reading (Ok request) → IsBegun request d t
+pub answered-memory : (reading : Reading) (c : Connected) (d t : Driven) (request : Request) → Reads reading (Ok request) → (c.interrupted && is_to_move request) ≡ false → IsBegun request d t
     → IsAnswered reading c d c t Nothing (packet_of (error_of Memory))
-answered-memory (Err g) c d t request h begun = absurd (cc)
-answered-memory (Ok r) c d t request (inl h) begun =
-    let same : request ≡ r = cc
-    in inr (inr (subst (λ x. IsBegun x d t) same begun), refl, refl, refl)
-answered-memory (Ok r) c d t request (inr h) begun = let wrong = h.1 in absurd (cc)
+answered-memory reading c d t request h goes begun =
+    of-request reading c c d t request Nothing (packet_of (error_of Memory)) h
+    (subst (λ b. IsMet b request c d c t Nothing (packet_of (error_of Memory))) (sym goes) (inr (inr begun, refl, refl, refl)))
 
 -- ---- a byte
 

@@ -3,13 +3,14 @@
 use Rattle.std.specs.Prelude.{ℕ, ◌-◌, Bool, true, false, nat_eq, if◌then◌else◌, List, Option, Some, None}
 use Rattle.std.specs.Option.{option_map_or}
 use Rattle.s360_machine.specs.declared.event.Event.{Event}
-use Rattle.s360_journal.specs.Standing.{last_of}
-use Rattle.s360_record.specs.Recorded.{Recorded, standing_events, with_standing}
-use Rattle.s360_remote.specs.Forward.{Paused, is_cpu, is_reached, moved_by, pause_with}
-use Rattle.s360_remote.specs.Points.{Points, bytes_altered_by}
+use Rattle.s360_journal.specs.Standing.{last_of, machine_of}
+use Rattle.s360_record.specs.Recorded.{Recorded, session_of, standing_events, with_standing}
+use Rattle.s360_remote.specs.Forward.{Paused, is_cpu, moved_by, pause_with}
+use Rattle.s360_remote.specs.Points.{Points, bytes_altered_by, is_at_stop}
 use Rattle.s360_remote.specs.declared.pause.Pause.{Pause}
 use Rattle.s360_remote.specs.declared.pause.Pause.TheVariants.{RecordStart}
 use Rattle.s360_remote.specs.declared.pause.Reach.{Reach}
+use Rattle.s360_remote.specs.declared.pause.Reach.TheVariants.{Step, Stop}
 
 -- the last of the events is one of the CPU
 abbrev pub is_cpu_last : List Event → Bool
@@ -21,7 +22,8 @@ one_back r = with_standing r (r.standing - 1)
 
 -- the change that is taken back is as far as was asked
 abbrev pub is_reached_back : Reach → Points → Recorded → Bool
-is_reached_back reach p r = option_map_or (λ e. is_reached reach p (one_back r) e) (last_of (standing_events r)) false
+is_reached_back Step p r = is_cpu_last (standing_events r)
+is_reached_back Stop p r = is_at_stop (machine_of (session_of (one_back r))) p
 
 -- why the machine pauses once the last change was taken back, if it does
 abbrev pub pause_after_back : Points → Reach → Recorded → Option Pause

@@ -120,13 +120,13 @@ abbrev pub is_in_vain : List Place → Bool
 is_in_vain [] = true
 is_in_vain (p ∷ ps) = false
 
--- the last change altered nothing
+-- the last change altered nothing, or none stands
 abbrev pub was_in_vain : Option Event → Recorded → Bool
 was_in_vain (Some last) r = is_in_vain (alteration (session_of (with_standing r (r.standing - 1))) last)
-was_in_vain None r = false
+was_in_vain None r = true
 
 -- all that was recorded stands, and the event whose turn it is was the last and altered nothing: it would alter nothing again
-unfoldable pub is_at_rest : Recorded → Bool
+abbrev pub is_at_rest : Recorded → Bool
 is_at_rest r = nat_eq r.standing (length r.events) && was_in_vain (last_of (standing_events r)) r && is_turn_of (last_kind_of (standing_events r)) (next_event (machine_of (session_of r)))
 
 -- the machine goes on; where it is at rest nothing more is run

@@ -1,5 +1,5 @@
 //! A connection with gdb: bytes come in and go out. Source: gdb manual, "Remote Serial Protocol", "Packet Acknowledgment".
-ghost use Rattle.std.specs.Prelude.{◌≡◌, ◌++◌, ℕ, List, false, IfOk, OnOk};
+ghost use Rattle.std.specs.Prelude.{◌≡◌, ◌&&◌, ◌++◌, ℕ, List, false, IfOk, OnOk};
 ghost use Rattle.std.specs.Option.{option_to_list};
 ghost use Rattle.s360_packet.specs.Receiving.{acknowledgement_of, between_packets};
 ghost use Rattle.s360_packet.specs.Requests.{reading_of};
@@ -121,7 +121,7 @@ impl Connection {
                 return Ok(Errand::Nothing);
             }
         };
-        if self.interrupted && is_to_move(&request) {
+        if self.is_interrupted(&request) {
             self.interrupted = false;
             replies.push(Answer::Stopped(Stop::Interrupt))?;
             return Ok(Errand::Nothing);
@@ -137,6 +137,13 @@ impl Connection {
                 Ok(Errand::Nothing)
             }
         }
+    }
+
+    /// Whether gdb's user has interrupted what a request would begin.
+    fn is_interrupted(&self, request: &Request) -> bool
+        ensures { result ≡ (self.now.interrupted && is_to_move request.now) }
+    {
+        self.interrupted && is_to_move(request)
     }
 
     /// Goes on after a request, and says what is left to do.

@@ -4,12 +4,12 @@ ghost use Rattle.std.specs.Prelude.{◌≡◌, ◌↔◌, ◌-◌, ◌<◌, ◌�
 ghost use Rattle.s360_machine.specs.Machine.{seen, storage_size};
 ghost use Rattle.s360_machine.specs.declared.event.Event.{Event as Happening};
 ghost use Rattle.s360_journal.specs.Rerun.{AreAccepted};
-ghost use Rattle.s360_journal.specs.Standing.{IsAfter, Standing, alteration, machine_of};
+ghost use Rattle.s360_journal.specs.Standing.{IsAfter, Standing, alteration, last_of, machine_of};
 ghost use Rattle.s360_record.specs.Recorded.{Recorded, next_recorded, session_of, standing_events, with_standing};
 ghost use Rattle.s360_remote.specs.Driven.{nothing_untold};
 ghost use Rattle.s360_remote.specs.Backward.{gone_back, is_cpu_last, one_back, pause_of_back};
 ghost use Rattle.s360_remote.specs.Forward.{IsTurn, event_of_turn, is_at_rest, is_end_of, is_idle, is_reached, is_turn_of, most_turns, pause_after, pause_with};
-ghost use Rattle.s360_remote.specs.Forward.{pause_of_turn, resumed, state_of_turn};
+ghost use Rattle.s360_remote.specs.Forward.{pause_of_turn, resumed, state_of_turn, was_in_vain};
 ghost use Rattle.s360_remote.specs.Points.{bytes_altered_by, is_at_stop};
 ghost use Rattle.s360_remote.specs.declared.pause.Pause.TheVariants.{Slice};
 
@@ -158,10 +158,10 @@ impl Target {
     fn is_idle_after(&self, forwarded: Forwarded) -> bool
         ensures { (before : Recorded) → IsTurn before self.now.recorded forwarded → result ≡ is_idle (next_recorded before) (alteration (session_of before) (event_of_turn before)) }
     {
-        match forwarded {
-            Forwarded::Again => false,
-            Forwarded::New | Forwarded::Dropped(_) => self.is_idle(),
+        if let Forwarded::Again = forwarded {
+            return false;
         }
+        self.is_idle()
     }
 
     /// Whether the event whose turn it is was the last, and altered nothing.
@@ -170,8 +170,16 @@ impl Target {
     {
         let recording = &self.counting.recording;
         self.standing() == recording.recorded()
-            && recording.is_idle()
+            && self.is_last_in_vain()
             && is_turn_of(recording.last_event(), next_event(recording.machine()))
+    }
+
+    /// Whether the last change altered nothing, or none stands.
+    fn is_last_in_vain(&self) -> bool
+        ensures { result ≡ was_in_vain (last_of (standing_events self.now.recorded)) self.now.recorded }
+    {
+        let _standing = self.standing();
+        self.counting.recording.is_idle()
     }
 
     /// Whether the last change that stands altered nothing.

@@ -1,10 +1,12 @@
-use Rattle.std.proofs.Common.{◌≡◌, ◌++◌, ◌∙◌, Err, Ok, ap, rules, subst}
+use Rattle.std.proofs.Common.{◌≡◌, ◌++◌, ◌∙◌, Err, Ok, ap, false, rules, subst, sym}
 use Rattle.s360_packet.specs.Requests.{Reads, reading_of}
-use Rattle.s360_remote.specs.Connecting.{Connected, answer_to_fault}
+use Rattle.s360_packet.specs.declared.answer.Stop.TheVariants.{Interrupt}
+use Rattle.s360_remote.specs.Connecting.{Connected, IsAnswered, answer_to_fault}
 use Rattle.s360_remote.specs.ErrorNumbers.{error_of}
-use Rattle.s360_remote.specs.Replies.{packet_of}
+use Rattle.s360_remote.specs.Replies.{packet_of, stop_packet}
+use Rattle.s360_remote.specs.declared.errand.Errand.TheVariants.{Nothing}
 use Rattle.s360_remote.specs.declared.error_number.ErrorNumber.TheVariants.{Memory}
-use Rattle.s360_remote.proofs.ServingLemmas.{answered-fault, answered-memory, answered-request}
+use Rattle.s360_remote.proofs.ServingLemmas.{answered-fault, answered-interrupted, answered-memory, answered-request}
 use Rattle.s360_remote.proofs.connection.Connection.answer.Goals as goal
 
 pub returns-in-Err : goal.returns-in-Err
@@ -13,6 +15,15 @@ returns-in-Err c =
     in let reads : Reads (reading_of c.args.self.now.receiving.bytes) (Err c.in-Err.fault) = subst (λ b. Reads (reading_of b) (Err c.in-Err.fault)) bytes c.in-Err.ensures
     in let pushed : c.push.new.self ≡ c.args.replies.now ++ packet_of (answer_to_fault c.in-Err.fault) = rw c.answer_to_fault.ensures at c.in_ok-push-in-Err.ensures
     in answered-fault (reading_of c.args.self.now.receiving.bytes) c.args.self.now c.args.target.now c.in-Err.fault c.args.replies.now c.push.new.self reads pushed
+
+pub returns-then-is_interrupted : goal.returns-then-is_interrupted
+returns-then-is_interrupted c =
+    let bytes : c.data.result.now ≡ c.args.self.now.receiving.bytes = c.data.ensures.bytes ∙ ap (λ (x : Connected). x.receiving.bytes) c.self.view_is
+    in let reads : Reads (reading_of c.args.self.now.receiving.bytes) (Ok c.in-Ok.request) = subst (λ b. Reads (reading_of b) (Ok c.in-Ok.request)) bytes c.in-Ok.ensures
+    in let met = answered-interrupted (reading_of c.args.self.now.receiving.bytes) c.args.self.now c.args.target.now c.in-Ok.request reads (sym c.is_interrupted.ensures ∙ c.if-is_interrupted.true)
+    in let after = ap (λ (x : Connected). record x { interrupted = false }) c.self.view_is
+    in let told = subst (λ e. IsAnswered (reading_of c.args.self.now.receiving.bytes) c.args.self.now c.args.target.now e c.args.target.now Nothing (stop_packet Interrupt)) (sym after) met
+    in (stop_packet Interrupt, told, search rules)
 
 pub returns-in-Ok-serve : goal.returns-in-Ok-serve
 returns-in-Ok-serve c =
@@ -23,7 +34,7 @@ returns-in-Ok-serve c =
     in (
       served.0,
       answered-request (reading_of c.args.self.now.receiving.bytes) c.args.self.now c.go_on.new.self c.args.target.now c.serve.new.self c.in-Ok.request c.in-Ok-serve.next c.go_on.result served.0
-          reads served.1 c.go_on.ensures.state c.go_on.ensures.errand,
+          reads (sym c.is_interrupted.ensures ∙ c.if-is_interrupted.false) served.1 c.go_on.ensures.state c.go_on.ensures.errand,
       whole,
     )
 
@@ -33,6 +44,6 @@ returns c =
     in let reads : Reads (reading_of c.args.self.now.receiving.bytes) (Ok c.in-Ok.request) = subst (λ b. Reads (reading_of b) (Ok c.in-Ok.request)) bytes c.in-Ok.ensures
     in (
       packet_of (error_of Memory),
-      answered-memory (reading_of c.args.self.now.receiving.bytes) c.args.self.now c.args.target.now c.serve.new.self c.in-Ok.request reads c.in-Err-serve.ensures.begun,
+      answered-memory (reading_of c.args.self.now.receiving.bytes) c.args.self.now c.args.target.now c.serve.new.self c.in-Ok.request reads (sym c.is_interrupted.ensures ∙ c.if-is_interrupted.false) c.in-Err-serve.ensures.begun,
       rw c.answer.ensures at c.in_ok-push-in-Err-serve.ensures,
     )

@@ -12,8 +12,12 @@ returns-in_default c =
       step_back = c.in_default.not-StepBack;
       continue_back = c.in_default.not-ContinueBack;
       insert = c.in_default.not-Insert;
+      insert_if = c.in_default.not-InsertIf;
       remove = c.in_default.not-Remove;
       command = c.in_default.not-Command;
+      has_moved = c.in_default.not-HasMoved;
+      run = c.in_default.not-Run;
+      restart = c.in_default.not-Restart;
       kill = c.in_default.not-Kill;
     }
     in record {

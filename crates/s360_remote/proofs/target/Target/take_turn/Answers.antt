@@ -26,7 +26,7 @@ returns-in-Ok c =
     = turn-accepted p c.args.reach r now c.in-Ok.forwarded c.pause_after.result none turn (c.pause_after.ensures r turn)
     in record {
       pause = rw (← c.self.view_is) both.0;
-      state = rw (← c.self.view_is) (ap (λ s. record { recorded = s; points = p; own = c.self.inside.own_breaks; dropped = c.self.inside.counting.dropped; stood = c.self.inside.stood }) both.1);
+      state = rw (← c.self.view_is) (ap (λ s. record { recorded = s; points = p; own = c.self.inside.own_breaks; dropped = c.self.inside.counting.dropped; stood = c.self.inside.stood; untold = c.self.inside.untold }) both.1);
       memory = tt;
     }
 
@@ -41,6 +41,6 @@ returns-in-Err c =
     in let both : (Some (Refused c.in-Err.refusal) ≡ pause_of_turn p c.args.reach r) × (r ≡ state_of_turn r) = turn-refused p c.args.reach r c.in-Err.refusal some
     in record {
       pause = rw (← c.self.view_is) both.0;
-      state = rw (← c.self.view_is) (ap (λ s. record { recorded = s; points = p; own = c.self.inside.own_breaks; dropped = c.self.inside.counting.dropped; stood = c.self.inside.stood }) (c.in-Err.ensures.err ∙ both.1));
+      state = rw (← c.self.view_is) (ap (λ s. record { recorded = s; points = p; own = c.self.inside.own_breaks; dropped = c.self.inside.counting.dropped; stood = c.self.inside.stood; untold = c.self.inside.untold }) (c.in-Err.ensures.err ∙ both.1));
       memory = tt;
     }
