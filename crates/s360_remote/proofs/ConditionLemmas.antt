@@ -1,5 +1,5 @@
 -- A list of conditions, read one after another.
-use Rattle.std.proofs.Common.{◌≡◌, ◌≢◌, ◌<◌, ◌≤◌, ◌+◌, ◌-◌, ◌++◌, ◌∙◌, ℕ, zero, suc, Result, Ok, Err, List, [], ◌∷◌, refl, ap, sym, subst, inl, inr, arith, length, append_assoc, append-nil}
+use Rattle.std.proofs.Common.{◌≡◌, ◌<◌, ◌≤◌, ◌+◌, ◌-◌, ◌++◌, ◌∙◌, ℕ, suc, Result, Ok, Err, List, [], ◌∷◌, refl, ap, sym, subst, inl, inr, arith, length, append_assoc, append-nil}
 use Rattle.std.proofs.Common.{length-append}
 use Rattle.std.specs.Prelude.{◌⊎◌, IsOk, MatchResult}
 use Rattle.s360_condition.specs.Reading.{reading_of}

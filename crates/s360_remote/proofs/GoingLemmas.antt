@@ -1,5 +1,5 @@
 -- Moves follow one another until the machine pauses.
-use Rattle.std.proofs.Common.{◌≡◌, ◌≢◌, ◌<◌, ◌+◌, ◌-◌, ◌∙◌, ℕ, zero, suc, Bool, true, false, nat_eq, List, Option, Some, None, refl, ap, sym, arith, eq-eqb, ne_eqb}
+use Rattle.std.proofs.Common.{◌≡◌, ◌≢◌, ◌<◌, ◌+◌, ◌-◌, ◌∙◌, ℕ, suc, Bool, true, false, nat_eq, List, Option, Some, None, refl, ap, sym, arith, eq-eqb, ne_eqb}
 use Rattle.s360_record.specs.Recorded.{Recorded}
 use Rattle.s360_remote.specs.Backward.{is_reached_back, pause_of_back}
 use Rattle.s360_remote.specs.Driven.{Driven}

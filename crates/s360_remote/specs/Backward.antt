@@ -1,6 +1,6 @@
 -- How the machine goes back, for gdb's `bs` and `bc` (gdb manual, "Packets", "Reverse Execution"). The events stay in the
 -- record.
-use Rattle.std.specs.Prelude.{ℕ, ◌-◌, Bool, true, false, nat_eq, if◌then◌else◌, List, Option, Some, None}
+use Rattle.std.specs.Prelude.{ℕ, ◌-◌, Bool, false, nat_eq, if◌then◌else◌, List, Option, Some}
 use Rattle.std.specs.Option.{option_map_or}
 use Rattle.s360_machine.specs.declared.event.Event.{Event}
 use Rattle.s360_journal.specs.Standing.{last_of, machine_of}

@@ -1,4 +1,4 @@
-use Rattle.std.proofs.Common.{◌≡◌, ◌<◌, ◌++◌, ◌∷◌, [], Err, Ok, ap, length, rules, sym, subst}
+use Rattle.std.proofs.Common.{◌≡◌, ◌<◌, ◌++◌, ◌∷◌, [], Err, Ok, length, rules, sym, subst}
 use Rattle.s360_packet.specs.Conditions.{condition_in}
 use Rattle.s360_remote.proofs.ConditionLemmas.{IsReadSoFar, IsReadSoFar-next, fault-found, wrong-found}
 use Rattle.s360_remote.proofs.condition.read_conditions.Goals as goal

@@ -1,4 +1,4 @@
-use Rattle.std.proofs.Common.{◌≡◌, ◌∙◌, ℕ, arith, ap, false, refl, sym, subst}
+use Rattle.std.proofs.Common.{◌≡◌, ◌∙◌, ℕ, arith, ap, refl, sym, subst}
 use Rattle.s360_journal.proofs.RunningLemmas.{OnErr-from}
 use Rattle.s360_remote.specs.Driven.{Driven}
 use Rattle.s360_remote.specs.Forward.{Paused, most_turns, moved_by, pause_of_turn, resumed, state_of_turn}

@@ -1,4 +1,4 @@
-use Rattle.std.proofs.Common.{◌≡◌, ◌∙◌, ap, sym}
+use Rattle.std.proofs.Common.{◌≡◌, ◌∙◌, ap}
 use Rattle.s360_record.specs.Recorded.{session_of}
 use Rattle.s360_remote.specs.Forward.{event_of_turn}
 use Rattle.s360_remote.specs.Points.{bytes_altered_by}

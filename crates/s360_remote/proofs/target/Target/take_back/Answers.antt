@@ -1,9 +1,6 @@
 use Rattle.std.proofs.Common.{◌≡◌, ◌≢◌, ◌∙◌, ap, rules, sym}
-use Rattle.s360_record.specs.Recorded.{session_of}
-use Rattle.s360_journal.specs.Standing.{machine_of}
-use Rattle.s360_remote.specs.Backward.{is_reached_back, one_back}
-use Rattle.s360_remote.specs.Driven.{Driven}
-use Rattle.s360_remote.specs.Points.{bytes_altered_by, is_at_stop}
+use Rattle.s360_remote.specs.Backward.{is_reached_back}
+use Rattle.s360_remote.specs.Points.{bytes_altered_by}
 use Rattle.s360_remote.proofs.GoingLemmas.{back-start, back-taken}
 use Rattle.s360_remote.proofs.target.Target.take_back.Goals.{in-Step, in-Stop}
 use Rattle.s360_remote.proofs.target.Target.take_back.Goals as goal
