@@ -107,6 +107,8 @@ def requests(some, count, has_deck):
     fixed = {at: b"qRcmd," + line.encode().hex().encode() for at, line in enumerate(first)}
     if some.random() < 0.3:
         fixed[some.randrange(count)] = STOP_ACKNOWLEDGING
+    if some.random() < 0.2:
+        fixed[some.randrange(count)] = b"!"
     if some.random() < 0.1:
         fixed[some.randrange(count)] = b"X2000,3ff%d:%s" % (some.choice([5, 6]), bytes(0x3FF5))
     if some.random() < 0.3:

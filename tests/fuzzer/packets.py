@@ -13,6 +13,7 @@ READER, PRINTER, CONSOLE = 0x0C, 0x0E, 0x1F
 # LA 1,3(1) and ST 1,304; and BCT 3,200
 COUNTS, AGAIN = bytes.fromhex("4110100350100304"), bytes.fromhex("46300200")
 KNOWN = b"? g qSupported qSupported:a+ qC qAttached qfThreadInfo qsThreadInfo Hg0 Hc-1 T1".split()
+KNOWN += b"qs360.moved qs360.moved qs360.moved vRun; vRun;61 R00 qXfer:memory-map:read::0,40".split()
 WRONG = [b"vCont?", b"qTStatus", b"H", b"Hgx", b"T", b"s200", b"c200", b""]
 LINES = ["step", "tick", "back", "back", "until", "standing", "help", "x y", "", "* no comment"]
 LINES += [f"key {key}" for key in ("start", "stop", "reset", "interrupt", "eof", "request")]
@@ -32,7 +33,10 @@ PLACES = ["p", "run", "ext", "u 00C", "u 00E", "d 00C", "d 01F", "k 200", "u 999
 # How often a kind of request is made.
 KINDS = {"forward": 20, "backward": 12, "write": 8, "loop": 2, "point": 8, "register": 10}
 KINDS |= {"all_registers": 2, "line": 12, "storage": 8, "read_register": 4, "description": 2}
-KINDS |= {"plain": 12, "why": 6}
+KINDS |= {"plain": 12, "why": 6, "condition": 6}
+# What expressions are made of: each with the bytes that may follow it.
+OPERATIONS = [bytes([code]) for code in (*range(0x02, 0x0C), *range(0x0E, 0x16), 0x28, 0x29, 0x2B, 0x33)]
+REFERENCES = [bytes([code]) for code in range(0x17, 0x1B)]
 
 
 class Requests(random.Random):
@@ -114,6 +118,35 @@ class Requests(random.Random):
     def all_registers(self):
         words = self.choice([bytes(72), self.randbytes(4) + CODE.to_bytes(4, "big") + bytes(64)])
         return b"G" + words.hex().encode() + self.digits(self.choice([392, 392, 392, 390]))
+
+    def number_of_expression(self):
+        """Code that puts a number on the stack: a constant, a register, or what storage has."""
+        at = self.choice([DATA + self.randrange(64), self.randrange(STORAGE), STORAGE - 2])
+        fetched = b"\x23" + at.to_bytes(2, "big") + self.choice(REFERENCES)
+        register = b"\x26\0" + bytes([self.choice([1, 3, 4, 5, self.randrange(20)])])
+        small = b"\x22" + bytes([self.choice([0, 1, 3, 64, self.randrange(256)])])
+        wide = self.choice([b"\x24" + self.randbytes(4), b"\x25" + self.randbytes(8)])
+        return self.choice([fetched, register, register, small, small, wide])
+
+    def expression(self):
+        """One that gdb could send, or nearly so: at times with a jump over a part of it."""
+        code = self.number_of_expression()
+        for _ in range(self.randrange(5)):
+            extended = self.choice([b"\x16", b"\x2a"]) + bytes([self.choice([8, 32, 64, self.randrange(70)])])
+            binary = self.number_of_expression() + self.choice(OPERATIONS)
+            picked = b"\x32" + bytes([self.randrange(3)])
+            code += self.choice([extended, binary, binary, binary, self.choice(OPERATIONS), picked])
+        if self.random() < 0.4:
+            over, jump = self.number_of_expression(), self.choice([b"\x20", b"\x21"])
+            target = len(code) + 3 + self.choice([len(over), len(over), self.randrange(12)])
+            code += jump + target.to_bytes(2, "big") + over
+        return code + self.choice([b"\x27", b"\x27", b"\x27", b"", self.randbytes(2)])
+
+    def condition(self):
+        """A breakpoint with conditions."""
+        conditions = [self.expression() for _ in range(self.choice([1, 1, 2, 3]))]
+        listed = b"".join(b"X%x,%s" % (len(one), one.hex().encode()) for one in conditions)
+        return b"Z%d,%x,4;%s" % (self.choice([0, 0, 1]), self.code(), listed)
 
     def line(self):
         at, number = self.address() % (1 << 24), self.randrange(1, 30)

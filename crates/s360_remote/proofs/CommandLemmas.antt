@@ -9,22 +9,22 @@ use Rattle.s360_remote.specs.Driven.{Driven}
 use Rattle.s360_remote.specs.Monitor.{IsAnswered, IsBegun}
 use Rattle.s360_remote.specs.Replies.{line_text}
 use Rattle.s360_remote.specs.Saving.{IsSavingServed}
-use Rattle.s360_remote.specs.Serving.{IsCommandBegun, IsCommandServed, machine_now, with_moved}
+use Rattle.s360_remote.specs.Serving.{IsCommandBegun, IsCommandServed, machine_now, unmoved, with_moved}
 use Rattle.s360_remote.specs.declared.serving.Then.{Then}
 use Rattle.s360_remote.specs.declared.serving.Then.TheVariants.{GoOn}
 use Rattle.s360_remote.proofs.ServingLemmas.{if-ok-map, on-err}
 
 -- a line that saves was served, and the target is as it was
-pub saved-served : {E : Type 0} (r : Result Then E) (reading : Option (Result Asked LineFault)) (asked : Result Asked LineFault) (line : List ℕ) (d : Driven) (old new : List ℕ)
-    → reading ≡ Some asked → IfOk r (λ next. (packets : List ℕ) × IsSavingServed asked (machine_now d) next packets × (new ≡ old ++ packets))
-    → IfOk r (λ next. (packets : List ℕ) × IsCommandServed reading line d d next packets × (new ≡ old ++ packets))
-saved-served r reading asked line d old new is h =
-    subst (λ o. IfOk r (λ next. (packets : List ℕ) × IsCommandServed o line d d next packets × (new ≡ old ++ packets))) (sym is)
-    (if-ok-map r _ _ (λ next g. (g.0, (refl, g.1), g.2)) h)
+pub saved-served : {E : Type 0} (r : Result Then E) (reading : Option (Result Asked LineFault)) (asked : Result Asked LineFault) (line : List ℕ) (d t : Driven) (old new : List ℕ) → t ≡ unmoved d
+    → reading ≡ Some asked → IfOk r (λ next. (packets : List ℕ) × IsSavingServed asked (machine_now t) next packets × (new ≡ old ++ packets))
+    → IfOk r (λ next. (packets : List ℕ) × IsCommandServed reading line d t next packets × (new ≡ old ++ packets))
+saved-served r reading asked line d t old new same is h =
+    subst (λ o. IfOk r (λ next. (packets : List ℕ) × IsCommandServed o line d t next packets × (new ≡ old ++ packets))) (sym is)
+    (if-ok-map r _ _ (λ next g. (g.0, (same, subst (λ (x : Driven). IsSavingServed asked (machine_now x) next g.0) same g.1), g.2)) h)
 
-pub saved-begun : {E : Type 0} (r : Result Then E) (reading : Option (Result Asked LineFault)) (asked : Result Asked LineFault) (line : List ℕ) (d : Driven)
-    → reading ≡ Some asked → OnErr r (IsCommandBegun reading line d d)
-saved-begun r reading asked line d is = on-err r _ (subst (λ o. IsCommandBegun o line d d) (sym is) refl)
+pub saved-begun : {E : Type 0} (r : Result Then E) (reading : Option (Result Asked LineFault)) (asked : Result Asked LineFault) (line : List ℕ) (d t : Driven) → t ≡ unmoved d
+    → reading ≡ Some asked → OnErr r (IsCommandBegun reading line d t)
+saved-begun r reading asked line d t same is = on-err r _ (subst (λ o. IsCommandBegun o line d t) (sym is) same)
 
 -- any other was answered at once
 pub at_once-served : {E : Type 0} (r : Result Then E) (reading : Option (Result Asked LineFault)) (line : List ℕ) (d t : Driven) (old new : List ℕ) → reading ≡ None

@@ -172,15 +172,18 @@ told other m = answer_text answer.Done
 abbrev pub with_moved : Driven → Driven → Driven
 with_moved d t = record t { untold = record t.untold { moved = not (nat_eq t.recorded.standing d.recorded.standing) } }
 
--- a line that saves makes nothing of the target; any other is carried out, and answered at once
+abbrev pub unmoved : Driven → Driven
+unmoved d = record d { untold = record d.untold { moved = false } }
+
+-- a line that saves moves nothing; any other is carried out, and answered at once
 abbrev pub IsCommandServed : Option (Result Asked LineFault) → List ℕ → Driven → Driven → Then → List ℕ → Type 0
-IsCommandServed (Some asked) line d t next packets = (t ≡ d) × IsSavingServed asked (machine_now d) next packets
+IsCommandServed (Some asked) line d t next packets = (t ≡ unmoved d) × IsSavingServed asked (machine_now d) next packets
 IsCommandServed None line d t next packets =
     (next ≡ then.GoOn) × ((u : Driven) × (text : List ℕ) × IsAnswered (inquiry_of line) line d u text × (t ≡ with_moved d u) × (packets ≡ framed (line_text text)))
 
 -- the same after want of memory
 abbrev pub IsCommandBegun : Option (Result Asked LineFault) → List ℕ → Driven → Driven → Type 0
-IsCommandBegun (Some asked) line d t = t ≡ d
+IsCommandBegun (Some asked) line d t = t ≡ unmoved d
 IsCommandBegun None line d t = (u : Driven) × IsMonitorBegun (inquiry_of line) line d u × (t ≡ with_moved d u)
 
 -- gdb is told whether the last line moved the machine. Where it did gdb looks at all anew, and is then told that the machine

@@ -17,7 +17,7 @@ ghost use Rattle.s360_remote.specs.Registers.{words_of};
 ghost use Rattle.s360_remote.specs.Replies.{console_packet, end_packets, idle_words, idle_words_of, line_text};
 ghost use Rattle.s360_remote.specs.Replies.{packet_of, pause_packets, register_of_number, stop_packet, storage_text};
 ghost use Rattle.s360_remote.specs.Serving.{AreAllBegun, AreAllWritten, IsBegun, IsResumed, IsResumedBegun, IsServed, IsTold};
-ghost use Rattle.s360_remote.specs.Serving.{IsCommandBegun, IsCommandServed, IsInsertIfBegun, IsInsertedIf, after_asking, set_if, started_anew, told_first, with_moved};
+ghost use Rattle.s360_remote.specs.Serving.{IsCommandBegun, IsCommandServed, IsInsertIfBegun, IsInsertedIf, after_asking, set_if, started_anew, told_first, unmoved, with_moved};
 ghost use Rattle.s360_remote.specs.Serving.{after_write, insert_answer, machine_now, points_with, points_without, then_after, thread_answer, told};
 ghost use Rattle.s360_saving.specs.Reading.{saving_of};
 ghost use Rattle.s360_remote.specs.declared.error_number.ErrorNumber.TheVariants.{Memory};
@@ -322,9 +322,19 @@ impl Target {
         ensures begun { OnErr result (IsCommandBegun (saving_of line.now) line.now self.old self.new) }
     {
         match read_saving(line.as_slice()) {
-            Some(asked) => save(self, asked, replies),
+            Some(asked) => {
+                self.stay();
+                save(self, asked, replies)
+            }
             None => self.answer_at_once(line.as_slice(), replies),
         }
+    }
+
+    /// The last line moves the machine nowhere.
+    fn stay(&mut self)
+        ensures { self.new ≡ unmoved self.old }
+    {
+        self.untold.moved = false;
     }
 
     /// Carries a line out that saves nothing, and tells its answer. A line without one is done.

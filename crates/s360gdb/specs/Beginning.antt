@@ -7,7 +7,7 @@ use Rattle.s360_record.specs.Recorded.{Recorded, session_of}
 use Rattle.s360_debug.specs.Debugger.{new_debugger}
 use Rattle.s360_debug.specs.Lines.{lines_of}
 use Rattle.s360_debug.specs.Script.{answers_of, state_after_lines}
-use Rattle.s360_remote.specs.Driven.{Driven}
+use Rattle.s360_remote.specs.Driven.{Driven, nothing_untold}
 use Rattle.s360gdb.specs.Conversation.{IsServedWhole}
 use Rattle.s360gdb.specs.Saving.{Known}
 
@@ -17,7 +17,7 @@ new_session start = record { start = start; events = []; limit = 10000000 }
 
 -- a recording as a target that nobody has asked anything of
 abbrev pub new_target : Recorded → Driven
-new_target recorded = record { recorded = recorded; points = record { breaks = []; watches = [] }; own = []; dropped = 0; stood = None }
+new_target recorded = record { recorded = recorded; points = record { breaks = []; conditional = []; watches = [] }; own = []; dropped = 0; stood = None; untold = nothing_untold }
 
 -- a script of this text, where it is known, was carried out over a machine, and its answers are noted
 pub record IsFound (start : Whole) (script : Option (List ℕ)) (k l : Known) (recorded : Recorded) : Type 0 where

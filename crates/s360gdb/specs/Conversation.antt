@@ -10,7 +10,7 @@ use Rattle.s360gdb.specs.Saving.{IsRun, Known}
 
 -- nothing has come
 abbrev pub new_connection : Connected
-new_connection = record { receiving = between_packets 16384; acknowledging = On; ended = false }
+new_connection = record { receiving = between_packets 16384; acknowledging = On; extended = false; interrupted = false; ended = false }
 
 -- how far a conversation is: its connection and its target, and what is known of the program's host
 pub record Talking : Type 0 where

@@ -7,8 +7,8 @@ pub returns-in-Some : goal.returns-in-Some
 returns-in-Some c =
     let is : saving_of c.args.line.now ≡ Some c.in-Some.asked = sym (rw c.as_slice.ensures at (rw c.in-Some.is at c.read_saving.ensures))
     in record {
-      served = saved-served c.save.result _ c.in-Some.asked c.args.line.now c.args.self.now c.args.replies.now c.save.new.replies is c.save.ensures;
-      begun = saved-begun c.save.result _ c.in-Some.asked c.args.line.now c.args.self.now is;
+      served = saved-served c.save.result _ c.in-Some.asked c.args.line.now c.args.self.now c.stay.new.self c.args.replies.now c.save.new.replies c.stay.ensures is c.save.ensures;
+      begun = saved-begun c.save.result _ c.in-Some.asked c.args.line.now c.args.self.now c.stay.new.self c.stay.ensures is;
     }
 
 pub returns-in-None : goal.returns-in-None
