@@ -1,8 +1,8 @@
 -- Instructions that are read have the value that the manual's machine finds in their bytes.
-use Rattle.std.proofs.Common.{◌≡◌, ℕ, zero, suc, ◌<◌, ◌≤◌, ◌+◌, ◌⊎◌, inl, inr, ◌∷◌, [], List, Option, Some, None, Result, Ok, Err, Bool, true, false, cond, length, drop, take, slice_index, nat_le, nat_lt, nat_eq, arith, rules, refl, ap, ◌∙◌, sym, add-one}
+use Rattle.std.proofs.Common.{◌≡◌, ℕ, zero, suc, ◌<◌, ◌≤◌, ◌+◌, ◌⊎◌, inl, inr, ◌∷◌, [], List, Option, Some, None, Result, Ok, Err, Bool, true, false, cond, length, drop, take, slice_index, nat_le, nat_lt, nat_eq, arith, refl, ap, ◌∙◌, sym, add-one}
 use Rattle.std.proofs.Math.ListN.{drop_of_length-le}
 use Rattle.std.proofs.Math.Seq.{drop-cons}
-use Rattle.std.proofs.lemmas.Bool.{cases_lt, cases_eq, cases_Bool, lt-ltb, le-ltb, leb-true, eq-eqb, ne_eqb}
+use Rattle.std.proofs.lemmas.Bool.{cases_lt, cases_eq, cases_Bool, lt-ltb, le-ltb, leb-true, ne_eqb}
 use Rattle.std.proofs.lemmas.List.{drop-drop, length-drop}
 use Rattle.std.specs.List.{list_any}
 use Rattle.s360_condition.specs.Evaluation.{after, led_on, onwards, onwards_with, run, value_of}
@@ -14,7 +14,7 @@ use Rattle.s360_condition.specs.Values.{Evaluated}
 use Rattle.s360_condition.specs.declared.evaluation.Next.{Next}
 use Rattle.s360_condition.specs.declared.evaluation.Next.TheVariants.{Following, At, Ended}
 use Rattle.s360_condition.specs.declared.fault.ExpressionFault.{ExpressionFault}
-use Rattle.s360_condition.specs.declared.fault.ExpressionFault.TheVariants.{CutOff, TooLong, AstrayJump}
+use Rattle.s360_condition.specs.declared.fault.ExpressionFault.TheVariants.{CutOff, TooLong}
 use Rattle.s360_condition.specs.declared.instruction.Instruction.{Instruction}
 use Rattle.s360_condition.specs.declared.instruction.Instruction.TheVariants.{Binary, Unary, Ref, Const, Reg, Pick, Pop, Swap, Rot, IfGoto, Goto, End}
 use Rattle.s360_condition.specs.declared.instruction.Placed.{Placed}

@@ -1,5 +1,5 @@
 -- What the definitions come to.
-use Rattle.std.specs.Prelude.{◌≡◌, ℕ, zero, suc, ◌+◌, nat_lt, if◌then◌else◌, Result, Ok, Err, List, [], ◌∷◌, drop, length, slice_index}
+use Rattle.std.specs.Prelude.{◌≡◌, ℕ, zero, suc, ◌+◌, nat_lt, if◌then◌else◌, Result, Ok, Err, List, [], drop, length, slice_index}
 use Rattle.s360_condition.specs.declared.fault.EvaluationFault.TheVariants.{NoEnd}
 use Rattle.s360_condition.specs.declared.fault.ExpressionFault.{ExpressionFault}
 use Rattle.s360_condition.specs.declared.instruction.Instruction.{Instruction}
