@@ -1,6 +1,6 @@
 -- The evaluation of an expression (gdb manual, "The GDB Agent Expression Mechanism", "Bytecode Descriptions"). A stack is
 -- the list of its values, the top first.
-use Rattle.std.specs.Prelude.{ℕ, nat_eq, nat_le, nat_lt, Bool, true, not, if◌then◌else◌, Ok, Err, List, [], ◌∷◌, length, slice_get}
+use Rattle.std.specs.Prelude.{◌≡◌, ℕ, nat_eq, nat_le, nat_lt, Bool, true, not, if◌then◌else◌, Ok, Err, List, [], ◌∷◌, length, slice_get}
 use Rattle.std.specs.Option.{ok_or}
 use Rattle.s360_condition.specs.declared.evaluation.Next.{Next}
 use Rattle.s360_condition.specs.declared.evaluation.Next.TheVariants.{Following, At, Ended}
@@ -40,6 +40,11 @@ after target (IfGoto to) (a ∷ rest) = Ok (if nat_eq a 0 then Following else At
 after target (Goto to) stack = Ok (At to, stack)
 after target End (a ∷ rest) = Ok (Ended a, rest)
 after target instruction stack = Err StackUnderflow
+
+-- an instruction led there and left this stack, or failed, as it has to
+abbrev pub Leaves : Evaluated (Next × List ℕ) → Evaluated Next → List ℕ → Type 0
+Leaves outcome (Ok next) stack = outcome ≡ Ok (next, stack)
+Leaves outcome (Err f) stack = outcome ≡ Err f
 
 -- what the instructions behind one give, from the pc that it leads to and the stack that it leaves
 abbrev pub led_on : Evaluated (Next × List ℕ) → ℕ → (ℕ → List ℕ → Evaluated ℕ) → Evaluated ℕ

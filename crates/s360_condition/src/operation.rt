@@ -1,9 +1,9 @@
 //! What instructions make of the values that they take. Source: gdb manual, "The GDB Agent Expression Mechanism",
 //! "Bytecode Descriptions".
-ghost use Rattle.std.specs.Prelude.{◌≡◌, ◌<◌, ◌≤◌, ◌%◌, ◌^◌, MatchResult, pos};
+ghost use Rattle.std.specs.Prelude.{◌≡◌, ◌<◌, ◌≤◌, ◌%◌, ◌^◌, MatchResult, int_div, int_rem, pos};
 ghost use Rattle.std.specs.Int.{int_div_euclid};
-ghost use Rattle.std.specs.Prelude.{int_div, int_rem};
-ghost use Rattle.s360_condition.specs.Values.{binary_value, sign_extended, signed, signed_divided, truth, unary_value, unsigned};
+ghost use Rattle.s360_condition.specs.Values.{binary_value, sign_extended, signed, signed_divided};
+ghost use Rattle.s360_condition.specs.Values.{unary_value, unsigned};
 ghost use Rattle.s360_condition.specs.declared.fault.EvaluationFault.TheVariants.{ShiftTooFar};
 
 use crate::fault::EvaluationFault;
