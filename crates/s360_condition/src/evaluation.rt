@@ -1,7 +1,7 @@
 //! What each instruction makes of a stack, and where it leads. Source: gdb manual, "The GDB Agent Expression Mechanism",
 //! "Bytecode Descriptions".
 ghost use Rattle.std.specs.Prelude.{◌≡◌, ◌∷◌};
-ghost use Rattle.s360_condition.specs.Evaluation.{after, onwards, Leaves};
+ghost use Rattle.s360_condition.specs.Evaluation.{after_instruction, onwards, Leaves};
 ghost use Rattle.s360_condition.specs.Target.{register_value};
 
 use crate::fault::EvaluationFault;
@@ -27,7 +27,7 @@ pub(crate) fn carry_out<T: Readable>(
     target: &T,
     stack: &mut Stack,
 ) -> Result<Next, EvaluationFault>
-    ensures { Leaves (after (T.target_of target.now) instruction stack.old) result stack.new }
+    ensures { Leaves (after_instruction (T.target_of target.now) instruction stack.old) result stack.new }
 {
     match instruction {
         Instruction::Binary(operation) => {
