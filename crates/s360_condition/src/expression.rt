@@ -51,8 +51,8 @@ impl Expression {
         }
     }
 
-    /// The value of the expression over a target: 64 bits, the top of the stack at `end`. It takes no memory, and carries
-    /// each instruction out once at most.
+    /// The value of the expression over a target, of 64 bits: the top of the stack at `end`. It fails by the first fault
+    /// that an instruction meets. It takes no memory, and carries each instruction out once at most.
     pub fn evaluate<T: Readable>(&self, target: &T) -> Result<u64, EvaluationFault>
         ensures { result ≡ value_of (T.target_of target.now) self.now }
     {
@@ -71,8 +71,8 @@ impl Expression {
         Err(EvaluationFault::NoEnd)
     }
 
-    /// Whether the condition holds that the expression is: its value is not zero, or it has none, since gdb then evaluates
-    /// it itself. It takes no memory.
+    /// Whether the condition holds that the expression is: its value is not zero, or it has none. Then, as with gdbserver,
+    /// the target stops, and gdb evaluates the condition itself. It takes no memory.
     pub fn holds<T: Readable>(&self, target: &T) -> bool
         ensures { result ≡ holds (T.target_of target.now) self.now }
     {
