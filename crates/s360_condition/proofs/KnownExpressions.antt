@@ -1,11 +1,12 @@
 -- Expressions that gdb 13.1 made, and what the manual says of them.
-use Rattle.std.proofs.Common.{◌≡◌, ℕ, Ok, Err, List, [], ◌∷◌, refl, replicate, true, false}
+use Rattle.std.proofs.Common.{◌≡◌, ℕ, Ok, Err, List, [], ◌∷◌, ◌++◌, length, refl, replicate, true, false}
 use Rattle.s360_condition.specs.Evaluation.{value_of, holds}
 use Rattle.s360_condition.specs.Instructions.{operand_bytes, instruction_with}
+use Rattle.s360_condition.specs.Laws.{run_by_pc}
 use Rattle.s360_condition.specs.Reading.{reading_of}
 use Rattle.s360_condition.specs.Target.{Target}
-use Rattle.s360_condition.specs.Values.{binary_value, unary_value}
-use Rattle.s360_condition.specs.declared.fault.EvaluationFault.TheVariants.{ShiftTooFar, DivisionByZero, QuotientTooLarge, NoSignBit}
+use Rattle.s360_condition.specs.Values.{Evaluated, binary_value, unary_value}
+use Rattle.s360_condition.specs.declared.fault.EvaluationFault.TheVariants.{QuotientTooLarge}
 use Rattle.s360_condition.specs.declared.fault.ExpressionFault.TheVariants.{UnknownCode, CutOff, AstrayJump}
 use Rattle.s360_condition.specs.declared.instruction.Binary.TheVariants.{Sub, DivSigned, RemSigned, Lsh, RshSigned, Equal, LessSigned, LessUnsigned}
 use Rattle.s360_condition.specs.declared.instruction.Instruction.{Instruction}
@@ -40,6 +41,47 @@ four_is_none = refl
 -- a target without the register: gdb is to look itself
 none_holds : holds (record { registers = []; storage = [] }) r3_is_3_read ≡ true
 none_holds = refl
+
+-- `*(int *) 0x604 > 6 && ($r1 & 15) != 2`
+abbrev word_and_r1 : List ℕ
+word_and_r1 =
+    0x23 ∷ 0x06 ∷ 0x04 ∷ 0x19 ∷ 0x16 ∷ 0x20 ∷ 0x22 ∷ 0x06 ∷ 0x2B ∷ 0x14 ∷ 0x20 ∷ 0x00 ∷ 0x10 ∷ 0x21 ∷ 0x00 ∷ 0x2B ∷ 0x26 ∷ 0x00 ∷ 0x03 ∷ 0x2A ∷ 0x20 ∷ 0x22 ∷ 0x0F ∷ 0x2A ∷ 0x20 ∷ 0x0F ∷ 0x22 ∷ 0x02 ∷ 0x2A ∷ 0x20 ∷ 0x13 ∷ 0x0E ∷ 0x20 ∷ 0x00 ∷ 0x26 ∷ 0x21 ∷ 0x00 ∷ 0x2B ∷ 0x22 ∷ 0x01 ∷ 0x21 ∷ 0x00 ∷ 0x2D ∷ 0x22 ∷ 0x00 ∷ 0x27 ∷ []
+
+-- r1 and the word at 604
+abbrev with_word : ℕ → ℕ → Target
+with_word r1 low_byte = record { registers = 0 ∷ 0 ∷ 0 ∷ r1 ∷ []; storage = replicate 0x604 0 ++ 0 ∷ 0 ∷ 0 ∷ low_byte ∷ [] }
+
+abbrev value_by_pc : Target → List ℕ → Evaluated ℕ
+value_by_pc target bytes = run_by_pc target bytes (length bytes) 0 []
+
+both_are : value_by_pc (with_word 0x13 7) word_and_r1 ≡ Ok 1
+unfolding operand_bytes instruction_with
+both_are = refl
+
+word_is_6 : value_by_pc (with_word 0x13 6) word_and_r1 ≡ Ok 0
+unfolding operand_bytes instruction_with
+word_is_6 = refl
+
+r1_ends_with_2 : value_by_pc (with_word 0x12 7) word_and_r1 ≡ Ok 0
+unfolding operand_bytes instruction_with
+r1_ends_with_2 = refl
+
+-- `$pc == 0x206 && *(unsigned char *) 0x607 == 9`, of which register 1 has the pc in its low 31 bits
+abbrev pc_and_byte : List ℕ
+pc_and_byte =
+    0x26 ∷ 0x00 ∷ 0x01 ∷ 0x2A ∷ 0x1F ∷ 0x2A ∷ 0x20 ∷ 0x23 ∷ 0x02 ∷ 0x06 ∷ 0x13 ∷ 0x20 ∷ 0x00 ∷ 0x11 ∷ 0x21 ∷ 0x00 ∷ 0x23 ∷ 0x23 ∷ 0x06 ∷ 0x07 ∷ 0x17 ∷ 0x22 ∷ 0x09 ∷ 0x13 ∷ 0x20 ∷ 0x00 ∷ 0x1E ∷ 0x21 ∷ 0x00 ∷ 0x23 ∷ 0x22 ∷ 0x01 ∷ 0x21 ∷ 0x00 ∷ 0x25 ∷ 0x22 ∷ 0x00 ∷ 0x27 ∷ []
+
+-- the address word and the byte at 607
+abbrev with_pc : ℕ → ℕ → Target
+with_pc address_word byte = record { registers = 0 ∷ address_word ∷ []; storage = replicate 0x607 0 ++ byte ∷ [] }
+
+pc_and_byte_are : value_by_pc (with_pc 0x8000_0206 9) pc_and_byte ≡ Ok 1
+unfolding operand_bytes instruction_with
+pc_and_byte_are = refl
+
+byte_is_8 : value_by_pc (with_pc 0x8000_0206 8) pc_and_byte ≡ Ok 0
+unfolding operand_bytes instruction_with
+byte_is_8 = refl
 
 -- the orders of operands, and signs
 less_by_one : binary_value Sub 2 3 ≡ Ok 0xFFFF_FFFF_FFFF_FFFF

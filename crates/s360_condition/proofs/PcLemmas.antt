@@ -1,11 +1,11 @@
 -- Instructions that are read have the value that the manual's machine finds in their bytes.
-use Rattle.std.proofs.Common.{◌≡◌, ℕ, zero, suc, ◌<◌, ◌≤◌, ◌+◌, ◌⊎◌, inl, inr, ◌∷◌, [], List, Option, Some, None, Result, Ok, Err, Bool, true, false, cond, length, drop, take, slice_index, nat_le, nat_lt, nat_eq, arith, rules, refl, ap, ◌∙◌, sym, add-one}
+use Rattle.std.proofs.Common.{◌≡◌, ℕ, zero, suc, ◌<◌, ◌≤◌, ◌+◌, ◌⊎◌, inl, inr, ◌∷◌, [], List, Option, Some, None, Result, Ok, Err, Bool, true, false, cond, length, drop, take, slice_index, nat_le, nat_lt, nat_eq, arith, refl, ap, ◌∙◌, sym, add-one}
 use Rattle.std.proofs.Math.ListN.{drop_of_length-le}
 use Rattle.std.proofs.Math.Seq.{drop-cons}
-use Rattle.std.proofs.lemmas.Bool.{cases_lt, cases_eq, cases_Bool, lt-ltb, le-ltb, leb-true, eq-eqb, ne_eqb}
+use Rattle.std.proofs.lemmas.Bool.{cases_lt, cases_eq, cases_Bool, lt-ltb, le-ltb, leb-true, ne_eqb}
 use Rattle.std.proofs.lemmas.List.{drop-drop, length-drop}
 use Rattle.std.specs.List.{list_any}
-use Rattle.s360_condition.specs.Evaluation.{after, led_on, onwards, onwards_with, run, value_of}
+use Rattle.s360_condition.specs.Evaluation.{after_instruction, led_on, onwards, onwards_with, run, value_of}
 use Rattle.s360_condition.specs.Instructions.{jump_of, operand_bytes, instruction_with}
 use Rattle.s360_condition.specs.Laws.{run_by_pc}
 use Rattle.s360_condition.specs.Reading.{Reading, and_jumps, before, big_endian, first_astray, followed, goes_on, instruction_at, instructions_in, known, reading_of, with_jumps}
@@ -14,7 +14,7 @@ use Rattle.s360_condition.specs.Values.{Evaluated}
 use Rattle.s360_condition.specs.declared.evaluation.Next.{Next}
 use Rattle.s360_condition.specs.declared.evaluation.Next.TheVariants.{Following, At, Ended}
 use Rattle.s360_condition.specs.declared.fault.ExpressionFault.{ExpressionFault}
-use Rattle.s360_condition.specs.declared.fault.ExpressionFault.TheVariants.{CutOff, TooLong, AstrayJump}
+use Rattle.s360_condition.specs.declared.fault.ExpressionFault.TheVariants.{CutOff, TooLong}
 use Rattle.s360_condition.specs.declared.instruction.Instruction.{Instruction}
 use Rattle.s360_condition.specs.declared.instruction.Instruction.TheVariants.{Binary, Unary, Ref, Const, Reg, Pick, Pop, Swap, Rot, IfGoto, Goto, End}
 use Rattle.s360_condition.specs.declared.instruction.Placed.{Placed}
@@ -132,7 +132,7 @@ if_jumps true to there stack rest h = let other : Following ≡ At to = next_of 
 if_jumps false to there stack rest h = let same : At there ≡ At to = next_of (At there, stack) (At to, rest) h in cc
 
 -- a jump alone leads to an offset: its own
-jumps_to : (t : Target) (instruction : Instruction) (stack rest : List ℕ) (to : ℕ) → after t instruction stack ≡ Ok (At to, rest) → jump_of instruction ≡ Some to
+jumps_to : (t : Target) (instruction : Instruction) (stack rest : List ℕ) (to : ℕ) → after_instruction t instruction stack ≡ Ok (At to, rest) → jump_of instruction ≡ Some to
 jumps_to t (Binary op) (b ∷ a ∷ stack) rest to h = absurd (with_follows _ stack rest to h)
 jumps_to t (Binary op) (b ∷ []) rest to h = cc
 jumps_to t (Binary op) [] rest to h = cc
@@ -195,7 +195,7 @@ GoesOn t bytes steps =
 
 led : (t : Target) (bytes : List ℕ) (steps at pc : ℕ) (more : List Placed) (first : IsFirst bytes at more) (stack : List ℕ)
     → GoesOn t bytes steps → length bytes ≤ suc steps + at → pc ≤ at
-    → (outcome : Evaluated (Next × List ℕ)) → after t first.instruction stack ≡ outcome
+    → (outcome : Evaluated (Next × List ℕ)) → after_instruction t first.instruction stack ≡ outcome
     → led_on outcome pc (run t first.rest) ≡ led_on outcome (at + 1 + first.operand) (run_by_pc t bytes steps)
 led t bytes steps at pc more first stack further few low (Ok (Following, rest)) is = further (at + 1 + first.operand) pc first.rest rest first.read (omega arith) (omega arith)
 led t bytes steps at pc more first stack further few low (Ok (At to, rest)) is =
@@ -217,7 +217,7 @@ goes_on_by_pc t bytes (suc steps) at pc more stack is few low =
       | inl none ↦ rw (none.1, le-ltb at (length bytes) none.0) refl
       | inr first ↦
           rw (first.is, le-ltb at pc low, lt-ltb at (length bytes) first.inside, first.found)
-          (led t bytes steps at pc more first stack (goes_on_by_pc t bytes steps) few low (after t first.instruction stack) refl)
+          (led t bytes steps at pc more first stack (goes_on_by_pc t bytes steps) few low (after_instruction t first.instruction stack) refl)
     ]
 
 with_ok : (found instructions : List Placed) (astray : Option ℕ) → first_astray found ≡ astray → with_jumps found astray ≡ Ok instructions

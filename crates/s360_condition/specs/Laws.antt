@@ -1,17 +1,17 @@
 -- What the definitions come to.
-use Rattle.std.specs.Prelude.{◌≡◌, ℕ, zero, suc, ◌+◌, nat_lt, if◌then◌else◌, Result, Ok, Err, List, [], ◌∷◌, drop, length, slice_index}
+use Rattle.std.specs.Prelude.{◌≡◌, ℕ, zero, suc, ◌+◌, nat_lt, if◌then◌else◌, Result, Ok, Err, List, [], drop, length, slice_index}
 use Rattle.s360_condition.specs.declared.fault.EvaluationFault.TheVariants.{NoEnd}
 use Rattle.s360_condition.specs.declared.fault.ExpressionFault.{ExpressionFault}
 use Rattle.s360_condition.specs.declared.instruction.Instruction.{Instruction}
 use Rattle.s360_condition.specs.declared.instruction.Placed.{Placed}
-use Rattle.s360_condition.specs.Evaluation.{after, led_on, value_of}
+use Rattle.s360_condition.specs.Evaluation.{after_instruction, led_on, value_of}
 use Rattle.s360_condition.specs.Reading.{instruction_at, reading_of}
 use Rattle.s360_condition.specs.Target.{Target}
 use Rattle.s360_condition.specs.Values.{Evaluated}
 
 -- an instruction that stands at the pc is carried out, and sets it to the byte behind its operand or to where it jumps
 abbrev pub stepped : Target → Result (Instruction × ℕ) ExpressionFault → ℕ → List ℕ → (ℕ → List ℕ → Evaluated ℕ) → Evaluated ℕ
-stepped target (Ok (instruction, operand_bytes)) pc stack behind = led_on (after target instruction stack) (pc + 1 + operand_bytes) behind
+stepped target (Ok (instruction, operand_bytes)) pc stack behind = led_on (after_instruction target instruction stack) (pc + 1 + operand_bytes) behind
 stepped target (Err f) pc stack behind = Err NoEnd
 
 -- the manual's machine over the bytes themselves, for at most so many steps: at the pc stands a code

@@ -70,6 +70,10 @@ most_bytes = 4096
 abbrev pub reading_of : List ℕ → Reading
 reading_of bytes = if nat_le (length bytes) most_bytes then and_jumps (instructions_in bytes 0 0) else Err TooLong
 
+-- a reading fails by this, or memory is wanting
+abbrev pub FailsBy : Reading → ExpressionFault → Type 0
+FailsBy reading fault = (reading ≡ Err fault) ⊎ (fault ≡ Memory)
+
 -- the reading is answered, or want of memory
 abbrev pub Reads : Reading → Reading → Type 0
 Reads reading result = (result ≡ reading) ⊎ (result ≡ Err Memory)

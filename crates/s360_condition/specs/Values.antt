@@ -2,7 +2,7 @@
 -- Mechanism", "Bytecode Descriptions"). What has no place in 64 bits is cut off on the left. A signed number is in two's
 -- complement. A shift by 64 bits or more, the one quotient that is too large, and a sign from 0 bits, of which the manual
 -- says nothing, fail (own profile).
-use Rattle.std.specs.Prelude.{ℕ, ◌+◌, ◌-◌, ◌*◌, ◌/◌, ◌%◌, ◌^◌, nat_eq, nat_lt, Bool, if◌then◌else◌, bit_and, bit_or, bit_xor}
+use Rattle.std.specs.Prelude.{ℕ, ◌+◌, ◌-◌, ◌*◌, ◌/◌, ◌%◌, ◌^◌, nat_eq, nat_lt, Bool, not, ◌&&◌, if◌then◌else◌, bit_and, bit_or, bit_xor}
 use Rattle.std.specs.Prelude.{ℤ, pos, negsuc, int_lt, int_div, int_rem, Result, Ok, Err}
 use Rattle.std.specs.Int.{w64, cast_signed, cast_unsigned, int_div_euclid}
 use Rattle.s360_condition.specs.declared.fault.EvaluationFault.{EvaluationFault}
@@ -42,11 +42,17 @@ abbrev pub fits : ℤ → Bool
 fits (pos n) = nat_lt n (2 ^ 63)
 fits (negsuc n) = nat_lt n (2 ^ 63)
 
--- of signed numbers with a quotient that has a place, the quotient or the remainder
+-- why signed numbers have no quotient
+abbrev pub no_quotient : ℕ → EvaluationFault
+no_quotient divisor = if nat_eq divisor 0 then DivisionByZero else QuotientTooLarge
+
+-- signed numbers have a quotient
+abbrev pub has_quotient : ℕ → ℕ → Bool
+has_quotient a b = not (nat_eq b 0) && fits (int_div (signed a) (signed b))
+
+-- the quotient or the remainder of signed numbers that have a quotient
 abbrev pub signed_divided : ℕ → ℕ → (ℤ → ℤ → ℤ) → Evaluated ℕ
-signed_divided a b number =
-    if nat_eq b 0 then Err DivisionByZero
-    else (if fits (int_div (signed a) (signed b)) then Ok (unsigned (number (signed a) (signed b))) else Err QuotientTooLarge)
+signed_divided a b number = if has_quotient a b then Ok (unsigned (number (signed a) (signed b))) else Err (no_quotient b)
 
 -- `a b ⇒`
 abbrev pub binary_value : Binary → ℕ → ℕ → Evaluated ℕ

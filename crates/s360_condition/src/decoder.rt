@@ -1,9 +1,9 @@
 //! The instructions in the bytes of an expression. Source: gdb manual, "The GDB Agent Expression Mechanism", "Bytecode
 //! Descriptions".
-ghost use Rattle.std.specs.Prelude.{◌≡◌, ◌⊎◌, ◌<◌, ◌≤◌, ◌^◌, Err, IfOk, MatchResult, Ok, length};
+ghost use Rattle.std.specs.Prelude.{◌≡◌, ◌<◌, ◌≤◌, ◌^◌, IfErr, IfOk, Ok, length};
 ghost use Rattle.s360_condition.specs.Instructions.{instruction_with, operand_bytes};
 ghost use Rattle.s360_condition.specs.Reading.{first_astray, goes_on, instruction_at, instructions_in};
-ghost use Rattle.s360_condition.specs.declared.fault.ExpressionFault.TheVariants.{Memory};
+ghost use Rattle.s360_condition.specs.Reading.{FailsBy};
 
 use crate::fault::ExpressionFault;
 use crate::fetching::number_of;
@@ -88,7 +88,8 @@ fn instruction_at(at: u16, code: u8, bytes: &[u8]) -> Result<(Instruction, usize
 /// The instructions of the bytes of an expression.
 pub(crate) fn instructions_in(alloc: Global, bytes: &[u8]) -> Result<Vec<Placed>, ExpressionFault>
     requires { length bytes.now ≤ 4096 }
-    ensures { MatchResult result (λ found. instructions_in bytes.now 0 0 ≡ Ok found.items) (λ fault. (fault ≡ Memory) ⊎ (instructions_in bytes.now 0 0 ≡ Err fault)) }
+    ensures ok { IfOk result (λ found. instructions_in bytes.now 0 0 ≡ Ok found.items) }
+    ensures err { IfErr result (λ fault. FailsBy (instructions_in bytes.now 0 0) fault) }
 {
     let mut instructions = Vec::new(alloc);
     let mut at = 0;

@@ -1,7 +1,7 @@
 //! What each instruction makes of a stack, and where it leads. Source: gdb manual, "The GDB Agent Expression Mechanism",
 //! "Bytecode Descriptions".
-ghost use Rattle.std.specs.Prelude.{◌≡◌, Err, Ok, MatchResult};
-ghost use Rattle.s360_condition.specs.Evaluation.{after, onwards_with};
+ghost use Rattle.std.specs.Prelude.{◌≡◌, ◌∷◌};
+ghost use Rattle.s360_condition.specs.Evaluation.{after_instruction, onwards, Leaves};
 ghost use Rattle.s360_condition.specs.Target.{register_value};
 
 use crate::fault::EvaluationFault;
@@ -27,7 +27,7 @@ pub(crate) fn carry_out<T: Readable>(
     target: &T,
     stack: &mut Stack,
 ) -> Result<Next, EvaluationFault>
-    ensures { MatchResult result (λ next. after (T.target_of target.now) instruction stack.old ≡ Ok (next, stack.new)) (λ fault. after (T.target_of target.now) instruction stack.old ≡ Err fault) }
+    ensures { Leaves (after_instruction (T.target_of target.now) instruction stack.old) result stack.new }
 {
     match instruction {
         Instruction::Binary(operation) => {
@@ -79,7 +79,7 @@ pub(crate) fn carry_out<T: Readable>(
 
 /// Leaves a value on the stack, and goes on to the following instruction.
 fn leave(stack: &mut Stack, value: u64) -> Result<Next, EvaluationFault>
-    ensures { MatchResult result (λ next. onwards_with (Ok value) stack.old ≡ Ok (next, stack.new)) (λ fault. onwards_with (Ok value) stack.old ≡ Err fault) }
+    ensures { Leaves (onwards (value ∷ stack.old)) result stack.new }
 {
     stack.push(value)?;
     Ok(Next::Following)

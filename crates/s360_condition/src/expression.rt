@@ -1,7 +1,8 @@
 //! An expression. Source: gdb manual, "The GDB Agent Expression Mechanism", "Bytecode Descriptions".
-ghost use Rattle.std.specs.Prelude.{◌≡◌};
+ghost use Rattle.std.specs.Prelude.{◌≡◌, ◌<◌, Err, length};
 ghost use Rattle.s360_condition.specs.Evaluation.{holds, value_of};
-ghost use Rattle.s360_condition.specs.Reading.{Reads, reading_of};
+ghost use Rattle.s360_condition.specs.Reading.{Reads, most_bytes, reading_of};
+ghost use Rattle.s360_condition.specs.declared.fault.ExpressionFault.TheVariants.{TooLong};
 
 use crate::decoder::{first_astray, instructions_in};
 use crate::evaluation::{Next, carry_out};
@@ -36,10 +37,11 @@ impl Model for Expression {
 
 impl Expression {
     /// The expression that bytes are, of which gdb sends two hexadecimal digits each. They are refused if there are more
-    /// than 4,096, at the first code that is unknown or operand that is cut off, and else at the first jump that goes to no
-    /// instruction further on.
+    /// than 4,096, whatever memory there is; at the first code that is unknown or operand that is cut off; and else at the
+    /// first jump that goes to no instruction further on.
     pub fn new(alloc: Global, bytes: &[u8]) -> Result<Expression, ExpressionFault>
-        ensures { Reads (reading_of bytes.now) result }
+        ensures reading { Reads (reading_of bytes.now) result }
+        ensures too_long { most_bytes < length bytes.now → result ≡ Err TooLong }
     {
         if bytes.len() > MOST_BYTES {
             return Err(ExpressionFault::TooLong);
@@ -51,8 +53,8 @@ impl Expression {
         }
     }
 
-    /// The value of the expression over a target: 64 bits, the top of the stack at `end`. It takes no memory, and carries
-    /// each instruction out once at most.
+    /// The value of the expression over a target, of 64 bits: the top of the stack at `end`. It fails by the first fault
+    /// that an instruction meets. It takes no memory, and carries each instruction out once at most.
     pub fn evaluate<T: Readable>(&self, target: &T) -> Result<u64, EvaluationFault>
         ensures { result ≡ value_of (T.target_of target.now) self.now }
     {
@@ -71,8 +73,8 @@ impl Expression {
         Err(EvaluationFault::NoEnd)
     }
 
-    /// Whether the condition holds that the expression is: its value is not zero, or it has none, since gdb then evaluates
-    /// it itself. It takes no memory.
+    /// Whether the condition holds that the expression is: its value is not zero, or it has none. Then, as with gdbserver,
+    /// the target stops, and gdb evaluates the condition itself. It takes no memory.
     pub fn holds<T: Readable>(&self, target: &T) -> bool
         ensures { result ≡ holds (T.target_of target.now) self.now }
     {

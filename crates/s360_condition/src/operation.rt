@@ -1,9 +1,9 @@
 //! What instructions make of the values that they take. Source: gdb manual, "The GDB Agent Expression Mechanism",
 //! "Bytecode Descriptions".
-ghost use Rattle.std.specs.Prelude.{◌≡◌, ◌<◌, ◌≤◌, ◌%◌, ◌^◌, MatchResult, pos};
+ghost use Rattle.std.specs.Prelude.{◌≡◌, ◌<◌, ◌≤◌, ◌%◌, ◌^◌, Err, MatchOption, MatchResult, Ok, pos};
 ghost use Rattle.std.specs.Int.{int_div_euclid};
-ghost use Rattle.std.specs.Prelude.{int_div, int_rem};
-ghost use Rattle.s360_condition.specs.Values.{binary_value, sign_extended, signed, signed_divided, truth, unary_value, unsigned};
+ghost use Rattle.s360_condition.specs.Values.{binary_value, no_quotient, sign_extended, signed};
+ghost use Rattle.s360_condition.specs.Values.{unary_value, unsigned};
 ghost use Rattle.s360_condition.specs.declared.fault.EvaluationFault.TheVariants.{ShiftTooFar};
 
 use crate::fault::EvaluationFault;
@@ -18,11 +18,12 @@ impl Binary {
             Binary::Add => Ok(a.wrapping_add(b)),
             Binary::Sub => Ok(a.wrapping_sub(b)),
             Binary::Mul => Ok(a.wrapping_mul(b)),
-            Binary::DivSigned => signed_quotient(a, b),
-            Binary::DivUnsigned if b == 0 => Err(EvaluationFault::DivisionByZero),
+            Binary::DivSigned => signed_value(b, a.cast_signed().checked_div(b.cast_signed())),
+            Binary::RemSigned => signed_value(b, a.cast_signed().checked_rem(b.cast_signed())),
+            Binary::DivUnsigned | Binary::RemUnsigned if b == 0 => {
+                Err(EvaluationFault::DivisionByZero)
+            }
             Binary::DivUnsigned => Ok(a / b),
-            Binary::RemSigned => signed_remainder(a, b),
-            Binary::RemUnsigned if b == 0 => Err(EvaluationFault::DivisionByZero),
             Binary::RemUnsigned => Ok(a % b),
             Binary::Lsh => Ok(a << shift_count(b)?),
             Binary::RshSigned => Ok(shifted_signed(a, shift_count(b)?)),
@@ -37,28 +38,14 @@ impl Binary {
     }
 }
 
-/// The quotient of two signed numbers, rounded toward zero.
-fn signed_quotient(a: u64, b: u64) -> Result<u64, EvaluationFault>
-    ensures { result ≡ signed_divided a b int_div }
+/// The value of a quotient or a remainder of signed numbers, which there is none of for a divisor of zero, and if the
+/// quotient is too large.
+fn signed_value(divisor: u64, number: Option<i64>) -> Result<u64, EvaluationFault>
+    ensures { MatchOption number (result ≡ Err (no_quotient divisor)) (λ n. result ≡ Ok (unsigned n)) }
 {
-    if b == 0 {
-        return Err(EvaluationFault::DivisionByZero);
-    }
-    match a.cast_signed().checked_div(b.cast_signed()) {
-        Some(quotient) => Ok(quotient.cast_unsigned()),
-        None => Err(EvaluationFault::QuotientTooLarge),
-    }
-}
-
-/// The remainder of two signed numbers, which has the sign of the dividend.
-fn signed_remainder(a: u64, b: u64) -> Result<u64, EvaluationFault>
-    ensures { result ≡ signed_divided a b int_rem }
-{
-    if b == 0 {
-        return Err(EvaluationFault::DivisionByZero);
-    }
-    match a.cast_signed().checked_rem(b.cast_signed()) {
-        Some(remainder) => Ok(remainder.cast_unsigned()),
+    match number {
+        Some(number) => Ok(number.cast_unsigned()),
+        None if divisor == 0 => Err(EvaluationFault::DivisionByZero),
         None => Err(EvaluationFault::QuotientTooLarge),
     }
 }

@@ -1,4 +1,4 @@
-use Rattle.std.proofs.Common.{◌<◌, arith}
+use Rattle.std.proofs.Common.{arith}
 use Rattle.s360_condition.proofs.NumberLemmas.{room_for_a_byte}
 use Rattle.s360_condition.proofs.fetching.number_of.Goals as goal
 
