@@ -9,19 +9,33 @@ MOST_BYTES, MOST_ON_STACK = 4096, 64
 LIST = re.compile(rb"X([0-9a-fA-F]{1,8}),")
 
 
+class Wrong(Exception):
+    """An expression that cannot be evaluated."""
+
+
 def signed(value, bits=64):
     value %= 1 << bits
     return value - (1 << bits) if value >> bits - 1 else value
 
 
 def quotient(first, second):
-    """Toward zero."""
+    """Toward zero. The least number divided by -1 has none."""
     whole = abs(first) // abs(second)
-    return whole if (first < 0) == (second < 0) else -whole
+    whole = whole if (first < 0) == (second < 0) else -whole
+    if signed(whole) != whole:
+        raise Wrong
+    return whole
 
 
 def remainder(first, second):
     return first - second * quotient(first, second)
+
+
+def less_than_all(bits):
+    """By so many bits a value can be shifted."""
+    if bits >= 64:
+        raise Wrong
+    return bits
 
 
 # Of two values of the stack, the first below the second.
@@ -33,9 +47,9 @@ BINARY = {
     0x06: lambda a, b: a // b,
     0x07: lambda a, b: remainder(signed(a), signed(b)),
     0x08: lambda a, b: a % b,
-    0x09: lambda a, b: a << b if b < 64 else 0,
-    0x0A: lambda a, b: signed(a) >> min(b, 63),
-    0x0B: lambda a, b: a >> b if b < 64 else 0,
+    0x09: lambda a, b: a << less_than_all(b),
+    0x0A: lambda a, b: signed(a) >> less_than_all(b),
+    0x0B: lambda a, b: a >> less_than_all(b),
     0x0F: lambda a, b: a & b,
     0x10: lambda a, b: a | b,
     0x11: lambda a, b: a ^ b,
@@ -51,10 +65,6 @@ DUP, POP, SWAP, PICK, ROT = 0x28, 0x29, 0x2B, 0x32, 0x33
 # How many bytes follow an opcode.
 OPERANDS = dict.fromkeys([*BINARY, *REF, LOG_NOT, BIT_NOT, END, DUP, POP, SWAP, ROT], 0)
 OPERANDS |= CONST | {EXT: 1, ZERO_EXT: 1, PICK: 1, IF_GOTO: 2, GOTO: 2, REG: 2}
-
-
-class Wrong(Exception):
-    """An expression that cannot be evaluated."""
 
 
 def is_expression(code):
@@ -125,8 +135,10 @@ class Evaluation:
             self.push(self.pop() == 0)
         elif opcode == BIT_NOT:
             self.push(~self.pop())
-        elif opcode in (EXT, ZERO_EXT):
-            self.extend(operand, signed if opcode == EXT else lambda value, bits: value % (1 << bits))
+        elif opcode == ZERO_EXT:
+            self.push(self.pop() % (1 << operand))
+        elif opcode == EXT:
+            self.extend(operand)
         elif opcode in REF:
             self.push(self.fetched(self.pop(), REF[opcode]))
         elif opcode == GOTO or opcode == IF_GOTO and self.pop():
@@ -139,10 +151,11 @@ class Evaluation:
             self.arrange(opcode, operand)
         return following
 
-    def extend(self, bits, extended):
-        if not 1 <= bits <= 64:
+    def extend(self, bits):
+        """A sign is one of the bits that there are."""
+        if bits == 0:
             raise Wrong
-        self.push(extended(self.pop(), bits))
+        self.push(signed(self.pop(), bits) if bits < 64 else self.pop())
 
     def fetched(self, at, count):
         if at + count > self.machine.size:

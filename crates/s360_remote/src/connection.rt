@@ -11,7 +11,9 @@ use crate::error_number::ErrorNumber;
 use crate::replies::Replies;
 use crate::serving::Then;
 use crate::target::Target;
-use s360_packet::{Acknowledging, Answer, Received, Receiver, Request, RequestFault, Stop, read_request};
+use s360_packet::{
+    Acknowledging, Answer, Received, Receiver, Request, RequestFault, Stop, read_request,
+};
 use std::alloc::{AllocError, Global};
 use std::marker::Model;
 

@@ -35,7 +35,9 @@ use crate::target::Target;
 use byteorder::{BigEndian, ByteOrder};
 use s360_language::refusal_text;
 use s360_machine::{EventKind, Refusal};
-use s360_packet::{Answer, Payload, Point, REGISTERS, Request, RequestFault, Stop, Thread, register_value};
+use s360_packet::{
+    Answer, Payload, Point, REGISTERS, Request, RequestFault, Stop, Thread, register_value,
+};
 use s360_saving::{FileToWrite, read_saving};
 use s360_text::Text;
 use std::alloc::AllocError;
@@ -82,9 +84,11 @@ impl Target {
                 self.tell_written(written, replies)
             }
             Request::Insert { point, at, kind } => self.insert(point, at, kind, replies),
-            Request::InsertIf {
-                at, conditions, ..
-            } => self.insert_if(at, conditions.as_slice(), replies),
+            Request::InsertIf { at, conditions, .. } => self.insert_if(
+                at,
+                conditions.as_slice(),
+                replies,
+            ),
             Request::Remove { point, at, kind } => self.remove(point, at, kind, replies),
             Request::Command(line) => self.answer_line(&line, replies),
             Request::HasMoved => self.tell_moved(replies),
@@ -389,7 +393,12 @@ impl Target {
     }
 
     /// Adds what tells why the machine pauses. If nothing is left to do, or an event was refused, a text says so before the stop.
-    fn push_pause(&self, pause: &Pause, reach: Reach, replies: &mut Replies) -> Result<(), AllocError>
+    fn push_pause(
+        &self,
+        pause: &Pause,
+        reach: Reach,
+        replies: &mut Replies,
+    ) -> Result<(), AllocError>
         ensures { OnOk result (replies.new ≡ replies.old ++ pause_packets reach (machine_now self.now) (last_kind_of (standing_events self.now.recorded)) pause.now) }
     {
         match pause {
@@ -402,8 +411,18 @@ impl Target {
                 replies.push(Answer::Stopped(Stop::Quiet))
             }
             Pause::Break | Pause::Slice => replies.push(Answer::Stopped(Stop::Breakpoint)),
-            Pause::RecordEnd => push_end(reach, "end of what was recorded\n", Stop::HistoryEnd, replies),
-            Pause::RecordStart => push_end(reach, "start of what was recorded\n", Stop::HistoryBegin, replies),
+            Pause::RecordEnd => push_end(
+                reach,
+                "end of what was recorded\n",
+                Stop::HistoryEnd,
+                replies,
+            ),
+            Pause::RecordStart => push_end(
+                reach,
+                "start of what was recorded\n",
+                Stop::HistoryBegin,
+                replies,
+            ),
             Pause::Watch(altered) => replies.push(Answer::Stopped(match altered.first() {
                 Some(at) => Stop::Watch { at },
                 None => Stop::Trap,
