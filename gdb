@@ -21,7 +21,7 @@ if [[ -n $said ]]; then
     exit
 fi
 
-python3 "$top/tools/gdb/make_elf.py" "$folder/s360.elf"
+python3 "$top/tools/gdb/make_elf.py" "$folder/s360.elf" "${words[@]}"
 printf -v command '%q ' "$program" "${words[@]}"
 printf -v elf '%q' "$folder/s360.elf"
 gdb-multiarch -q -x "$top/tools/gdb/s360.gdb" -ex "file $elf" -ex "target remote | $command"

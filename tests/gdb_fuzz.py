@@ -418,13 +418,14 @@ def lines_within(file, seconds):
         yield from lines
 
 
-def fault_of(seed, count, program, elf):
+def fault_of(seed, count, program):
     """The first command of a session that ends otherwise than it has to, if there is one."""
     some = Commands(seed)
     ended = list(some.all(count))
     target = " ".join([str(program), *some.deck])
     with tempfile.TemporaryDirectory() as folder:
-        commands = pathlib.Path(folder, "commands")
+        elf, commands = (pathlib.Path(folder, name) for name in ("s360.elf", "commands"))
+        subprocess.run([TOP / "tools/gdb/make_elf.py", elf], check=True)
         commands.write_text(json.dumps([command for command, _ in ended]))
         told, out = os.pipe()
         gdb = ["gdb-multiarch", "-q", "-nx", "-batch", "-x", TOP / "tools/gdb/s360.gdb"]
@@ -464,11 +465,9 @@ def main():
     parser.add_argument("--seed", type=int, default=1)
     options = parser.parse_args()
     seeds = range(options.seed, options.seed + -(-options.commands // IN_A_SESSION))
-    with tempfile.TemporaryDirectory() as folder, ThreadPoolExecutor(2) as pool:
-        elf = pathlib.Path(folder, "s360.elf")
-        subprocess.run([TOP / "tools/gdb/make_elf.py", elf], check=True)
-        program = options.program.resolve()
-        faults = list(pool.map(lambda seed: fault_of(seed, IN_A_SESSION, program, elf), seeds))
+    program = options.program.resolve()
+    with ThreadPoolExecutor(2) as pool:
+        faults = list(pool.map(lambda seed: fault_of(seed, IN_A_SESSION, program), seeds))
     for seed, fault in zip(seeds, faults):
         if fault is not None:
             print(f"seed {seed}: {fault}")

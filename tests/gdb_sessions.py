@@ -6,7 +6,7 @@
 A session is two files of tests/gdb: NAME.gdb has gdb's commands, and NAME.transcript what a
 terminal shows of them: each command behind gdb's prompt, and what gdb prints then. The first line
 of the commands is `# s360gdb WORD ..`: the words of the program's command line, with files named
-from the top. What comes before the first prompt is not compared. The screens of gdb in
+from the top; or `# extended s360gdb WORD ..`, if gdb is to be in extended mode. What comes before the first prompt is not compared. The screens of gdb in
 docs/reference/gdb.md have to be parts of the transcripts of `guide` and `saved`. gdb is started in
 a folder of its own, where files can be saved. `--print` prints sessions and compares nothing. The
 status is 0 if each session prints what it has to.
@@ -16,6 +16,7 @@ import difflib
 import itertools
 import os
 import pathlib
+import re
 import shlex
 import subprocess
 import sys
@@ -43,24 +44,27 @@ QUIET = ["set confirm off", "set pagination off", "set width 0"]
 
 
 def commands_of(session):
-    """The words of a session's command line, and its commands without comments."""
+    """How gdb is connected, the words of the command line, and gdb's commands without comments."""
     first, *lines = session.read_text().splitlines()
-    words = shlex.split(first)
-    if words[:2] != ["#", "s360gdb"]:
+    head = re.fullmatch(r"# (extended )?s360gdb\b(.*)", first)
+    if head is None:
         raise ValueError(f"{session}: its first line is not '# s360gdb WORD ..'")
-    return words[2:], [line for line in lines if line and not line.startswith("#")]
+    target = "extended-remote" if head[1] else "remote"
+    return target, shlex.split(head[2]), [line for line in lines if line and not line.startswith("#")]
 
 
-def shown(session, program, elf):
+def shown(session, program):
     """What a terminal shows of a session: if gdb reads no terminal, it prints the prompts alone."""
-    words, commands = commands_of(session)
-    target = shlex.join([str(program), *words])
-    setup = [*QUIET, f"file {elf}", f"target remote | {target}"]
-    gdb = ["gdb-multiarch", "-q", "-nx", "-x", TOP / "tools/gdb/s360.gdb"]
-    gdb += [word for line in setup for word in ("-ex", line)]
-    how = {"stdout": subprocess.PIPE, "stderr": subprocess.STDOUT, "timeout": SECONDS}
-    how |= {"text": True, "errors": "replace", "env": {**os.environ, "TERM": "dumb"}}
+    target, words, commands = commands_of(session)
     with tempfile.TemporaryDirectory() as folder:
+        elf = pathlib.Path(folder, "s360.elf")
+        subprocess.run([TOP / "tools/gdb/make_elf.py", elf, *words], check=True)
+        setup = [*QUIET, f"file {elf}", f"target {target} | {shlex.join([str(program), *words])}"]
+        gdb = ["gdb-multiarch", "-q", "-nx", "-x", TOP / "tools/gdb/s360.gdb"]
+        gdb += [word for line in setup for word in ("-ex", line)]
+        how = {"stdout": subprocess.PIPE, "stderr": subprocess.STDOUT, "timeout": SECONDS}
+        how |= {"encoding": "utf-8", "errors": "replace"}
+        how |= {"env": {**os.environ, "TERM": "dumb", "LC_ALL": "C.UTF-8"}}
         for name in FOLDERS:
             pathlib.Path(folder, name).symlink_to(TOP / name)
         printed = subprocess.run(gdb, input="\n".join([*commands, ""]), cwd=folder, **how).stdout
@@ -74,10 +78,10 @@ def echoed(printed, commands):
     return "".join(shown).splitlines()
 
 
-def differences(session, program, elf):
+def differences(session, program):
     """The lines that differ from what a session has to show."""
     wanted = session.with_suffix(".transcript").read_text().splitlines()
-    got = shown(session, program, elf)
+    got = shown(session, program)
     return list(difflib.unified_diff(wanted, got, "wanted", "shown", lineterm=""))
 
 
@@ -113,14 +117,12 @@ def main():
     named = [SESSIONS / f"{name}.gdb" for name in options.names]
     sessions = named or sorted(SESSIONS.glob("*.gdb"))
     program = options.program.resolve()
-    with tempfile.TemporaryDirectory() as folder, ThreadPoolExecutor(2) as pool:
-        elf = pathlib.Path(folder, "s360.elf")
-        subprocess.run([TOP / "tools/gdb/make_elf.py", elf], check=True)
-        if options.print:
-            for session in sessions:
-                print("\n".join(shown(session, program, elf)))
-            return 0
-        found = list(pool.map(lambda session: differences(session, program, elf), sessions))
+    if options.print:
+        for session in sessions:
+            print("\n".join(shown(session, program)))
+        return 0
+    with ThreadPoolExecutor(2) as pool:
+        found = list(pool.map(lambda session: differences(session, program), sessions))
     names = [session.stem for session in sessions]
     if not options.names:
         names = [*names, *(page for page, *_ in SCREENS)]

@@ -30,7 +30,7 @@ monitor enter HELLO
 continue
 x/5xb 0x400
 # What the operator does in vain is recorded all the same: start of a machine that operates, which alters nothing. Taken
-# back and run again, it is the reason
+# back and run again, the record ends with it
 monitor key start
 monitor back
 continue

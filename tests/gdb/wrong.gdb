@@ -2,10 +2,15 @@
 # What the machine has not: gdb says so, and the session goes on
 x/xb 0x1fff
 x/xb 0x2000
-# Reads aren't watched, which gdb finds when the machine is to go on
+# Reads aren't watched, and gdb's own record is not begun: each is refused at once, and other watches stay
+watch *(char*)0x302
 rwatch *(char*)0x300
 awatch *(char*)0x301
-continue
+record
+record full
+record btrace
+target record-full
+info watchpoints
 delete
 # One thread, to which gdb is attached
 info threads

@@ -1,16 +1,18 @@
 #!/usr/bin/env python3
 """Makes the file that gdb is given for the machine: no code, but what gdb has to know of every address.
 
-    tools/gdb/make_elf.py FILE
+    tools/gdb/make_elf.py FILE [WORD ..]
 
-It is an ELF file of 32 bits for s390, with the high byte first, whose one frame description covers all 16 megabytes. Its return
+The words are those of s360gdb's command line, of which `--storage` tells the size of storage. It is an ELF file of 32 bits for s390,
+with the high byte first, whose one section has that size, and whose one frame description covers all 16 megabytes. Its return
 address is undefined, so that each frame is the outermost: else `stepi`, `nexti`, `until` and `set var $pc` fail, since gdb
 looks for a caller by the rules of a later system. Sources: the ELF specification; DWARF, call frame information.
 """
+import argparse
 import struct
 import sys
 
-ADDRESSES = 1 << 24
+ADDRESSES, STORAGE = 1 << 24, 65536
 RETURN_ADDRESS, STACK_POINTER = 14, 15
 DW_CFA_UNDEFINED, DW_CFA_DEF_CFA = 0x07, 0x0C
 PROGBITS, NOBITS, STRTAB = 1, 8, 3
@@ -34,8 +36,8 @@ def frames():
     return entry(common) + entry(struct.pack(">III", 0, 0, ADDRESSES))
 
 
-def elf():
-    """The file."""
+def elf(storage):
+    """The file of a machine with so many bytes of storage."""
     names = b"\0.debug_frame\0.shstrtab\0.text\0"
     described = frames()
     headers = ELF_HEADER + len(described) + len(names)
@@ -47,7 +49,7 @@ def elf():
     sections = [
         bytes(SECTION_HEADER),
         section(b".debug_frame", PROGBITS, 0, ELF_HEADER, len(described), 4),
-        section(b".text", NOBITS, ALLOC_AND_EXECUTE, ELF_HEADER, ADDRESSES, 4),
+        section(b".text", NOBITS, ALLOC_AND_EXECUTE, ELF_HEADER, storage, 4),
         section(b".shstrtab", STRTAB, 0, ELF_HEADER + len(described), len(names), 1),
     ]
     # 32 bits, high byte first, version 1, System V.
@@ -60,11 +62,17 @@ def elf():
     return (header + described + names).ljust(headers, b"\0") + b"".join(sections)
 
 
-if __name__ == "__main__":
-    if len(sys.argv) != 2:
-        sys.exit(__doc__)
+def main():
+    parser = argparse.ArgumentParser(usage="tools/gdb/make_elf.py FILE [WORD ..]", allow_abbrev=False)
+    parser.add_argument("file", metavar="FILE")
+    parser.add_argument("--storage", type=int, default=STORAGE)
+    options, _others = parser.parse_known_args()
     try:
-        with open(sys.argv[1], "wb") as file:
-            file.write(elf())
+        with open(options.file, "wb") as file:
+            file.write(elf(options.storage))
     except OSError as fault:
-        sys.exit(f"{sys.argv[1]}: {fault.strerror}")
+        sys.exit(f"{options.file}: {fault.strerror}")
+
+
+if __name__ == "__main__":
+    main()
