@@ -27,6 +27,7 @@ PROGRAM = TOP / "crates/s360dbg"
 SEEDS = ("1", "20")
 FUZZED = "2000"
 PACKETS = "60000"
+COMMANDS = "300"
 SESSIONS = "20"
 # A check of one job takes no more memory than this. `rt ci` counts with twice as much and more, and lets processors idle.
 BYTES_OF_A_CHECK = 5 * 2**30
@@ -44,6 +45,7 @@ WHOLE = [
     ("saved files", ["tests/saved_files.py"]),
     ("gdb sessions", ["tests/gdb_sessions.py"]),
     ("fuzzed packets", ["tests/packet_fuzz.py", "--requests", PACKETS]),
+    ("fuzzed commands of gdb", ["tests/gdb_fuzz.py", "--commands", COMMANDS]),
     ("chains by experiment", ["tests/why_by_experiment.py", "--sessions", SESSIONS]),
     ("documents", ["tests/documents.py"]),
 ]

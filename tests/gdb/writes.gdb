@@ -14,7 +14,8 @@ x/2xw 0x300
 x/5xb 0x1280
 continue
 x/5xb 0x1280
-# All of the deck is outside storage from byte FFC0 on but 64 bytes: nothing is written, and nothing recorded
+# All of the deck is outside storage from byte FFC0 on but 64 bytes: gdb, which knows where storage ends, writes these, and then says what
+# failed
 restore examples/cards.deck binary 0xffc0
 x/2xw 0xffc0
 monitor standing

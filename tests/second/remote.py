@@ -404,8 +404,6 @@ class Target:
             return "idle: the CPU is stopped\n"
         if name.startswith("channel"):
             return "idle: the console waits for a line\n"
-        if name != "cpu":
-            return "idle: the event altered nothing\n"
         waits = machine.psw_field(49, 1)
         return f"idle: the {'CPU waits' if waits else 'instruction altered nothing'}\n"
 

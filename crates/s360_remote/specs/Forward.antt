@@ -135,7 +135,7 @@ resumed p reach r n = if is_at_rest r then record { state = r; why = Idle } else
 
 -- so many events are run, or taken back, before gdb is let in
 abbrev pub most_turns : ℕ
-most_turns = 100000
+most_turns = 300000
 
 -- of an accepted record: what was taken back is run again by the next turn, which leads to the very state that was
 abbrev pub TurnRunsAgain : Type 0

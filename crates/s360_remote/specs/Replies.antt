@@ -1,7 +1,7 @@
 -- The packets that are sent to gdb (gdb manual, "Packets", "Stop Reply Packets").
 use Rattle.std.specs.Prelude.{ℕ, ◌+◌, Bool, true, false, nat_eq, nat_lt, if◌then◌else◌, List, [], ◌∷◌, ◌++◌, codes, length, slice_range, Option, Some, None}
 use Rattle.s360_machine.specs.declared.event_kind.EventKind.{EventKind}
-use Rattle.s360_machine.specs.declared.event_kind.EventKind.TheVariants.{Cpu, Channel}
+use Rattle.s360_machine.specs.declared.event_kind.EventKind.TheVariants.{Channel}
 use Rattle.s360_machine.specs.Machine.{Machine}
 use Rattle.s360_machine.specs.RunStates.{is_operating}
 use Rattle.s360_model.specs.Psw.{wait_of}
@@ -58,9 +58,8 @@ stop_packet stop = framed (stop_text stop)
 abbrev pub idle_words_of : Bool → Option EventKind → Bool → List ℕ
 idle_words_of false last waits = codes "idle: the CPU is stopped\n"
 idle_words_of true (Some (Channel unit)) waits = codes "idle: the console waits for a line\n"
-idle_words_of true (Some Cpu) true = codes "idle: the CPU waits\n"
-idle_words_of true (Some Cpu) false = codes "idle: the instruction altered nothing\n"
-idle_words_of true other waits = codes "idle: the event altered nothing\n"
+idle_words_of true other true = codes "idle: the CPU waits\n"
+idle_words_of true other false = codes "idle: the instruction altered nothing\n"
 
 abbrev pub idle_words : Machine → Option EventKind → List ℕ
 idle_words m last = idle_words_of (is_operating m.control.run_state) last (wait_of m.core.psw)

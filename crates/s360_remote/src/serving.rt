@@ -535,8 +535,7 @@ fn idle_words(operates: bool, last: Option<EventKind>, waits: bool) -> &'static 
     match last {
         _ if !operates => "idle: the CPU is stopped\n",
         Some(EventKind::Channel(_)) => "idle: the console waits for a line\n",
-        Some(EventKind::Cpu) if waits => "idle: the CPU waits\n",
-        Some(EventKind::Cpu) => "idle: the instruction altered nothing\n",
-        _ => "idle: the event altered nothing\n",
+        _ if waits => "idle: the CPU waits\n",
+        _ => "idle: the instruction altered nothing\n",
     }
 }

@@ -24,7 +24,7 @@ use std::alloc::{AllocError, Global};
 use std::marker::Model;
 
 /// So many events are run, or taken back, before gdb is let in: about a third of a second's.
-const TURNS: u32 = 100_000;
+const TURNS: u32 = 300_000;
 
 /// A recording and the points at which it stops.
 #[derive(Drop)]
