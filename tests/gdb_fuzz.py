@@ -20,9 +20,10 @@ import tempfile
 from concurrent.futures import ThreadPoolExecutor
 
 from fuzzer.packets import AGAIN, CODE, COUNTS, DATA, Requests
-from packet_fuzz import DECK, deck_of
+from packet_fuzz import deck_of
 from packet_rows import PROGRAM, TOP
 from second.remote import Endless, Target
+from second.tapes import Tape, items_of
 
 IN_A_SESSION = 60
 SECONDS = 30
@@ -37,6 +38,8 @@ KINDS = {"step": 14, "go": 16, "back_step": 8, "back": 10, "break": 10, "watch":
 KINDS |= {"until": 3, "set": 8, "monitor": 8}
 LINES = ["step", "tick", "key stop", "key start", "key interrupt", "back", "until", "standing"]
 LINES += ["goto start", "goto end", "goto last", "where", "help", "patch r 3 5", "channel 00C"]
+# Whose first line is their command line.
+EXAMPLES = sorted((TOP / "examples").glob("*.s360"))
 
 
 class Stop(Exception):
@@ -61,12 +64,23 @@ class Watch:
         return self.at <= byte < self.at + self.count
 
 
+def tapes_of(words):
+    """The tapes that a command line names."""
+    if "--tape0" not in words:
+        return Tape(), Tape()
+    image = (TOP / words[words.index("--tape0") + 1]).read_bytes()
+    return Tape(recorded=tuple(items_of(image))), Tape()
+
+
 class User:
     """What commands of gdb have to do over the second machine."""
 
-    def __init__(self, *media):
-        self.target = Target(*media)
+    def __init__(self, words=()):
+        self.target = Target(deck_of(words), tapes_of(words))
         self.recording = self.target.recording
+        if words and words[-1].endswith(".s360"):
+            for _answer in self.recording.answers((TOP / words[-1]).read_bytes()):
+                pass
         self.points, self.watches, self.number = [], [], 0
         self.untold = []
 
@@ -239,6 +253,10 @@ class User:
         if self.target.words()[number] != word:
             self.write(b"P%x=%08x" % (number, word))
 
+    def write_condition_code(self, code):
+        """It has bits 18 and 19 of the mask word."""
+        self.write_register(0, self.target.words()[0] & ~0x3000 | code << 12)
+
     def line(self, line):
         """A line of `monitor`: if it moves the machine, gdb looks at all anew, and stops there."""
         standing = self.standing
@@ -255,18 +273,26 @@ class Commands(Requests):
 
     def __init__(self, seed):
         super().__init__(seed)
-        self.deck = DECK if self.random() < 0.5 else []
-        self.user = User(deck_of(self.deck))
+        self.words = self.choice([[], self.example()])
+        self.user = User(self.words)
+
+    def example(self):
+        """The words of an example's command line: its media, and at times its script."""
+        words = self.choice(EXAMPLES).read_text().partition("\n")[0].split()[2:]
+        return words if self.random() < 0.5 or len(words) == 1 else words[:-1]
 
     def place(self):
-        """An address where the machine gets to, as far as can be told."""
-        return self.code()
+        """An address where the machine was, or one near the beginning of a program."""
+        psws = [change.noted.get("p") for change in self.user.recording.changes]
+        met = [psw & 0xFFFFFF for psw in psws if psw is not None]
+        return self.choice(met[-60:]) if met and self.random() < 0.7 else self.code()
 
     def first(self):
-        """A program, and where it begins."""
-        if self.deck:
-            yield "monitor key eof", lambda user: user.line("key eof")
-            yield "monitor load 00C", lambda user: user.line("load 00C")
+        """A program, if none is there, and where it begins."""
+        lines = {"--reader": ["key eof", "load 00C"], "--tape0": ["load 180"]}
+        if self.words:
+            for line in lines.get(self.words[0], []) if len(self.words) == 2 else []:
+                yield f"monitor {line}", lambda user, line=line: user.line(line)
             return
         run = b"".join(self.instruction() for _ in range(self.randrange(1, 6))) + COUNTS + AGAIN
         lines = [f"patch s {CODE:X} {run.hex()}", f"patch r 3 {self.randrange(2, 30):X}"]
@@ -336,6 +362,7 @@ class Commands(Requests):
             [
                 (f"set var $r{number}={word:#x}", lambda user: user.write_register(number + 2, word)),
                 (f"set var $pc={CODE:#x}", lambda user: user.write_register(1, CODE)),
+                (f"set var $cc={number}", lambda user: user.write_condition_code(number)),
                 (
                     f"set var *(unsigned char*){at:#x}={word % 256}",
                     lambda user: user.write_byte(at, word % 256),
@@ -422,7 +449,7 @@ def fault_of(seed, count, program):
     """The first command of a session that ends otherwise than it has to, if there is one."""
     some = Commands(seed)
     ended = list(some.all(count))
-    target = " ".join([str(program), *some.deck])
+    target = " ".join([str(program), *some.words])
     with tempfile.TemporaryDirectory() as folder:
         elf, commands = (pathlib.Path(folder, name) for name in ("s360.elf", "commands"))
         subprocess.run([TOP / "tools/gdb/make_elf.py", elf], check=True)
@@ -434,7 +461,7 @@ def fault_of(seed, count, program):
         gdb += ["-x", TOP / "tests/fuzzer/gdb_driver.py"]
         environment = {**os.environ, "COMMANDS": str(commands), "TOLD": str(out), "TERM": "dumb"}
         how = {"stdin": subprocess.DEVNULL, "stdout": subprocess.PIPE, "stderr": subprocess.STDOUT}
-        with subprocess.Popen(gdb, pass_fds=[out], env=environment, **how) as running:
+        with subprocess.Popen(gdb, cwd=TOP, pass_fds=[out], env=environment, **how) as running:
             os.close(out)
             try:
                 got = [json.loads(line) for line in zip_within(ended, told)]
