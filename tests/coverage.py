@@ -66,6 +66,7 @@ REQUESTS = ["?", "g", "G", "p", "P", "m", "M", "X", "s", "c", "bs", "bc"]
 REQUESTS += [f"{letter}{point}," for letter in "Zz" for point in range(3)]
 REQUESTS += ["qSupported", "qXfer:features:read:target.xml:", "Hg", "Hc", "T", "qC", "qAttached"]
 REQUESTS += ["qfThreadInfo", "qsThreadInfo", "qRcmd,", "QStartNoAckMode", "D", "vKill;", "k"]
+REQUESTS += ["!", "vRun;", "R", "qXfer:memory-map:read:", "qs360.moved"]
 # What a faulty line and a refusal begin with, and what answers a request that is not carried out.
 FAULT, REFUSAL = b"? ", b"refused "
 NOT_CARRIED_OUT = re.compile(rb"|E[0-9a-f]{2}")

@@ -444,6 +444,11 @@ SERVER_HELP = Has((b"Usage: s360gdb [OPTIONS] [SCRIPT]\n", *OPTIONS, b"gdb's rem
 # 5 goes to register 1, 3 in gdb's count, and the instruction at 200 is run and taken back.
 STEPPED_BACK = (b"M200,2:1a12", b"P1=00000200", b"P3=00000005", b"P4=00000007", b"s", b"bs")
 STEPS_BACK = (b"OK", b"OK", b"OK", b"OK", b"T05", b"T05")
+# A step back that finds nothing to take back says so.
+AT_THE_START = (b"O" + b"start of what was recorded\n".hex().encode(), b"T00")
+# BCT 3,200 branches to itself: 300,000 events later gdb is let in.
+COUNTING = (b"M200,4:46300200", b"P1=00000200")
+LET_IN = b"T05swbreak:;"
 SERVING = [
     served("gdb: help", ["--help"], b"", 0, SERVER_HELP),
     served("gdb: the version", ["--version"], sent(b"?"), 0, VERSION % b"s360gdb"),
@@ -470,7 +475,7 @@ SERVING = [
            None),
     served("gdb: a script's events are gdb's to take back", ["addition.s360"],
            sent(b"p3", b"bs", b"p3", b"bs", b"p3"), 0,
-           answered(b"0000000c", b"T05", b"00000005", b"T05replaylog:begin;", b"00000000"), ADDED),
+           answered(b"0000000c", b"T05", b"00000005", *AT_THE_START, b"00000000"), ADDED),
     served("gdb: no script is read from standard input", [], b"standing\n", 0),
     served("gdb: no packet"),
     served("gdb: no packet, and no answer that is written", [], b"", 0, None),
@@ -484,7 +489,11 @@ SERVING = [
            answered(*STEPS_BACK, b"OK", b"00000009"), server_told(b"dropped 1 recorded changes")),
     served("gdb: a write that was recorded drops nothing", [],
            sent(b"P3=00000005", b"bs", b"P3=00000005", b"p3"), 0,
-           answered(b"OK", b"T05replaylog:begin;", b"OK", b"00000005")),
+           answered(b"OK", *AT_THE_START, b"OK", b"00000005")),
+    served("gdb: a long run lets it in, forward and back", [],
+           sent(*COUNTING, b"c", b"p5", b"c", b"p5", b"bc", b"p5", b"bc", b"p5", b"bc"), 0,
+           answered(b"OK", b"OK", LET_IN, b"fffb6c20", LET_IN, b"fff6d840", LET_IN, b"fffb6c20",
+                    LET_IN, b"00000000", b"T05replaylog:begin;")),
     served("gdb: each drop is told once", [],
            sent(*STEPPED_BACK, b"P3=00000009", b"s", b"bs", b"P4=00000002", b"s"), 0,
            answered(*STEPS_BACK, b"OK", b"T05", b"T05", b"OK", b"T05"),

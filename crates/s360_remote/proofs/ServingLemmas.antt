@@ -7,17 +7,16 @@ use Rattle.s360_packet.specs.Receiving.{acknowledgement_of, after_byte, received
 use Rattle.s360_packet.specs.Requests.{Reading, Reads, TakesMemory}
 use Rattle.s360_packet.specs.declared.receiver.Received.{Received}
 use Rattle.s360_packet.specs.declared.request.Payload.{Payload}
-use Rattle.s360_packet.specs.declared.answer.Stop.TheVariants.{Interrupt}
 use Rattle.s360_packet.specs.declared.request.Breakpoint.{Breakpoint}
 use Rattle.s360_packet.specs.declared.request.Point.{Point}
 use Rattle.s360_packet.specs.declared.request.Request.{Request}
 use Rattle.s360_packet.specs.declared.request.Request.TheVariants.{Stopped, Registers, WriteRegisters, Register, WriteRegister, Storage, WriteStorage, Step, Continue, StepBack, ContinueBack, Insert, InsertIf, Remove, Supported, Description, MemoryMap, HasMoved, Extend, Restart, Run, Select, IsAlive, CurrentThread, Attached, FirstThreads, NextThreads, StopAcknowledging, Command, Detach, Kill, KillProcess}
 use Rattle.s360_packet.specs.declared.request.RequestFault.{RequestFault}
 use Rattle.s360_packet.specs.declared.request.RequestFault.TheVariants as fault
-use Rattle.s360_remote.specs.Connecting.{Connected, IsAnswered, IsCompleted, IsMet, IsReceived, IsTaken, answer_to_fault, errand_of, going, is_to_move}
+use Rattle.s360_remote.specs.Connecting.{Connected, IsAnswered, IsCompleted, IsInterrupted, IsMet, IsReceived, IsTaken, answer_to_fault, errand_of, going, is_to_move}
 use Rattle.s360_remote.specs.Driven.{Driven}
 use Rattle.s360_remote.specs.ErrorNumbers.{error_of}
-use Rattle.s360_remote.specs.Replies.{packet_of, stop_packet}
+use Rattle.s360_remote.specs.Replies.{packet_of}
 use Rattle.s360_remote.specs.Serving.{IsBegun, IsServed, machine_now, then_after, told}
 use Rattle.s360_remote.specs.declared.errand.Errand.{Errand}
 use Rattle.s360_remote.specs.declared.errand.Errand.TheVariants.{Nothing}
@@ -151,11 +150,10 @@ of-request (Err g) c e d t request errand packets h met = absurd (cc)
 of-request (Ok r) c e d t request errand packets (inl h) met = let same : request ≡ r = cc in subst (λ x. IsMet (c.interrupted && is_to_move x) x c d e t errand packets) same met
 of-request (Ok r) c e d t request errand packets (inr h) met = let wrong = h.1 in absurd (cc)
 
-pub answered-interrupted : (reading : Reading) (c : Connected) (d : Driven) (request : Request) → Reads reading (Ok request) → (c.interrupted && is_to_move request) ≡ true
-    → IsAnswered reading c d (record c { interrupted = false }) d Nothing (stop_packet Interrupt)
-answered-interrupted reading c d request h is =
-    of-request reading c (record c { interrupted = false }) d d request Nothing (stop_packet Interrupt) h
-    (subst (λ b. IsMet b request c d (record c { interrupted = false }) d Nothing (stop_packet Interrupt)) (sym is) ((refl, refl, refl), refl))
+pub answered-interrupted : (reading : Reading) (c e : Connected) (d : Driven) (request : Request) (packets : List ℕ) → Reads reading (Ok request) → (c.interrupted && is_to_move request) ≡ true
+    → IsInterrupted c e packets → IsAnswered reading c d e d Nothing packets
+answered-interrupted reading c e d request packets h is told =
+    of-request reading c e d d request Nothing packets h (subst (λ b. IsMet b request c d e d Nothing packets) (sym is) (refl, refl, told))
 
 pub answered-request : (reading : Reading) (c e : Connected) (d t : Driven) (request : Request) (next : Then) (errand : Errand) (packets : List ℕ) → Reads reading (Ok request)
     → (c.interrupted && is_to_move request) ≡ false → IsServed request d t next packets → e ≡ going c next → errand ≡ errand_of next → IsAnswered reading c d e t errand packets

@@ -73,9 +73,14 @@ IsCarriedOut request c d e t errand packets =
     ((next : Then) × IsServed request d t next packets × (e ≡ going c next) × (errand ≡ errand_of next))
     ⊎ (((t ≡ d) ⊎ IsBegun request d t) × (e ≡ c) × (errand ≡ Nothing) × (packets ≡ packet_of (error_of Memory)))
 
+-- gdb is told that its user has interrupted the machine, which is over then; or memory lacks for that
+abbrev pub IsInterrupted : Connected → Connected → List ℕ → Type 0
+IsInterrupted c e packets =
+    ((e ≡ record c { interrupted = false }) × (packets ≡ stop_packet Interrupt)) ⊎ ((e ≡ c) × (packets ≡ packet_of (error_of Memory)))
+
 -- a request to move the machine that gdb's user has interrupted is answered by that alone
 abbrev pub IsMet : Bool → Request → Connected → Driven → Connected → Driven → Errand → List ℕ → Type 0
-IsMet true request c d e t errand packets = IsLeft (record c { interrupted = false }) d e t errand × (packets ≡ stop_packet Interrupt)
+IsMet true request c d e t errand packets = (t ≡ d) × (errand ≡ Nothing) × IsInterrupted c e packets
 IsMet false request c d e t errand packets = IsCarriedOut request c d e t errand packets
 
 abbrev pub IsAnswered : Reading → Connected → Driven → Connected → Driven → Errand → List ℕ → Type 0

@@ -232,6 +232,5 @@ IsBegun (Insert point at kind) d t = t ≡ record d { points = points_with point
 IsBegun (InsertIf point at kind conditions) d t = IsInsertIfBegun (conditions_in conditions) at d t
 IsBegun (Remove point at kind) d t = t ≡ record d { points = points_without point at kind d }
 IsBegun (Command line) d t = IsCommandBegun (saving_of line) line d t
-IsBegun HasMoved d t = t ≡ after_asking d
 IsBegun Run d t = t ≡ started_anew d
 IsBegun other d t = t ≡ d

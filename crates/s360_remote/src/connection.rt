@@ -4,7 +4,7 @@ ghost use Rattle.std.specs.Option.{option_to_list};
 ghost use Rattle.s360_packet.specs.Receiving.{acknowledgement_of, between_packets};
 ghost use Rattle.s360_packet.specs.Requests.{reading_of};
 ghost use Rattle.s360_packet.specs.declared.receiver.Acknowledging.TheVariants.{On};
-ghost use Rattle.s360_remote.specs.Connecting.{IsAnswered, IsReceived, IsTaken, answer_to_fault, errand_of, going, is_to_move};
+ghost use Rattle.s360_remote.specs.Connecting.{IsAnswered, IsInterrupted, IsReceived, IsTaken, answer_to_fault, errand_of, going, is_to_move};
 
 use crate::errand::Errand;
 use crate::error_number::ErrorNumber;
@@ -124,8 +124,7 @@ impl Connection {
             }
         };
         if self.is_interrupted(&request) {
-            self.interrupted = false;
-            replies.push(Answer::Stopped(Stop::Interrupt))?;
+            self.tell_interruption(replies)?;
             return Ok(Errand::Nothing);
         }
         let mut answered = Replies::new(self.alloc);
@@ -138,6 +137,21 @@ impl Connection {
                 replies.push(ErrorNumber::Memory.answer())?;
                 Ok(Errand::Nothing)
             }
+        }
+    }
+
+    /// Tells gdb that its user has interrupted the machine, which is over then; or that memory lacks for that.
+    fn tell_interruption(&mut self, replies: &mut Replies) -> Result<(), AllocError>
+        ensures { OnOk result ((packets : List ℕ) × IsInterrupted self.old self.new packets × (replies.new ≡ replies.old ++ packets)) }
+    {
+        let mut answered = Replies::new(self.alloc);
+        match answered.push(Answer::Stopped(Stop::Interrupt)) {
+            Ok(()) => {
+                replies.push_all(&answered)?;
+                self.interrupted = false;
+                Ok(())
+            }
+            Err(AllocError) => replies.push(ErrorNumber::Memory.answer()),
         }
     }
 

@@ -202,14 +202,15 @@ impl Target {
 
     /// Tells whether the last line of gdb's user moved the machine.
     fn tell_moved(&mut self, replies: &mut Replies) -> Result<Then, AllocError>
-        ensures state { self.new ≡ after_asking self.old }
+        ensures state { OnOk result (self.new ≡ after_asking self.old) }
         ensures answer { IfOk result (λ next. (next ≡ GoOn) × (replies.new ≡ replies.old ++ packet_of (Moved self.old.untold.moved))) }
+        ensures memory { OnErr result (self.new ≡ self.old) }
     {
+        replies.push(Answer::Moved(self.untold.moved))?;
         if self.untold.moved {
             self.untold.altered = Altered::new();
             self.untold.stop = true;
         }
-        replies.push(Answer::Moved(self.untold.moved))?;
         Ok(Then::GoOn)
     }
 

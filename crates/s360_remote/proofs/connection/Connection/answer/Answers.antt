@@ -1,10 +1,8 @@
-use Rattle.std.proofs.Common.{◌≡◌, ◌++◌, ◌∙◌, Err, Ok, ap, false, rules, subst, sym}
+use Rattle.std.proofs.Common.{◌≡◌, ◌++◌, ◌∙◌, Err, Ok, ap, rules, subst, sym}
 use Rattle.s360_packet.specs.Requests.{Reads, reading_of}
-use Rattle.s360_packet.specs.declared.answer.Stop.TheVariants.{Interrupt}
-use Rattle.s360_remote.specs.Connecting.{Connected, IsAnswered, answer_to_fault}
+use Rattle.s360_remote.specs.Connecting.{Connected, answer_to_fault}
 use Rattle.s360_remote.specs.ErrorNumbers.{error_of}
-use Rattle.s360_remote.specs.Replies.{packet_of, stop_packet}
-use Rattle.s360_remote.specs.declared.errand.Errand.TheVariants.{Nothing}
+use Rattle.s360_remote.specs.Replies.{packet_of}
 use Rattle.s360_remote.specs.declared.error_number.ErrorNumber.TheVariants.{Memory}
 use Rattle.s360_remote.proofs.ServingLemmas.{answered-fault, answered-interrupted, answered-memory, answered-request}
 use Rattle.s360_remote.proofs.connection.Connection.answer.Goals as goal
@@ -20,10 +18,13 @@ pub returns-then-is_interrupted : goal.returns-then-is_interrupted
 returns-then-is_interrupted c =
     let bytes : c.data.result.now ≡ c.args.self.now.receiving.bytes = c.data.ensures.bytes ∙ ap (λ (x : Connected). x.receiving.bytes) c.self.view_is
     in let reads : Reads (reading_of c.args.self.now.receiving.bytes) (Ok c.in-Ok.request) = subst (λ b. Reads (reading_of b) (Ok c.in-Ok.request)) bytes c.in-Ok.ensures
-    in let met = answered-interrupted (reading_of c.args.self.now.receiving.bytes) c.args.self.now c.args.target.now c.in-Ok.request reads (sym c.is_interrupted.ensures ∙ c.if-is_interrupted.true)
-    in let after = ap (λ (x : Connected). record x { interrupted = false }) c.self.view_is
-    in let told = subst (λ e. IsAnswered (reading_of c.args.self.now.receiving.bytes) c.args.self.now c.args.target.now e c.args.target.now Nothing (stop_packet Interrupt)) (sym after) met
-    in (stop_packet Interrupt, told, search rules)
+    in let told = c.in_ok-tell_interruption.ensures
+    in (
+      told.0,
+      answered-interrupted (reading_of c.args.self.now.receiving.bytes) c.args.self.now c.tell_interruption.new.self c.args.target.now c.in-Ok.request told.0 reads
+          (sym c.is_interrupted.ensures ∙ c.if-is_interrupted.true) told.1,
+      told.2,
+    )
 
 pub returns-in-Ok-serve : goal.returns-in-Ok-serve
 returns-in-Ok-serve c =
