@@ -8,8 +8,9 @@ where nothing can be answered, the program ends with status 1. What it has answe
 beginning of the row's answers.
 
 Behind the packets of a row, but before gdb leaves, others lead back to the start: they take out
-each point that the row sets, go back by `bc`, and ask for the registers and for the storage that
-the row altered, which have to be what they were. Of all these only the answers take memory.
+each point that the row sets, go back by `bc`, of which two may tell what was still to be told, and
+ask for the registers and for the storage that the row altered, which have to be what they were. Of
+all these only the answers take memory.
 """
 import functools
 import itertools
@@ -29,7 +30,8 @@ LEAVE = re.compile(rb"\$(?:D|k|vKill;[0-9a-f]+)#")
 SET_POINT = re.compile(rb"\$Z([012],[0-9a-f]+,[0-9a-f]+)#")
 # Altered storage is asked for in whole blocks.
 BLOCK = 256
-NOT_AT_ALL = -1
+# Nothing was done, or nothing but that the line before is the last one no longer.
+NOT_AT_ALL, BEGUN = -1, -2
 LINE = b"qRcmd,"
 # What is answered to no request, and what is not answered.
 NEED_NONE = ([], [b""], [MALFORMED])
@@ -80,6 +82,8 @@ class LackingTarget(Target):
         told = list(self.told)
         if self.number is not None:
             self.stand_at_change(data)
+        elif self.events == BEGUN:
+            self.is_moved = False
         elif self.events != NOT_AT_ALL:
             self.recording.events_left = self.events
             try:
@@ -146,8 +150,8 @@ class Conversation:
         asked = [b"g", *storage_requests(target.recording.altered)]
         fresh = Target(deck_of(row.words), protects_fetches=FETCH in row.words)
         self.first_back = len(target.answers)
-        self.back = [[OK]] * len(points) + [[AT_THE_START], *map(fresh.answer, asked)]
-        self.sent = before + b"".join(map(framed, [*points, b"bc", *asked])) + behind
+        self.back = [[OK]] * len(points) + [None, None, [AT_THE_START], *map(fresh.answer, asked)]
+        self.sent = before + b"".join(map(framed, [*points, *[b"bc"] * 3, *asked])) + behind
         whole = self.connection(self.sent)
         self.whole, self.ends = self.outcome_of(whole), [(0, 0), *whole.ends]
         self.answers = whole.target.answers
@@ -164,7 +168,7 @@ class Conversation:
         """What came over a connection."""
         target = connection.target
         back = target.answers[self.first_back :][: len(self.back)]
-        leads_back = all(came in (want, [MEMORY]) for came, want in zip(back, self.back))
+        leads_back = all(want is None or came in (want, [MEMORY]) for came, want in zip(back, self.back))
         return Outcome(connection.answered, target.told, leads_back, target.is_done)
 
     @functools.cache
@@ -173,7 +177,7 @@ class Conversation:
 
     def outcomes(self, request):
         """What may come of want of memory at a request."""
-        for kind, first in (("events", NOT_AT_ALL), ("number", 0)):
+        for kind, first in (("events", BEGUN), ("number", 0)):
             for count in itertools.count(first):
                 outcome = self.outcome(request, **{kind: count})
                 yield outcome
