@@ -3,6 +3,7 @@ use Rattle.std.proofs.Common.{◌≡◌, ◌≢◌, ◌+◌, ◌-◌, ◌++◌, 
 use Rattle.std.proofs.Common.{length-append, length-take}
 use Rattle.std.proofs.lemmas.Bool.{true≢false}
 use Rattle.std.proofs.lemmas.List.{take_all}
+use Rattle.std.specs.Bool.{then_some}
 use Rattle.std.specs.Prelude.{IsTrue, ◌↔◌}
 use Rattle.std.specs.List.{slice_get}
 use Rattle.std.specs.Option.{option_map, option_map_or, unwrap_or}
@@ -20,11 +21,12 @@ use Rattle.s360_record.specs.Recorded.{Recorded, next_recorded, rest_of, session
 use Rattle.s360_record.specs.declared.forwarding.Forwarded.{Forwarded}
 use Rattle.s360_record.specs.declared.forwarding.Forwarded.TheVariants.{New, Again, Dropped}
 use Rattle.s360_remote.specs.Backward.{is_cpu_last}
-use Rattle.s360_remote.specs.Forward.{IsTurn, after_event_of, after_turn, event_of_turn, is_cpu, is_end_of, is_idle, is_reached, pause_after, pause_of_turn, pause_with, refused_or, state_of_turn, unless_refused}
+use Rattle.s360_remote.specs.Forward.{IsTurn, after_event_of, after_turn, event_of_turn, is_cpu, is_end_of, is_idle, is_reached, pause_after, pause_of, pause_of_turn, pause_with, refused_or, state_of_turn, unless_refused}
 use Rattle.s360_remote.specs.Points.{Points, bytes_altered_by}
 use Rattle.s360_remote.specs.declared.pause.Pause.{Pause}
-use Rattle.s360_remote.specs.declared.pause.Pause.TheVariants.{Refused}
+use Rattle.s360_remote.specs.declared.pause.Pause.TheVariants.{Refused, Watch}
 use Rattle.s360_remote.specs.declared.pause.Reach.{Reach}
+use Rattle.s360_remote.specs.declared.pause.Reach.TheVariants.{Step, Stop}
 
 -- ---- the event whose turn it is stands
 
@@ -83,6 +85,16 @@ pause_after-is p reach r now f altered idle reached ended turn h i k l =
     ∙ ap (λ x. pause_with (bytes_altered_by now p.watches now.standing) (is_idle (next_recorded r) (alteration (session_of r) (event_of_turn r))) x ended reach) k
     ∙ ap (λ x. pause_with (bytes_altered_by now p.watches now.standing) (is_idle (next_recorded r) (alteration (session_of r) (event_of_turn r))) (is_reached reach p now (event_of_turn r)) x reach) l
     ∙ ap (λ s. pause_with (bytes_altered_by s p.watches s.standing) (is_idle (next_recorded r) (alteration (session_of r) (event_of_turn r))) (is_reached reach p s (event_of_turn r)) (is_end_of (next_recorded r) s) reach) (sym (after-turn r now f turn))
+
+pub pause-watch : (bytes : List ℕ) (idle reached ended : Bool) (reach : Reach) → bytes ≢ [] → Some (Watch bytes) ≡ pause_with bytes idle reached ended reach
+pause-watch [] idle reached ended reach some = absurd (some refl)
+pause-watch (at ∷ others) idle reached ended reach some = refl
+
+pub pause-reached : (reached : Bool) (reach : Reach) → then_some reached (pause_of reach) ≡ pause_with [] false reached false reach
+pause-reached true Step = refl
+pause-reached true Stop = refl
+pause-reached false Step = refl
+pause-reached false Stop = refl
 
 -- an event that was recorded leaves something to do
 idle-some : (o : Option Event) (e : Event) (ps : List Place) → o ≡ Some e → false ≡ is_idle o ps

@@ -309,6 +309,13 @@ impl Points {
         self.watches.as_slice().iter().any(|watch| watch.has(at))
     }
 
+    /// Whether no byte is watched.
+    pub(crate) fn watches_nothing(&self) -> bool
+        ensures { IsTrue result ↔ (self.now.watches ≡ []) }
+    {
+        self.watches.is_empty()
+    }
+
     /// The watched bytes that the change of this number was the last to alter: the first of each watch that has none of those
     /// before.
     pub(crate) fn bytes_altered_by(&self, recording: &Recording, number: u32) -> Altered

@@ -1,6 +1,6 @@
 //! The target: a machine whose events are recorded, with the points at which gdb asks it to stop. Source: gdb manual,
 //! "Reverse Execution".
-ghost use Rattle.std.specs.Prelude.{◌≡◌, ◌↔◌, ◌-◌, ◌<◌, ◌≤◌, ℕ, [], length, None, IfOk, IsTrue, OnErr, OnOk};
+ghost use Rattle.std.specs.Prelude.{◌≡◌, ◌≢◌, ◌↔◌, MatchOption, ◌-◌, ◌<◌, ◌≤◌, ℕ, [], length, None, IfOk, IsTrue, OnErr, OnOk};
 ghost use Rattle.s360_machine.specs.Machine.{seen, storage_size};
 ghost use Rattle.s360_machine.specs.declared.event.Event.{Event as Happening};
 ghost use Rattle.s360_journal.specs.Rerun.{AreAccepted};
@@ -119,14 +119,17 @@ impl Target {
         if self.standing() == 0 {
             return Some(Pause::RecordStart);
         }
-        let altered = self.bytes_altered_by(self.standing());
+        let altered = self.altered_by(self.standing());
         let is_cpu = self.is_cpu_last();
         self.back();
+        if let Some(altered) = altered {
+            return Some(Pause::Watch(altered));
+        }
         let is_reached = match reach {
             Reach::Step => is_cpu,
             Reach::Stop => self.is_at_stop(),
         };
-        pause_with(altered, false, is_reached, false, reach)
+        is_reached.then_some(reach.pause())
     }
 
     /// Runs the event whose turn it is, and answers why the machine pauses then, if it does.
@@ -147,11 +150,13 @@ impl Target {
     fn pause_after(&self, reach: Reach, forwarded: Forwarded) -> Option<Pause>
         ensures { (before : Recorded) → IsTurn before self.now.recorded forwarded → result ≡ pause_after self.now.points reach before }
     {
-        let altered = self.bytes_altered_by(self.standing());
+        if let Some(altered) = self.altered_by(self.standing()) {
+            return Some(Pause::Watch(altered));
+        }
         let is_idle = self.is_idle_after(forwarded);
         let is_reached = self.is_reached(reach);
         let is_end = self.is_at_end(forwarded);
-        pause_with(altered, is_idle, is_reached, is_end, reach)
+        pause_with(is_idle, is_reached, is_end, reach)
     }
 
     /// Whether an event that was not recorded altered nothing.
@@ -231,12 +236,20 @@ impl Target {
         self.counting.recording.standing()
     }
 
-    /// The watched bytes that the change of this number was the last to alter, one of each watch at most.
-    fn bytes_altered_by(&self, number: u32) -> Altered
-        ensures { result ≡ bytes_altered_by self.now.recorded self.now.points.watches number }
+    /// The watched bytes that the change of this number was the last to alter, one of each watch at most, if there are any.
+    fn altered_by(&self, number: u32) -> Option<Altered>
+        ensures { MatchOption result (bytes_altered_by self.now.recorded self.now.points.watches number ≡ []) (λ altered. (altered ≢ []) × (bytes_altered_by self.now.recorded self.now.points.watches number ≡ altered)) }
     {
-        self.points
-            .bytes_altered_by(&self.counting.recording, number)
+        if self.points.watches_nothing() {
+            return None;
+        }
+        let altered = self
+            .points
+            .bytes_altered_by(&self.counting.recording, number);
+        if altered.is_empty() {
+            return None;
+        }
+        Some(altered)
     }
 
     /// Takes back the last change that stands.
@@ -248,20 +261,11 @@ impl Target {
     }
 }
 
-/// Why the machine pauses after an event that altered these bytes, of which it is known whether nothing was left to do, whether it
-/// was as far as was asked, and whether the record ended.
-fn pause_with(
-    altered: Altered,
-    is_idle: bool,
-    is_reached: bool,
-    is_end: bool,
-    reach: Reach,
-) -> Option<Pause>
-    ensures { result ≡ pause_with altered is_idle is_reached is_end reach }
+/// Why the machine pauses after an event that altered no watched byte, of which it is known whether nothing was left to do, whether
+/// it was as far as was asked, and whether the record ended.
+fn pause_with(is_idle: bool, is_reached: bool, is_end: bool, reach: Reach) -> Option<Pause>
+    ensures { result ≡ pause_with [] is_idle is_reached is_end reach }
 {
-    if !altered.is_empty() {
-        return Some(Pause::Watch(altered));
-    }
     if is_idle {
         return Some(Pause::Idle);
     }
