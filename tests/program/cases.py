@@ -434,8 +434,10 @@ def sent(*requests):
 
 
 def answered(*answers):
-    """The answers to requests, each behind the byte that says that the packet came."""
-    return b"".join(b"+" + framed(answer) for answer in answers)
+    """The answers to requests, each behind the byte that says that the packet came. One may be of
+    several packets."""
+    several = (answer if isinstance(answer, tuple) else (answer,) for answer in answers)
+    return b"".join(b"+" + b"".join(map(framed, packets)) for packets in several)
 
 
 SERVER_HELP = Has((b"Usage: s360gdb [OPTIONS] [SCRIPT]\n", *OPTIONS, b"gdb's remote protocol",
@@ -475,7 +477,7 @@ SERVING = [
            None),
     served("gdb: a script's events are gdb's to take back", ["addition.s360"],
            sent(b"p3", b"bs", b"p3", b"bs", b"p3"), 0,
-           answered(b"0000000c", b"T05", b"00000005", *AT_THE_START, b"00000000"), ADDED),
+           answered(b"0000000c", b"T05", b"00000005", AT_THE_START, b"00000000"), ADDED),
     served("gdb: no script is read from standard input", [], b"standing\n", 0),
     served("gdb: no packet"),
     served("gdb: no packet, and no answer that is written", [], b"", 0, None),
@@ -489,7 +491,7 @@ SERVING = [
            answered(*STEPS_BACK, b"OK", b"00000009"), server_told(b"dropped 1 recorded changes")),
     served("gdb: a write that was recorded drops nothing", [],
            sent(b"P3=00000005", b"bs", b"P3=00000005", b"p3"), 0,
-           answered(b"OK", *AT_THE_START, b"OK", b"00000005")),
+           answered(b"OK", AT_THE_START, b"OK", b"00000005")),
     served("gdb: a long run lets it in, forward and back", [],
            sent(*COUNTING, b"c", b"p5", b"c", b"p5", b"bc", b"p5", b"bc", b"p5", b"bc"), 0,
            answered(b"OK", b"OK", LET_IN, b"fffb6c20", LET_IN, b"fff6d840", LET_IN, b"fffb6c20",
