@@ -1,7 +1,10 @@
 pub mod Places
 pub mod Order
 pub mod Cells
+pub mod CoreChanges
+pub mod Differing
 pub mod Plans
+pub mod Puts
 pub mod Items
 pub mod Spans
 pub mod PlanParts
