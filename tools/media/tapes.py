@@ -56,7 +56,7 @@ def items_of_awstape(name, contents):
         length, _, flags, _ = HEADER.unpack_from(contents, at)
         part = contents[at + HEADER.size : at + HEADER.size + length]
         if flags & ~COMPRESSED in PARTS and flags & COMPRESSED:
-            raise Fault(f"{name}: compressed block at {at}: hetupd -d FILE OTHER, of Hercules, writes it without compression")
+            raise Fault(f"{name}: compressed block at {at}: hetupd -d {name} OTHER, of Hercules, writes it plain")
         if flags == MARK and not length and block is None:
             yield None
         elif flags not in PARTS:
