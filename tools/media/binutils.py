@@ -28,11 +28,11 @@ def link(assembled, out, at, start):
 
 def elf_of(program, symbols):
     """An ELF of a program, with the address and length of each symbol, for gdb."""
-    first = min(program.runs)
-    ends = [at + len(run) for at, run in program.runs.items()] + [at + length for at, length in symbols.values()]
+    first = min(at for at, _ in program.runs)
+    ends = [at + len(part) for at, part in program.runs] + [at + length for at, length in symbols.values()]
     image = bytearray(max(ends) - first)
-    for at, run in program.runs.items():
-        image[at - first : at - first + len(run)] = run
+    for at, part in program.runs:
+        image[at - first : at - first + len(part)] = part
     with tempfile.TemporaryDirectory() as folder:
         folder = pathlib.Path(folder)
         (folder / "image").write_bytes(image)

@@ -29,9 +29,9 @@ SECTION_HEADER = struct.Struct(">10I")
 
 @dataclass
 class Program:
-    """The runs of bytes of a program by their addresses, and the address of its first instruction."""
+    """The runs of bytes of a program with their addresses, and the address of its first instruction."""
 
-    runs: dict[int, bytes]
+    runs: list[tuple[int, bytes]]
     start: int
 
 
@@ -64,17 +64,17 @@ def program_of(name, contents, at=None, start=None):
     if not contents.startswith(ELF_MAGIC):
         if at is None:
             raise Fault(f"{name}: a flat image, which does not say where it goes: give --at")
-        return Program({at: contents}, at if start is None else start)
+        return Program([(at, contents)], at if start is None else start)
     if at is not None:
         raise Fault(f"{name}: an ELF says where it goes: leave --at out")
     entry, sections = elf_sections(name, contents)
-    runs = {address: section for _, address, section in sections}
+    runs = [(address, section) for _, address, section in sections]
     return Program(runs, entry if start is None else start)
 
 
 def judge(name, program, loader):
     """Finds what keeps a program from being loaded."""
-    if not any(program.runs.values()):
+    if not any(run for _, run in program.runs):
         raise Fault(f"{name}: it has no bytes to load")
     if loader % 8 or not LOADED_FIRST <= loader <= MOST_STORAGE - LOADER_BYTES:
         raise Fault(f"--loader {loader:X}: give a multiple of 8 from 18 to {MOST_STORAGE - LOADER_BYTES:X}")
@@ -83,7 +83,7 @@ def judge(name, program, loader):
         (loader, loader + LOADER_BYTES, "the loader's area is there: give --loader another address"),
     ]
     end = 0
-    for at, run in sorted(program.runs.items()):
+    for at, run in sorted(program.runs):
         if at + len(run) > MOST_STORAGE:
             raise Fault(f"{name}: it ends at {at + len(run):06X}, and storage at {MOST_STORAGE:06X} at most: move it")
         if at < end:
@@ -104,7 +104,7 @@ def records_of(program, loader, most):
     """The records that load a program, each of whose own has at most so many bytes."""
     parts = [
         (at + offset, run[offset : offset + most])
-        for at, run in sorted(program.runs.items())
+        for at, run in sorted(program.runs)
         for offset in range(0, len(run), most)
     ]
     transfer = command_word(TRANSFER_IN_CHANNEL, loader, 0, 1)

@@ -50,7 +50,7 @@ class Section:
         self.known[first : first + len(run)] = b"\1" * len(run)
 
     def runs(self):
-        """The bytes that are known, by their addresses as linked."""
+        """The bytes that are known, with their addresses as linked."""
         first = self.known.find(1)
         while first >= 0:
             behind = self.known.find(0, first) % (self.length + 1)
@@ -231,7 +231,7 @@ def link(files, at=None):
     for deck in decks:
         relocate(deck, symbols)
     sections = [section for deck in decks for section in deck.sections.values()]
-    runs = {at: run for section in sections for at, run in section.runs()}
+    runs = [run for section in sections for run in section.runs()]
     return Program(runs, start_of(decks, symbols, sections)), symbols
 
 

@@ -57,14 +57,14 @@ def items_of_awstape(name, contents):
         part = contents[at + HEADER.size : at + HEADER.size + length]
         if flags & ~COMPRESSED in PARTS and flags & COMPRESSED:
             raise Fault(f"{name}: compressed block at {at}: hetupd -d {name} OTHER, of Hercules, writes it plain")
-        if flags == MARK and not length and block is None:
-            yield None
-        elif flags not in PARTS:
+        if flags not in (*PARTS, MARK) or flags == MARK and length:
             raise Fault(f"{name}: bad flags at {at}: no tape in the format AWSTAPE: tools/media/what tells what it is")
-        elif (block is None) != bool(flags & FIRST_PART):
+        if (block is None) != bool(flags & (FIRST_PART | MARK)):
             raise Fault(f"{name}: part out of place at {at}: write the tape again")
-        elif len(part) < length:
+        if len(part) < length:
             raise Fault(f"{name}: short block at {at}: it was cut off: copy the tape again, as binary")
+        if flags == MARK:
+            yield None
         else:
             block = (block or b"") + part
             if flags & LAST_PART:
