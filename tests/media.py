@@ -12,6 +12,7 @@ import argparse
 import ast
 import pathlib
 import re
+import shutil
 import struct
 import subprocess
 import sys
@@ -536,6 +537,7 @@ def looks_at_kinds(looks):
         "hello.tape": ("a tape (AWSTAPE): 3 blocks and 1 marks, which loads itself: then load 180", None, "./run --tape0 hello.tape"),
         "main.obj": ("an object deck: 4 symbols, starts at 000200", "main.deck", looks.run(DECK, "object", "main.obj")),
         "names": ("an ASCII text: 2 lines", "names.deck", names),
+        "hello.s": ("an assembler source", None, "tools/asm/s360as hello.s"),
         "ascii.deck": ("a deck in ASCII: 1 cards", "ascii-2.deck", ebcdic("DUPONT".ljust(80))),
         "names.cards": ("a deck: 1 cards", None, "./run --reader names.cards"),
         "names.tap": ("a tape in SIMH's format: 1 blocks and 1 marks", "names-2.tape", header(4, 0, 0xA0) + ebcdic("NAME") + header(0, 4, 0x40)),
@@ -678,6 +680,9 @@ def main():
     parser.add_argument("--program", type=pathlib.Path, default=PROGRAM)
     parser.add_argument("--unproved", action="store_true", help="without the machine and without Hercules")
     options = parser.parse_args()
+    needed = [f"{PREFIX}as", "iconv"] if options.unproved else [f"{PREFIX}as", "iconv", "hetinit", options.program]
+    if missing := [str(each) for each in needed if not shutil.which(each)]:
+        sys.exit(f"{missing[0]}: not there: tools/setup test installs packages, and ./run builds the program")
     parts = [
         *(looks_at_assembler, looks_at_faults_of_assembler, looks_at_loading, looks_at_faults_of_loading),
         *(looks_at_texts, looks_at_tapes, looks_at_objects, looks_at_other_objects, looks_at_faults_of_objects, looks_at_kinds),

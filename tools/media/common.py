@@ -4,7 +4,6 @@ import os
 import pathlib
 import string
 import sys
-import tempfile
 
 CARD, BLANK = 80, b"\x40"
 # Those of docs/reference/devices.md. Code page 037 has them, and more.
@@ -47,19 +46,16 @@ def write(name, contents):
         sys.stdout.buffer.write(contents)
         sys.stdout.flush()
         return
-    path = pathlib.Path(name)
+    path = pathlib.Path(name).resolve()
+    written = path.with_name(f".{path.name}.{os.getpid()}")
     try:
-        with tempfile.NamedTemporaryFile(dir=path.parent, prefix=f".{path.name}.", delete=False) as file:
-            written = pathlib.Path(file.name)
-            file.write(contents)
-        # A temporary file is its owner's alone.
-        mask = os.umask(0)
-        os.umask(mask)
-        written.chmod(0o666 & ~mask)
+        if path.exists() and not path.is_file():
+            path.write_bytes(contents)
+            return
+        written.write_bytes(contents)
         written.replace(path)
     except OSError as fault:
-        if "written" in locals():
-            written.unlink(missing_ok=True)
+        written.unlink(missing_ok=True)
         raise Fault(f"{name}: {fault.strerror}") from None
 
 

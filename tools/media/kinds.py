@@ -6,15 +6,16 @@ from loading import CHAIN_COMMAND, ELF_MAGIC, READ
 from objects import CARDS, FIRST_BYTE
 from tapes import COMPRESSED, FIRST_PART, HEADER, LAST_PART, MARK, items_of_simh
 
-PRINTED = frozenset(string.printable.encode())
-EBCDIC_SIGNS = frozenset("".join(SIGNS).encode("cp037"))
+PRINTED = string.printable.encode()
+EBCDIC_SIGNS = "".join(SIGNS).encode("cp037")
 FIRST_FLAGS = (FIRST_PART, FIRST_PART | LAST_PART, MARK)
 # A few bytes of a deck or of a text may be no signs. The blank of EBCDIC is a sign of ASCII too.
 MOST = 0.9
 
 
 def share(contents, signs):
-    return sum(byte in signs for byte in contents) / len(contents)
+    """How much of a file these bytes are."""
+    return 1 - len(contents.translate(None, signs)) / len(contents)
 
 
 def is_awstape(contents):
