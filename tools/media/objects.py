@@ -85,6 +85,8 @@ def section_of(deck, identifier, where):
 def take_dictionary(deck, card, where):
     """The items of an ESD card. All but labels are numbered."""
     data, identifier = data_of(card, where), number(card[14:16])
+    if len(data) % 16:
+        raise Fault(f"{where}: it ends within an item: assemble it again")
     for item in (data[at : at + 16] for at in range(0, len(data), 16)):
         name, kind = text_of(item[:8]), item[8]
         address, length = number(item[9:12]), number(item[13:16])

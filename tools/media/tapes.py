@@ -58,7 +58,7 @@ def items_of_awstape(name, contents):
         if flags & ~COMPRESSED in PARTS and flags & COMPRESSED:
             raise Fault(f"{name}: compressed block at {at}: hetupd -d {name} OTHER, of Hercules, writes it plain")
         if flags not in (*PARTS, MARK) or flags == MARK and length:
-            raise Fault(f"{name}: bad flags at {at}: no tape in the format AWSTAPE: tools/media/what tells what it is")
+            raise Fault(f"{name}: bad flags at {at}: no tape in the format AWSTAPE: see tools/media/what")
         if (block is None) != bool(flags & (FIRST_PART | MARK)):
             raise Fault(f"{name}: part out of place at {at}: write the tape again")
         if len(part) < length:
