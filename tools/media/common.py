@@ -28,6 +28,13 @@ def text_of(contents):
     return "".join(signs).rstrip()
 
 
+def parser_of(text):
+    """A parser of command lines, whose help is a tool's own text."""
+    return argparse.ArgumentParser(
+        description=text, formatter_class=argparse.RawTextHelpFormatter, allow_abbrev=False
+    )
+
+
 def hexadecimal(digits):
     """An address on a command line."""
     try:

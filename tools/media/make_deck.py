@@ -7,10 +7,8 @@
 
 Addresses are hexadecimal. docs/reference/media.md says which bytes a load alters.
 """
-import argparse
-
 import binutils
-from common import CARD, Fault, carry_out, contents_of, ebcdic, write
+from common import CARD, Fault, carry_out, contents_of, ebcdic, parser_of, write
 from loading import add_places, ipl_deck, judge, program_of
 from objects import link
 
@@ -27,7 +25,7 @@ def deck_of_text(name):
 
 
 def options():
-    parser = argparse.ArgumentParser(description=__doc__, formatter_class=argparse.RawTextHelpFormatter, allow_abbrev=False)
+    parser = parser_of(__doc__)
     kinds = parser.add_subparsers(dest="kind", required=True, metavar="ipl|object|text")
     for kind, count in (("ipl", 1), ("object", "+"), ("text", 1)):
         words = kinds.add_parser(kind, allow_abbrev=False)

@@ -9,7 +9,7 @@ The last block of a file has the bytes that are left. Addresses are hexadecimal.
 """
 import argparse
 
-from common import carry_out, contents_of, write
+from common import carry_out, contents_of, parser_of, write
 from loading import add_places, judge, program_of, records_of
 from tapes import MOST_BYTES, items_of_simh, written
 
@@ -34,7 +34,7 @@ def ipl_blocks(name, given):
 
 
 def main():
-    parser = argparse.ArgumentParser(description=__doc__, formatter_class=argparse.RawTextHelpFormatter, allow_abbrev=False)
+    parser = parser_of(__doc__)
     kinds = parser.add_subparsers(dest="kind", required=True, metavar="blocks|simh|ipl")
     for kind, count in (("blocks", "+"), ("simh", 1), ("ipl", 1)):
         words = kinds.add_parser(kind, allow_abbrev=False)
