@@ -213,7 +213,7 @@ def looks_at_faults_of_assembler(looks):
         looks.fails(told, S360AS, *words, looks.file(name, text))
 
     fails("a.s", "START: LX 1,2\n", "a.s:1: Unrecognized opcode: `lx'")
-    fails("b.s", lines_of("SR 1,1", 'EBCDIC "A~"'), "b.s:3: no EBCDIC sign")
+    fails("b.s", lines_of("SR 1,1", 'EBCDIC "A~"'), "b.s:3: ~ has no EBCDIC sign")
     fails("c.s", " L 1,NONE\n .long OTHER\n", "c.s:1: NONE is not defined\nc.s:2: OTHER is not defined")
     including = ' L 1,2\n .include "e.inc"\n'
     fails("d.s", including, "d.s:2: can't open e.inc for reading: No such file or directory")
@@ -498,6 +498,7 @@ def looks_at_other_objects(looks):
     four, link = text("0000000400000000"), constant("0002", LONG)
     common, weak = item("COMMON", "05", "000000", "000010"), item("NONE", "0A")
     look("a common section", 0x402, "0000040C", dictionary(common), four, link, START)
+    look("a common section that is one", 0x402, "00000404", dictionary(common, name="COMMON", kind="00"), four, link, START)
     look("a weak reference", 0x402, "00000004", dictionary(weak), four, link, START)
     short = constant("0001", SHORT)
     look("two bytes", 0x402, "0406", dictionary(), text("0106000000000000"), short, START)

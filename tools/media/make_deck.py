@@ -51,7 +51,7 @@ def main():
         if given.start is not None:
             program.start = given.start
     judge(name, program, given.loader)
-    # Either both are written or none.
+    # No fault keeps one of the two from being written.
     elf = binutils.elf_of(program, symbols) if given.kind == "object" and given.elf else None
     write(given.out, ipl_deck(program, given.loader))
     if elf:

@@ -193,11 +193,12 @@ def place_sections(decks, at):
         at = section.place + section.length
         define(symbols, section.name, (section.place, section.length), deck)
     for name, same in commons.items():
-        place, length = (at or 0) + -(at or 0) % DOUBLEWORD, max(section.length for section in same)
+        if name not in symbols:
+            place, length = (at or 0) + -(at or 0) % DOUBLEWORD, max(section.length for section in same)
+            at = place + length
+            define(symbols, name, (place, length), decks[0])
         for section in same:
-            section.place = place
-        at = place + length
-        define(symbols, name, (place, length), decks[0])
+            section.place = symbols[name][0] if name else place
     for deck in decks:
         for name, (address, identifier) in deck.labels.items():
             section = section_of(deck, identifier, deck.name)
