@@ -14,7 +14,8 @@ FIRST_BYTE = 0x02
 SECTION, LABEL, REFERENCE, PRIVATE, COMMON, WEAK = 0x00, 0x01, 0x02, 0x04, 0x05, 0x0A
 OTHER_TYPES = {0x06: "an external dummy section"}
 CARDS = {letters.encode("cp037"): letters for letters in ("ESD", "TXT", "RLD", "END", "SYM")}
-# Of an item of the relocation dictionary: its kind, one less than its length, its sign, and whether the next item is short.
+# The flags of an address constant: its kind, one less than its length, its sign, and whether the next
+# item has the same two numbers and leaves them out.
 KIND, LENGTH, NEGATIVE, SAME_POINTERS = 0xF0, 0x0C, 0x02, 0x01
 BRANCH = 0x10
 # What a field that has nothing is filled with.
@@ -53,6 +54,7 @@ class Section:
         """The bytes that are known, with their addresses as linked."""
         first = self.known.find(1)
         while first >= 0:
+            # Where none is found, -1 becomes the length.
             behind = self.known.find(0, first) % (self.length + 1)
             yield self.place + first, bytes(self.text[first:behind])
             first = self.known.find(1, behind)
@@ -95,12 +97,13 @@ def take_dictionary(deck, card, where):
             continue
         if kind in (SECTION, PRIVATE, COMMON):
             section = deck.sections[identifier] = Section(name, address, length, kind == COMMON)
-            if not length:
+            if not length and kind != COMMON:
                 deck.unsized = section
         elif kind in (REFERENCE, WEAK):
             deck.references[identifier] = name, kind == WEAK
         else:
-            raise Fault(f"{where}: {name!r} is {OTHER_TYPES.get(kind, f'of type {kind:02X}')}, which cannot be linked")
+            what = OTHER_TYPES.get(kind, f"of type {kind:02X}")
+            raise Fault(f"{where}: {name!r} is {what}, which cannot be linked")
         identifier += 1
 
 
@@ -123,7 +126,8 @@ def take_constants(deck, card, where):
             raise Fault(f"{where}: it ends within an item: assemble it again")
         kind, same, at = flags[0] & KIND, flags[0] & SAME_POINTERS, at + 4
         if kind not in (0, BRANCH):
-            raise Fault(f"{where}: the constant at {number(address):06X} is no A, V or Y constant, and cannot be linked")
+            constant = f"the constant at {number(address):06X}"
+            raise Fault(f"{where}: {constant} is no A, V or Y constant, and cannot be linked")
         target, section = struct.unpack(">HH", pointers)
         deck.constants.append((where, target, section, flags[0], number(address)))
 
@@ -181,7 +185,7 @@ def define(symbols, name, value, deck):
 
 
 def place_sections(decks, at):
-    """Puts the sections one behind another, and then the common ones, and answers the address and length of each symbol."""
+    """Puts the sections one behind another, the common ones last: the address and length of each symbol."""
     symbols, commons = {}, {}
     for deck, section in ((deck, section) for deck in decks for section in deck.sections.values()):
         if section.is_common:
@@ -206,24 +210,29 @@ def place_sections(decks, at):
     return symbols
 
 
+def distance_of(deck, target, symbols, where):
+    """How far the target of an address constant has moved. That of a reference moves from 0."""
+    if target not in deck.references:
+        section = section_of(deck, target, where)
+        return section.place - section.origin
+    name, is_weak = deck.references[target]
+    if name not in symbols and not is_weak:
+        raise Fault(f"{where}: no deck defines {name!r}: give the deck that does")
+    return symbols.get(name, (0, 0))[0]
+
+
 def relocate(deck, symbols):
     """Adds to each address constant how far its target has moved."""
     for where, target, identifier, flags, address in deck.constants:
         section = section_of(deck, identifier, where)
-        name, is_weak = deck.references.get(target, ("", False))
-        if name and name not in symbols and not is_weak:
-            raise Fault(f"{where}: no deck defines {name!r}: give the deck that does")
-        if name:
-            moved = symbols.get(name, (0, 0))[0]
-        else:
-            moved = section_of(deck, target, where)
-            moved = moved.place - moved.origin
+        distance = distance_of(deck, target, symbols, where)
         length = (flags & LENGTH) // 4 + 1
         first = address - section.origin
         old = number(section.text[first : first + length])
-        value = old - moved if flags & NEGATIVE else old + moved
+        value = old - distance if flags & NEGATIVE else old + distance
         if length < 3 and value >> 8 * length:
-            raise Fault(f"{where}: {value:06X} does not fit the {length} bytes at {address:06X}: give a lower --at")
+            fits = f"{value:06X} does not fit the {length} bytes at {address:06X}"
+            raise Fault(f"{where}: {fits}: give a lower --at")
         section.put(address, (value % (1 << 8 * length)).to_bytes(length, "big"), where)
 
 
@@ -244,7 +253,8 @@ def start_of(decks, symbols, sections):
         match deck.start:
             case str(name):
                 if name not in symbols:
-                    raise Fault(f"{deck.name}: it starts at {name!r}, which no deck defines: give the deck that does")
+                    start = f"it starts at {name!r}, which no deck defines"
+                    raise Fault(f"{deck.name}: {start}: give the deck that does")
                 return symbols[name][0]
             case (identifier, address):
                 section = section_of(deck, identifier, deck.name)
