@@ -219,6 +219,9 @@ def looks_at_faults_of_assembler(looks):
     fails("d.s", including, "d.s:2: can't open e.inc for reading: No such file or directory")
     looks.file("e.inc", "MACRO: MVCL 2,4\n")
     fails("d.s", including, f"e.inc:1: MVCL: {NO_CODE} 0E{THE_88}")
+    macro = " .macro TWO\n LR 1,2\nDATA: .short 0xA718\n AHI 1,2\n .endm\n"
+    told = f"m.s:6: AHI: {NO_CODE} A7{THE_88}\nm.s:7: LHI: {NO_CODE} A7{THE_88}"
+    fails("m.s", f"{macro} TWO\n LR 1,2; LR 3,4; LR 5,6; LR 7,8; LHI 1,2\n", told)
     far = "f.s:1: the operand is at 0011A4, past FFF: give it a base register"
     fails("f.s", " L 1,FAR\n .skip 4000\nFAR: .long 1\n", far)
     place = "w.s:3: the command word is at 000202: put .balign 8 before its label"

@@ -21,7 +21,7 @@ SUPPRESS_LENGTH, CHAIN_COMMAND = 0x20, 0x40
 
 ELF_MAGIC = b"\x7fELF"
 THIRTY_TWO_BITS, HIGH_BYTE_FIRST, MACHINE_S390 = 1, 2, 22
-RELOCATABLE, EXECUTABLE = 1, 2
+RELOCATABLE = 1
 NOBITS, ALLOCATED = 8, 2
 ELF_HEADER = struct.Struct(">16x2HI3II6H")
 SECTION_HEADER = struct.Struct(">10I")
@@ -50,6 +50,8 @@ def elf_sections(name, contents):
     sections = []
     for label, kind, flags, address, offset, length, *_ in headers:
         if flags & ALLOCATED and length:
+            # A length that no storage has is for `judge` to find.
+            length = min(length, MOST_STORAGE + 1)
             section = bytes(length) if kind == NOBITS else contents[offset : offset + length]
             if len(section) < length:
                 raise Fault(f"{name}: it ends within the section at {address:06X}: link it again")
