@@ -12,6 +12,7 @@ says how many looks passed.
 import argparse
 import ast
 import pathlib
+import random
 import re
 import shutil
 import struct
@@ -20,10 +21,19 @@ import sys
 import tempfile
 
 TOP = pathlib.Path(__file__).resolve().parent.parent
+sys.path.insert(0, str(TOP / "tools/media"))
+
+import kinds
+import loading
+import objects
+import tapes
+from common import Fault
+
 PROGRAM = TOP / "crates/s360dbg/out/s360dbg"
 REFERENCE = TOP / "docs/reference"
 INVENTORY = TOP / "examples/inventory"
 MEDIA, S360AS = TOP / "tools/media", TOP / "tools/asm/s360as"
+SPOILT = 2_000
 DECK, TAPE, WHAT, AS_TEXT = (MEDIA / name for name in ("make_deck.py", "make_tape.py", "what", "as_text"))
 TOOLS = [*sorted(MEDIA.glob("*")), S360AS]
 PREFIX = "s390x-linux-gnu-"
@@ -566,7 +576,7 @@ def looks_at_kinds(looks):
     tape = header(4, 0, 0xA0) + ebcdic("NAME") + header(0, 4, 0x40)
     loads = "which loads itself: then load"
     # What a file is called, and the command; or the file that the command makes, and what that has to have.
-    kinds = {
+    known = {
         "hello.s": ("an assembler source", "tools/asm/s360as hello.s"),
         "hello.elf": ("an ELF: 45 bytes from 000200 on, starts at 000200", "hello-2.deck", looks.bytes("hello.deck")),
         "hello.deck": (f"a deck: 3 cards, {loads} 00C", "./run --reader hello.deck"),
@@ -582,7 +592,7 @@ def looks_at_kinds(looks):
         ),
         "nothing": ("a file of no bytes: a deck with no card, a blank tape", "./run --reader nothing"),
     }
-    for name, (kind, wanted, *contents) in kinds.items():
+    for name, (kind, wanted, *contents) in known.items():
         found, command = looks.run(WHAT, name).decode().splitlines()
         looks.look(("what", name), f"{name}: {kind}", found)
         if contents:
@@ -595,6 +605,41 @@ def looks_at_kinds(looks):
     done = looks.done(WHAT, looks.file("short", ebcdic("A" * 81)))
     looks.look("a short card", (1, f"short: a deck\n    {told}\n"), (done.returncode, done.stdout.decode()))
     looks.fails("none: No such file or directory", WHAT, "none")
+
+
+def spoilt(contents, chances):
+    """A file of which a few bytes are altered, inserted or lost."""
+    made = bytearray(contents)
+    for _ in range(chances.randint(1, 5)):
+        at, count = chances.randrange(len(made) + 1), chances.randint(1, CARD)
+        new = chances.choice((b"", b"\0", b"\xFF", b"\x40", chances.randbytes(3)))
+        made[at : at + chances.choice((0, 1, len(new), count))] = new
+    return bytes(made)
+
+
+def looks_at_spoilt_files(looks):
+    """A file that is spoilt is read, or has a fault of one line that names it."""
+    looks.assemble("hello", HELLO)
+    tape = looks.run(TAPE, "ipl", "hello.elf")
+    kept = [b"".join(map(card, [*MAIN_DECK, *SUBS_DECK])), looks.bytes("hello.elf"), looks.bytes("tape.tap"), tape]
+    readers = (
+        lambda file: objects.link([file], 0x400),
+        lambda file: loading.judge(file[0], loading.program_of(*file), loading.LOADER),
+        lambda file: [*tapes.items_of_awstape(*file)],
+        lambda file: [*tapes.items_of_simh(*file)],
+        lambda file: kinds.kind_of(file[1]),
+    )
+    chances, wrong = random.Random(1), []
+    for number in range(SPOILT):
+        contents = spoilt(chances.choice(kept), chances)
+        for read in readers:
+            try:
+                read(("file", contents))
+            except Fault as fault:
+                wrong += [str(fault)] * (not re.fullmatch(r"file[:,] .+", str(fault)))
+            except Exception as fault:
+                wrong.append(f"{number}: {fault!r}")
+    looks.look("spoilt files", [], wrong)
 
 
 MANY_WORDS = """        .balign 4
@@ -739,6 +784,7 @@ PARTS = (
     looks_at_other_objects,
     looks_at_faults_of_objects,
     looks_at_kinds,
+    looks_at_spoilt_files,
 )
 PARTS_WITH_ALL = (looks_at_hercules, looks_at_machine, looks_at_inventory, looks_at_faults)
 
