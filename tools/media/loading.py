@@ -106,7 +106,7 @@ def records_of(program, loader, most):
     """The records that load a program, each of whose own has at most so many bytes."""
     parts = [
         (at + offset, run[offset : offset + most])
-        for at, run in sorted(program.runs)
+        for at, run in program.runs
         for offset in range(0, len(run), most)
     ]
     transfer = command_word(TRANSFER_IN_CHANNEL, loader, 0, 1)
