@@ -515,7 +515,8 @@ def looks_at_other_objects(looks):
     last = dictionary(item("COMMON", "05", "000000", "000008"), item("LAST", "05", "000000", "000008"), length="000006")
     ours = [last, text("", count="0006"), constant("0003", LONG), end()]
     look("sections on doublewords", 0x40A, "00000420", *ours, dictionary(common), text(""), START)
-    look("a common section that is one", 0x402, "00000404", dictionary(common, name="COMMON", kind="00"), four, link, START)
+    defined = dictionary(common, name="COMMON", kind="00")
+    look("a common section that is one", 0x402, "00000404", defined, four, link, START)
     look("a weak reference", 0x402, "00000004", dictionary(weak), four, link, START)
     short = constant("0001", SHORT)
     look("two bytes", 0x402, "0406", dictionary(), text("0106000000000000"), short, START)
@@ -523,8 +524,9 @@ def looks_at_other_objects(looks):
     unsized = dictionary(length="000000")
     look("a length at the end", 0x400, "0000000400000000", unsized, four, end(length="00000010"))
     look("as it was assembled", 0x102, "0104", dictionary(), text("0104000000000000"), short, START, at=())
-    branch, label = text("07FE07FE07FE07FE"), item("ENTRY", "01", "000104", "400001")
-    look("a label at the end", 0x404, "07FE", dictionary(label), branch, end(name="ENTRY"))
+    branch = text("07FE07FE07FE07FE")
+    label = item("SECOND", "00", "000200", "000008") + item("ENTRY", "01", "000204", "400002")
+    look("a label at the end", 0x40C, "07FE", dictionary(label), branch, end(name="ENTRY"))
     look("a card of symbols", 0x402, "07FE", "02E2E8D4", dictionary(), branch, START)
 
 
