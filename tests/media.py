@@ -232,8 +232,9 @@ def looks_at_faults_of_assembler(looks):
     macro = " .macro TWO\n LR 1,2\nDATA: .short 0xA718\n AHI 1,2\n .endm\n"
     told = f"m.s:6: AHI: {NO_CODE} A7{THE_88}\nm.s:7: LHI: {NO_CODE} A7{THE_88}"
     fails("m.s", f"{macro} TWO\n LR 1,2; LR 3,4; LR 5,6; LR 7,8; LHI 1,2\n", told)
-    far = "f.s:1: the operand is at 0011A4, past FFF: give it a base register"
-    fails("f.s", " L 1,FAR\n .skip 4000\nFAR: .long 1\n", far)
+    far = "past FFF: give it a base register"
+    told = f"f.s:1: the operand is at 0011A4, {far}\nf.s:2: the operand is at 0011A3, {far}"
+    fails("f.s", " L 1,FAR\n L 1,FAR-1\n .skip 3996\nFAR: .long 1\n", told)
     place = "w.s:3: the command word is at 000202: put .balign 8 before its label"
     fails("w.s", lines_of("SR 1,1", "CCW 2,0,0,1"), place)
     outside = "some outside .text: link it with s390x-linux-gnu-ld, and use make_deck.py ipl"
