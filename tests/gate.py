@@ -9,9 +9,10 @@
                       compares the program with a second machine over random scripts and over
                       sessions that nobody wrote; and sends packets to s360gdb, lets it save files,
                       lets a real gdb drive it, and compares it with a second target, and tries the
-                      sources and deciders that it tells; and looks that the documents are true
+                      sources and deciders that it tells; and loads what the tools for decks and tapes
+                      make; and looks that the documents are true
     ./test --quick    looks at the scripts, runs the worked rows over the program with no proof, in
-                      some three minutes, and looks at the documents
+                      some three minutes, and looks at these tools and at the documents
 
 tools/setup sees to what it needs.
 """
@@ -47,11 +48,13 @@ WHOLE = [
     ("fuzzed packets", ["tests/packet_fuzz.py", "--requests", PACKETS]),
     ("fuzzed commands of gdb", ["tests/gdb_fuzz.py", "--commands", COMMANDS]),
     ("chains by experiment", ["tests/why_by_experiment.py", "--sessions", SESSIONS]),
+    ("media", ["tests/media.py"]),
     ("documents", ["tests/documents.py"]),
 ]
 QUICK = [
     ("scripts", ["tests/scripts.py"]),
     ("worked rows", ["tests/rows.py", "--unproved"]),
+    ("media", ["tests/media.py", "--unproved"]),
     ("documents", ["tests/documents.py", "--unproved"]),
 ]
 
