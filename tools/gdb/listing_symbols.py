@@ -1,7 +1,8 @@
 """The labels, fields and lines of a listing, as input of GNU as: what gdb has to know of a program.
 
 A label of code is a symbol that reaches to the next one. A label of data is a variable as well, whose type is that of its
-constant: F a word, H a halfword, A and V an address, C characters, any other bytes. Each statement that has storage has its line.
+constant: F a word, H a halfword, A and V an address, C characters, any other bytes. Command words and PSWs are two words.
+Each statement that has storage has its line.
 """
 import bisect
 import os
@@ -13,14 +14,17 @@ from listing import Statement, Unreadable, statements
 
 MOST_ADDRESSES = 1 << 24
 DUMMY, CONTROL = ("DSECT", "COM", "DXD"), ("CSECT", "START", "RSECT")
-NO_INSTRUCTION = ("", "DC", "DS", "CCW", "CCW0", "PSW")
+WORDS = ("CCW", "CCW0", "PSW")
+NO_INSTRUCTION = ("", "DC", "DS", *WORDS)
 SELF_DEFINING = re.compile(r"(\d+)|X'([0-9A-F]+)'")
 # Of a field that takes no storage of its own, its length.
 FIELD = re.compile(r"(?P<count>\d*)(?P<kind>[A-Z])(?:L(?P<length>\d+))?")
 # Of each type of a constant the type of its elements, and their size.
 TYPES = {"F": ("int", 4), "H": ("short", 2), "A": ("address", 4), "V": ("address", 4), "C": ("char", 1)}
 BYTES = ("byte", 1)
-ASSEMBLER_LANGUAGE, PRODUCER = 0x8001, "s360gdb"
+ASSEMBLER_LANGUAGE = 0x8001
+# Names the listing's columns if they were told: s360.py looks for statements in the listing.
+PRODUCER = "s360gdb"
 # The compilation unit, base types, an address, an array, its bound, a variable (DWARF 3, "Debugging Information Format").
 ABBREVIATIONS = """
 .uleb128 1, 0x11; .byte 1; .uleb128 0x10, 6, 0x03, 8, 0x1b, 8, 0x25, 8, 0x13, 5, 0x11, 1, 0x12, 1, 0, 0
@@ -78,10 +82,12 @@ def labels_of(found: list[Statement]) -> Iterator[Label]:
             yield Label(name, address, behind(places, address), None, 0)
             continue
         size = behind(starts, address) if statement.operation == "DS" else len(statement.code)
-        field = FIELD.match(statement.operands)
+        field = FIELD.match("A" if statement.operation in WORDS else statement.operands)
         element, width = TYPES.get(field["kind"], BYTES) if field else BYTES
         if field and field["count"] == "0":
             size = int(field["length"] or width)
+        elif field and field["length"] and statement.operation == "DS":
+            size = int(field["count"] or 1) * int(field["length"])
         if size % width:
             element, width = BYTES
         yield Label(name, address, size, element, size // width)
@@ -119,8 +125,9 @@ def assembly_of(file: str, text: str, columns: str | None) -> str:
         raise Unreadable("no statement of this listing has a location")
     labels = list(labels_of(found))
     named = {label.name for label in labels}
-    quoted = [name.replace("\\", r"\\").replace('"', r"\"") for name in (file, os.getcwd())]
-    out = [f'.file 1 "{quoted[0]}"', '.section .text,"ax",@nobits', ".Lstart:", *lines_of(found)]
+    told = f"{PRODUCER} {columns}" if columns else PRODUCER
+    name, folder, producer = (word.replace("\\", r"\\").replace('"', r"\"") for word in (file, os.getcwd(), told))
+    out = [f'.file 1 "{name}"', '.section .text,"ax",@nobits', ".Lstart:", *lines_of(found)]
     for label in labels:
         kind = "object" if label.element else "function"
         out.append(symbol(label.name, f".Lstart + {label.address}", kind, label.size))
@@ -132,9 +139,9 @@ def assembly_of(file: str, text: str, columns: str | None) -> str:
     out += ['.section .debug_line,"",@progbits', ".Llines:"]
     out += ['.section .debug_info,"",@progbits', ".Linfo: .4byte .Linfo_end - .Lversion"]
     out += [".Lversion: .2byte 3; .4byte .Labbreviations; .byte 4"]
-    out += [f'.uleb128 1; .4byte .Llines; .asciz "{quoted[0]}"; .asciz "{quoted[1]}"; .asciz "{PRODUCER}"']
+    out += [f'.uleb128 1; .4byte .Llines; .asciz "{name}"; .asciz "{folder}"; .asciz "{producer}"']
     out += [f".2byte {ASSEMBLER_LANGUAGE}; .4byte .Lstart, .Lend"]
-    for name, (told, size, encoding) in BASE_TYPES.items():
-        out.append(f'.Ltype_{name}: .uleb128 2; .asciz "{told}"; .byte {size}, {encoding}')
+    for kind, (spelt, size, encoding) in BASE_TYPES.items():
+        out.append(f'.Ltype_{kind}: .uleb128 2; .asciz "{spelt}"; .byte {size}, {encoding}')
     out += [".Ltype_address: .uleb128 3; .byte 4", *variables_of(labels), ".byte 0", ".Linfo_end:"]
     return "\n".join([*out, ""])

@@ -1,0 +1,606 @@
+"""gdb's commands for the machine, which take places as gdb names values, and tell labels and source lines.
+
+gdb loads it (`-x tools/gdb/s360.py`), and so s360.gdb beside it. Each command is a line of monitor or several.
+"""
+import functools
+import pathlib
+import re
+import sys
+from typing import NamedTuple
+
+import gdb
+
+FOLDER = pathlib.Path(__file__).resolve().parent
+sys.path.insert(0, str(FOLDER))
+gdb.execute(f"source {FOLDER / 's360.gdb'}")
+
+import listing  # noqa: E402
+import listing_symbols  # noqa: E402
+
+ADDRESS_BITS = 0xFFFFFF
+MOST_BYTES = 256
+MOST_CHANGES = 10_000_000
+WHOLE_LINE = 64
+REGISTER = re.compile(r"\$r(\d|1[0-5])")
+PSW = ("$pc", "$pswa", "$pswm", "$cc")
+# What monitor names and gdb has no expression for.
+OTHER_PLACE = re.compile(r"[udk] [0-9A-Fa-f]+|ext|run|p")
+LABEL = re.compile(r"(?P<name>[A-Za-z_.@#][\w.@#$]*|'[^']+')\s*(?P<behind>[-+].*)?")
+# A number behind an expression: what is before it is not to be continued.
+COUNTED = re.compile(r"(?P<expression>.*[\w)\]'\"])\s+(?P<count>\d+)")
+PRINTED = re.compile(r"line (?P<line>\d+) column (?P<column>\d+)(?: page (?P<page>\d+))?")
+RECORD = re.compile(r"page (\d+) line (\d+) ?(.*)")
+# In an answer: a byte or successive bytes; what an event met, and where.
+BYTES = re.compile(r"\bs([0-9A-F]{6})(-[0-9A-F]{6})?")
+MET = re.compile(r"\b(cpu|channel \w+) at ([0-9A-F]{6})(?: ([0-9A-F]+)\b)?")
+WRITE_COMMAND = re.compile(r"channel 00E at [0-9A-F]{6} [0-9A-F]{2}([0-9A-F]{6})[0-9A-F]{4}([0-9A-F]{4})")
+GNU_LABEL_OR_REMARK = re.compile(r"^\s*[\w.$@]+:|#.*")
+COUNT = re.compile(r"\$_change\b")
+REFUSALS = ("?", "refused", "no such change", "not saved")
+UNITS = ("00C", "00D", "00E", "01F", "180", "181")
+PRINTER = "00E"
+BAL, BALR = 0x45, 0x05
+
+
+def answer(line):
+    """What the machine answers to a line of monitor."""
+    connection = gdb.selected_inferior().connection
+    if not isinstance(connection, gdb.RemoteTargetConnection):
+        raise gdb.GdbError("There is no machine.")
+    reply = connection.send_packet(b"qRcmd," + line.encode().hex().encode())
+    if reply.startswith(b"E"):
+        raise gdb.GdbError("There is no memory left for this.")
+    return "" if reply == b"OK" else bytes.fromhex(reply.decode()).decode()
+
+
+def told(line):
+    """The answer to a line that the machine takes."""
+    text = answer(line)
+    if text.startswith("?"):
+        raise gdb.GdbError(f'The machine does not take "{line}".')
+    if text.startswith(REFUSALS):
+        raise gdb.GdbError(text.strip())
+    return text
+
+
+def label_at(address):
+    """The label before an address, as gdb has it in `<START+4>`; or nothing."""
+    found = re.match(r"(.+?)(?: \+ (\d+))? in section", gdb.execute(f"info symbol {address}", to_string=True))
+    return "" if not found else f" <{found[1]}{found[2] and '+' + found[2] or ''}>"
+
+
+@functools.lru_cache
+def statements_of(file, producer):
+    """The statements of a source by their lines."""
+    try:
+        text = pathlib.Path(file).read_text(errors="replace")
+    except OSError:
+        return {}
+    name, _, columns = (producer or "").partition(" ")
+    if name == listing_symbols.PRODUCER:
+        return {s.line: f"{s.operation} {s.operands}".strip() for s in listing.statements(text, columns)}
+    lines = (GNU_LABEL_OR_REMARK.sub("", line) for line in text.splitlines())
+    return {number: " ".join(line.split()) for number, line in enumerate(lines, 1)}
+
+
+def source_at(address):
+    """The statement of an address, and its file and line; or nothing."""
+    found = gdb.find_pc_line(address)
+    if not found.symtab or not found.line:
+        return None, None
+    symtab = found.symtab
+    statement = statements_of(symtab.fullname(), symtab.producer).get(found.line)
+    return statement, f"{pathlib.Path(symtab.filename).name}:{found.line}"
+
+
+def labelled(text):
+    """An answer of the machine with labels, and with statements in place of the digits of instructions."""
+
+    def met(found):
+        who, where, digits = found.groups()
+        statement, line = source_at(int(where, 16))
+        parts = [f"{who} at {where}{label_at(int(where, 16))}", digits and (statement or digits)]
+        return " ".join(filter(None, parts)) + (f"  {line}" if line else "")
+
+    text = MET.sub(met, text)
+    return BYTES.sub(lambda found: found[0] + label_at(int(found[1], 16)), text)
+
+
+def show(text):
+    gdb.write(labelled(text))
+
+
+def value_of(expression):
+    """A value of gdb, whose own words tell why there is none."""
+    try:
+        return gdb.parse_and_eval(expression)
+    except gdb.error as fault:
+        raise gdb.GdbError(str(fault)) from None
+
+
+def has_no_type(value):
+    """Whether all that is known of a label is its address."""
+    return value.type.code in (gdb.TYPE_CODE_FUNC, gdb.TYPE_CODE_ERROR)
+
+
+def length_of_label(address):
+    """How many bytes from a label's address on belong to it."""
+    name = label_at(address)[:-1]
+    own = (at for at in range(1, MOST_BYTES) if label_at(address + at) != f"{name}+{at}>")
+    return next(own, MOST_BYTES) if name else 1
+
+
+def bytes_of(expression):
+    """The address and the number of the bytes that an expression names: of a label its field, of a number one byte."""
+    found = LABEL.fullmatch(expression)
+    if found and not (found["behind"] and value_of(found["name"]).address is None):
+        place = value_of(f"&{found['name']}")
+        if has_no_type(place.dereference()) or found["behind"]:
+            start = int(place) & ADDRESS_BITS
+            if found["behind"]:
+                return start + int(value_of(f"0 {found['behind']}")) & ADDRESS_BITS, 1
+            return start, length_of_label(start)
+    value = value_of(expression)
+    if value.address is not None:
+        if value.type.sizeof > MOST_BYTES:
+            raise gdb.GdbError(f"{value.type.sizeof} bytes are too many: ask for at most {MOST_BYTES}.")
+        return int(value.address) & ADDRESS_BITS, value.type.sizeof
+    if value.type.strip_typedefs().code not in (gdb.TYPE_CODE_INT, gdb.TYPE_CODE_PTR):
+        raise gdb.GdbError(f"{expression} is no place.")
+    return int(value) & ADDRESS_BITS, 1
+
+
+def places_of(expression):
+    """The places of an expression, as monitor names them."""
+    if not expression:
+        raise gdb.GdbError("Argument required (a place).")
+    if found := REGISTER.fullmatch(expression):
+        return [f"r {int(found[1]):X}"]
+    if expression in PSW:
+        return ["p"]
+    if OTHER_PLACE.fullmatch(expression) and not gdb.lookup_static_symbol(expression):
+        return [expression]
+    address, length = bytes_of(expression)
+    return [f"s {at:06X}" for at in range(address, address + length)]
+
+
+def with_count(words):
+    """An expression, and the number behind it or nothing."""
+    found = COUNTED.fullmatch(words)
+    return (found["expression"], int(found["count"])) if found else (words, None)
+
+
+class Change(NamedTuple):
+    """A change of places: its number, what it says of its event, and of each place where it is and how it changed."""
+
+    number: int
+    event: str
+    places: dict[str, str]
+
+
+def changes_of(places, count):
+    """The last standing changes of places, the oldest first."""
+    found = {}
+    for place in places:
+        lines = told(f"changes {place} {count}").splitlines()
+        for event, line in zip(lines[::2], lines[1::2]):
+            number = int(event.split()[0])
+            change = found.setdefault(number, Change(number, event, {}))
+            name, _, how = line.partition(" ")
+            change.places[name] = how
+    return [found[number] for number in sorted(found)][-count:]
+
+
+def run_of(places):
+    """The lines of a change's places: successive bytes have one."""
+    runs = []
+    for name, how in places.items():
+        before, _, after = how.partition(" -> ")
+        address = int(name[1:], 16) if BYTES.fullmatch(name) else None
+        if runs and address is not None and runs[-1][1] == address - 1:
+            first, _, *values = runs[-1]
+            runs[-1] = (first, address, values[0] + before, values[1] + after)
+        else:
+            runs.append((name, address, before, after))
+    for first, last, before, after in runs:
+        end = f"-{last:06X}" if last is not None and f"s{last:06X}" != first else ""
+        yield f"{first}{end} {before} -> {after}"
+
+
+def show_change(change):
+    show("\n".join([change.event, *run_of(change.places), ""]))
+
+
+def go_to(where):
+    """Goes elsewhere in the record, and lets gdb look at the machine anew."""
+    told(f"goto {where}")
+    gdb.execute("s360-renew")
+
+
+def go_before(change):
+    show_change(change)
+    go_to(change.number - 1 or "start")
+
+
+def standing():
+    """How many changes stand."""
+    return int(answer("standing").split()[1])
+
+
+class Command(gdb.Command):
+    """A command, whose help is its class's, and whose name is the class's in small letters."""
+
+    name = ""
+    group = gdb.COMMAND_DATA
+    completion = gdb.COMPLETE_EXPRESSION
+
+    def __init__(self):
+        super().__init__(self.name or type(self).__name__.lower(), self.group, self.completion)
+
+    def invoke(self, words, _from_terminal):
+        self.carry_out(words.strip())
+
+
+class Who(Command):
+    """Go to just before the last change of a place, and tell it.
+Usage: who EXPRESSION
+       who line LINE column COLUMN [page PAGE]
+
+The place is any expression of gdb that names one: a label is its field, a number
+one byte at this address, and $r5 a register. Without symbols: who *(char[4]*)0x388.
+`u 00C`, `d 00C`, `k ADDRESS`, `run` and `ext` are places as monitor names them.
+A line and a column are those of the printer, and of its last page if none is named.
+Said again it goes one change further back. `goto last` goes back to where it stood."""
+
+    def carry_out(self, words):
+        if printed := PRINTED.fullmatch(words):
+            self.printed(*(part and int(part) for part in printed.groups()))
+        elif changes := changes_of(places_of(words), 1):
+            go_before(changes[-1])
+        else:
+            gdb.write("who none\n")
+
+    def printed(self, line, column, page):
+        """Of a sign on paper: what put it into the line that was printed."""
+        number = self.record_of(line, column, page)
+        prints = changes_of([f"d {PRINTER}"], MOST_CHANGES)
+        wanted = next(c for c in prints if f" records {number}" in c.places[f"d{PRINTER}"].partition(" -> ")[2] + " ")
+        found = WRITE_COMMAND.search(wanted.event)
+        if not found or column > int(found[2], 16):
+            raise gdb.GdbError(f"Column {column} was not printed by one command word.")
+        show(f"{wanted.event}\n")
+        address = int(found[1], 16) + column - 1
+        before = [c for c in changes_of([f"s {address:06X}"], MOST_CHANGES) if c.number < wanted.number]
+        if before:
+            go_before(before[-1])
+        else:
+            show(f"s{address:06X} from the start\n")
+
+    @staticmethod
+    def record_of(line, column, page):
+        """The number of the last record that has a sign there."""
+        last = int(told(f"show d {PRINTER}").split()[-1])
+        for number in range(last, 0, -1):
+            its_page, its_line, text = RECORD.match(told(f"show m {PRINTER} {number}")).groups()
+            page = page or int(its_page)
+            if (int(its_page), int(its_line)) == (page, line) and text[column - 1 : column].strip():
+                return number
+        raise gdb.GdbError(f"Nothing is printed in line {line} column {column}.")
+
+
+class Why(Command):
+    """Tell what made the value of a place, and what that was made of.
+Usage: why EXPRESSION [DEPTH]
+
+Five changes deep, or as many as told. Of a field its byte is meant that changed last."""
+
+    def carry_out(self, words):
+        expression, depth = with_count(words)
+        places = places_of(expression)
+        changes = changes_of(places, 1) if len(places) > 1 else []
+        place = next(p for p in places if not changes or p.replace(" ", "") in changes[-1].places)
+        show(told(f"why {place} {depth or 5}"))
+
+
+class Changes(Command):
+    """Tell the last changes of a place, the oldest first.
+Usage: changes EXPRESSION [COUNT]
+
+Ten, or as many as told."""
+
+    def carry_out(self, words):
+        expression, count = with_count(words)
+        found = changes_of(places_of(expression), 10 if count is None else count)
+        for change in found:
+            show_change(change)
+        if not found:
+            gdb.write("changes none\n")
+
+
+class History(Command):
+    """Tell the last changes of any place, the oldest first.
+Usage: history [COUNT]
+
+Ten, or as many as told."""
+
+    completion = gdb.COMPLETE_NONE
+
+    def carry_out(self, words):
+        show(told(f"history {words}".strip()))
+
+
+class Dump(Command):
+    """Show storage in digits and in EBCDIC signs.
+Usage: dump EXPRESSION [COUNT]
+
+Shows the bytes of a field, 64 bytes of an address, or as many as told."""
+
+    def carry_out(self, words):
+        expression, count = with_count(words)
+        if not expression:
+            raise gdb.GdbError("Argument required (a place).")
+        address, length = bytes_of(expression)
+        gdb.write(told(f"dump {address:X} {(length if length > 1 else WHOLE_LINE) if count is None else count}"))
+
+
+class Units(Command):
+    """Show all units with what their channels do, their sense bytes and their media.
+Usage: units"""
+
+    completion = gdb.COMPLETE_NONE
+
+    def carry_out(self, words):
+        gdb.write(told(f"units {words}".strip()))
+
+
+class Acts(Command):
+    """A line that changes the machine."""
+
+    group = gdb.COMMAND_RUNNING
+    completion = gdb.COMPLETE_NONE
+    choices = ()
+
+    def carry_out(self, words):
+        show(told(f"{type(self).__name__.lower()} {words}".rstrip()))
+        gdb.execute("s360-renew")
+
+
+class Chooses(Acts):
+    """Such a line, whose word is one of a few."""
+
+    def __init__(self):
+        gdb.Command.__init__(self, type(self).__name__.lower(), self.group)
+
+    def complete(self, _text, word):
+        return [choice for choice in self.choices if choice.startswith(word)]
+
+
+class Key(Chooses):
+    """Press a key of the operator.
+Usage: key start|stop|reset|interrupt|eof|request"""
+
+    choices = ("start", "stop", "reset", "interrupt", "eof", "request")
+
+
+class Load(Chooses):
+    """Press the load key: the machine is reset, and loads its program from a unit.
+Usage: load UNIT
+
+gdb's own command of this name is not there: `restore FILE` puts a file into storage."""
+
+    choices = UNITS
+
+
+class Enter(Acts):
+    """Enter a line at the console.
+Usage: enter TEXT"""
+
+    def invoke(self, words, _from_terminal):
+        self.carry_out(words)
+
+
+class Tick(Acts):
+    """Let the timer count down once.
+Usage: tick"""
+
+
+class Withdraw(Acts):
+    """Take a change out of those that stand, and run the later events again without it.
+Usage: withdraw NUMBER"""
+
+
+class Save(gdb.Command):
+    """Save what a unit has at this moment in a file.
+Usage: save WHAT [-overwrite] FILE"""
+
+    KINDS = {
+        "printer": "the pages that were printed",
+        "punch": "the cards that were punched",
+        "P1": "the cards in this stacker of the punch",
+        "P2": "the cards in this stacker of the punch",
+        "RP3": "the cards in this stacker of the punch",
+        "console": "what the console typed, and the lines that were entered",
+        "tape0": "the tape of unit 180",
+        "tape1": "the tape of unit 181",
+    }
+
+    def __init__(self, kind):
+        # gdb shows it as the command's help.
+        self.__doc__ = f"Save {self.KINDS[kind]} in a file.\nUsage: save {kind} [-overwrite] FILE"
+        self.kind = kind
+        super().__init__(f"save {kind}", gdb.COMMAND_FILES, gdb.COMPLETE_FILENAME)
+
+    def invoke(self, words, _from_terminal):
+        rest = words.removeprefix("-overwrite ")
+        if not rest.strip():
+            raise gdb.GdbError("Argument required (a file).")
+        gdb.write(told(f"save{'!' if rest != words else ''} {self.kind} {rest.strip()}"))
+
+
+class Marks(Command):
+    """List the moments that `mark` has named.
+Usage: marks"""
+
+    completion = gdb.COMPLETE_NONE
+    known: dict[str, int] = {}
+
+    def carry_out(self, _words):
+        for name, number in sorted(self.known.items(), key=lambda mark: mark[1]):
+            gdb.write(f"{name} {number}\n")
+        if not self.known:
+            gdb.write("No marks.\n")
+
+
+class Mark(Command):
+    """Name this moment, so that `goto NAME` goes to it.
+Usage: mark NAME
+
+A name is kept for the number of changes that stand."""
+
+    completion = gdb.COMPLETE_NONE
+
+    def carry_out(self, words):
+        if not re.fullmatch(r"[A-Za-z_]\w*", words) or words in Goto.ends:
+            raise gdb.GdbError("A mark's name is letters, digits and _, and none of start, end and last.")
+        Marks.known[words] = standing()
+        gdb.write(f"{words} {Marks.known[words]}\n")
+
+
+class Goto(Chooses):
+    """Go to another moment of the record.
+Usage: goto NUMBER|start|end|last|NAME
+
+To just after the change of this number, to where nothing stands, to where all that
+was recorded stands, to where it stood before the last `who` or `goto`, or to a mark."""
+
+    ends = ("start", "end", "last")
+
+    @property
+    def choices(self):
+        return (*self.ends, *Marks.known)
+
+    def carry_out(self, words):
+        if words not in self.ends and not words.isdigit():
+            if words not in Marks.known:
+                raise gdb.GdbError(f'No mark "{words}".' if words else "Argument required (a moment).")
+            words = Marks.known[words]
+        show(told(f"goto {words or 'start'}"))
+        gdb.execute("s360-renew")
+
+
+def storage(address, length):
+    return gdb.selected_inferior().read_memory(address & ADDRESS_BITS, length).tobytes()
+
+
+def call_at(address):
+    """The length and the first register of the BAL or BALR at an address, if one is there that branches."""
+    try:
+        code, registers = storage(address, 2)
+    except gdb.MemoryError:
+        return None
+    if code == BAL:
+        return 4, registers >> 4
+    return (2, registers >> 4) if code == BALR and registers & 0xF else None
+
+
+def program_counter():
+    return int(gdb.selected_frame().pc()) & ADDRESS_BITS
+
+
+class Over(Command):
+    """Step one instruction, past a BAL or BALR to where it comes back.
+Usage: over
+
+Without a call it is `stepi`. Breakpoints and watches between stop it."""
+
+    group = gdb.COMMAND_RUNNING
+    completion = gdb.COMPLETE_NONE
+
+    def carry_out(self, _words):
+        at = program_counter()
+        call = call_at(at)
+        gdb.execute(f"advance *{at + call[0]:#x}" if call else "stepi")
+
+
+class ReverseOver(Command):
+    """Step one instruction back, past a subroutine to the BAL or BALR that called it.
+Usage: reverse-over
+
+A subroutine has come back if the register of the BAL or BALR before still has this
+address. Else it is `reverse-stepi`. Breakpoints and watches between stop it."""
+
+    name = "reverse-over"
+    group = gdb.COMMAND_RUNNING
+    completion = gdb.COMPLETE_NONE
+
+    def carry_out(self, _words):
+        here = program_counter()
+        stops = []
+        gdb.events.stop.connect(stops.append)
+        try:
+            said = gdb.execute("reverse-stepi", to_string=True)
+        finally:
+            gdb.events.stop.disconnect(stops.append)
+        call = None if isinstance(stops[-1], gdb.BreakpointEvent) else self.call_before(here)
+        if call is None or call == program_counter():
+            gdb.write(said)
+            return
+        point = gdb.Breakpoint(f"*{call:#x}", internal=True, temporary=True)
+        try:
+            gdb.execute("reverse-continue")
+        finally:
+            if point.is_valid():
+                point.delete()
+
+    @staticmethod
+    def call_before(address):
+        """Where the call is that comes back to an address, if its register has that."""
+        for length in (4, 2):
+            call = call_at(address - length)
+            if call and call[0] == length:
+                register = int(gdb.selected_frame().read_register(f"r{call[1]}"))
+                if register & ADDRESS_BITS == address:
+                    return address - length
+        return None
+
+
+class ChangesOf(gdb.Function):
+    """How many changes stand: all, or those of a place, as in $_changes("COUNT") and $_changes(*(int*)0x300)."""
+
+    def __init__(self):
+        super().__init__("_changes")
+
+    def invoke(self, value=None):
+        if value is None:
+            return standing()
+        if value.type.strip_typedefs().code == gdb.TYPE_CODE_ARRAY and value.address is None:
+            places = places_of(value.string())
+        elif value.address is not None:
+            start = int(value.address) & ADDRESS_BITS
+            places = [f"s {at:06X}" for at in range(start, start + value.type.sizeof)]
+        else:
+            raise gdb.GdbError('A register is named in quotes: $_changes("$r5").')
+        return len(changes_of(places, MOST_CHANGES))
+
+
+def keep_count(_event):
+    """Keeps $_change."""
+    gdb.set_convenience_variable("_change", standing())
+
+
+def count_in_condition(point):
+    """gdb evaluates a condition before it tells of a stop: there the number is asked for."""
+    if point.condition and COUNT.search(point.condition):
+        point.condition = COUNT.sub("$_changes()", point.condition)
+
+
+for command in (Who, Why, Changes, History, Dump, Units, Key, Load, Enter, Tick, Withdraw, Marks, Mark, Goto, Over):
+    command()
+ReverseOver()
+for kind in Save.KINDS:
+    Save(kind)
+ChangesOf()
+for event in (gdb.events.stop, gdb.events.memory_changed, gdb.events.register_changed):
+    event.connect(keep_count)
+for event in (gdb.events.breakpoint_created, gdb.events.breakpoint_modified):
+    event.connect(count_in_condition)
