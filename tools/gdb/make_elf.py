@@ -135,7 +135,9 @@ def main():
     parser.add_argument("--storage", type=int, default=STORAGE)
     options, _others = parser.parse_known_args()
     try:
-        made = elf_with(options.symbols, options.listing_columns) if options.symbols else elf(options.storage)
+        made = elf(options.storage)
+        if options.symbols is not None:
+            made = elf_with(options.symbols, options.listing_columns)
         Path(options.file).write_bytes(made)
     except OSError as fault:
         sys.exit(f"{fault.filename}: {fault.strerror}")

@@ -25,7 +25,7 @@ REGISTER = re.compile(r"\$r(\d|1[0-5])")
 PSW = ("$pc", "$pswa", "$pswm", "$cc")
 # What monitor names and gdb has no expression for.
 OTHER_PLACE = re.compile(r"[udk] [0-9A-Fa-f]+|ext|run|p")
-LABEL = re.compile(r"(?P<name>[A-Za-z_.@#][\w.@#$]*|'[^']+')\s*(?P<behind>[-+].*)?")
+LABEL = re.compile(r"(?P<quote>'?)(?P<name>[A-Za-z_.@#][\w.@#$]*)(?P=quote)\s*(?P<offset>[-+].*)?")
 # A number behind an expression: what is before it is not to be continued.
 COUNTED = re.compile(r"(?P<expression>.*[\w)\]'\"])\s+(?P<count>\d+)")
 PRINTED = re.compile(r"line (?P<line>\d+) column (?P<column>\d+)(?: page (?P<page>\d+))?")
@@ -42,12 +42,17 @@ PRINTER = "00E"
 BAL, BALR = 0x45, 0x05
 
 
+def machine():
+    """The connection to the machine, or nothing."""
+    connection = gdb.selected_inferior().connection
+    return connection if isinstance(connection, gdb.RemoteTargetConnection) else None
+
+
 def answer(line):
     """What the machine answers to a line of monitor."""
-    connection = gdb.selected_inferior().connection
-    if not isinstance(connection, gdb.RemoteTargetConnection):
+    if machine() is None:
         raise gdb.GdbError("There is no machine.")
-    reply = connection.send_packet(b"qRcmd," + line.encode().hex().encode())
+    reply = machine().send_packet(b"qRcmd," + line.encode().hex().encode())
     if reply.startswith(b"E"):
         raise gdb.GdbError("There is no memory left for this.")
     return "" if reply == b"OK" else bytes.fromhex(reply.decode()).decode()
@@ -118,11 +123,6 @@ def value_of(expression):
         raise gdb.GdbError(str(fault)) from None
 
 
-def has_no_type(value):
-    """Whether all that is known of a label is its address."""
-    return value.type.code in (gdb.TYPE_CODE_FUNC, gdb.TYPE_CODE_ERROR)
-
-
 def length_of_label(address):
     """How many bytes from a label's address on belong to it."""
     name = label_at(address)[:-1]
@@ -132,13 +132,12 @@ def length_of_label(address):
 
 def bytes_of(expression):
     """The address and the number of the bytes that an expression names: of a label its field, of a number one byte."""
-    found = LABEL.fullmatch(expression)
-    if found and not (found["behind"] and value_of(found["name"]).address is None):
-        place = value_of(f"&{found['name']}")
-        if has_no_type(place.dereference()) or found["behind"]:
-            start = int(place) & ADDRESS_BITS
-            if found["behind"]:
-                return start + int(value_of(f"0 {found['behind']}")) & ADDRESS_BITS, 1
+    if found := LABEL.fullmatch(expression):
+        label = value_of(f"&'{found['name']}'")
+        start = int(label) & ADDRESS_BITS
+        if found["offset"]:
+            return start + int(value_of(f"0 {found['offset']}")) & ADDRESS_BITS, 1
+        if label.type.target().code in (gdb.TYPE_CODE_FUNC, gdb.TYPE_CODE_ERROR):
             return start, length_of_label(start)
     value = value_of(expression)
     if value.address is not None:
@@ -158,7 +157,7 @@ def places_of(expression):
         return [f"r {int(found[1]):X}"]
     if expression in PSW:
         return ["p"]
-    if OTHER_PLACE.fullmatch(expression) and not gdb.lookup_static_symbol(expression):
+    if OTHER_PLACE.fullmatch(expression):
         return [expression]
     address, length = bytes_of(expression)
     return [f"s {at:06X}" for at in range(address, address + length)]
@@ -166,7 +165,7 @@ def places_of(expression):
 
 def with_count(words):
     """An expression, and the number behind it or nothing."""
-    found = COUNTED.fullmatch(words)
+    found = None if OTHER_PLACE.fullmatch(words) else COUNTED.fullmatch(words)
     return (found["expression"], int(found["count"])) if found else (words, None)
 
 
@@ -211,15 +210,10 @@ def show_change(change):
     show("\n".join([change.event, *run_of(change.places), ""]))
 
 
-def go_to(where):
-    """Goes elsewhere in the record, and lets gdb look at the machine anew."""
-    told(f"goto {where}")
-    gdb.execute("s360-renew")
-
-
 def go_before(change):
     show_change(change)
-    go_to(change.number - 1 or "start")
+    told(f"goto {change.number - 1 or 'start'}")
+    gdb.execute("s360-renew")
 
 
 def standing():
@@ -231,11 +225,10 @@ class Command(gdb.Command):
     """A command, whose help is its class's, and whose name is the class's in small letters."""
 
     name = ""
-    group = gdb.COMMAND_DATA
     completion = gdb.COMPLETE_EXPRESSION
 
     def __init__(self):
-        super().__init__(self.name or type(self).__name__.lower(), self.group, self.completion)
+        super().__init__(self.name or type(self).__name__.lower(), gdb.COMMAND_USER, self.completion)
 
     def invoke(self, words, _from_terminal):
         self.carry_out(words.strip())
@@ -356,7 +349,6 @@ Usage: units"""
 class Acts(Command):
     """A line that changes the machine."""
 
-    group = gdb.COMMAND_RUNNING
     completion = gdb.COMPLETE_NONE
     choices = ()
 
@@ -369,7 +361,8 @@ class Chooses(Acts):
     """Such a line, whose word is one of a few."""
 
     def __init__(self):
-        gdb.Command.__init__(self, type(self).__name__.lower(), self.group)
+        # gdb asks `complete` where no kind is named.
+        gdb.Command.__init__(self, type(self).__name__.lower(), gdb.COMMAND_USER)
 
     def complete(self, _text, word):
         return [choice for choice in self.choices if choice.startswith(word)]
@@ -428,7 +421,7 @@ Usage: save WHAT [-overwrite] FILE"""
         # gdb shows it as the command's help.
         self.__doc__ = f"Save {self.KINDS[kind]} in a file.\nUsage: save {kind} [-overwrite] FILE"
         self.kind = kind
-        super().__init__(f"save {kind}", gdb.COMMAND_FILES, gdb.COMPLETE_FILENAME)
+        super().__init__(f"save {kind}", gdb.COMMAND_USER, gdb.COMPLETE_FILENAME)
 
     def invoke(self, words, _from_terminal):
         rest = words.removeprefix("-overwrite ")
@@ -484,8 +477,7 @@ was recorded stands, to where it stood before the last `who` or `goto`, or to a 
             if words not in Marks.known:
                 raise gdb.GdbError(f'No mark "{words}".' if words else "Argument required (a moment).")
             words = Marks.known[words]
-        show(told(f"goto {words or 'start'}"))
-        gdb.execute("s360-renew")
+        super().carry_out(words if words in self.ends or int(words) else "start")
 
 
 def storage(address, length):
@@ -513,7 +505,6 @@ Usage: over
 
 Without a call it is `stepi`. Breakpoints and watches between stop it."""
 
-    group = gdb.COMMAND_RUNNING
     completion = gdb.COMPLETE_NONE
 
     def carry_out(self, _words):
@@ -530,7 +521,6 @@ A subroutine has come back if the register of the BAL or BALR before still has t
 address. Else it is `reverse-stepi`. Breakpoints and watches between stop it."""
 
     name = "reverse-over"
-    group = gdb.COMMAND_RUNNING
     completion = gdb.COMPLETE_NONE
 
     def carry_out(self, _words):
@@ -585,7 +575,8 @@ class ChangesOf(gdb.Function):
 
 def keep_count(_event):
     """Keeps $_change."""
-    gdb.set_convenience_variable("_change", standing())
+    if machine():
+        gdb.set_convenience_variable("_change", standing())
 
 
 def count_in_condition(point):
