@@ -107,7 +107,7 @@ def commands_not_carried_out(sessions):
     """The commands of s360.py that stand in no session."""
     words = [*GDB, "-batch", "-ex", "help user-defined"]
     told = subprocess.run(words, stdout=subprocess.PIPE, text=True, env=ENVIRONMENT, check=True).stdout
-    there = {line.partition(" -- ")[0] for line in told.splitlines() if " -- " in line}
+    there = {line.partition(" -- ")[0] for line in told.splitlines() if " -- " in line and "hook" not in line}
     lines = [line for session in sessions for line in session.read_text().splitlines()]
     return sorted(name for name in there if not any(line.startswith(name) for line in lines))
 

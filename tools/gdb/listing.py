@@ -13,7 +13,7 @@ OWN_LINE = re.compile(r"\*.*|(?:[0-9A-F]{6}| {6})(?: (?:[0-9A-F]{2})* *(?<=^.{24
 HEADER = re.compile(r"(?P<location>.?\s*LOC\s+)(?P<code>OBJECT CODE\s+)(?P<addresses>.*?)STMT\b", re.IGNORECASE)
 Z390 = re.compile(r"(?P<location>[0-9A-F]{6}|) *(?P<code>[0-9A-F]*) .*?\(\d+/\d+\)\d+[ +=](?P<source>.*)")
 COLUMNS = re.compile(r"(\d+)-(\d+),(\d+)-(\d+),(\d+)")
-STATEMENT = re.compile(r"(?P<label>[^\s*]\S*)?\s+(?P<operation>\S+)(?:\s+(?P<operands>(?:'[^']*'|\S)*))?")
+STATEMENT = re.compile(r"(?P<label>[^\s*][^\s:]*)?:?\s+(?P<operation>\S+)(?:\s+(?P<operands>(?:'[^']*'|\S)*))?")
 LOCATION = re.compile(r"[0-9A-F]{4,8}")
 CODE = re.compile(r"[0-9A-F]{4}(?: [0-9A-F]{4}){1,2}(?![0-9A-F])|[0-9A-F]+|")
 

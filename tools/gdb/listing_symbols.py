@@ -15,7 +15,7 @@ from listing import Statement, Unreadable, statements
 MOST_ADDRESSES = 1 << 24
 DUMMY, CONTROL = ("DSECT", "COM", "DXD"), ("CSECT", "START", "RSECT")
 WORDS = ("CCW", "CCW0", "PSW")
-NO_INSTRUCTION = ("", "DC", "DS", *WORDS)
+NO_INSTRUCTION = ("", "DC", "DS", "EBCDIC", *WORDS)
 SELF_DEFINING = re.compile(r"(\d+)|X'([0-9A-F]+)'")
 # Of a field that takes no storage of its own, its length.
 FIELD = re.compile(r"(?P<count>\d*)(?P<kind>[A-Z])(?:L(?P<length>\d+))?")
@@ -66,7 +66,7 @@ def placed(listed: Iterable[Statement]) -> Iterator[Statement]:
 def labels_of(found: list[Statement]) -> Iterator[Label]:
     """The labels of statements in the order of their locations, each name once."""
     starts = sorted({s.location for s in found})
-    code = {s.location for s in found if s.code and s.operation not in NO_INSTRUCTION}
+    code = {s.location for s in found if s.code and s.operation not in NO_INSTRUCTION and s.operation[0] != "."}
     named = {s.label: s for s in reversed(found) if s.label}
     places = sorted({s.location for s in named.values()})
     end = max(s.location + len(s.code) for s in found)

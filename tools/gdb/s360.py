@@ -39,7 +39,7 @@ COUNT = re.compile(r"\$_change\b")
 REFUSALS = ("?", "refused", "no such change", "not saved")
 UNITS = ("00C", "00D", "00E", "01F", "180", "181")
 PRINTER = "00E"
-BAL, BALR = 0x45, 0x05
+BALR, BCR, BAL, BC = 0x05, 0x07, 0x45, 0x47
 
 
 def machine():
@@ -109,6 +109,12 @@ def labelled(text):
 
     text = MET.sub(met, text)
     return BYTES.sub(lambda found: found[0] + label_at(int(found[1], 16)), text)
+
+
+def refuse(words):
+    """Of a command that is one word."""
+    if words:
+        raise gdb.GdbError(f'There is nothing to say behind this command: "{words}".')
 
 
 def show(text):
@@ -231,7 +237,10 @@ class Command(gdb.Command):
         super().__init__(self.name or type(self).__name__.lower(), gdb.COMMAND_USER, self.completion)
 
     def invoke(self, words, _from_terminal):
-        self.carry_out(words.strip())
+        try:
+            self.carry_out(words.strip())
+        except gdb.error as fault:
+            raise gdb.GdbError(str(fault)) from None
 
 
 class Who(Command):
@@ -388,9 +397,6 @@ class Enter(Acts):
     """Enter a line at the console.
 Usage: enter TEXT"""
 
-    def invoke(self, words, _from_terminal):
-        self.carry_out(words)
-
 
 class Tick(Acts):
     """Let the timer count down once.
@@ -437,7 +443,8 @@ Usage: marks"""
     completion = gdb.COMPLETE_NONE
     known: dict[str, int] = {}
 
-    def carry_out(self, _words):
+    def carry_out(self, words):
+        refuse(words)
         for name, number in sorted(self.known.items(), key=lambda mark: mark[1]):
             gdb.write(f"{name} {number}\n")
         if not self.known:
@@ -480,14 +487,10 @@ was recorded stands, to where it stood before the last `who` or `goto`, or to a 
         super().carry_out(words if words in self.ends or int(words) else "start")
 
 
-def storage(address, length):
-    return gdb.selected_inferior().read_memory(address & ADDRESS_BITS, length).tobytes()
-
-
 def call_at(address):
     """The length and the first register of the BAL or BALR at an address, if one is there that branches."""
     try:
-        code, registers = storage(address, 2)
+        code, registers = gdb.selected_inferior().read_memory(address & ADDRESS_BITS, 2).tobytes()
     except gdb.MemoryError:
         return None
     if code == BAL:
@@ -495,20 +498,25 @@ def call_at(address):
     return (2, registers >> 4) if code == BALR and registers & 0xF else None
 
 
-def program_counter():
-    return int(gdb.selected_frame().pc()) & ADDRESS_BITS
+def registers_of_branch(code):
+    """The registers by which a BC or BCR finds its target."""
+    if code[:1] == bytes([BCR]):
+        return {code[1] & 0xF}
+    return {code[1] & 0xF, code[2] >> 4} if code[:1] == bytes([BC]) else set()
 
 
 class Over(Command):
     """Step one instruction, past a BAL or BALR to where it comes back.
 Usage: over
 
-Without a call it is `stepi`. Breakpoints and watches between stop it."""
+Without a call it is `stepi`. Breakpoints and watches between stop it. A subroutine that
+comes back elsewhere runs on to one of them."""
 
     completion = gdb.COMPLETE_NONE
 
-    def carry_out(self, _words):
-        at = program_counter()
+    def carry_out(self, words):
+        refuse(words)
+        at = gdb.selected_frame().pc() & ADDRESS_BITS
         call = call_at(at)
         gdb.execute(f"advance *{at + call[0]:#x}" if call else "stepi")
 
@@ -517,40 +525,38 @@ class ReverseOver(Command):
     """Step one instruction back, past a subroutine to the BAL or BALR that called it.
 Usage: reverse-over
 
-A subroutine has come back if the register of the BAL or BALR before still has this
-address. Else it is `reverse-stepi`. Breakpoints and watches between stop it."""
+A subroutine has come back if the last instruction was a branch by the register that a
+BAL or BALR has set. Else it is `reverse-stepi`. Breakpoints and watches between stop it."""
 
     name = "reverse-over"
     completion = gdb.COMPLETE_NONE
 
-    def carry_out(self, _words):
-        here = program_counter()
-        stops = []
-        gdb.events.stop.connect(stops.append)
-        try:
-            said = gdb.execute("reverse-stepi", to_string=True)
-        finally:
-            gdb.events.stop.disconnect(stops.append)
-        call = None if isinstance(stops[-1], gdb.BreakpointEvent) else self.call_before(here)
-        if call is None or call == program_counter():
-            gdb.write(said)
+    def carry_out(self, words):
+        refuse(words)
+        call = self.call_that_came_back()
+        if call is None:
+            gdb.execute("reverse-stepi")
             return
-        point = gdb.Breakpoint(f"*{call:#x}", internal=True, temporary=True)
+        direction = gdb.parameter("exec-direction")
+        gdb.execute("set exec-direction reverse")
         try:
-            gdb.execute("reverse-continue")
+            gdb.execute(f"advance *{call:#x}")
         finally:
-            if point.is_valid():
-                point.delete()
+            gdb.execute(f"set exec-direction {direction}")
 
     @staticmethod
-    def call_before(address):
-        """Where the call is that comes back to an address, if its register has that."""
-        for length in (4, 2):
-            call = call_at(address - length)
-            if call and call[0] == length:
-                register = int(gdb.selected_frame().read_register(f"r{call[1]}"))
-                if register & ADDRESS_BITS == address:
-                    return address - length
+    def call_that_came_back():
+        """Where the BAL or BALR is of the subroutine whose last instruction was the last of all."""
+        for count in (10**power for power in range(1, 8)):
+            events = [MET.search(line) for line in told(f"history {count}").splitlines()]
+            instructions = [e[3] for e in events if e and e[1] == "cpu" and e[3]]
+            if instructions or len(events) < count:
+                break
+        for register in registers_of_branch(bytes.fromhex(instructions[-1])) if instructions else ():
+            back = int(gdb.selected_frame().read_register(f"r{register}")) & ADDRESS_BITS
+            for length in (4, 2):
+                if call_at(back - length) == (length, register):
+                    return back - length
         return None
 
 
