@@ -10,12 +10,16 @@ from typing import NamedTuple
 
 OWN_COLUMNS = "1-6,8-23,25"
 OWN_LINE = re.compile(r"\*.*|(?:[0-9A-F]{6}| {6})(?: (?:[0-9A-F]{2})* *(?<=^.{24})(?: .*|\S.*)?)?")
-HEADER = re.compile(r"(?P<location>.?\s*LOC\s+)(?P<code>OBJECT CODE\s+)(?P<addresses>.*?)STMT\b", re.IGNORECASE)
+HEADER = re.compile(r".?\s*LOC\s+OBJECT CODE\s.*?STMT\b", re.IGNORECASE)
+# Object code is near its location: farther on are the addresses of operands, and the statement's number.
+LOCATION_AND_CODE = r"(?P<location> ?[0-9A-F]{4,8}(?= )|)(?: {1,8}(?P<code>[0-9A-F]{4}[0-9A-F ]*)|)"
 Z390 = re.compile(r"(?P<location>[0-9A-F]{6}|) *(?P<code>[0-9A-F]*) .*?\(\d+/\d+\)\d+[ +=](?P<source>.*)")
 COLUMNS = re.compile(r"(\d+)-(\d+),(\d+)-(\d+),(\d+)")
 STATEMENT = re.compile(r"(?P<label>[^\s*][^\s:]*)?:?\s+(?P<operation>\S+)(?:\s+(?P<operands>(?:'[^']*'|\S)*))?")
 LOCATION = re.compile(r"[0-9A-F]{4,8}")
 CODE = re.compile(r"[0-9A-F]{4}(?: [0-9A-F]{4}){1,2}(?![0-9A-F])|[0-9A-F]+|")
+# Near the location of these is a value, or nothing.
+NO_CODE = ("DS", "EQU", "ORG", "USING")
 
 
 class Unreadable(Exception):
@@ -49,9 +53,7 @@ def form_below(header: re.Match[str], lines: list[str]) -> re.Pattern[str]:
     sources = {end: [f["source"] for f in map(pattern.match, lines) if f] for end, pattern in numbered.items()}
     end = max(sources, key=lambda end: len(sources[end]))
     indents = [len(source) - len(source.lstrip()) for source in sources[end] if source.strip()]
-    location, code = header.end("location"), len(header["code"])
-    parts = rf"(?P<location>.{{{location}}})(?P<code>.{{{code}}}[0-9A-F]*).*"
-    return re.compile(rf"(?={parts}).{{{end - 1}}}\d[ +].{{{min(indents, default=0)}}}(?P<source>.*)")
+    return re.compile(rf"(?={LOCATION_AND_CODE}).{{{end - 1}}}\d[ +].{{{min(indents, default=0)}}}(?P<source>.*)")
 
 
 def form_of(lines: list[str], columns: str | None) -> re.Pattern[str]:
@@ -77,9 +79,11 @@ def statements(text: str, columns: str | None = None) -> Iterator[Statement]:
         found = form.match(line.ljust(longest + 1))
         parts = found and STATEMENT.match(found["source"].rstrip())
         location = found and LOCATION.fullmatch(found["location"].strip())
-        if not parts or not location and (found["location"] + found["code"]).strip():
+        if not parts or not location and (found["location"] + (found["code"] or "")).strip():
             continue
-        code = CODE.match(found["code"].strip())[0].replace(" ", "") if location else ""
+        code = ""
+        if location and parts["operation"] not in NO_CODE:
+            code = CODE.match((found["code"] or "").strip())[0].replace(" ", "")
         yield Statement(
             number,
             int(location[0], 16) if location else None,

@@ -17,8 +17,8 @@ DUMMY, CONTROL = ("DSECT", "COM", "DXD"), ("CSECT", "START", "RSECT")
 WORDS = ("CCW", "CCW0", "PSW")
 NO_INSTRUCTION = ("", "DC", "DS", "EBCDIC", *WORDS)
 SELF_DEFINING = re.compile(r"(\d+)|X'([0-9A-F]+)'")
-# Of a field that takes no storage of its own, its length.
-FIELD = re.compile(r"(?P<count>\d*)(?P<kind>[A-Z])(?:L(?P<length>\d+))?")
+# The operand of a field. In the examples a number alone counts bytes.
+FIELD = re.compile(r"(?P<count>\d*)(?P<kind>[A-Z]?)(?:L(?P<length>\d+))?")
 # Of each type of a constant the type of its elements, and their size.
 TYPES = {"F": ("int", 4), "H": ("short", 2), "A": ("address", 4), "V": ("address", 4), "C": ("char", 1)}
 BYTES = ("byte", 1)
@@ -81,13 +81,14 @@ def labels_of(found: list[Statement]) -> Iterator[Label]:
         if address in code:
             yield Label(name, address, behind(places, address), None, 0)
             continue
-        size = behind(starts, address) if statement.operation == "DS" else len(statement.code)
         field = FIELD.match("A" if statement.operation in WORDS else statement.operands)
-        element, width = TYPES.get(field["kind"], BYTES) if field else BYTES
-        if field and field["count"] == "0":
-            size = int(field["length"] or width)
-        elif field and field["length"] and statement.operation == "DS":
-            size = int(field["count"] or 1) * int(field["length"])
+        element, width = TYPES.get(field["kind"], BYTES)
+        count, length = int(field["count"] or 1), int(field["length"] or 0)
+        size = len(statement.code)
+        if field["count"] == "0":
+            size = length or width
+        elif statement.operation == "DS":
+            size = count * (length or 1) if length or not field["kind"] else behind(starts, address)
         if size % width:
             element, width = BYTES
         yield Label(name, address, size, element, size // width)
