@@ -24,27 +24,30 @@ import typed
 TOP = pathlib.Path(__file__).resolve().parent.parent
 CARDS = ["--symbols", "examples/cards.listing", "--reader", "examples/cards.deck"]
 PROMPT = "(gdb) "
-SECONDS = 60
+SECONDS = 20
 # What a terminal is told beside signs.
 CONTROLS = re.compile(r"\x1b(?:\[[0-9;?]*[A-Za-z]|[()][A-Z0-9]|[=>])|[\r\x0e\x0f]")
 STOPPED_AT_PRINT = r'\*stopped,reason="breakpoint-hit".*func="PRINT".*fullname="[^"]*examples/cards\.listing",line="33"'
-# What is typed, and what has to be shown before more is typed.
+# What is typed, and what has to be shown before more is typed. `refresh` draws the screen whole.
 SCREEN = [
     ("", r"\(gdb\) $"),
     ("set pagination off", r"\(gdb\) $"),
     ("key eof", "1 changed 1 d00C"),
     ("load 00C", "2 changed 2 run u00C"),
     ("break PRINT", "Breakpoint 1 at 0x276"),
-    ("continue", r"B\+>\s*33\s+000276 41100390\s+PRINT\s+LA\s+1,WRCCW"),
-    ("step", r">\s*34\s+00027A 50100048\s+ST\s+1,CAW"),
-    ("reverse-step", r"B\+>\s*33\s+000276"),
-    ("who COUNT", r">\s*16\s+000230 50300300\s+ST\s+3,COUNT"),
-    ("layout asm", r">\s*0x230 <RDWAIT\+32>\s+st\s+%r3,768"),
+    ("continue", r"B\+>"),
+    ("refresh", r"B\+> +33 +000276 41100390 +PRINT +LA +1,WRCCW"),
+    ("step", r"00027A 50100048 +ST +1,CAW"),
+    ("reverse-step", r"000276 41100390 +PRINT"),
+    ("refresh", r"B\+> +33 +000276 41100390 +PRINT +LA +1,WRCCW"),
+    ("who COUNT", r"ST 3,COUNT  cards.listing:16"),
+    ("refresh", r"> +16 +000230 50300300 +ST +3,COUNT"),
+    ("layout asm", r"0x230 <RDWAIT\+32> +st +%r3,768"),
 ]
 INTERFACE = [
     ("", r"\(gdb\) \n$"),
-    ('-interpreter-exec console "key eof"', r"1 changed 1 d00C.*\^done"),
-    ('-interpreter-exec console "load 00C"', r"2 changed 2 run u00C.*\^done"),
+    ('-interpreter-exec console "key eof"', r"1 changed 1 d00C.*\*stopped"),
+    ('-interpreter-exec console "load 00C"', r"2 changed 2 run u00C.*\*stopped"),
     ("-break-insert PRINT", r'\^done,bkpt=\{number="1",type="breakpoint".*line="33"'),
     ("-exec-continue", STOPPED_AT_PRINT),
     ("-stack-list-frames", r'\^done,stack=\[frame=\{level="0",addr="0x00000276",func="PRINT"'),
@@ -58,9 +61,9 @@ def launched():
     """What Visual Studio Code starts by .vscode/launch.json, and what it sends."""
     told = json.loads((TOP / ".vscode/launch.json").read_text())["configurations"][0]
     words = [told["miDebuggerPath"].replace("${workspaceFolder}", "."), "--interpreter=mi"]
-    typed_lines = [(command["text"], r"\^done") for command in told["customLaunchSetupCommands"]]
+    sent = [(command["text"], r"\^done") for command in told["customLaunchSetupCommands"]]
     complete = {"exec-continue": ("-exec-continue", STOPPED_AT_PRINT)}[told["launchCompleteCommand"]]
-    return [*words, *shlex.split(told["miDebuggerArgs"])], [("", r"\(gdb\) \n$"), *typed_lines, complete]
+    return [*words, *shlex.split(told["miDebuggerArgs"])], [("", r"\(gdb\) \n$"), *sent, complete]
 
 
 def shown(terminal, pattern):
