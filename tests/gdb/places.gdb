@@ -58,4 +58,7 @@ break PRINT if $_change > 60
 continue
 print $_change
 info breakpoints
+display $_change
+stepi
+reverse-stepi 2
 kill

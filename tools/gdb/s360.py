@@ -145,6 +145,8 @@ def bytes_of(expression):
             return start + int(value_of(f"0 {found['offset']}")) & ADDRESS_BITS, 1
         if label.type.target().code in (gdb.TYPE_CODE_FUNC, gdb.TYPE_CODE_ERROR):
             return start, length_of_label(start)
+        # gdb takes a name with other signs in quotes alone.
+        expression = f"'{found['name']}'"
     value = value_of(expression)
     if value.address is not None:
         if value.type.sizeof > MOST_BYTES:
@@ -579,7 +581,7 @@ class ChangesOf(gdb.Function):
         return len(changes_of(places, MOST_CHANGES))
 
 
-def keep_count(_event):
+def keep_count(_event=None):
     """Keeps $_change."""
     if machine():
         gdb.set_convenience_variable("_change", standing())
@@ -597,7 +599,9 @@ ReverseOver()
 for kind in Save.KINDS:
     Save(kind)
 ChangesOf()
-for event in (gdb.events.stop, gdb.events.memory_changed, gdb.events.register_changed):
+for event in (gdb.events.memory_changed, gdb.events.register_changed):
     event.connect(keep_count)
+# A hook comes before what is displayed at a stop, and an event of Python behind it.
+gdb.execute("define hook-stop\npython keep_count()\nend")
 for event in (gdb.events.breakpoint_created, gdb.events.breakpoint_modified):
     event.connect(count_in_condition)
