@@ -8,7 +8,7 @@ terminal shows of them: each command behind gdb's prompt, and what gdb prints th
 of the commands is `# s360gdb WORD ..`: the words of the program's command line and those for
 symbols, with files named from the top; or `# extended s360gdb WORD ..`, if gdb is to be in extended
 mode. What comes before the first prompt is not compared. The screens of gdb in docs/reference/gdb.md
-have to be parts of the transcripts of `guide` and `saved`. gdb is started in a folder of its own,
+have to be parts of the transcripts of `guide`, `saved` and `places`. gdb is started in a folder of its own,
 where files can be saved, and where NAME.elf is the program that GNU as makes of tests/gdb/NAME.s.
 `--print` prints sessions and compares nothing. Some session has to carry out each command of
 tools/gdb/s360.py. The status is 0 if each session prints what it has to.
@@ -37,6 +37,7 @@ SCREENS = [
         "guide",
     ),
     ("docs/reference/gdb.md", "With the deck of `examples/cards.deck`, once it has run:", "saved"),
+    ("docs/reference/gdb.md", "Events are told with labels and lines, and instructions as their statements:", "places"),
 ]
 # What a session finds in the folder in which gdb is started.
 FOLDERS = ["examples", "tests"]
