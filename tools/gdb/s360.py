@@ -1,12 +1,10 @@
 """gdb's commands for the machine, which take places as gdb names values, and tell labels and source lines.
 
-gdb loads it (`-x tools/gdb/s360.py`), and so s360.gdb beside it. Each command is a line of monitor or several.
+gdb loads it (`-x tools/gdb/s360.py`), and it s360.gdb. Each command is a line of monitor or several.
 """
-import functools
 import pathlib
 import re
 import sys
-from typing import NamedTuple
 
 import gdb
 
@@ -14,219 +12,39 @@ FOLDER = pathlib.Path(__file__).resolve().parent
 sys.path.insert(0, str(FOLDER))
 gdb.execute(f"source {FOLDER / 's360.gdb'}")
 
-import listing  # noqa: E402
-import listing_symbols  # noqa: E402
+from s360_machine import MET, machine, show, standing, told  # noqa: E402
+from s360_places import (  # noqa: E402
+    ADDRESS_BITS,
+    bytes_of,
+    changes_of,
+    places_of,
+    places_of_value,
+    show_change,
+    with_count,
+)
 
-ADDRESS_BITS = 0xFFFFFF
-MOST_BYTES = 256
 MOST_CHANGES = 10_000_000
-WHOLE_LINE = 64
-REGISTER = re.compile(r"\$r(\d|1[0-5])")
-PSW = ("$pc", "$pswa", "$pswm", "$cc")
-# What monitor names and gdb has no expression for.
-OTHER_PLACE = re.compile(r"[udk] [0-9A-Fa-f]+|ext|run|p")
-LABEL = re.compile(r"(?P<quote>'?)(?P<name>[A-Za-z_.@#][\w.@#$]*)(?P=quote)\s*(?P<offset>[-+].*)?")
-# A number behind an expression: what is before it is not to be continued.
-COUNTED = re.compile(r"(?P<expression>.*[\w)\]'\"])\s+(?P<count>\d+)")
+DUMPED, FOLLOWED, TOLD = 64, 5, 10
+PRINTER = "00E"
+UNITS = ("00C", "00D", PRINTER, "01F", "180", "181")
+# What is asked of the printer, what is told of a printed line, and the data address and the count of a command word.
 PRINTED = re.compile(r"line (?P<line>\d+) column (?P<column>\d+)(?: page (?P<page>\d+))?")
 RECORD = re.compile(r"page (\d+) line (\d+) ?(.*)")
-# In an answer: a byte or successive bytes; what an event met, and where.
-BYTES = re.compile(r"\bs([0-9A-F]{6})(-[0-9A-F]{6})?")
-MET = re.compile(r"\b(cpu|channel \w+) at ([0-9A-F]{6})(?: ([0-9A-F]+)\b)?")
 WRITE_COMMAND = re.compile(r"channel 00E at [0-9A-F]{6} [0-9A-F]{2}([0-9A-F]{6})[0-9A-F]{4}([0-9A-F]{4})")
-GNU_LABEL_OR_REMARK = re.compile(r"^\s*[\w.$@]+:|#.*")
+MARK = re.compile(r"[A-Za-z_]\w*")
 COUNT = re.compile(r"\$_change\b")
-REFUSALS = ("?", "refused", "no such change", "not saved")
-UNITS = ("00C", "00D", "00E", "01F", "180", "181")
-PRINTER = "00E"
 BALR, BCR, BAL, BC = 0x05, 0x07, 0x45, 0x47
 
 
-def machine():
-    """The connection to the machine, or nothing."""
-    connection = gdb.selected_inferior().connection
-    return connection if isinstance(connection, gdb.RemoteTargetConnection) else None
-
-
-def answer(line):
-    """What the machine answers to a line of monitor."""
-    if machine() is None:
-        raise gdb.GdbError("There is no machine.")
-    reply = machine().send_packet(b"qRcmd," + line.encode().hex().encode())
-    if reply.startswith(b"E"):
-        raise gdb.GdbError("There is no memory left for this.")
-    return "" if reply == b"OK" else bytes.fromhex(reply.decode()).decode()
-
-
-def told(line):
-    """The answer to a line that the machine takes."""
-    text = answer(line)
-    if text.startswith("?"):
-        raise gdb.GdbError(f'The machine does not take "{line}".')
-    if text.startswith(REFUSALS):
-        raise gdb.GdbError(text.strip())
-    return text
-
-
-def label_at(address):
-    """The label before an address, as gdb has it in `<START+4>`; or nothing."""
-    found = re.match(r"(.+?)(?: \+ (\d+))? in section", gdb.execute(f"info symbol {address}", to_string=True))
-    return "" if not found else f" <{found[1]}{found[2] and '+' + found[2] or ''}>"
-
-
-@functools.lru_cache
-def statements_of(file, producer):
-    """The statements of a source by their lines."""
-    try:
-        text = pathlib.Path(file).read_text(errors="replace")
-    except OSError:
-        return {}
-    name, _, columns = (producer or "").partition(" ")
-    if name == listing_symbols.PRODUCER:
-        return {s.line: f"{s.operation} {s.operands}".strip() for s in listing.statements(text, columns)}
-    lines = (GNU_LABEL_OR_REMARK.sub("", line) for line in text.splitlines())
-    return {number: " ".join(line.split()) for number, line in enumerate(lines, 1)}
-
-
-def source_at(address):
-    """The statement of an address, and its file and line; or nothing."""
-    found = gdb.find_pc_line(address)
-    if not found.symtab or not found.line:
-        return None, None
-    symtab = found.symtab
-    statement = statements_of(symtab.fullname(), symtab.producer).get(found.line)
-    return statement, f"{pathlib.Path(symtab.filename).name}:{found.line}"
-
-
-def labelled(text):
-    """An answer of the machine with labels, and with statements in place of the digits of instructions."""
-
-    def met(found):
-        who, where, digits = found.groups()
-        statement, line = source_at(int(where, 16))
-        parts = [f"{who} at {where}{label_at(int(where, 16))}", digits and (statement or digits)]
-        return " ".join(filter(None, parts)) + (f"  {line}" if line else "")
-
-    text = MET.sub(met, text)
-    return BYTES.sub(lambda found: found[0] + label_at(int(found[1], 16)), text)
-
-
 def refuse(words):
-    """Of a command that is one word."""
     if words:
-        raise gdb.GdbError(f'There is nothing to say behind this command: "{words}".')
-
-
-def show(text):
-    gdb.write(labelled(text))
-
-
-def value_of(expression):
-    """A value of gdb, whose own words tell why there is none."""
-    try:
-        return gdb.parse_and_eval(expression)
-    except gdb.error as fault:
-        raise gdb.GdbError(str(fault)) from None
-
-
-def length_of_label(address):
-    """How many bytes from a label's address on belong to it."""
-    name = label_at(address)[:-1]
-    own = (at for at in range(1, MOST_BYTES) if label_at(address + at) != f"{name}+{at}>")
-    return next(own, MOST_BYTES) if name else 1
-
-
-def bytes_of(expression):
-    """The address and the number of the bytes that an expression names: of a label its field, of a number one byte."""
-    if found := LABEL.fullmatch(expression):
-        label = value_of(f"&'{found['name']}'")
-        start = int(label) & ADDRESS_BITS
-        if found["offset"]:
-            return start + int(value_of(f"0 {found['offset']}")) & ADDRESS_BITS, 1
-        if label.type.target().code in (gdb.TYPE_CODE_FUNC, gdb.TYPE_CODE_ERROR):
-            return start, length_of_label(start)
-        # gdb takes a name with other signs in quotes alone.
-        expression = f"'{found['name']}'"
-    value = value_of(expression)
-    if value.address is not None:
-        if value.type.sizeof > MOST_BYTES:
-            raise gdb.GdbError(f"{value.type.sizeof} bytes are too many: ask for at most {MOST_BYTES}.")
-        return int(value.address) & ADDRESS_BITS, value.type.sizeof
-    if value.type.strip_typedefs().code not in (gdb.TYPE_CODE_INT, gdb.TYPE_CODE_PTR):
-        raise gdb.GdbError(f"{expression} is no place.")
-    return int(value) & ADDRESS_BITS, 1
-
-
-def places_of(expression):
-    """The places of an expression, as monitor names them."""
-    if not expression:
-        raise gdb.GdbError("Argument required (a place).")
-    if found := REGISTER.fullmatch(expression):
-        return [f"r {int(found[1]):X}"]
-    if expression in PSW:
-        return ["p"]
-    if OTHER_PLACE.fullmatch(expression):
-        return [expression]
-    address, length = bytes_of(expression)
-    return [f"s {at:06X}" for at in range(address, address + length)]
-
-
-def with_count(words):
-    """An expression, and the number behind it or nothing."""
-    found = None if OTHER_PLACE.fullmatch(words) else COUNTED.fullmatch(words)
-    return (found["expression"], int(found["count"])) if found else (words, None)
-
-
-class Change(NamedTuple):
-    """A change of places: its number, what it says of its event, and of each place where it is and how it changed."""
-
-    number: int
-    event: str
-    places: dict[str, str]
-
-
-def changes_of(places, count):
-    """The last standing changes of places, the oldest first."""
-    found = {}
-    for place in places:
-        lines = told(f"changes {place} {count}").splitlines()
-        for event, line in zip(lines[::2], lines[1::2]):
-            number = int(event.split()[0])
-            change = found.setdefault(number, Change(number, event, {}))
-            name, _, how = line.partition(" ")
-            change.places[name] = how
-    return [found[number] for number in sorted(found)][-count:]
-
-
-def run_of(places):
-    """The lines of a change's places: successive bytes have one."""
-    runs = []
-    for name, how in places.items():
-        before, _, after = how.partition(" -> ")
-        address = int(name[1:], 16) if BYTES.fullmatch(name) else None
-        if runs and address is not None and runs[-1][1] == address - 1:
-            first, _, *values = runs[-1]
-            runs[-1] = (first, address, values[0] + before, values[1] + after)
-        else:
-            runs.append((name, address, before, after))
-    for first, last, before, after in runs:
-        end = f"-{last:06X}" if last is not None and f"s{last:06X}" != first else ""
-        yield f"{first}{end} {before} -> {after}"
-
-
-def show_change(change):
-    show("\n".join([change.event, *run_of(change.places), ""]))
+        raise gdb.GdbError("This command takes no arguments.")
 
 
 def go_before(change):
     show_change(change)
     told(f"goto {change.number - 1 or 'start'}")
     gdb.execute("s360-renew")
-
-
-def standing():
-    """How many changes stand."""
-    return int(answer("standing").split()[1])
 
 
 class Command(gdb.Command):
@@ -303,7 +121,7 @@ Five changes deep, or as many as told. Of a field its byte is meant that changed
         places = places_of(expression)
         changes = changes_of(places, 1) if len(places) > 1 else []
         place = next(p for p in places if not changes or p.replace(" ", "") in changes[-1].places)
-        show(told(f"why {place} {depth or 5}"))
+        show(told(f"why {place} {depth or FOLLOWED}"))
 
 
 class Changes(Command):
@@ -314,7 +132,7 @@ Ten, or as many as told."""
 
     def carry_out(self, words):
         expression, count = with_count(words)
-        found = changes_of(places_of(expression), 10 if count is None else count)
+        found = changes_of(places_of(expression), TOLD if count is None else count)
         for change in found:
             show_change(change)
         if not found:
@@ -344,7 +162,9 @@ Shows the bytes of a field, 64 bytes of an address, or as many as told."""
         if not expression:
             raise gdb.GdbError("Argument required (a place).")
         address, length = bytes_of(expression)
-        gdb.write(told(f"dump {address:X} {(length if length > 1 else WHOLE_LINE) if count is None else count}"))
+        if count is None:
+            count = length if length > 1 else DUMPED
+        gdb.write(told(f"dump {address:X} {count}"))
 
 
 class Units(Command):
@@ -357,8 +177,8 @@ Usage: units"""
         gdb.write(told(f"units {words}".strip()))
 
 
-class Acts(Command):
-    """A line that changes the machine."""
+class EventCommand(Command):
+    """A command that moves the machine."""
 
     completion = gdb.COMPLETE_NONE
     choices = ()
@@ -368,8 +188,8 @@ class Acts(Command):
         gdb.execute("s360-renew")
 
 
-class Chooses(Acts):
-    """Such a line, whose word is one of a few."""
+class ChoiceCommand(EventCommand):
+    """Such a command, whose word is one of a few."""
 
     def __init__(self):
         # gdb asks `complete` where no kind is named.
@@ -379,14 +199,14 @@ class Chooses(Acts):
         return [choice for choice in self.choices if choice.startswith(word)]
 
 
-class Key(Chooses):
+class Key(ChoiceCommand):
     """Press a key of the operator.
 Usage: key start|stop|reset|interrupt|eof|request"""
 
     choices = ("start", "stop", "reset", "interrupt", "eof", "request")
 
 
-class Load(Chooses):
+class Load(ChoiceCommand):
     """Press the load key: the machine is reset, and loads its program from a unit.
 Usage: load UNIT
 
@@ -395,17 +215,17 @@ gdb's own command of this name is not there: `restore FILE` puts a file into sto
     choices = UNITS
 
 
-class Enter(Acts):
+class Enter(EventCommand):
     """Enter a line at the console.
 Usage: enter TEXT"""
 
 
-class Tick(Acts):
+class Tick(EventCommand):
     """Let the timer count down once.
 Usage: tick"""
 
 
-class Withdraw(Acts):
+class Withdraw(EventCommand):
     """Take a change out of those that stand, and run the later events again without it.
 Usage: withdraw NUMBER"""
 
@@ -462,13 +282,13 @@ A name is kept for the number of changes that stand."""
     completion = gdb.COMPLETE_NONE
 
     def carry_out(self, words):
-        if not re.fullmatch(r"[A-Za-z_]\w*", words) or words in Goto.ends:
+        if not MARK.fullmatch(words) or words in Goto.ends:
             raise gdb.GdbError("A mark's name is letters, digits and _, and none of start, end and last.")
         Marks.known[words] = standing()
         gdb.write(f"{words} {Marks.known[words]}\n")
 
 
-class Goto(Chooses):
+class Goto(ChoiceCommand):
     """Go to another moment of the record.
 Usage: goto NUMBER|start|end|last|NAME
 
@@ -574,8 +394,7 @@ class ChangesOf(gdb.Function):
         if value.type.strip_typedefs().code == gdb.TYPE_CODE_ARRAY and value.address is None:
             places = places_of(value.string())
         elif value.address is not None:
-            start = int(value.address) & ADDRESS_BITS
-            places = [f"s {at:06X}" for at in range(start, start + value.type.sizeof)]
+            places = places_of_value(value)
         else:
             raise gdb.GdbError('A register is named in quotes: $_changes("$r5").')
         return len(changes_of(places, MOST_CHANGES))

@@ -1,0 +1,92 @@
+"""What the machine answers to a line of monitor, with labels and source lines."""
+import functools
+import pathlib
+import re
+
+import gdb
+import listing
+import listing_symbols
+
+# In an answer: a byte or successive bytes; what an event met, and where.
+BYTES = re.compile(r"\bs([0-9A-F]{6})(-[0-9A-F]{6})?")
+MET = re.compile(r"\b(cpu|channel \w+) at ([0-9A-F]{6})(?: ([0-9A-F]+)\b)?")
+REFUSALS = ("refused", "no such change", "not saved")
+GNU_LABEL_OR_REMARK = re.compile(r"^\s*[\w.$@]+:|#.*")
+
+
+def machine():
+    """The connection to the machine, or nothing."""
+    connection = gdb.selected_inferior().connection
+    return connection if isinstance(connection, gdb.RemoteTargetConnection) else None
+
+
+def answer(line):
+    """What the machine answers to a line of monitor."""
+    if machine() is None:
+        raise gdb.GdbError("There is no machine.")
+    reply = machine().send_packet(b"qRcmd," + line.encode().hex().encode())
+    if reply.startswith(b"E"):
+        raise gdb.GdbError("There is no memory left for this.")
+    return "" if reply == b"OK" else bytes.fromhex(reply.decode()).decode()
+
+
+def told(line):
+    """The answer to a line that the machine takes."""
+    text = answer(line)
+    if text.startswith("?"):
+        raise gdb.GdbError(f'The machine does not take "{line}".')
+    if text.startswith(REFUSALS):
+        raise gdb.GdbError(text.strip())
+    return text
+
+
+def label_at(address):
+    """The label before an address, as gdb has it in `<START+4>`; or nothing."""
+    found = re.match(r"(.+?)(?: \+ (\d+))? in section", gdb.execute(f"info symbol {address}", to_string=True))
+    return "" if not found else f" <{found[1]}{found[2] and '+' + found[2] or ''}>"
+
+
+@functools.lru_cache
+def statements_of(file, producer):
+    """The statements of a source by their lines."""
+    try:
+        text = pathlib.Path(file).read_text(errors="replace")
+    except OSError:
+        return {}
+    name, _, columns = (producer or "").partition(" ")
+    if name == listing_symbols.PRODUCER:
+        return {s.line: f"{s.operation} {s.operands}".strip() for s in listing.statements(text, columns)}
+    lines = (GNU_LABEL_OR_REMARK.sub("", line) for line in text.splitlines())
+    return {number: " ".join(line.split()) for number, line in enumerate(lines, 1)}
+
+
+def source_at(address):
+    """The statement of an address, and its file and line; or nothing."""
+    found = gdb.find_pc_line(address)
+    if not found.symtab or not found.line:
+        return None, None
+    symtab = found.symtab
+    statement = statements_of(symtab.fullname(), symtab.producer).get(found.line)
+    return statement, f"{pathlib.Path(symtab.filename).name}:{found.line}"
+
+
+def labelled(text):
+    """An answer of the machine with labels, and with statements in place of the digits of instructions."""
+
+    def met(found):
+        who, where, digits = found.groups()
+        statement, line = source_at(int(where, 16))
+        parts = [f"{who} at {where}{label_at(int(where, 16))}", digits and (statement or digits)]
+        return " ".join(filter(None, parts)) + (f"  {line}" if line else "")
+
+    text = MET.sub(met, text)
+    return BYTES.sub(lambda found: found[0] + label_at(int(found[1], 16)), text)
+
+
+def standing():
+    """How many changes stand."""
+    return int(answer("standing").split()[1])
+
+
+def show(text):
+    gdb.write(labelled(text))
