@@ -35,6 +35,8 @@ goto damage
 # mended, it lists its cards. Change 113 prints the fourth line, whose seventh column OI at 264 has made a digit of
 set var *(char*)0x239 = 0x82
 continue
+# The mended MVC, which has blanked LINE to its end, is not the statement of the listing
+changes LINE+131
 who line 4 column 7
 print/c LINE[6]
 goto end

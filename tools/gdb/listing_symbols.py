@@ -95,12 +95,15 @@ def labels_of(found: list[Statement]) -> Iterator[Label]:
 
 
 def lines_of(found: list[Statement]) -> Iterator[str]:
-    """The lines by their addresses. GNU as enters a line that has no instruction where a label is."""
+    """The lines by their addresses, and the code. GNU as enters a line that has no instruction where a label is."""
+    filled = [s for s in found if s.code or s.operation == "DS"]
+    end = max(s.location + max(len(s.code), 1) for s in found)
     yield ".loc_mark_labels 1"
-    for statement in found:
-        if statement.code or statement.operation == "DS":
-            yield f".org {statement.location}; .loc 1 {statement.line}; .Lline{statement.line}:"
-    yield f".loc_mark_labels 0; .org {max(s.location + max(len(s.code), 1) for s in found)}; .Lend:"
+    for statement, behind in zip(filled, [*(s.location for s in filled[1:]), end]):
+        yield f".org {statement.location}; .loc 1 {statement.line}; .Lline{statement.line}:"
+        if code := statement.code[: behind - statement.location]:
+            yield f".byte {', '.join(map(str, code))}"
+    yield f".loc_mark_labels 0; .org {end}; .Lend:"
 
 
 def symbol(name: str, value: str, kind: str, size: int) -> str:
@@ -128,7 +131,7 @@ def assembly_of(file: str, text: str, columns: str | None) -> str:
     named = {label.name for label in labels}
     told = f"{PRODUCER} {columns}" if columns else PRODUCER
     name, folder, producer = (word.replace("\\", r"\\").replace('"', r"\"") for word in (file, os.getcwd(), told))
-    out = [f'.file 1 "{name}"', '.section .text,"ax",@nobits', ".Lstart:", *lines_of(found)]
+    out = [f'.file 1 "{name}"', '.section .text,"ax"', ".Lstart:", *lines_of(found)]
     for label in labels:
         kind = "object" if label.element else "function"
         out.append(symbol(label.name, f".Lstart + {label.address}", kind, label.size))

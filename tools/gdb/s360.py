@@ -54,7 +54,8 @@ class Command(gdb.Command):
     completion = gdb.COMPLETE_EXPRESSION
 
     def __init__(self):
-        super().__init__(self.name or type(self).__name__.lower(), gdb.COMMAND_USER, self.completion)
+        kind = [] if self.completion is None else [self.completion]
+        super().__init__(self.name or type(self).__name__.lower(), gdb.COMMAND_USER, *kind)
 
     def invoke(self, words, _from_terminal):
         try:
@@ -86,7 +87,7 @@ Said again it goes one change further back. `goto last` goes back to where it st
         """Of a sign on paper: what put it into the line that was printed."""
         number = self.record_of(line, column, page)
         prints = changes_of([f"d {PRINTER}"], MOST_CHANGES)
-        wanted = next(c for c in prints if f" records {number}" in c.places[f"d{PRINTER}"].partition(" -> ")[2] + " ")
+        wanted = next(change for change in prints if change.places[f"d{PRINTER}"].endswith(f" records {number}"))
         found = WRITE_COMMAND.search(wanted.event)
         if not found or column > int(found[2], 16):
             raise gdb.GdbError(f"Column {column} was not printed by one command word.")
@@ -191,9 +192,8 @@ class EventCommand(Command):
 class ChoiceCommand(EventCommand):
     """Such a command, whose word is one of a few."""
 
-    def __init__(self):
-        # gdb asks `complete` where no kind is named.
-        gdb.Command.__init__(self, type(self).__name__.lower(), gdb.COMMAND_USER)
+    # gdb asks `complete` then.
+    completion = None
 
     def complete(self, _text, word):
         return [choice for choice in self.choices if choice.startswith(word)]
@@ -327,6 +327,16 @@ def registers_of_branch(code):
     return {code[1] & 0xF, code[2] >> 4} if code[:1] == bytes([BC]) else set()
 
 
+def last_instruction():
+    """The instruction of the last event of the CPU. An interruption has none."""
+    for count in (10**power for power in range(1, 8)):
+        events = [MET.search(line) for line in told(f"history {count}").splitlines()]
+        digits = [event[3] or "" for event in events if event and event[1] == "cpu"]
+        if digits or len(events) < count:
+            return bytes.fromhex(digits[-1] if digits else "")
+    return b""
+
+
 class Over(Command):
     """Step one instruction, past a BAL or BALR to where it comes back.
 Usage: over
@@ -369,12 +379,7 @@ BAL or BALR has set. Else it is `reverse-stepi`. Breakpoints and watches between
     @staticmethod
     def call_that_came_back():
         """Where the BAL or BALR is of the subroutine whose last instruction was the last of all."""
-        for count in (10**power for power in range(1, 8)):
-            events = [MET.search(line) for line in told(f"history {count}").splitlines()]
-            instructions = [e[3] for e in events if e and e[1] == "cpu" and e[3]]
-            if instructions or len(events) < count:
-                break
-        for register in registers_of_branch(bytes.fromhex(instructions[-1])) if instructions else ():
+        for register in registers_of_branch(last_instruction()):
             back = int(gdb.selected_frame().read_register(f"r{register}")) & ADDRESS_BITS
             for length in (4, 2):
                 if call_at(back - length) == (length, register):
@@ -412,9 +417,10 @@ def count_in_condition(point):
         point.condition = COUNT.sub("$_changes()", point.condition)
 
 
-for command in (Who, Why, Changes, History, Dump, Units, Key, Load, Enter, Tick, Withdraw, Marks, Mark, Goto, Over):
+for command in (Who, Why, Changes, History, Dump, Units, Key, Load, Enter, Tick, Withdraw, Marks, Mark, Goto):
     command()
-ReverseOver()
+for command in (Over, ReverseOver):
+    command()
 for kind in Save.KINDS:
     Save(kind)
 ChangesOf()

@@ -2,6 +2,7 @@
 import functools
 import pathlib
 import re
+import struct
 
 import gdb
 import listing
@@ -11,6 +12,8 @@ import listing_symbols
 BYTES = re.compile(r"\bs([0-9A-F]{6})(-[0-9A-F]{6})?")
 MET = re.compile(r"\b(cpu|channel \w+) at ([0-9A-F]{6})(?: ([0-9A-F]+)\b)?")
 REFUSALS = ("refused", "no such change", "not saved")
+SECTION_TABLE, SECTION_COUNT = 32, 46
+PROGBITS, ALLOC = 1, 2
 GNU_LABEL_OR_REMARK = re.compile(r"^\s*[\w.$@]+:|#.*")
 
 
@@ -60,6 +63,23 @@ def statements_of(file, producer):
     return {number: " ".join(line.split()) for number, line in enumerate(lines, 1)}
 
 
+@functools.lru_cache
+def sections_of(file):
+    """The addresses and the contents of a program's sections (ELF specification, "Sections")."""
+    contents = pathlib.Path(file).read_bytes()
+    (start,) = struct.unpack_from(">I", contents, SECTION_TABLE)
+    size, count = struct.unpack_from(">HH", contents, SECTION_COUNT)
+    headers = (struct.unpack_from(">6I", contents, start + size * number) for number in range(count))
+    return [(h[3], contents[h[4] : h[4] + h[5]]) for h in headers if h[1] == PROGBITS and h[2] & ALLOC]
+
+
+def was_assembled(address, code):
+    """Whether the program has this code at an address: a statement that was patched is not what is executed."""
+    file = gdb.current_progspace().filename
+    sections = sections_of(file) if file else []
+    return any(start <= address and contents[address - start :].startswith(code) for start, contents in sections)
+
+
 def source_at(address):
     """The statement of an address, and its file and line; or nothing."""
     found = gdb.find_pc_line(address)
@@ -75,9 +95,12 @@ def labelled(text):
 
     def met(found):
         who, where, digits = found.groups()
-        statement, line = source_at(int(where, 16))
-        parts = [f"{who} at {where}{label_at(int(where, 16))}", digits and (statement or digits)]
-        return " ".join(filter(None, parts)) + (f"  {line}" if line else "")
+        address = int(where, 16)
+        statement, line = source_at(address)
+        if digits and statement and was_assembled(address, bytes.fromhex(digits)):
+            digits = statement
+        told_so = f"{who} at {where}{label_at(address)}"
+        return " ".join(filter(None, [told_so, digits])) + (f"  {line}" if line else "")
 
     text = MET.sub(met, text)
     return BYTES.sub(lambda found: found[0] + label_at(int(found[1], 16)), text)
