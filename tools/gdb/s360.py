@@ -27,10 +27,13 @@ MOST_CHANGES = 10_000_000
 DUMPED, FOLLOWED, TOLD = 64, 5, 10
 PRINTER = "00E"
 UNITS = ("00C", "00D", PRINTER, "01F", "180", "181")
-# What is asked of the printer, what is told of a printed line, and the data address and the count of a command word.
+# What is asked of the printer, what is told of a printed line, and the command word that a channel has carried out.
 PRINTED = re.compile(r"line (?P<line>\d+) column (?P<column>\d+)(?: page (?P<page>\d+))?")
 RECORD = re.compile(r"page (\d+) line (\d+) ?(.*)")
-WRITE_COMMAND = re.compile(r"channel 00E at [0-9A-F]{6} [0-9A-F]{2}([0-9A-F]{6})[0-9A-F]{4}([0-9A-F]{4})")
+COMMAND_WORD = re.compile(rf"\d+ channel {PRINTER} at (?:.* to )?[0-9A-F]{{6}} ([0-9A-F]{{16}})")
+CHAIN_DATA = 0x80
+# No line has more parts.
+MOST_PARTS = 132
 MARK = re.compile(r"[A-Za-z_]\w*")
 COUNT = re.compile(r"\$_change\b")
 BALR, BCR, BAL, BC = 0x05, 0x07, 0x45, 0x47
@@ -88,14 +91,17 @@ Said again it goes one change further back. `goto last` goes back to where it st
         number = self.record_of(line, column, page)
         prints = changes_of([f"d {PRINTER}"], MOST_CHANGES)
         wanted = next(change for change in prints if change.places[f"d{PRINTER}"].endswith(f" records {number}"))
-        found = WRITE_COMMAND.search(wanted.event)
-        if not found or column > int(found[2], 16):
-            raise gdb.GdbError(f"Column {column} was not printed by one command word.")
+        # Back where it stood, so that `goto last` goes there.
+        stood = standing()
+        told(f"goto {wanted.number}")
+        try:
+            address = data_printed()[column - 1]
+            changes = changes_of([f"s {address:06X}"], 1)
+        finally:
+            told(f"goto {stood}")
         show(f"{wanted.event}\n")
-        address = int(found[1], 16) + column - 1
-        before = [c for c in changes_of([f"s {address:06X}"], MOST_CHANGES) if c.number < wanted.number]
-        if before:
-            go_before(before[-1])
+        if changes:
+            go_before(changes[-1])
         else:
             show(f"s{address:06X} from the start\n")
 
@@ -109,6 +115,18 @@ Said again it goes one change further back. `goto last` goes back to where it st
             if (int(its_page), int(its_line)) == (page, line) and text[column - 1 : column].strip():
                 return number
         raise gdb.GdbError(f"Nothing is printed in line {line} column {column}.")
+
+
+def data_printed():
+    """The addresses of the bytes that the last change has printed, whose command words may be chained."""
+    data = []
+    for found in map(COMMAND_WORD.match, reversed(told(f"history {MOST_PARTS}").splitlines())):
+        word = bytes.fromhex(found[1]) if found else bytes(8)
+        if data and not word[4] & CHAIN_DATA:
+            break
+        start, count = int.from_bytes(word[1:4], "big"), int.from_bytes(word[6:8], "big")
+        data[:0] = range(start, start + count)
+    return data
 
 
 class Why(Command):

@@ -81,13 +81,13 @@ def was_assembled(address, code):
 
 
 def source_at(address):
-    """The statement of an address, and its file and line; or nothing."""
+    """The statement that begins at an address, and the file and line of what is there; or nothing."""
     found = gdb.find_pc_line(address)
     if not found.symtab or not found.line:
         return None, None
     symtab = found.symtab
     statement = statements_of(symtab.fullname(), symtab.producer).get(found.line)
-    return statement, f"{pathlib.Path(symtab.filename).name}:{found.line}"
+    return statement if found.pc == address else None, f"{pathlib.Path(symtab.filename).name}:{found.line}"
 
 
 def labelled(text):
@@ -97,6 +97,9 @@ def labelled(text):
         who, where, digits = found.groups()
         address = int(where, 16)
         statement, line = source_at(address)
+        # A line of GNU as reaches over the data behind it.
+        if who != "cpu" and not statement:
+            line = None
         if digits and statement and was_assembled(address, bytes.fromhex(digits)):
             digits = statement
         told_so = f"{who} at {where}{label_at(address)}"
