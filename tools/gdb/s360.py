@@ -12,59 +12,25 @@ FOLDER = pathlib.Path(__file__).resolve().parent
 sys.path.insert(0, str(FOLDER))
 gdb.execute(f"source {FOLDER / 's360.gdb'}")
 
-from s360_machine import MET, machine, show, standing, told  # noqa: E402
-from s360_places import (  # noqa: E402
-    ADDRESS_BITS,
-    bytes_of,
-    changes_of,
-    places_of,
-    places_of_value,
-    show_change,
-    with_count,
-)
+from s360_command import Command, refuse  # noqa: E402
+from s360_machine import machine, show, standing, told  # noqa: E402
+from s360_over import Over, ReverseOver  # noqa: E402
+from s360_places import bytes_of, changes_of, places_of, places_of_value, show_change, with_count  # noqa: E402
+from s360_printed import MOST_CHANGES, print_of  # noqa: E402
 
-MOST_CHANGES = 10_000_000
 DUMPED, FOLLOWED, TOLD = 64, 5, 10
-PRINTER = "00E"
-UNITS = ("00C", "00D", PRINTER, "01F", "180", "181")
-# What is asked of the printer, what is told of a printed line, and the command word that a channel has carried out.
+UNITS = ("00C", "00D", "00E", "01F", "180", "181")
+# What is asked of the printer.
 PRINTED = re.compile(r"line (?P<line>\d+) column (?P<column>\d+)(?: page (?P<page>\d+))?")
-RECORD = re.compile(r"page (\d+) line (\d+) ?(.*)")
-COMMAND_WORD = re.compile(rf"\d+ channel {PRINTER} at (?:.* to )?[0-9A-F]{{6}} ([0-9A-F]{{16}})")
-CHAIN_DATA = 0x80
-# No line has more parts.
-MOST_PARTS = 132
 MARK = re.compile(r"[A-Za-z_]\w*")
 COUNT = re.compile(r"\$_change\b")
-BALR, BCR, BAL, BC = 0x05, 0x07, 0x45, 0x47
-
-
-def refuse(words):
-    if words:
-        raise gdb.GdbError("This command takes no arguments.")
 
 
 def go_before(change):
+    """Tells a change, and goes to just before it, so that gdb looks at the machine anew."""
     show_change(change)
     told(f"goto {change.number - 1 or 'start'}")
     gdb.execute("s360-renew")
-
-
-class Command(gdb.Command):
-    """A command, whose help is its class's, and whose name is the class's in small letters."""
-
-    name = ""
-    completion = gdb.COMPLETE_EXPRESSION
-
-    def __init__(self):
-        kind = [] if self.completion is None else [self.completion]
-        super().__init__(self.name or type(self).__name__.lower(), gdb.COMMAND_USER, *kind)
-
-    def invoke(self, words, _from_terminal):
-        try:
-            self.carry_out(words.strip())
-        except gdb.error as fault:
-            raise gdb.GdbError(str(fault)) from None
 
 
 class Who(Command):
@@ -80,53 +46,19 @@ Said again it goes one change further back. `goto last` goes back to where it st
 
     def carry_out(self, words):
         if printed := PRINTED.fullmatch(words):
-            self.printed(*(part and int(part) for part in printed.groups()))
+            self.tell_print(*print_of(*(part and int(part) for part in printed.groups())))
         elif changes := changes_of(places_of(words), 1):
             go_before(changes[-1])
         else:
             gdb.write("who none\n")
 
-    def printed(self, line, column, page):
-        """Of a sign on paper: what put it into the line that was printed."""
-        number = self.record_of(line, column, page)
-        prints = changes_of([f"d {PRINTER}"], MOST_CHANGES)
-        wanted = next(change for change in prints if change.places[f"d{PRINTER}"].endswith(f" records {number}"))
-        # Back where it stood, so that `goto last` goes there.
-        stood = standing()
-        told(f"goto {wanted.number}")
-        try:
-            address = data_printed()[column - 1]
-            changes = changes_of([f"s {address:06X}"], 1)
-        finally:
-            told(f"goto {stood}")
-        show(f"{wanted.event}\n")
-        if changes:
-            go_before(changes[-1])
+    @staticmethod
+    def tell_print(change, address, before):
+        show(f"{change.event}\n")
+        if before:
+            go_before(before[-1])
         else:
             show(f"s{address:06X} from the start\n")
-
-    @staticmethod
-    def record_of(line, column, page):
-        """The number of the last record that has a sign there."""
-        last = int(told(f"show d {PRINTER}").split()[-1])
-        for number in range(last, 0, -1):
-            its_page, its_line, text = RECORD.match(told(f"show m {PRINTER} {number}")).groups()
-            page = page or int(its_page)
-            if (int(its_page), int(its_line)) == (page, line) and text[column - 1 : column].strip():
-                return number
-        raise gdb.GdbError(f"Nothing is printed in line {line} column {column}.")
-
-
-def data_printed():
-    """The addresses of the bytes that the last change has printed, whose command words may be chained."""
-    data = []
-    for found in map(COMMAND_WORD.match, reversed(told(f"history {MOST_PARTS}").splitlines())):
-        word = bytes.fromhex(found[1]) if found else bytes(8)
-        if data and not word[4] & CHAIN_DATA:
-            break
-        start, count = int.from_bytes(word[1:4], "big"), int.from_bytes(word[6:8], "big")
-        data[:0] = range(start, start + count)
-    return data
 
 
 class Why(Command):
@@ -140,7 +72,7 @@ Five changes deep, or as many as told. Of a field its byte is meant that changed
         places = places_of(expression)
         changes = changes_of(places, 1) if len(places) > 1 else []
         place = next(p for p in places if not changes or p.replace(" ", "") in changes[-1].places)
-        show(told(f"why {place} {depth or FOLLOWED}"))
+        show(told(f"why {place} {FOLLOWED if depth is None else depth}"))
 
 
 class Changes(Command):
@@ -325,84 +257,6 @@ was recorded stands, to where it stood before the last `who` or `goto`, or to a 
                 raise gdb.GdbError(f'No mark "{words}".' if words else "Argument required (a moment).")
             words = Marks.known[words]
         super().carry_out(words if words in self.ends or int(words) else "start")
-
-
-def call_at(address):
-    """The length and the first register of the BAL or BALR at an address, if one is there that branches."""
-    try:
-        code, registers = gdb.selected_inferior().read_memory(address & ADDRESS_BITS, 2).tobytes()
-    except gdb.MemoryError:
-        return None
-    if code == BAL:
-        return 4, registers >> 4
-    return (2, registers >> 4) if code == BALR and registers & 0xF else None
-
-
-def registers_of_branch(code):
-    """The registers by which a BC or BCR finds its target."""
-    if code[:1] == bytes([BCR]):
-        return {code[1] & 0xF}
-    return {code[1] & 0xF, code[2] >> 4} if code[:1] == bytes([BC]) else set()
-
-
-def last_instruction():
-    """The instruction of the last event of the CPU. An interruption has none."""
-    for count in (10**power for power in range(1, 8)):
-        events = [MET.search(line) for line in told(f"history {count}").splitlines()]
-        digits = [event[3] or "" for event in events if event and event[1] == "cpu"]
-        if digits or len(events) < count:
-            return bytes.fromhex(digits[-1] if digits else "")
-    return b""
-
-
-class Over(Command):
-    """Step one instruction, past a BAL or BALR to where it comes back.
-Usage: over
-
-Without a call it is `stepi`. Breakpoints and watches between stop it. A subroutine that
-comes back elsewhere runs on to one of them."""
-
-    completion = gdb.COMPLETE_NONE
-
-    def carry_out(self, words):
-        refuse(words)
-        at = gdb.selected_frame().pc() & ADDRESS_BITS
-        call = call_at(at)
-        gdb.execute(f"advance *{at + call[0]:#x}" if call else "stepi")
-
-
-class ReverseOver(Command):
-    """Step one instruction back, past a subroutine to the BAL or BALR that called it.
-Usage: reverse-over
-
-A subroutine has come back if the last instruction was a branch by the register that a
-BAL or BALR has set. Else it is `reverse-stepi`. Breakpoints and watches between stop it."""
-
-    name = "reverse-over"
-    completion = gdb.COMPLETE_NONE
-
-    def carry_out(self, words):
-        refuse(words)
-        call = self.call_that_came_back()
-        if call is None:
-            gdb.execute("reverse-stepi")
-            return
-        direction = gdb.parameter("exec-direction")
-        gdb.execute("set exec-direction reverse")
-        try:
-            gdb.execute(f"advance *{call:#x}")
-        finally:
-            gdb.execute(f"set exec-direction {direction}")
-
-    @staticmethod
-    def call_that_came_back():
-        """Where the BAL or BALR is of the subroutine whose last instruction was the last of all."""
-        for register in registers_of_branch(last_instruction()):
-            back = int(gdb.selected_frame().read_register(f"r{register}")) & ADDRESS_BITS
-            for length in (4, 2):
-                if call_at(back - length) == (length, register):
-                    return back - length
-        return None
 
 
 class ChangesOf(gdb.Function):
