@@ -41,8 +41,12 @@ ASSEMBLER_F = """\
 000220                               12 CARD     DS    0CL80
 000220                               13 NUMBER   DS    CL6
 000226                               14          DS    CL74
-000270                               15 LOOP     EQU   *
-000270 07FE                          16          BR    14
+000270 4040404040404040              15 BLANKS   DC    CL20' '
+000284 C1C2C3C4C5C6C7C8              16 TEXT     DC    C'ABCDEFGHIJ'
+000290 00000001                      17 TWO      DC    2F'1'
+000298                               18 SAVE     DS    18F
+0002E0                               15 LOOP     EQU   *
+0002E0 07FE                          16          BR    14
 000000                               17 AREA     DSECT
 000000                               18 NEXT     DS    F
                                      19          END
@@ -81,8 +85,10 @@ STATEMENTS = [
 # Of each listing the names, addresses, sizes and types of labels.
 LABELS = [
     ("the examples' form", OWN, [("START", 0x200, 16, None), ("FIELD", 0x210, 4, "int"), ("OTHER", 0x214, 4, "byte")]),
-    ("code of F", ASSEMBLER_F, [("PROG", 0x200, 6, None), ("MOVE", 0x206, 6, None), ("LOOP", 0x270, 2, None)]),
+    ("code of F", ASSEMBLER_F, [("PROG", 0x200, 6, None), ("MOVE", 0x206, 6, None), ("LOOP", 0x2E0, 2, None)]),
     ("fields of F", ASSEMBLER_F, [("FIELD", 0x20C, 4, "int"), ("OTHER", 0x210, 4, "char"), ("STOP", 0x218, 8, "byte")]),
+    ("constants that are printed in part", ASSEMBLER_F, [("BLANKS", 0x270, 20, "char"), ("TEXT", 0x284, 12, "char")]),
+    ("fields of words", ASSEMBLER_F, [("SAVE", 0x298, 72, "int")]),
     ("a field over others", ASSEMBLER_F, [("CARD", 0x220, 80, "char"), ("NUMBER", 0x220, 6, "char")]),
 ]
 FAULTS = [

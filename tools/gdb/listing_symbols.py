@@ -17,11 +17,15 @@ DUMMY, CONTROL = ("DSECT", "COM", "DXD"), ("CSECT", "START", "RSECT")
 WORDS = ("CCW", "CCW0", "PSW")
 NO_INSTRUCTION = ("", "DC", "DS", "EBCDIC", *WORDS)
 SELF_DEFINING = re.compile(r"(\d+)|X'([0-9A-F]+)'")
+NAME = re.compile(r"[A-Za-z@#$_.][\w@#$.]*")
 # The operand of a field. In the examples a number alone counts bytes.
 FIELD = re.compile(r"(?P<count>\d*)(?P<kind>[A-Z]?)(?:L(?P<length>\d+))?")
-# Of each type of a constant the type of its elements, and their size.
-TYPES = {"F": ("int", 4), "H": ("short", 2), "A": ("address", 4), "V": ("address", 4), "C": ("char", 1)}
-BYTES = ("byte", 1)
+# Of each type of a constant the length that it has if none is said; and the type of its elements, if they are no bytes.
+LENGTHS = {kind: length for length, kinds in {1: "CXBPZ", 2: "HYS", 4: "FEAVQ", 8: "D", 16: "L"}.items() for kind in kinds}
+TYPES = {"F": "int", "H": "short", "A": "address", "V": "address", "C": "char"}
+BYTES = "byte"
+# An assembler may print no more of a constant.
+MOST_PRINTED = 8
 ASSEMBLER_LANGUAGE = 0x8001
 # Names the listing's columns if they were told: s360.py looks for statements in the listing.
 PRODUCER = "s360gdb"
@@ -67,7 +71,7 @@ def labels_of(found: list[Statement]) -> Iterator[Label]:
     """The labels of statements in the order of their locations, each name once."""
     starts = sorted({s.location for s in found})
     code = {s.location for s in found if s.code and s.operation not in NO_INSTRUCTION and s.operation[0] != "."}
-    named = {s.label: s for s in reversed(found) if s.label}
+    named = {s.label: s for s in reversed(found) if NAME.fullmatch(s.label)}
     places = sorted({s.location for s in named.values()})
     end = max(s.location + len(s.code) for s in found)
 
@@ -81,16 +85,18 @@ def labels_of(found: list[Statement]) -> Iterator[Label]:
         if address in code:
             yield Label(name, address, behind(places, address), None, 0)
             continue
-        field = FIELD.match("A" if statement.operation in WORDS else statement.operands)
-        element, width = TYPES.get(field["kind"], BYTES)
-        count, length = int(field["count"] or 1), int(field["length"] or 0)
-        size = len(statement.code)
-        if field["count"] == "0":
-            size = length or width
-        elif statement.operation == "DS":
-            size = count * (length or 1) if length or not field["kind"] else behind(starts, address)
-        if size % width:
-            element, width = BYTES
+        field = FIELD.match("2A" if statement.operation in WORDS else statement.operands)
+        # A field of no storage of its own lies over others.
+        count = int(field["count"] or 1) or 1
+        length = int(field["length"] or 0)
+        if statement.operation == "DS" or statement.operation in WORDS:
+            length = length or LENGTHS.get(field["kind"], 1)
+        size = count * length or len(statement.code)
+        if not length and size == MOST_PRINTED:
+            size = behind(starts, address)
+        element, width = TYPES.get(field["kind"], BYTES), LENGTHS.get(field["kind"], 1)
+        if element == BYTES or size % width:
+            element, width = BYTES, 1
         yield Label(name, address, size, element, size // width)
 
 
@@ -137,7 +143,7 @@ def assembly_of(file: str, text: str, columns: str | None) -> str:
         out.append(symbol(label.name, f".Lstart + {label.address}", kind, label.size))
     for statement in listed:
         value = SELF_DEFINING.fullmatch(statement.operands)
-        if statement.operation == "EQU" and value and statement.label and statement.label not in named:
+        if statement.operation == "EQU" and value and NAME.fullmatch(statement.label) and statement.label not in named:
             out.append(symbol(statement.label, value[1] or f"0x{value[2]}", "notype", 0))
     out += ['.section .debug_abbrev,"",@progbits', ".Labbreviations:", ABBREVIATIONS]
     out += ['.section .debug_line,"",@progbits', ".Llines:"]
