@@ -37,7 +37,7 @@ SCREENS = [
         "guide",
     ),
     ("docs/reference/gdb.md", "With the deck of `examples/cards.deck`, once it has run:", "saved"),
-    ("docs/reference/gdb.md", "Events are told with labels and lines, and instructions as their statements:", "places"),
+    ("docs/reference/gdb.md", "Events are told with labels and lines; instructions as statements, if they are what was assembled:", "places"),
 ]
 # What a session finds in the folder in which gdb is started.
 FOLDERS = ["examples", "tests"]
