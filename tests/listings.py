@@ -23,7 +23,7 @@ OWN = """\
                         CAW      EQU   72
 """
 ASSEMBLER_F = """\
-                                                                                                        PAGE    2
+\f                                                                                                       PAGE    2
 
   LOC  OBJECT CODE    ADDR1 ADDR2  STMT   SOURCE STATEMENT                                    F01MAY72  11/29/70
 

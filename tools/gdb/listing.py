@@ -72,7 +72,8 @@ def form_of(lines: list[str], columns: str | None) -> re.Pattern[str]:
 
 def statements(text: str, columns: str | None = None) -> Iterator[Statement]:
     """The statements of a listing, but for comments."""
-    lines = text.splitlines()
+    # A form feed ends a page, and no line.
+    lines = [line.rstrip("\r") for line in text.split("\n")]
     form = form_of([line.rstrip() for line in lines], columns)
     longest = max(map(len, lines), default=0)
     for number, line in enumerate(lines, 1):

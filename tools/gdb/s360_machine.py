@@ -59,7 +59,7 @@ def statements_of(file, producer):
     name, _, columns = (producer or "").partition(" ")
     if name == listing_symbols.PRODUCER:
         return {s.line: f"{s.operation} {s.operands}".strip() for s in listing.statements(text, columns)}
-    lines = (GNU_LABEL_OR_REMARK.sub("", line) for line in text.splitlines())
+    lines = (GNU_LABEL_OR_REMARK.sub("", line) for line in text.split("\n"))
     return {number: " ".join(line.split()) for number, line in enumerate(lines, 1)}
 
 
