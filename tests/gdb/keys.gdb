@@ -27,6 +27,8 @@ complete key s
 complete goto l
 complete load 0
 complete save p
+complete who TY
+complete changes PROG
 help over
 help save printer
 kill
