@@ -31,7 +31,7 @@ ASSEMBLER_F = """\
 000200                                2 PROG     START X'200'
 000200 05C0                           3          BALR  12,0
 000202                                4          USING *,12
-                            00003     5 R3       EQU   3
+                            00003     5=R3       EQU   3
                                       6          SAVE  (14,12)
 000202 90EC D00C            0000C     7+         STM   14,12,12(13)
 000206 D203 C00A C00E 0020C 00210     8 MOVE     MVC   FIELD,OTHER           A REMARK
@@ -95,6 +95,7 @@ FAULTS = [
     ("no form", "START LA 1,2\n", None, "the columns of this listing are not known: tell them as in --listing-columns 1-6,8-23,25"),
     ("an empty file", "", None, "the columns of this listing are not known: tell them as in --listing-columns 1-6,8-23,25"),
     ("other columns", OWN, "6-1,8-23,25", "the columns '6-1,8-23,25' are not of the form 1-6,8-23,25"),
+    ("columns too far on", OWN, "1-6,8-23,2500", "the columns '1-6,8-23,2500' are not of the form 1-6,8-23,25"),
     ("no location", OWN, "40-45,50-60,70", "no statement of this listing has a location"),
     ("a high location", "1000000 07FE  BR 14\n", "1-7,9-12,14", "line 1: the location 1000000 is above FFFFFF"),
 ]

@@ -14,7 +14,7 @@ HEADER = re.compile(r".?\s*LOC\s+OBJECT CODE\s.*?STMT\b", re.IGNORECASE)
 # Object code is near its location: farther on are the addresses of operands, and the statement's number.
 LOCATION_AND_CODE = r"(?P<location> ?[0-9A-F]{4,8}(?= )|)(?: {1,8}(?P<code>[0-9A-F]{4}[0-9A-F ]*)|)"
 Z390 = re.compile(r"(?P<location>[0-9A-F]{6}|) *(?P<code>[0-9A-F]*) .*?\(\d+/\d+\)\d+[ +=](?P<source>.*)")
-COLUMNS = re.compile(r"(\d+)-(\d+),(\d+)-(\d+),(\d+)")
+COLUMNS = re.compile(r"(\d{1,3})-(\d{1,3}),(\d{1,3})-(\d{1,3}),(\d{1,3})")
 STATEMENT = re.compile(r"(?P<label>[^\s*][^\s:]*)?:?\s+(?P<operation>\S+)(?:\s+(?P<operands>(?:'[^']*'|\S)*))?")
 LOCATION = re.compile(r"[0-9A-F]{4,8}")
 CODE = re.compile(r"[0-9A-F]{4}(?: [0-9A-F]{4}){1,2}(?![0-9A-F])|[0-9A-F]+|")
@@ -48,12 +48,12 @@ def form_of_columns(columns: str) -> re.Pattern[str]:
 
 
 def form_below(header: re.Match[str], lines: list[str]) -> re.Pattern[str]:
-    """The form of the lines below a header. Statement numbers end at the same column, and a blank or a `+` is behind."""
-    numbered = {end: re.compile(rf".{{{end - 1}}}\d[ +](?P<source>.*)") for end in range(header.end() - 3, header.end() + 4)}
+    """The form of the lines below a header. Statement numbers end at one column, with a blank or a macro's sign behind."""
+    numbered = {end: re.compile(rf".{{{end - 1}}}\d[ +=](?P<source>.*)") for end in range(header.end() - 3, header.end() + 4)}
     sources = {end: [f["source"] for f in map(pattern.match, lines) if f] for end, pattern in numbered.items()}
     end = max(sources, key=lambda end: len(sources[end]))
     indents = [len(source) - len(source.lstrip()) for source in sources[end] if source.strip()]
-    return re.compile(rf"(?={LOCATION_AND_CODE}).{{{end - 1}}}\d[ +].{{{min(indents, default=0)}}}(?P<source>.*)")
+    return re.compile(rf"(?={LOCATION_AND_CODE}).{{{end - 1}}}\d[ +=].{{{min(indents, default=0)}}}(?P<source>.*)")
 
 
 def form_of(lines: list[str], columns: str | None) -> re.Pattern[str]:

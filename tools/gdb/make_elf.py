@@ -134,6 +134,8 @@ def main():
     parser.add_argument("--listing-columns")
     parser.add_argument("--storage", type=int, default=STORAGE)
     options, _others = parser.parse_known_args()
+    if options.listing_columns and options.symbols is None:
+        parser.error("argument --listing-columns: there is no --symbols")
     try:
         made = elf(options.storage)
         if options.symbols is not None:
