@@ -22,13 +22,15 @@ while (($#)); do
         --symbols=* | --listing-columns=*) symbols+=("$1") ;;
         -x | -ex | -iex) front+=("${@:1:2}") && shift $(($# > 1)) ;;
         --tui | -tui | --nw | -nw | --nx | -nx | --fullname | -fullname) front+=("$1") ;;
-        -i=* | --interpreter=* | --annotate=* | --tty=* | -tty=*) front+=("$1") ;;
+        -i=* | --interpreter=*) front+=("$1") editor=1 ;;
+        --annotate=* | --tty=* | -tty=*) front+=("$1") ;;
         --) machine+=("$@") && break ;;
         *) machine+=("$1") ;;
     esac
     shift
 done
 prepare s360gdb "${machine[@]}"
+if [[ ${editor-} && ${notice-} ]]; then front+=(-ex "python print('$notice')"); fi
 folder="$(mktemp -d)"
 trap 'rm -rf "$folder"' EXIT
 

@@ -44,8 +44,9 @@ SCREEN = [
     ("refresh", r"> +16 +000230 50300300 +ST +3,COUNT"),
     ("layout asm", r"0x230 <RDWAIT\+32> +st +%r3,768"),
 ]
+# What a program is that is not proved, gdb says: Emacs wants nothing before gdb.
 INTERFACE = [
-    ("", r"\(gdb\) \n$"),
+    ("", r"^=thread-group-added.*nothing is proved.*\(gdb\) \n$"),
     ('-interpreter-exec console "key eof"', r"1 changed 1 d00C.*\*stopped"),
     ('-interpreter-exec console "load 00C"', r"2 changed 2 run u00C.*\*stopped"),
     ("-break-insert PRINT", r'\^done,bkpt=\{number="1",type="breakpoint".*line="33"'),
@@ -106,7 +107,7 @@ def main():
     program = parser.parse_args().program.resolve()
     looks = {
         "gdb's screen": (["./gdb", "--tui", *CARDS], SCREEN),
-        "Emacs": (["./gdb", "-i=mi", *CARDS], INTERFACE),
+        "Emacs": (["./gdb", "-i=mi", "--unproved", *CARDS], INTERFACE),
         "Visual Studio Code": launched(),
     }
     with tempfile.TemporaryDirectory() as name:
