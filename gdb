@@ -15,7 +15,7 @@ set -euo pipefail
 top="$(cd "$(dirname "${BASH_SOURCE[0]}")" && pwd)"
 source "$top/tools/program"
 
-symbols=() front=() machine=()
+symbols=() front=() machine=() editor=""
 while (($#)); do
     case "$1" in
         --symbols | --listing-columns) symbols+=("${@:1:2}") && shift $(($# > 1)) ;;
