@@ -13,6 +13,10 @@ goto end
 who line 1 column 10 page 1
 goto end
 who line 1 column 6
+# it stays, and a step is a step: change 12, which waits, is taken back
+print $_change
+reverse-stepi
+print $_change
 who line 1 column 11
 who line 2 column 1
 kill
