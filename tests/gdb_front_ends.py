@@ -83,9 +83,12 @@ def fault_of(words, lines, folder):
     """The first line that shows something else."""
     child, terminal = pty.fork()
     if child == 0:
-        os.chdir(folder)
-        os.environ |= {"TERM": "xterm", "LINES": "40", "COLUMNS": "100", "LC_ALL": "C.UTF-8"}
-        os.execvp(words[0], words)
+        try:
+            os.chdir(folder)
+            os.environ |= {"TERM": "xterm", "LINES": "40", "COLUMNS": "100", "LC_ALL": "C.UTF-8"}
+            os.execvp(words[0], words)
+        finally:
+            os._exit(127)
     try:
         for line, pattern in lines:
             if line:
