@@ -15,7 +15,7 @@ gdb.execute(f"source {FOLDER / 's360.gdb'}")
 from s360_command import Command, refuse  # noqa: E402
 from s360_machine import machine, show, standing, told  # noqa: E402
 from s360_over import Over, ReverseOver  # noqa: E402
-from s360_places import bytes_of, changes_of, places_of, places_of_value, show_change, with_count  # noqa: E402
+from s360_places import Change, bytes_of, changes_of, places_of, places_of_value, show_change, with_count  # noqa: E402
 from s360_printed import MOST_CHANGES, print_of  # noqa: E402
 
 DUMPED, FOLLOWED, TOLD = 64, 5, 10
@@ -26,7 +26,7 @@ MARK = re.compile(r"[A-Za-z_]\w*")
 COUNT = re.compile(r"\$_change\b")
 
 
-def go_before(change):
+def go_before(change: Change) -> None:
     """Tells a change, and goes to just before it, so that gdb looks at the machine anew."""
     show_change(change)
     told(f"goto {change.number - 1 or 'start'}")
@@ -44,7 +44,7 @@ one byte at this address, and $r5 a register. Without symbols: who *(char[4]*)0x
 A line and a column are those of the printer, and of its last page if none is named.
 Said again it goes one change further back. `goto last` goes back to where it stood."""
 
-    def carry_out(self, words):
+    def carry_out(self, words: str) -> None:
         if printed := PRINTED.fullmatch(words):
             self.tell_print(*print_of(*(part and int(part) for part in printed.groups())))
         elif changes := changes_of(places_of(words), 1):
@@ -53,7 +53,7 @@ Said again it goes one change further back. `goto last` goes back to where it st
             gdb.write("who none\n")
 
     @staticmethod
-    def tell_print(change, address, before):
+    def tell_print(change: Change, address: int, before: list[Change]) -> None:
         show(f"{change.event}\n")
         if before:
             go_before(before[-1])
@@ -67,7 +67,7 @@ Usage: why EXPRESSION [DEPTH]
 
 Five changes deep, or as many as told. Of a field its byte is meant that changed last."""
 
-    def carry_out(self, words):
+    def carry_out(self, words: str) -> None:
         expression, depth = with_count(words)
         places = places_of(expression)
         changes = changes_of(places, 1) if len(places) > 1 else []
@@ -81,7 +81,7 @@ Usage: changes EXPRESSION [COUNT]
 
 Ten, or as many as told."""
 
-    def carry_out(self, words):
+    def carry_out(self, words: str) -> None:
         expression, count = with_count(words)
         found = changes_of(places_of(expression), TOLD if count is None else count)
         for change in found:
@@ -98,7 +98,7 @@ Ten, or as many as told."""
 
     completion = gdb.COMPLETE_NONE
 
-    def carry_out(self, words):
+    def carry_out(self, words: str) -> None:
         show(told(f"history {words}".strip()))
 
 
@@ -108,7 +108,7 @@ Usage: dump EXPRESSION [COUNT]
 
 Shows the bytes of a field, 64 bytes of an address, or as many as told."""
 
-    def carry_out(self, words):
+    def carry_out(self, words: str) -> None:
         expression, count = with_count(words)
         if not expression:
             raise gdb.GdbError("Argument required (a place).")
@@ -124,7 +124,7 @@ Usage: units"""
 
     completion = gdb.COMPLETE_NONE
 
-    def carry_out(self, words):
+    def carry_out(self, words: str) -> None:
         gdb.write(told(f"units {words}".strip()))
 
 
@@ -132,9 +132,9 @@ class EventCommand(Command):
     """A command that moves the machine."""
 
     completion = gdb.COMPLETE_NONE
-    choices = ()
+    choices: tuple[str, ...] = ()
 
-    def carry_out(self, words):
+    def carry_out(self, words: str) -> None:
         show(told(f"{type(self).__name__.lower()} {words}".rstrip()))
         gdb.execute("s360-renew")
 
@@ -145,7 +145,7 @@ class ChoiceCommand(EventCommand):
     # gdb asks `complete` then.
     completion = None
 
-    def complete(self, _text, word):
+    def complete(self, _text: str, word: str) -> list[str]:
         return [choice for choice in self.choices if choice.startswith(word)]
 
 
@@ -195,13 +195,13 @@ Usage: save WHAT [-overwrite] FILE"""
         "tape1": "the tape of unit 181",
     }
 
-    def __init__(self, kind):
+    def __init__(self, kind: str) -> None:
         # gdb shows it as the command's help.
         self.__doc__ = f"Save {self.KINDS[kind]} in a file.\nUsage: save {kind} [-overwrite] FILE"
         self.kind = kind
         super().__init__(f"save {kind}", gdb.COMMAND_USER, gdb.COMPLETE_FILENAME)
 
-    def invoke(self, words, _from_terminal):
+    def invoke(self, words: str, _from_terminal: bool) -> None:
         rest = words.removeprefix("-overwrite ")
         if not rest.strip():
             raise gdb.GdbError("Argument required (a file).")
@@ -215,7 +215,7 @@ Usage: marks"""
     completion = gdb.COMPLETE_NONE
     known: dict[str, int] = {}
 
-    def carry_out(self, words):
+    def carry_out(self, words: str) -> None:
         refuse(words)
         for name, number in sorted(self.known.items(), key=lambda mark: mark[1]):
             gdb.write(f"{name} {number}\n")
@@ -231,7 +231,7 @@ A name is kept for the number of changes that stand."""
 
     completion = gdb.COMPLETE_NONE
 
-    def carry_out(self, words):
+    def carry_out(self, words: str) -> None:
         if not MARK.fullmatch(words) or words in Goto.ends:
             raise gdb.GdbError("A mark's name is letters, digits and _, and none of start, end and last.")
         Marks.known[words] = standing()
@@ -248,10 +248,10 @@ was recorded stands, to where it stood before the last `who` or `goto`, or to a 
     ends = ("start", "end", "last")
 
     @property
-    def choices(self):
+    def choices(self) -> tuple[str, ...]:
         return (*self.ends, *Marks.known)
 
-    def carry_out(self, words):
+    def carry_out(self, words: str) -> None:
         if words not in self.ends and not words.isdigit():
             if words not in Marks.known:
                 raise gdb.GdbError(f'No mark "{words}".' if words else "Argument required (a moment).")
@@ -262,10 +262,10 @@ was recorded stands, to where it stood before the last `who` or `goto`, or to a 
 class ChangesOf(gdb.Function):
     """How many changes stand: all, or those of a place, as in $_changes("COUNT") and $_changes(*(int*)0x300)."""
 
-    def __init__(self):
+    def __init__(self) -> None:
         super().__init__("_changes")
 
-    def invoke(self, value=None):
+    def invoke(self, value: gdb.Value | None = None) -> int:
         if value is None:
             return standing()
         if value.type.strip_typedefs().code == gdb.TYPE_CODE_ARRAY and value.address is None:
@@ -277,13 +277,13 @@ class ChangesOf(gdb.Function):
         return len(changes_of(places, MOST_CHANGES))
 
 
-def keep_count(_event=None):
+def keep_count(_event: gdb.Event | None = None) -> None:
     """Keeps $_change."""
     if machine():
         gdb.set_convenience_variable("_change", standing())
 
 
-def count_in_condition(point):
+def count_in_condition(point: gdb.Breakpoint) -> None:
     """gdb evaluates a condition before it tells of a stop: there the number is asked for."""
     if point.condition and COUNT.search(point.condition):
         point.condition = COUNT.sub("$_changes()", point.condition)

@@ -2,7 +2,7 @@
 import gdb
 
 
-def refuse(words):
+def refuse(words: str) -> None:
     if words:
         raise gdb.GdbError("This command takes no arguments.")
 
@@ -13,11 +13,11 @@ class Command(gdb.Command):
     name = ""
     completion = gdb.COMPLETE_EXPRESSION
 
-    def __init__(self):
+    def __init__(self) -> None:
         kind = [] if self.completion is None else [self.completion]
         super().__init__(self.name or type(self).__name__.lower(), gdb.COMMAND_USER, *kind)
 
-    def invoke(self, words, _from_terminal):
+    def invoke(self, words: str, _from_terminal: bool) -> None:
         try:
             self.carry_out(words.strip())
         except gdb.error as fault:

@@ -17,13 +17,13 @@ PROGBITS, ALLOC = 1, 2
 GNU_LABEL_OR_REMARK = re.compile(r"^\s*[\w.$@]+:|#.*")
 
 
-def machine():
+def machine() -> gdb.RemoteTargetConnection | None:
     """The connection to the machine, or nothing."""
     connection = gdb.selected_inferior().connection
     return connection if isinstance(connection, gdb.RemoteTargetConnection) else None
 
 
-def answer(line):
+def answer(line: str) -> str:
     """What the machine answers to a line of monitor."""
     if machine() is None:
         raise gdb.GdbError("There is no machine.")
@@ -33,7 +33,7 @@ def answer(line):
     return "" if reply == b"OK" else bytes.fromhex(reply.decode()).decode()
 
 
-def told(line):
+def told(line: str) -> str:
     """The answer to a line that the machine takes."""
     text = answer(line)
     if text.startswith("?"):
@@ -43,14 +43,14 @@ def told(line):
     return text
 
 
-def label_at(address):
+def label_at(address: int) -> str:
     """The label before an address, as gdb has it in `<START+4>`; or nothing."""
     found = re.match(r"(.+?)(?: \+ (\d+))? in section", gdb.execute(f"info symbol {address}", to_string=True))
     return "" if not found else f" <{found[1]}{found[2] and '+' + found[2] or ''}>"
 
 
 @functools.lru_cache
-def statements_of(file, producer):
+def statements_of(file: str, producer: str | None) -> dict[int, str]:
     """The statements of a source by their lines."""
     try:
         text = pathlib.Path(file).read_text(errors="replace")
@@ -64,7 +64,7 @@ def statements_of(file, producer):
 
 
 @functools.lru_cache
-def sections_of(file):
+def sections_of(file: str) -> list[tuple[int, bytes]]:
     """The addresses and the contents of a program's sections (ELF specification, "Sections")."""
     contents = pathlib.Path(file).read_bytes()
     (start,) = struct.unpack_from(">I", contents, SECTION_TABLE)
@@ -73,14 +73,14 @@ def sections_of(file):
     return [(h[3], contents[h[4] : h[4] + h[5]]) for h in headers if h[1] == PROGBITS and h[2] & ALLOC]
 
 
-def was_assembled(address, code):
+def was_assembled(address: int, code: bytes) -> bool:
     """Whether the program has this code at an address: a statement that was patched is not what is executed."""
     file = gdb.current_progspace().filename
     sections = sections_of(file) if file else []
     return any(start <= address and contents[address - start :].startswith(code) for start, contents in sections)
 
 
-def source_at(address):
+def source_at(address: int) -> tuple[str | None, str | None]:
     """The statement that begins at an address, and the file and line of what is there; or nothing."""
     found = gdb.find_pc_line(address)
     if not found.symtab or not found.line:
@@ -90,10 +90,10 @@ def source_at(address):
     return statement if found.pc == address else None, f"{pathlib.Path(symtab.filename).name}:{found.line}"
 
 
-def labelled(text):
+def labelled(text: str) -> str:
     """An answer of the machine with labels, and with statements in place of the digits of instructions."""
 
-    def met(found):
+    def met(found: re.Match[str]) -> str:
         who, where, digits = found.groups()
         address = int(where, 16)
         statement, line = source_at(address)
@@ -109,10 +109,10 @@ def labelled(text):
     return BYTES.sub(lambda found: found[0] + label_at(int(found[1], 16)), text)
 
 
-def standing():
+def standing() -> int:
     """How many changes stand."""
     return int(answer("standing").split()[1])
 
 
-def show(text):
+def show(text: str) -> None:
     gdb.write(labelled(text))

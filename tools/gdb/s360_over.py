@@ -7,7 +7,7 @@ from s360_places import ADDRESS_BITS
 BALR, BCR, BAL, BC = 0x05, 0x07, 0x45, 0x47
 
 
-def call_at(address):
+def call_at(address: int) -> tuple[int, int] | None:
     """The length and the first register of the BAL or BALR at an address, if one is there that branches."""
     try:
         code, registers = gdb.selected_inferior().read_memory(address & ADDRESS_BITS, 2).tobytes()
@@ -18,14 +18,14 @@ def call_at(address):
     return (2, registers >> 4) if code == BALR and registers & 0xF else None
 
 
-def registers_of_branch(code):
+def registers_of_branch(code: bytes) -> set[int]:
     """The registers by which a BC or BCR finds its target."""
     if code[:1] == bytes([BCR]):
         return {code[1] & 0xF}
     return {code[1] & 0xF, code[2] >> 4} if code[:1] == bytes([BC]) else set()
 
 
-def last_instruction():
+def last_instruction() -> bytes:
     """The instruction of the last event of the CPU. An interruption has none."""
     for count in (10**power for power in range(1, 8)):
         events = [MET.search(line) for line in told(f"history {count}").splitlines()]
@@ -44,7 +44,7 @@ comes back elsewhere runs on to one of them."""
 
     completion = gdb.COMPLETE_NONE
 
-    def carry_out(self, words):
+    def carry_out(self, words: str) -> None:
         refuse(words)
         at = gdb.selected_frame().pc() & ADDRESS_BITS
         call = call_at(at)
@@ -61,7 +61,7 @@ BAL or BALR has set. Else it is `reverse-stepi`. Breakpoints and watches between
     name = "reverse-over"
     completion = gdb.COMPLETE_NONE
 
-    def carry_out(self, words):
+    def carry_out(self, words: str) -> None:
         refuse(words)
         call = self.call_that_came_back()
         if call is None:
@@ -75,7 +75,7 @@ BAL or BALR has set. Else it is `reverse-stepi`. Breakpoints and watches between
             gdb.execute(f"set exec-direction {direction}")
 
     @staticmethod
-    def call_that_came_back():
+    def call_that_came_back() -> int | None:
         """Where the BAL or BALR is of the subroutine whose last instruction was the last of all."""
         for register in registers_of_branch(last_instruction()):
             back = int(gdb.selected_frame().read_register(f"r{register}")) & ADDRESS_BITS

@@ -1,5 +1,6 @@
 """The places of the machine that an expression of gdb names, and what changed them."""
 import re
+from collections.abc import Iterator
 from typing import NamedTuple
 
 import gdb
@@ -16,7 +17,7 @@ LABEL = re.compile(r"(?P<quote>'?)(?P<name>[A-Za-z_.@#][\w.@#$]*)(?P=quote)\s*(?
 COUNTED = re.compile(r"(?P<expression>.*[\w)\]'\"])\s+(?P<count>\d+)")
 
 
-def value_of(expression):
+def value_of(expression: str) -> gdb.Value:
     """A value of gdb, whose own words tell why there is none."""
     try:
         return gdb.parse_and_eval(expression)
@@ -24,14 +25,14 @@ def value_of(expression):
         raise gdb.GdbError(str(fault)) from None
 
 
-def length_of_label(address):
+def length_of_label(address: int) -> int:
     """How many bytes from a label's address on belong to it."""
     name = label_at(address)[:-1]
     own = (at for at in range(1, MOST_BYTES) if label_at(address + at) != f"{name}+{at}>")
     return next(own, MOST_BYTES) if name else 1
 
 
-def bytes_of(expression):
+def bytes_of(expression: str) -> tuple[int, int]:
     """The address and the number of the bytes that an expression names: of a label its field, of a number one byte."""
     if found := LABEL.fullmatch(expression):
         label = value_of(f"&'{found['name']}'")
@@ -52,7 +53,7 @@ def bytes_of(expression):
     return int(value) & ADDRESS_BITS, 1
 
 
-def places_of(expression):
+def places_of(expression: str) -> list[str]:
     """The places of an expression, as monitor names them."""
     if not expression:
         raise gdb.GdbError("Argument required (a place).")
@@ -66,13 +67,13 @@ def places_of(expression):
     return [f"s {at:06X}" for at in range(address, address + length)]
 
 
-def places_of_value(value):
+def places_of_value(value: gdb.Value) -> list[str]:
     """The bytes of a value that is in storage."""
     address = int(value.address) & ADDRESS_BITS
     return [f"s {at:06X}" for at in range(address, address + value.type.sizeof)]
 
 
-def with_count(words):
+def with_count(words: str) -> tuple[str, int | None]:
     """An expression, and the number behind it or nothing."""
     found = None if OTHER_PLACE.fullmatch(words) else COUNTED.fullmatch(words)
     return (found["expression"], int(found["count"])) if found else (words, None)
@@ -86,9 +87,9 @@ class Change(NamedTuple):
     places: dict[str, str]
 
 
-def changes_of(places, count):
+def changes_of(places: list[str], count: int) -> list[Change]:
     """The last standing changes of places, the oldest first."""
-    found = {}
+    found: dict[int, Change] = {}
     for place in places:
         lines = told(f"changes {place} {count}").splitlines()
         for event, line in zip(lines[::2], lines[1::2]):
@@ -99,7 +100,7 @@ def changes_of(places, count):
     return [found[number] for number in sorted(found)][-count:]
 
 
-def run_of(places):
+def run_of(places: dict[str, str]) -> Iterator[str]:
     """The lines of a change's places: successive bytes have one."""
     runs = []
     for name, how in places.items():
@@ -115,5 +116,5 @@ def run_of(places):
         yield f"{first}{end} {before} -> {after}"
 
 
-def show_change(change):
+def show_change(change: Change) -> None:
     show("\n".join([change.event, *run_of(change.places), ""]))

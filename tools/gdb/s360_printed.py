@@ -3,7 +3,7 @@ import re
 
 import gdb
 from s360_machine import standing, told
-from s360_places import changes_of
+from s360_places import Change, changes_of
 
 PRINTER = "00E"
 MOST_CHANGES = 10_000_000
@@ -15,7 +15,7 @@ COMMAND_WORD = re.compile(rf"\d+ channel {PRINTER} at (?:.* to )?[0-9A-F]{{6}} (
 CHAIN_DATA = 0x80
 
 
-def record_of(line, column, page):
+def record_of(line: int, column: int, page: int | None) -> int:
     """The number of the last record that has a sign there."""
     last = int(told(f"show d {PRINTER}").split()[-1])
     for number in range(last, 0, -1):
@@ -26,9 +26,9 @@ def record_of(line, column, page):
     raise gdb.GdbError(f"Nothing is printed in line {line} column {column}.")
 
 
-def data_printed():
+def data_printed() -> list[int]:
     """The addresses of the bytes that the last change has printed, whose command words may be chained."""
-    data = []
+    data: list[int] = []
     for found in map(COMMAND_WORD.match, reversed(told(f"history {MOST_PARTS}").splitlines())):
         word = bytes.fromhex(found[1]) if found else bytes(8)
         if data and not word[4] & CHAIN_DATA:
@@ -38,7 +38,7 @@ def data_printed():
     return data
 
 
-def print_of(line, column, page):
+def print_of(line: int, column: int, page: int | None) -> tuple[Change, int, list[Change]]:
     """The change that printed a sign, of the last page if none is named, the address of its byte, and what changed that before."""
     number = record_of(line, column, page)
     prints = changes_of([f"d {PRINTER}"], MOST_CHANGES)
