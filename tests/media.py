@@ -589,6 +589,7 @@ def looks_at_kinds(looks):
         "hello.deck": (f"a deck: 3 cards, {loads} 00C", "./run --reader hello.deck"),
         "hello.tape": (f"a tape (AWSTAPE): 3 blocks and 1 mark, {loads} 180", "./run --tape0 hello.tape"),
         "main.obj": ("an object deck: 4 symbols, starts at 000200", "main.deck", looks.run(DECK, "object", "main.obj")),
+        "hello.listing": ("an assembler's listing: 9 statements from 000200 on", "./gdb --symbols hello.listing"),
         "names": ("an ASCII text: 1 line", "names.deck", card_of_text),
         "ascii.deck": ("a deck in ASCII: 1 card", "ascii-2.deck", card_of_text),
         "names.cards": ("a deck: 1 card", "./run --reader names.cards"),
