@@ -1,13 +1,20 @@
--- What the plan of an instruction says of its outcome.
-use Rattle.std.specs.Prelude.{◌≡◌, ◌≤◌, List, length}
+-- What the puts of an instruction, and its plan, say of its outcome.
+use Rattle.std.specs.Prelude.{◌≡◌, ◌≤◌, ℕ, List, length}
 use Rattle.s360_model.specs.Core.{Core}
 use Rattle.s360_store.specs.declared.place.Cell.{Cell}
 use Rattle.s360_store.specs.Plans.{IsPlanOf}
 use Rattle.s360_fixed.specs.declared.ended.Ended.{Ended}
 use Rattle.s360_fixed.specs.View.{Outcome}
 
--- an instruction ends as its outcome does, and its plan makes the outcome's core. It lists few places: the PSW,
--- two registers, and the 256 bytes of the longest operand, or fewer
+-- an instruction ends as its outcome does, and its puts make the outcome's core and may be made. They are of few
+-- places: the PSW, two registers, and the 256 bytes of the longest operand, or fewer
+pub record PutsOutcome (m : Core) (made : Core → Core) (may : Core → Type 0) (count : ℕ) (outcome : Outcome) (ended : Ended) : Type 0 where
+  pub ends : ended ≡ outcome.ended
+  pub makes : made m ≡ outcome.core
+  pub allowed : may m
+  pub few : count ≤ 259
+
+-- an instruction ends as its outcome does, and its plan makes the outcome's core. It lists few places
 pub record PlansOutcome (m : Core) (plan : List Cell) (outcome : Outcome) (ended : Ended) : Type 0 where
   pub ends : ended ≡ outcome.ended
   pub makes : IsPlanOf m plan outcome.core

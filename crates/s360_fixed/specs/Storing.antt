@@ -1,6 +1,6 @@
 -- The rows that store registers and load several of them (GA22-6821, "Fixed-Point Arithmetic" and "Logical
 -- Operations").
-use Rattle.std.specs.Prelude.{ℕ, zero, suc, ◌+◌, ◌-◌, ◌*◌, ◌%◌, List, length, slice_index}
+use Rattle.std.specs.Prelude.{ℕ, zero, suc, ◌+◌, ◌-◌, ◌*◌, ◌%◌, nat_lt, if◌then◌else◌, List, length, slice_index}
 use Rattle.std.specs.Int.{bytes_high_first}
 use Rattle.s360_model.specs.Core.{Core, core_with_bytes, core_with_psw, core_with_word}
 use Rattle.s360_model.specs.Psw.{with_instruction_address}
@@ -29,9 +29,13 @@ bytes_outcome bytes v address =
 abbrev pub store_outcome : Width → View → ℕ → ℕ → Outcome
 store_outcome width v r1 address = bytes_outcome (bytes_high_first (bytes_of_width width) (register_of v r1)) v address
 
--- how many registers there are from R1 up to R3, 15 followed by 0
+-- how many registers after another one is, 15 followed by 0
+abbrev pub register_distance : ℕ → ℕ → ℕ
+register_distance from to = (to + 16 - from) % 16
+
+-- how many registers there are from R1 up to R3
 abbrev pub register_count : ℕ → ℕ → ℕ
-register_count r1 r3 = (r3 + 16 - r1) % 16 + 1
+register_count r1 r3 = register_distance r1 r3 + 1
 
 -- the core with so many registers, from R1 on, at successive words
 abbrev pub with_registers_stored : List ℕ → ℕ → ℕ → ℕ → Core → Core
@@ -45,6 +49,11 @@ abbrev pub with_registers_loaded : List ℕ → ℕ → ℕ → ℕ → Core →
 with_registers_loaded bytes r1 address zero m = m
 with_registers_loaded bytes r1 address (suc n) m =
     core_with_word ((r1 + n) % 16) (word_at bytes (address + 4 * n)) (with_registers_loaded bytes r1 address n m)
+
+-- the core with a register's word, if it is among so many from R1 on
+abbrev pub with_register_loaded : List ℕ → ℕ → ℕ → ℕ → ℕ → Core → Core
+with_register_loaded bytes r1 address count r m =
+    if nat_lt (register_distance r1 r) count then core_with_word r (word_at bytes (address + 4 * register_distance r1 r)) m else m
 
 abbrev pub store_multiple_outcome : View → ℕ → ℕ → ℕ → Outcome
 store_multiple_outcome v r1 r3 address =

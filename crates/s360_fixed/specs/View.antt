@@ -1,8 +1,7 @@
 -- What an instruction that was fetched works on: the core as it finds it, the address of the next
 -- instruction, and its own length.
-use Rattle.std.specs.Prelude.{ℕ, List, slice_index}
+use Rattle.std.specs.Prelude.{ℕ, slice_index}
 use Rattle.s360_model.specs.Core.{Core}
-use Rattle.s360_model.specs.Storage.{Storage}
 use Rattle.s360_psw.specs.declared.instruction_length.InstructionLength.{InstructionLength}
 use Rattle.s360_fixed.specs.declared.ended.Ended.{Ended}
 
@@ -10,18 +9,6 @@ pub record View : Type 0 where
   pub core : Core
   pub next_address : ℕ
   pub instruction_length : InstructionLength
-
--- the core of a PSW, registers and storage
-abbrev pub core_with : ℕ → List ℕ → Storage → Core
-core_with psw registers storage = record { psw = psw; registers = registers; storage = storage }
-
--- the view of a core
-abbrev pub view_with : ℕ → List ℕ → Storage → ℕ → InstructionLength → View
-view_with psw registers storage next length = record {
-  core = core_with psw registers storage;
-  next_address = next;
-  instruction_length = length;
-}
 
 -- the word in a register
 abbrev pub register_of : View → ℕ → ℕ

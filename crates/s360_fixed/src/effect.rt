@@ -1,10 +1,10 @@
-//! What an instruction makes of its registers and of the condition code, and its plan.
+//! What an instruction makes of its registers and of the condition code, and its puts.
 use crate::ended::Ended;
 use crate::puts::{put_if_some, put_next_if_some};
 use crate::setting::Setting;
 use crate::view::View;
 use s360_psw::Psw;
-use s360_store::Plan;
+use s360_store::{Core, Puts};
 use s360_word::{Cc, RegisterNumber, Word};
 use std::alloc::AllocError;
 
@@ -21,11 +21,12 @@ pub struct Effect {
 }
 
 impl Effect {
-    ghost use Rattle.std.specs.Prelude.{◌≡◌, ◌<◌, ◌≤◌, ◌+◌, [], IfOk, OnOk, OnSome, length};
-    ghost use Rattle.s360_store.specs.Plans.{AddsToPlan, HasRegisters};
+    ghost use Rattle.std.specs.Prelude.{◌≡◌, ◌<◌, ◌≤◌, ◌+◌, IfOk, OnOk, OnSome};
+    ghost use Rattle.s360_store.specs.Puts.{HasNoPuts};
+    ghost use Rattle.s360_store.specs.declared.place.Place.{Place};
     ghost use Rattle.s360_fixed.specs.Outcomes.{after_effect, condition_alone, condition_code_alone, core_after_effect};
     ghost use Rattle.s360_fixed.specs.Outcomes.{double, no_effect, single};
-    ghost use Rattle.s360_fixed.specs.Plans.{PlansOutcome};
+    ghost use Rattle.s360_fixed.specs.Plans.{PutsOutcome};
 
     /// Nothing changes.
     pub fn none() -> Effect
@@ -83,39 +84,46 @@ impl Effect {
     }
 
     /// Puts the results, and a PSW with the condition code, after which the instruction at an address
-    /// comes. The plan may have puts already.
-    pub fn put(
+    /// comes. A PSW may have been put before.
+    #[inline(always)]
+    pub fn put<P: Puts>(
         self,
         psw: Psw,
         r1: RegisterNumber,
         address: u32,
-        plan: &mut Plan,
+        core: &Core,
+        puts: &mut P,
     ) -> Result<(), AllocError>
         requires pair { OnSome self.second (r1 + 1 < 16) }
-        requires few { length plan.old + 3 ≤ 1000000 }
-        ensures { OnOk result (AddsToPlan plan.old plan.new 3 HasRegisters (core_after_effect psw r1 self address)) }
+        requires may { P.may puts.old core.now }
+        requires few { P.count puts.old + 3 ≤ 1000000 }
+        requires past { (q : Place) → P.past puts.old q }
+        ensures made { OnOk result (P.made puts.new core.now ≡ core_after_effect psw r1 self address (P.made puts.old core.now)) }
+        ensures may { OnOk result (P.may puts.new core.now) }
+        ensures few { OnOk result (P.count puts.new ≤ P.count puts.old + 3) }
     {
-        let psw = self.setting.psw(psw);
-        plan.put_psw(psw.with_instruction_address(address))?;
-        put_if_some(r1, self.first, plan)?;
-        put_next_if_some(r1, self.second, plan)?;
+        let psw = self.setting.psw(psw).with_instruction_address(address);
+        puts.put_psw(core, psw)?;
+        put_if_some(r1, self.first, core, puts)?;
+        put_next_if_some(r1, self.second, core, puts)?;
         Ok(())
     }
 
-    /// Plans the effect alone, after which the instruction at an address comes.
-    pub fn plan(
+    /// Puts the effect alone, after which the instruction at an address comes.
+    #[inline(always)]
+    pub fn put_alone<P: Puts>(
         self,
         view: &View,
         r1: RegisterNumber,
         address: u32,
-        plan: &mut Plan,
+        puts: &mut P,
     ) -> Result<Ended, AllocError>
-        requires empty { plan.old ≡ [] }
         requires pair { OnSome self.second (r1 + 1 < 16) }
-        ensures { IfOk result (PlansOutcome view.now.core plan.new (after_effect view.now.core r1 self address)) }
+        requires none { HasNoPuts view.now.core (P.made puts.old) (P.may puts.old) (P.past puts.old) (P.count puts.old) }
+        ensures { IfOk result (PutsOutcome view.now.core (P.made puts.new) (P.may puts.new) (P.count puts.new) (after_effect view.now.core r1 self address)) }
     {
         let ended = self.setting.ended(view.psw());
-        self.put(view.psw(), r1, address, plan)?;
+        self.put(view.psw(), r1, address, view.core(), puts)?;
         Ok(ended)
     }
 }

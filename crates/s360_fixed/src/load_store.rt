@@ -1,11 +1,12 @@
 //! Operands in storage: fetching one, and storing and loading registers. Source: GA22-6821,
 //! "Fixed-Point Arithmetic" and "Logical Operations".
-ghost use Rattle.std.specs.Prelude.{◌≡◌, ◌≤◌, ◌<◌, ◌+◌, ◌*◌, [], IfOk, IsOk, Err, MatchOption, length};
+ghost use Rattle.std.specs.Prelude.{◌≡◌, ◌≤◌, ◌<◌, ◌+◌, ◌*◌, IfOk, IsOk, Err, MatchOption, length};
+ghost use Rattle.s360_store.specs.Puts.{HasNoPuts};
 ghost use Rattle.s360_store.specs.declared.protection.Access.{Access};
 ghost use Rattle.s360_fixed.specs.Operands.{access_conditions, bytes_of_width, extended_halfword};
 ghost use Rattle.s360_fixed.specs.Operands.{fetched, storage_operand, word_in};
 ghost use Rattle.s360_fixed.specs.Made.{HasWords, IsWithin, outcome_of_made};
-ghost use Rattle.s360_fixed.specs.Plans.{PlansOutcome};
+ghost use Rattle.s360_fixed.specs.Plans.{PutsOutcome};
 ghost use Rattle.s360_fixed.specs.ProgramCodes.{program_code};
 ghost use Rattle.s360_fixed.specs.Storing.{bytes_outcome, load_multiple_outcome, register_count};
 ghost use Rattle.s360_fixed.specs.Storing.{store_multiple_outcome};
@@ -14,10 +15,11 @@ use crate::ended::Ended;
 use crate::making::{Made, RegisterWords};
 use crate::operand::operand_exception;
 use crate::program_code::ProgramCode;
+use crate::registers::distance;
 use crate::second_operand::{SecondOperand, Width};
 use crate::view::View;
 use arrayvec::ArrayVec;
-use s360_store::{Access, Plan};
+use s360_store::{Access, Puts};
 use s360_word::{RegisterNumber, Word};
 use std::alloc::AllocError;
 
@@ -74,19 +76,19 @@ pub(crate) fn stored(view: &View, address: u32, bytes: &[u8]) -> Made
     }
 }
 
-/// Plans a store of bytes, on the boundary of their number.
-pub fn plan_store(
+/// Puts a store of bytes, on the boundary of their number.
+pub fn put_store<P: Puts>(
     view: &View,
     address: u32,
     bytes: &[u8],
-    plan: &mut Plan,
+    puts: &mut P,
 ) -> Result<Ended, AllocError>
-    requires empty { plan.old ≡ [] }
+    requires none { HasNoPuts view.now.core (P.made puts.old) (P.may puts.old) (P.past puts.old) (P.count puts.old) }
     requires some { 0 < length bytes.now }
     requires few { length bytes.now ≤ 8 }
-    ensures { IfOk result (PlansOutcome view.now.core plan.new (bytes_outcome bytes.now view.now address)) }
+    ensures { IfOk result (PutsOutcome view.now.core (P.made puts.new) (P.may puts.new) (P.count puts.new) (bytes_outcome bytes.now view.now address)) }
 {
-    stored(view, address, bytes).plan(view, plan)
+    stored(view, address, bytes).put(view, puts)
 }
 
 /// How many registers there are from R1 up to R3, 15 followed by 0.
@@ -94,7 +96,7 @@ fn register_count(r1: RegisterNumber, r3: RegisterNumber) -> u8
     ensures count { result ≡ register_count r1 r3 }
     ensures few { result ≤ 16 }
 {
-    (r3.number() + 16 - r1.number()) % 16 + 1
+    distance(r1, r3) + 1
 }
 
 /// Registers R1 up to R3 with successive words, or what keeps the words from being used.

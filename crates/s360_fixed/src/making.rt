@@ -1,11 +1,11 @@
-//! What an instruction makes of the core that it works on, as a value that takes no memory. Its
-//! plan is the puts of the value. Source: GA22-6821, "Fixed-Point Arithmetic", "Logical Operations"
-//! and "Branching".
-ghost use Rattle.std.specs.Prelude.{◌≡◌, ◌≤◌, ◌*◌, [], IfOk, length};
+//! What an instruction makes of the core that it works on, as a value that takes no memory, and its
+//! puts. Source: GA22-6821, "Fixed-Point Arithmetic", "Logical Operations" and "Branching".
+ghost use Rattle.std.specs.Prelude.{◌≡◌, ◌≤◌, ◌*◌, IfOk, length};
 ghost use Rattle.s360_model.specs.Core.{core_with_bytes};
 ghost use Rattle.s360_store.specs.Plans.{HasBytes};
+ghost use Rattle.s360_store.specs.Puts.{HasNoPuts};
 ghost use Rattle.s360_fixed.specs.Made.{IsWithin, outcome_of_made};
-ghost use Rattle.s360_fixed.specs.Plans.{PlansOutcome};
+ghost use Rattle.s360_fixed.specs.Plans.{PutsOutcome};
 ghost use Rattle.s360_fixed.specs.Storing.{completed, with_registers_loaded, with_registers_stored};
 
 use crate::effect::Effect;
@@ -14,7 +14,7 @@ use crate::program_code::ProgramCode;
 use crate::puts::{put_next_psw, put_registers, put_words};
 use crate::view::View;
 use arrayvec::ArrayVec;
-use s360_store::{GREATEST_SIZE, Plan};
+use s360_store::Puts;
 use s360_word::RegisterNumber;
 use std::alloc::AllocError;
 
@@ -52,43 +52,40 @@ pub enum Made {
     Loaded(RegisterWords),
 }
 
-/// Plans bytes from an address on, after which the next instruction comes.
-fn plan_bytes(view: &View, address: u32, bytes: &[u8], plan: &mut Plan) -> Result<Ended, AllocError>
+/// Puts bytes from an address on, after which the next instruction comes.
+#[inline(always)]
+fn put_bytes<P: Puts>(view: &View, address: u32, bytes: &[u8], puts: &mut P) -> Result<Ended, AllocError>
     requires inside { HasBytes address (length bytes.now) view.now.core }
     requires few { length bytes.now ≤ 8 }
-    requires empty { plan.old ≡ [] }
-    ensures { IfOk result (PlansOutcome view.now.core plan.new (completed view.now (core_with_bytes address bytes.now view.now.core))) }
+    requires none { HasNoPuts view.now.core (P.made puts.old) (P.may puts.old) (P.past puts.old) (P.count puts.old) }
+    ensures { IfOk result (PutsOutcome view.now.core (P.made puts.new) (P.may puts.new) (P.count puts.new) (completed view.now (core_with_bytes address bytes.now view.now.core))) }
 {
-    // So no address of the run passes 32 bits.
-    prove!(view.storage().size() <= GREATEST_SIZE);
-    put_next_psw(view, plan)?;
-    plan.put_bytes(address, bytes)?;
+    put_next_psw(view, puts)?;
+    puts.put_bytes(view.core(), address, bytes)?;
     Ok(Ended::Done)
 }
 
-/// Plans registers at successive words, after which the next instruction comes.
-fn plan_stored(view: &View, words: RegisterWords, plan: &mut Plan) -> Result<Ended, AllocError>
+/// Puts registers at successive words, after which the next instruction comes.
+fn put_stored<P: Puts>(view: &View, words: RegisterWords, puts: &mut P) -> Result<Ended, AllocError>
     requires inside { HasBytes words.address (4 * words.count) view.now.core }
     requires count { words.count ≤ 16 }
-    requires empty { plan.old ≡ [] }
-    ensures { IfOk result (PlansOutcome view.now.core plan.new (completed view.now (with_registers_stored view.now.core.registers words.r1 words.address words.count view.now.core))) }
+    requires none { HasNoPuts view.now.core (P.made puts.old) (P.may puts.old) (P.past puts.old) (P.count puts.old) }
+    ensures { IfOk result (PutsOutcome view.now.core (P.made puts.new) (P.may puts.new) (P.count puts.new) (completed view.now (with_registers_stored view.now.core.registers words.r1 words.address words.count view.now.core))) }
 {
-    put_next_psw(view, plan)?;
-    put_words(view, words.r1, words.count, words.address, plan)?;
+    put_next_psw(view, puts)?;
+    put_words(view, words, puts)?;
     Ok(Ended::Done)
 }
 
-/// Plans successive words in registers, after which the next instruction comes.
-fn plan_loaded(view: &View, words: RegisterWords, plan: &mut Plan) -> Result<Ended, AllocError>
+/// Puts successive words in registers, after which the next instruction comes.
+fn put_loaded<P: Puts>(view: &View, words: RegisterWords, puts: &mut P) -> Result<Ended, AllocError>
     requires inside { HasBytes words.address (4 * words.count) view.now.core }
     requires count { words.count ≤ 16 }
-    requires empty { plan.old ≡ [] }
-    ensures { IfOk result (PlansOutcome view.now.core plan.new (completed view.now (with_registers_loaded view.now.core.storage.bytes words.r1 words.address words.count view.now.core))) }
+    requires none { HasNoPuts view.now.core (P.made puts.old) (P.may puts.old) (P.past puts.old) (P.count puts.old) }
+    ensures { IfOk result (PutsOutcome view.now.core (P.made puts.new) (P.may puts.new) (P.count puts.new) (completed view.now (with_registers_loaded view.now.core.storage.bytes words.r1 words.address words.count view.now.core))) }
 {
-    // Looked at, since its clauses have that there are sixteen registers.
-    let _ = view.register(words.r1);
-    put_next_psw(view, plan)?;
-    put_registers(view, words.r1, words.count, words.address, plan)?;
+    put_next_psw(view, puts)?;
+    put_registers(view, words, puts)?;
     Ok(Ended::Done)
 }
 
@@ -109,12 +106,12 @@ impl Made {
         }
     }
 
-    /// Plans it: how the instruction ends, and the values that it puts. Where memory is wanting, the
-    /// plan is to be dropped.
-    pub fn plan(&self, view: &View, plan: &mut Plan) -> Result<Ended, AllocError>
+    /// Puts it, and says how the instruction ends.
+    #[inline(always)]
+    pub fn put<P: Puts>(&self, view: &View, puts: &mut P) -> Result<Ended, AllocError>
         requires within { IsWithin view.now.core self.now }
-        requires empty { plan.old ≡ [] }
-        ensures { IfOk result (PlansOutcome view.now.core plan.new (outcome_of_made view.now self.now)) }
+        requires none { HasNoPuts view.now.core (P.made puts.old) (P.may puts.old) (P.past puts.old) (P.count puts.old) }
+        ensures { IfOk result (PutsOutcome view.now.core (P.made puts.new) (P.may puts.new) (P.count puts.new) (outcome_of_made view.now self.now)) }
     {
         match self {
             Made::Refused(code) => Ok(Ended::Program(*code)),
@@ -122,10 +119,10 @@ impl Made {
                 r1,
                 effect,
                 next_address,
-            } => effect.plan(view, *r1, *next_address, plan),
-            Made::Bytes { address, bytes } => plan_bytes(view, *address, bytes.as_slice(), plan),
-            Made::Stored(words) => plan_stored(view, *words, plan),
-            Made::Loaded(words) => plan_loaded(view, *words, plan),
+            } => effect.put_alone(view, *r1, *next_address, puts),
+            Made::Bytes { address, bytes } => put_bytes(view, *address, bytes.as_slice(), puts),
+            Made::Stored(words) => put_stored(view, *words, puts),
+            Made::Loaded(words) => put_loaded(view, *words, puts),
         }
     }
 }

@@ -1,4 +1,4 @@
-//! What a fixed-point, branch or shift instruction makes, and its plan. Source: GA22-6821,
+//! What a fixed-point, branch or shift instruction makes, its puts, and its plan. Source: GA22-6821,
 //! "Fixed-Point Arithmetic", "Logical Operations" and "Branching".
 ghost use Rattle.std.specs.Prelude.{◌≡◌, [], IfOk, IfSome, IsSome};
 ghost use Rattle.std.specs.Option.{option_map};
@@ -6,7 +6,8 @@ ghost use Rattle.s360_fixed.specs.Fixed.{fixed_outcome, rr_outcome, rs_outcome, 
 ghost use Rattle.s360_fixed.specs.Made.{IsWithin, outcome_of_made};
 ghost use Rattle.s360_fixed.specs.Operands.{storage_operand};
 ghost use Rattle.s360_fixed.specs.Outcomes.{combination_outcome, pair_outcome};
-ghost use Rattle.s360_fixed.specs.Plans.{PlansOutcome};
+ghost use Rattle.s360_fixed.specs.Plans.{PlansOutcome, PutsOutcome};
+ghost use Rattle.s360_store.specs.Puts.{HasNoPuts};
 ghost use Rattle.s360_fixed.specs.Storing.{store_outcome};
 ghost use Rattle.s360_fixed.specs.declared.second_operand.SecondOperand.TheVariants.{InStorage};
 ghost use Rattle.s360_fixed.specs.declared.second_operand.Width.TheVariants.{Word};
@@ -24,7 +25,7 @@ use crate::row::{Combination, PairCombination, Row};
 use crate::second_operand::{SecondOperand, Width};
 use crate::shifts::{register_shifted, registers_shifted};
 use crate::view::View;
-use s360_store::Plan;
+use s360_store::{Plan, Puts};
 use s360_word::RegisterNumber;
 use std::alloc::AllocError;
 
@@ -160,6 +161,16 @@ pub fn made(form: &Form, view: &View) -> Option<Made>
     }
 }
 
+/// Puts what a fixed-point, branch or shift instruction makes, and says how it ends.
+#[inline(always)]
+pub fn put_fixed<P: Puts>(form: &Form, view: &View, puts: &mut P) -> Result<Ended, AllocError>
+    requires fixed { IsSome (fixed_outcome form.now) }
+    requires none { HasNoPuts view.now.core (P.made puts.old) (P.may puts.old) (P.past puts.old) (P.count puts.old) }
+    ensures { IfSome (fixed_outcome form.now) (λ outcome. IfOk result (PutsOutcome view.now.core (P.made puts.new) (P.may puts.new) (P.count puts.new) (outcome view.now))) }
+{
+    made(form, view).unwrap().put(view, puts)
+}
+
 /// Plans a fixed-point, branch or shift instruction: how it ends, and the values that it puts. Where
 /// memory is wanting, the plan is to be dropped.
 pub fn plan_fixed(form: &Form, view: &View, plan: &mut Plan) -> Result<Ended, AllocError>
@@ -167,5 +178,5 @@ pub fn plan_fixed(form: &Form, view: &View, plan: &mut Plan) -> Result<Ended, Al
     requires empty { plan.old ≡ [] }
     ensures { IfSome (fixed_outcome form.now) (λ outcome. IfOk result (PlansOutcome view.now.core plan.new (outcome view.now))) }
 {
-    made(form, view).unwrap().plan(view, plan)
+    put_fixed(form, view, plan)
 }

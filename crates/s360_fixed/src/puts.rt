@@ -1,96 +1,147 @@
-//! Puts of several registers into a plan, of several words, and of the PSW that goes on.
-ghost use Rattle.std.specs.Prelude.{◌<◌, ◌≤◌, ◌+◌, ◌*◌, OnOk, OnSome, length};
+//! Puts of several registers, of several words, and of the PSW that goes on.
+ghost use Rattle.std.specs.Prelude.{ℕ, ◌≡◌, ◌<◌, ◌≤◌, ◌+◌, ◌*◌, OnOk, OnSome};
 ghost use Rattle.s360_model.specs.Core.{core_with_psw};
-ghost use Rattle.s360_store.specs.Plans.{AddsToPlan, HasBytes, HasPsw, HasRegisters};
+ghost use Rattle.s360_store.specs.Order.{IsBefore};
+ghost use Rattle.s360_store.specs.Plans.{HasBytes, HasRegisters};
+ghost use Rattle.s360_store.specs.declared.place.Place.{Place};
+ghost use Rattle.s360_store.specs.declared.place.Place.TheVariants.{Byte, Register};
 ghost use Rattle.s360_fixed.specs.Outcomes.{core_with_register};
-ghost use Rattle.s360_fixed.specs.Storing.{next_psw};
-ghost use Rattle.s360_fixed.specs.Storing.{with_registers_loaded, with_registers_stored};
+ghost use Rattle.s360_fixed.specs.Storing.{next_psw, with_register_loaded, with_registers_loaded, with_registers_stored};
 
-use crate::registers::register_after;
+use crate::making::RegisterWords;
+use crate::registers::{distance, register_after};
 use crate::view::View;
-use s360_store::{GREATEST_SIZE, Plan};
+use s360_store::{Core, GREATEST_SIZE, Puts};
 use s360_word::{RegisterNumber, Word};
 use std::alloc::AllocError;
 
 /// Puts a word into a register, where there is one.
-pub(crate) fn put_if_some(
+#[inline(always)]
+pub(crate) fn put_if_some<P: Puts>(
     register: RegisterNumber,
     word: Option<Word>,
-    plan: &mut Plan,
+    core: &Core,
+    puts: &mut P,
 ) -> Result<(), AllocError>
-    requires few { length plan.old < 1000000 }
-    ensures { OnOk result (AddsToPlan plan.old plan.new 1 HasRegisters (core_with_register register word)) }
+    requires may { P.may puts.old core.now }
+    requires few { P.count puts.old < 1000000 }
+    requires past { (q : Place) → P.past puts.old q }
+    ensures made { OnOk result (P.made puts.new core.now ≡ core_with_register register word (P.made puts.old core.now)) }
+    ensures may { OnOk result (P.may puts.new core.now) }
+    ensures past { OnOk result ((q : Place) → IsBefore (Register register) q → P.past puts.new q) }
+    ensures few { OnOk result (P.count puts.new ≤ P.count puts.old + 1) }
 {
     if let Some(word) = word {
-        plan.put_register(register, word)?;
+        puts.put_register(core, register, word)?;
     }
     Ok(())
 }
 
 /// Puts a word into the register after a register, where there is one.
-pub(crate) fn put_next_if_some(
+#[inline(always)]
+pub(crate) fn put_next_if_some<P: Puts>(
     register: RegisterNumber,
     word: Option<Word>,
-    plan: &mut Plan,
+    core: &Core,
+    puts: &mut P,
 ) -> Result<(), AllocError>
     requires pair { OnSome word (register + 1 < 16) }
-    requires few { length plan.old < 1000000 }
-    ensures { OnOk result (AddsToPlan plan.old plan.new 1 HasRegisters (core_with_register (register + 1) word)) }
+    requires may { P.may puts.old core.now }
+    requires few { P.count puts.old < 1000000 }
+    requires past { (q : Place) → IsBefore (Register register) q → P.past puts.old q }
+    ensures made { OnOk result (P.made puts.new core.now ≡ core_with_register (register + 1) word (P.made puts.old core.now)) }
+    ensures may { OnOk result (P.may puts.new core.now) }
+    ensures few { OnOk result (P.count puts.new ≤ P.count puts.old + 1) }
 {
-    if word.is_some() {
+    if let Some(word) = word {
         let next = RegisterNumber::new(register.number() + 1);
-        put_if_some(next, word, plan)?;
+        puts.put_register(core, next, word)?;
     }
     Ok(())
 }
 
 /// Puts the PSW of an instruction that sets no condition code and does not branch.
-pub fn put_next_psw(view: &View, plan: &mut Plan) -> Result<(), AllocError>
-    requires few { length plan.old < 1000000 }
-    ensures { OnOk result (AddsToPlan plan.old plan.new 1 HasPsw (core_with_psw (next_psw view.now))) }
+#[inline(always)]
+pub fn put_next_psw<P: Puts>(view: &View, puts: &mut P) -> Result<(), AllocError>
+    requires may { P.may puts.old view.now.core }
+    requires few { P.count puts.old < 1000000 }
+    ensures made { OnOk result (P.made puts.new view.now.core ≡ core_with_psw (next_psw view.now) (P.made puts.old view.now.core)) }
+    ensures may { OnOk result (P.may puts.new view.now.core) }
+    ensures past { OnOk result ((q : Place) → P.past puts.old q → P.past puts.new q) }
+    ensures few { OnOk result (P.count puts.new ≤ P.count puts.old + 1) }
 {
-    plan.put_psw(view.psw().with_instruction_address(view.next_address()))?;
+    let psw = view.psw().with_instruction_address(view.next_address());
+    puts.put_psw(view.core(), psw)?;
     Ok(())
 }
 
-/// Puts successive words into so many registers, from R1 on, 15 followed by 0.
-pub(crate) fn put_registers(
+/// Puts its word into a register, if that is among those that are loaded.
+#[inline(always)]
+fn put_loaded<P: Puts>(
     view: &View,
-    r1: RegisterNumber,
-    count: u8,
-    address: u32,
-    plan: &mut Plan,
+    words: RegisterWords,
+    register: RegisterNumber,
+    puts: &mut P,
 ) -> Result<(), AllocError>
-    requires inside { HasBytes address (4 * count) view.now.core }
-    requires count { count ≤ 16 }
-    requires few { length plan.old + count ≤ 1000000 }
-    ensures { OnOk result (AddsToPlan plan.old plan.new count HasRegisters (with_registers_loaded view.now.core.storage.bytes r1 address count)) }
+    requires inside { HasBytes words.address (4 * words.count) view.now.core }
+    requires may { P.may puts.old view.now.core }
+    requires few { P.count puts.old < 1000000 }
+    requires past { (k : ℕ) → register ≤ k → P.past puts.old (Register k) }
+    ensures made { OnOk result (P.made puts.new view.now.core ≡ with_register_loaded view.now.core.storage.bytes words.r1 words.address words.count register (P.made puts.old view.now.core)) }
+    ensures may { OnOk result (P.may puts.new view.now.core) }
+    ensures past { OnOk result ((k : ℕ) → register < k → P.past puts.new (Register k)) }
+    ensures few { OnOk result (P.count puts.new ≤ P.count puts.old + 1) }
 {
-    for i in 0..count {
-        let word = view.storage().word(address + 4 * u32::from(i));
-        plan.put_register(register_after(r1, i), word)?;
+    let place = distance(words.r1, register);
+    if place < words.count {
+        let word = view.storage().word(words.address + 4 * u32::from(place));
+        puts.put_register(view.core(), register, word)?;
+    }
+    Ok(())
+}
+
+/// Puts successive words into so many registers, from R1 on, 15 followed by 0: in the order of the registers' numbers.
+pub(crate) fn put_registers<P: Puts>(
+    view: &View,
+    words: RegisterWords,
+    puts: &mut P,
+) -> Result<(), AllocError>
+    requires inside { HasBytes words.address (4 * words.count) view.now.core }
+    requires count { words.count ≤ 16 }
+    requires may { P.may puts.old view.now.core }
+    requires few { P.count puts.old + 16 ≤ 1000000 }
+    requires past { (q : Place) → P.past puts.old q }
+    requires sixteen { HasRegisters (P.made puts.old view.now.core) }
+    ensures made { OnOk result (P.made puts.new view.now.core ≡ with_registers_loaded view.now.core.storage.bytes words.r1 words.address words.count (P.made puts.old view.now.core)) }
+    ensures may { OnOk result (P.may puts.new view.now.core) }
+    ensures few { OnOk result (P.count puts.new ≤ P.count puts.old + 16) }
+{
+    for number in 0..16u8 {
+        put_loaded(view, words, RegisterNumber::new(number), puts)?;
     }
     Ok(())
 }
 
 /// Puts so many registers, from R1 on, 15 followed by 0, into successive words.
-pub(crate) fn put_words(
+pub(crate) fn put_words<P: Puts>(
     view: &View,
-    r1: RegisterNumber,
-    count: u8,
-    address: u32,
-    plan: &mut Plan,
+    words: RegisterWords,
+    puts: &mut P,
 ) -> Result<(), AllocError>
-    requires inside { HasBytes address (4 * count) view.now.core }
-    requires count { count ≤ 16 }
-    requires few { length plan.old + 4 * count ≤ 1000000 }
-    ensures { OnOk result (AddsToPlan plan.old plan.new (4 * count) (HasBytes address (4 * count)) (with_registers_stored view.now.core.registers r1 address count)) }
+    requires inside { HasBytes words.address (4 * words.count) view.now.core }
+    requires count { words.count ≤ 16 }
+    requires may { P.may puts.old view.now.core }
+    requires few { P.count puts.old + 4 * words.count ≤ 1000000 }
+    requires past { (q : Place) → P.past puts.old q }
+    ensures made { OnOk result (P.made puts.new view.now.core ≡ with_registers_stored view.now.core.registers words.r1 words.address words.count (P.made puts.old view.now.core)) }
+    ensures may { OnOk result (P.may puts.new view.now.core) }
+    ensures few { OnOk result (P.count puts.new ≤ P.count puts.old + 4 * words.count) }
 {
     // So no address of the run passes 32 bits.
     prove!(view.storage().size() <= GREATEST_SIZE);
-    for i in 0..count {
-        let bytes = view.register(register_after(r1, i)).to_be_bytes();
-        plan.put_bytes(address + 4 * u32::from(i), &bytes)?;
+    for i in 0..words.count {
+        let bytes = view.register(register_after(words.r1, i)).to_be_bytes();
+        puts.put_bytes(view.core(), words.address + 4 * u32::from(i), &bytes)?;
     }
     Ok(())
 }

@@ -2,6 +2,7 @@
 //! registers.
 ghost use Rattle.std.specs.Prelude.{◌≡◌, ◌<◌, ◌+◌, ◌%◌, None, Some, if◌then◌else◌};
 ghost use Rattle.s360_fixed.specs.Outcomes.{is_odd};
+ghost use Rattle.s360_fixed.specs.Storing.{register_distance};
 
 use s360_word::RegisterNumber;
 
@@ -22,4 +23,12 @@ pub(crate) fn register_after(register: RegisterNumber, count: u8) -> RegisterNum
     ensures { result ≡ (register + count) % 16 }
 {
     RegisterNumber::new((register.number() + count) % 16)
+}
+
+/// How many registers after another one is, 15 followed by 0.
+pub(crate) fn distance(from: RegisterNumber, to: RegisterNumber) -> u8
+    ensures distance { result ≡ register_distance from to }
+    ensures few { result < 16 }
+{
+    (to.number() + 16 - from.number()) % 16
 }

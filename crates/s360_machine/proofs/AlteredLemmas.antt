@@ -94,15 +94,3 @@ psw-and-bytes psw a bs (c ∷ cells) first is count =
     let none : drop (1 + length (byte_cells a bs)) (c ∷ cells) ≡ [] = drop_all (1 + length (byte_cells a bs)) (c ∷ cells) (omega (arith, count, length-byte_cells a bs))
     in let rest : cells ≡ byte_cells a bs = is ∙ ap (λ (ds : List Cell). byte_cells a bs ++ ds) none ∙ append-nil (byte_cells a bs)
     in rw (first, rest) refl
-
--- an exchange keeps the number of registers
-registers-with : (m : Core) (p : Place) (v : ℕ) → length (with_value m p v).registers ≡ length m.registers
-registers-with m (Register n) v = length-set m.registers n v
-registers-with m p v = refl
-
-registers-kept : (m : Core) (cs : List Cell) → length (after_exchange m cs).registers ≡ length m.registers
-registers-kept m [] = refl
-registers-kept m (c ∷ cs) = registers-kept (with_value m c.place c.value) cs ∙ registers-with m c.place c.value
-
-pub registers-after : (m n : Core) (cs : List Cell) (count : ℕ) → n ≡ after_exchange m cs → length m.registers ≡ count → length n.registers ≡ count
-registers-after m n cs count e h = ap (λ (k : Core). length k.registers) e ∙ registers-kept m cs ∙ h

@@ -2,12 +2,13 @@
 use Rattle.std.proofs.Common.{◌≡◌, ◌<◌, ◌≤◌, ◌+◌, ◌-◌, ◌++◌, ◌∙◌, ℕ, Bool, suc, List, [], ◌∷◌, refl, ap, sym, take, drop, set, get_or, length, append-nil, arith}
 use Rattle.std.proofs.lemmas.Slice.{drop-put_mid, take-put_mid}
 use borrow.Rule.Slice.PartMut.{put_mid}
-use Rattle.std.proofs.lemmas.List.{append_assoc, drop-drop, drop-set-lt, drop_all, drop_more, length-append, length-drop, length-take-le, set-get_or, take-append-drop, take_all, take_more, take_more_set}
+use Rattle.std.proofs.lemmas.List.{append_assoc, drop-drop, length-set, drop-set-lt, drop_all, drop_more, length-append, length-drop, length-take-le, set-get_or, take-append-drop, take_all, take_more, take_more_set}
 use Rattle.s360_model.specs.Core.{Core}
 use Rattle.s360_model.specs.Storage.{Storage, with_run}
 use Rattle.s360_store.specs.declared.items.Item.{Item}
 use Rattle.s360_store.specs.declared.items.Item.TheVariants.{Single, Run}
 use Rattle.s360_store.specs.declared.place.Place.{Place}
+use Rattle.s360_store.specs.declared.place.Place.TheVariants.{Register}
 use Rattle.s360_store.specs.declared.place.Cell.{Cell}
 use Rattle.s360_store.specs.Cells.{AllFit, AreCellsOf, IsFresh, after_exchange, byte_cells, cells_after_exchange}
 use Rattle.s360_store.specs.Items.{IsNoByte, AreItems, IsItem, bytes_of_items, cells_of_items, core_of}
@@ -154,3 +155,15 @@ exchanging-swapped m psw registers s t is₀ is bs₀ bs taken k from a count d 
 pub length-cells_after_exchange : (m : Core) (cs : List Cell) → length (cells_after_exchange m cs) ≡ length cs
 length-cells_after_exchange m [] = refl
 length-cells_after_exchange m (c ∷ cs) = ap suc (length-cells_after_exchange (with_value m c.place c.value) cs)
+
+-- an exchange keeps the number of registers
+registers-with : (m : Core) (p : Place) (v : ℕ) → length (with_value m p v).registers ≡ length m.registers
+registers-with m (Register n) v = length-set m.registers n v
+registers-with m p v = refl
+
+registers-kept : (m : Core) (cs : List Cell) → length (after_exchange m cs).registers ≡ length m.registers
+registers-kept m [] = refl
+registers-kept m (c ∷ cs) = registers-kept (with_value m c.place c.value) cs ∙ registers-with m c.place c.value
+
+pub registers-after : (m n : Core) (cs : List Cell) (count : ℕ) → n ≡ after_exchange m cs → length m.registers ≡ count → length n.registers ≡ count
+registers-after m n cs count e h = ap (λ (k : Core). length k.registers) e ∙ registers-kept m cs ∙ h

@@ -1,11 +1,12 @@
 -- What puts add to a plan.
-use Rattle.std.proofs.Common.{◌≡◌, ◌<◌, ◌≤◌, ◌+◌, ◌++◌, ℕ, List, [], ◌∷◌, Bool, true, false, cond, length, take, drop, set, get_or, arith, ap, add-zero}
+use Rattle.std.proofs.Common.{◌≡◌, ◌<◌, ◌≤◌, ◌+◌, ◌++◌, ℕ, List, [], ◌∷◌, refl, Bool, true, false, cond, length, take, drop, set, get_or, arith, ap, add-zero}
 use Rattle.std.proofs.lemmas.List.{take_more, set_at, drop_more, take-append-drop, append_assoc, length-append, length-take-le, append-nil}
 use Rattle.s360_model.specs.Core.{Core, core_with_bytes, core_with_key}
 use Rattle.s360_store.specs.declared.place.Place.{Place}
 use Rattle.s360_store.specs.declared.place.Place.TheVariants.{Byte, Key}
 use Rattle.s360_store.specs.declared.place.Cell.{Cell}
 use Rattle.s360_store.specs.Places.{same_place, with_value, IsPlaceOf, Fits}
+use Rattle.s360_store.specs.Cells.{AreCellsOf, after_exchange}
 use Rattle.s360_store.specs.Plans.{after_put, AddsToPlan, CanHaveKey, HasBytes, IsPlanOf}
 use Rattle.s360_store.proofs.PlannedLemmas.{IsPlanOf-put}
 use Rattle.s360_store.proofs.ExchangeLemmas.{IsPlaceOf-after_exchange}
@@ -86,3 +87,8 @@ AddsToPlan-byte old now at bs i h fits u = record {
       (IsPlanOf-put m now (core_with_bytes at (take i bs) n) (Byte (at + i)) (get_or bs i 0) (u.makes m n l p) here fits);
   few = let x : length now ≤ length old + i = u.few in let y : length (after_put now (Byte (at + i)) (get_or bs i 0)) ≤ length now + 1 = length-after_put now (Byte (at + i)) (get_or bs i 0) in omega arith;
 }
+
+-- what puts make of the core before the event, which has their places
+pub IsPlanOf-puts : (m : Core) (old new : List Cell) (count : ℕ) (P : Core → Type 0) (after : Core → Core) → AddsToPlan old new count P after → P m → AreCellsOf m old
+    → IsPlanOf m new (after (after_exchange m old))
+IsPlanOf-puts m old new count P after h p cells = h.makes m (after_exchange m old) p (record { cells = cells; makes = refl })

@@ -2,6 +2,7 @@ pub mod Places
 pub mod Order
 pub mod Cells
 pub mod Plans
+pub mod Puts
 pub mod Items
 pub mod Spans
 pub mod PlanParts

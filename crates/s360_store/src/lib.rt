@@ -1,5 +1,5 @@
-//! Main storage and its protection, the places that an event can alter, and the plan of an event:
-//! the values that it will put at places.
+//! Main storage and its protection, the core, the places that an event can alter, and what takes the
+//! values that an event puts at places: a plan.
 //!
 //! Addresses count bytes from 0. Source: GA22-6821, "System Structure".
 #![tactic(auto)]
@@ -7,23 +7,27 @@
 mod block_key;
 mod bytes;
 mod cells;
+mod core_state;
 mod exchange;
 mod fault;
 mod items;
 mod place;
 mod plan;
 mod protection;
+mod puts;
 mod span;
 mod storage;
 
 pub use block_key::BlockKey;
 pub use bytes::Bytes;
 pub use cells::Cells;
+pub use core_state::Core;
 pub use exchange::exchange_items;
 pub use fault::StoreFault;
 pub use items::{Item, Part, part_at};
 pub use place::{Cell, Place};
 pub use plan::Plan;
 pub use protection::{Access, Checked};
+pub use puts::Puts;
 pub use span::Span;
 pub use storage::{BLOCK_SIZE, GREATEST_SIZE, LEAST_SIZE, Storage};

@@ -1,20 +1,24 @@
 use Rattle.std.proofs.Common.{◌≡◌, arith}
-use Rattle.s360_store.specs.Plans.{HasRegisters}
-use Rattle.s360_store.proofs.PutLemmas.{AddsToPlan-none}
-use Rattle.s360_fixed.proofs.PutLemmas.{AddsToPlan-load}
+use Rattle.s360_fixed.proofs.RegisterLemmas.{loaded_below-all, loaded_below-more, loaded_below-none}
 use Rattle.s360_fixed.proofs.puts.put_registers.Goals as goal
 
-pub put_register-requires : goal.put_register-requires
-put_register-requires c = omega (arith, c.loop-i.invariant.few)
+pub loop-number-init : goal.loop-number-init
+loop-number-init g c = record {
+  made = loaded_below-none _ _ _ _ _;
+  may = c.requires.may;
+  past = λ k l. c.requires.past _;
+  few = omega arith;
+}
 
-pub loop-i-init : goal.loop-i-init
-loop-i-init c = AddsToPlan-none c.args.plan.now 0 HasRegisters
+pub loop-number-preserved : goal.loop-number-preserved
+loop-number-preserved g c = record {
+  made = loaded_below-more _ _ _ _ c.loop-number.number _ _ _ c.loop-number.invariant.made c.in_ok-put_loaded.ensures.made;
+  may = c.in_ok-put_loaded.ensures.may;
+  past = λ k l. c.in_ok-put_loaded.ensures.past k (omega (arith, l));
+  few = omega (arith, c.loop-number.invariant.few, c.in_ok-put_loaded.ensures.few);
+}
 
-pub loop-i-preserved : goal.loop-i-preserved
-loop-i-preserved c =
-    AddsToPlan-load c.args.plan.now c.loop-i.plan _ c.args.view.now.core.storage.bytes c.args.r1 c.args.address c.loop-i.i _ _ c.register_after.ensures (rw (c.from.ensures, c.storage.ensures.storage) at c.word-word.ensures) c.loop-i.invariant c.in_ok-put_register.ensures.ok
-
-pub returns : goal.returns
-returns c =
-    let n : c.loop-i.i ≡ c.args.count = omega arith
-    in rw n at c.loop-i.invariant
+pub returns-clause-made : goal.returns-clause-made
+returns-clause-made g c =
+    let all : c.loop-number.number ≡ 16 = omega arith
+    in loaded_below-all _ c.args.words.r1 _ c.args.words.count _ _ (omega arith) c.requires.count c.requires.sixteen (rw all at c.loop-number.invariant.made)
