@@ -48,7 +48,7 @@ loaded-same bytes r1 at count k n l = record {
 
 loaded-other : (bytes : List ℕ) (r1 at count k r : ℕ) (n : Core) → k ≢ r → get_or (with_register_loaded bytes r1 at count k n).registers r 0 ≡ get_or n.registers r 0
 loaded-other bytes r1 at count k r n d = elim (cases_lt (register_distance r1 k) count) [
-  | inl h ↦ rw (with-among bytes r1 at count k n h) (get_or-set_other n.registers k r _ 0 d)
+  | inl h ↦ rw (with-among bytes r1 at count k n h) (get_or-set_other n.registers k r _ 0 (λ e. d (sym e)))
   | inr h ↦ rw (with-beside bytes r1 at count k n h) refl
 ]
 
@@ -98,7 +98,7 @@ from-done bytes r1 at (suc n) r m f l c s =
     in record {
       among = λ h. elim (cases_lt (register_distance r1 r) n) [
         | inl less ↦
-            let other : (r1 + n) % 16 ≢ r = λ e. omega (arith, e, less, f, l, c)
+            let other : r ≢ (r1 + n) % 16 = λ e. omega (arith, e, less, f, l, c)
             in get_or-set_other before.registers ((r1 + n) % 16) r _ 0 other ∙ rest.among less
         | inr more ↦
             let last : register_distance r1 r ≡ n = omega (arith, h, more)
@@ -107,7 +107,7 @@ from-done bytes r1 at (suc n) r m f l c s =
             in ap (λ i. get_or (set before.registers ((r1 + n) % 16) (word_at bytes (at + 4 * n))) i 0) (sym same) ∙ put ∙ ap (λ i. word_at bytes (at + 4 * i)) (sym last)
       ];
       beside = λ h.
-          let other : (r1 + n) % 16 ≢ r = λ e. omega (arith, e, h, f, l, c)
+          let other : r ≢ (r1 + n) % 16 = λ e. omega (arith, e, h, f, l, c)
           in get_or-set_other before.registers ((r1 + n) % 16) r _ 0 other ∙ rest.beside (omega (arith, h));
     }
 

@@ -66,11 +66,11 @@ fn put_bytes<P: Puts>(view: &View, address: u32, bytes: &[u8], puts: &mut P) -> 
 }
 
 /// Puts registers at successive words, after which the next instruction comes.
-fn put_stored<P: Puts>(view: &View, words: RegisterWords, puts: &mut P) -> Result<Ended, AllocError>
-    requires inside { HasBytes words.address (4 * words.count) view.now.core }
-    requires count { words.count ≤ 16 }
+fn put_stored<P: Puts>(view: &View, words: &RegisterWords, puts: &mut P) -> Result<Ended, AllocError>
+    requires inside { HasBytes words.now.address (4 * words.now.count) view.now.core }
+    requires count { words.now.count ≤ 16 }
     requires none { HasNoPuts view.now.core (P.made puts.old) (P.may puts.old) (P.past puts.old) (P.count puts.old) }
-    ensures { IfOk result (PutsOutcome view.now.core (P.made puts.new) (P.may puts.new) (P.count puts.new) (completed view.now (with_registers_stored view.now.core.registers words.r1 words.address words.count view.now.core))) }
+    ensures { IfOk result (PutsOutcome view.now.core (P.made puts.new) (P.may puts.new) (P.count puts.new) (completed view.now (with_registers_stored view.now.core.registers words.now.r1 words.now.address words.now.count view.now.core))) }
 {
     put_next_psw(view, puts)?;
     put_words(view, words, puts)?;
@@ -78,12 +78,14 @@ fn put_stored<P: Puts>(view: &View, words: RegisterWords, puts: &mut P) -> Resul
 }
 
 /// Puts successive words in registers, after which the next instruction comes.
-fn put_loaded<P: Puts>(view: &View, words: RegisterWords, puts: &mut P) -> Result<Ended, AllocError>
-    requires inside { HasBytes words.address (4 * words.count) view.now.core }
-    requires count { words.count ≤ 16 }
+fn put_loaded<P: Puts>(view: &View, words: &RegisterWords, puts: &mut P) -> Result<Ended, AllocError>
+    requires inside { HasBytes words.now.address (4 * words.now.count) view.now.core }
+    requires count { words.now.count ≤ 16 }
     requires none { HasNoPuts view.now.core (P.made puts.old) (P.may puts.old) (P.past puts.old) (P.count puts.old) }
-    ensures { IfOk result (PutsOutcome view.now.core (P.made puts.new) (P.may puts.new) (P.count puts.new) (completed view.now (with_registers_loaded view.now.core.storage.bytes words.r1 words.address words.count view.now.core))) }
+    ensures { IfOk result (PutsOutcome view.now.core (P.made puts.new) (P.may puts.new) (P.count puts.new) (completed view.now (with_registers_loaded view.now.core.storage.bytes words.now.r1 words.now.address words.now.count view.now.core))) }
 {
+    // Looked at, since its clauses have that there are sixteen registers.
+    let _ = view.register(words.r1);
     put_next_psw(view, puts)?;
     put_registers(view, words, puts)?;
     Ok(Ended::Done)
@@ -121,8 +123,8 @@ impl Made {
                 next_address,
             } => effect.put_alone(view, *r1, *next_address, puts),
             Made::Bytes { address, bytes } => put_bytes(view, *address, bytes.as_slice(), puts),
-            Made::Stored(words) => put_stored(view, *words, puts),
-            Made::Loaded(words) => put_loaded(view, *words, puts),
+            Made::Stored(words) => put_stored(view, words, puts),
+            Made::Loaded(words) => put_loaded(view, words, puts),
         }
     }
 }

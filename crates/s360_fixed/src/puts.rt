@@ -79,15 +79,15 @@ pub fn put_next_psw<P: Puts>(view: &View, puts: &mut P) -> Result<(), AllocError
 #[inline(always)]
 fn put_loaded<P: Puts>(
     view: &View,
-    words: RegisterWords,
+    words: &RegisterWords,
     register: RegisterNumber,
     puts: &mut P,
 ) -> Result<(), AllocError>
-    requires inside { HasBytes words.address (4 * words.count) view.now.core }
+    requires inside { HasBytes words.now.address (4 * words.now.count) view.now.core }
     requires may { P.may puts.old view.now.core }
     requires few { P.count puts.old < 1000000 }
     requires past { (k : ℕ) → register ≤ k → P.past puts.old (Register k) }
-    ensures made { OnOk result (P.made puts.new view.now.core ≡ with_register_loaded view.now.core.storage.bytes words.r1 words.address words.count register (P.made puts.old view.now.core)) }
+    ensures made { OnOk result (P.made puts.new view.now.core ≡ with_register_loaded view.now.core.storage.bytes words.now.r1 words.now.address words.now.count register (P.made puts.old view.now.core)) }
     ensures may { OnOk result (P.may puts.new view.now.core) }
     ensures past { OnOk result ((k : ℕ) → register < k → P.past puts.new (Register k)) }
     ensures few { OnOk result (P.count puts.new ≤ P.count puts.old + 1) }
@@ -103,19 +103,21 @@ fn put_loaded<P: Puts>(
 /// Puts successive words into so many registers, from R1 on, 15 followed by 0: in the order of the registers' numbers.
 pub(crate) fn put_registers<P: Puts>(
     view: &View,
-    words: RegisterWords,
+    words: &RegisterWords,
     puts: &mut P,
 ) -> Result<(), AllocError>
-    requires inside { HasBytes words.address (4 * words.count) view.now.core }
-    requires count { words.count ≤ 16 }
+    requires inside { HasBytes words.now.address (4 * words.now.count) view.now.core }
+    requires count { words.now.count ≤ 16 }
     requires may { P.may puts.old view.now.core }
     requires few { P.count puts.old + 16 ≤ 1000000 }
     requires past { (q : Place) → P.past puts.old q }
     requires sixteen { HasRegisters (P.made puts.old view.now.core) }
-    ensures made { OnOk result (P.made puts.new view.now.core ≡ with_registers_loaded view.now.core.storage.bytes words.r1 words.address words.count (P.made puts.old view.now.core)) }
+    ensures made { OnOk result (P.made puts.new view.now.core ≡ with_registers_loaded view.now.core.storage.bytes words.now.r1 words.now.address words.now.count (P.made puts.old view.now.core)) }
     ensures may { OnOk result (P.may puts.new view.now.core) }
     ensures few { OnOk result (P.count puts.new ≤ P.count puts.old + 16) }
 {
+    // So R1 is the number of a register.
+    prove!(words.r1.number() < 16);
     for number in 0..16u8 {
         put_loaded(view, words, RegisterNumber::new(number), puts)?;
     }
@@ -125,17 +127,17 @@ pub(crate) fn put_registers<P: Puts>(
 /// Puts so many registers, from R1 on, 15 followed by 0, into successive words.
 pub(crate) fn put_words<P: Puts>(
     view: &View,
-    words: RegisterWords,
+    words: &RegisterWords,
     puts: &mut P,
 ) -> Result<(), AllocError>
-    requires inside { HasBytes words.address (4 * words.count) view.now.core }
-    requires count { words.count ≤ 16 }
+    requires inside { HasBytes words.now.address (4 * words.now.count) view.now.core }
+    requires count { words.now.count ≤ 16 }
     requires may { P.may puts.old view.now.core }
-    requires few { P.count puts.old + 4 * words.count ≤ 1000000 }
+    requires few { P.count puts.old + 4 * words.now.count ≤ 1000000 }
     requires past { (q : Place) → P.past puts.old q }
-    ensures made { OnOk result (P.made puts.new view.now.core ≡ with_registers_stored view.now.core.registers words.r1 words.address words.count (P.made puts.old view.now.core)) }
+    ensures made { OnOk result (P.made puts.new view.now.core ≡ with_registers_stored view.now.core.registers words.now.r1 words.now.address words.now.count (P.made puts.old view.now.core)) }
     ensures may { OnOk result (P.may puts.new view.now.core) }
-    ensures few { OnOk result (P.count puts.new ≤ P.count puts.old + 4 * words.count) }
+    ensures few { OnOk result (P.count puts.new ≤ P.count puts.old + 4 * words.now.count) }
 {
     // So no address of the run passes 32 bits.
     prove!(view.storage().size() <= GREATEST_SIZE);

@@ -59,21 +59,6 @@ comparison_code-step s first second i n h e =
     in let more : n - i ≡ suc (n - (i + 1)) = omega arith
     in rw (one, other, more) (sym (rw (e, nat_eq-same (byte_at s (second + i))) refl))
 
--- the PSW with a condition code, and then the bytes of an operand
-pub PlansOutcome-stored : (v : View) (q r s : List Cell) (o : FirstOperand) (setting : Setting) → q ≡ [] → HasRegisters v.core → o.storage ≡ v.core.storage → o.address + length o.bytes ≤ length o.storage.bytes → length o.bytes ≤ 256
-    → AddsToPlan q r 3 HasRegisters (core_after_effect v.core.psw 0 (record { first = None; second = None; setting = setting }) v.next_address)
-    → AddsToPlan r s (length o.bytes) (HasBytes o.address (length o.bytes)) (core_with_bytes o.address o.bytes)
-    → PlansOutcome v.core s (completed_with v setting (stored_in o)) (ended_with v.core.psw setting)
-PlansOutcome-stored v q r s o setting e sixteen same inside l u w =
-    let psw : Core → Core = core_after_effect v.core.psw 0 (record { first = None; second = None; setting = setting }) v.next_address
-    in let first : AddsToPlan [] r 3 HasRegisters psw = rw e at u
-    in let here : o.address + length o.bytes ≤ length v.core.storage.bytes = rw same at inside
-    in record {
-      ends = refl;
-      makes = rw same (w.makes v.core (psw v.core) here (first.makes v.core v.core sixteen (IsPlanOf-none v.core)));
-      few = let x : length r ≤ 3 = first.few in let y : length s ≤ length r + length o.bytes = w.few in omega arith;
-    }
-
 -- a byte of an operand of which nothing is stored
 pub operand_bytes-at : (s : Storage) (a n i : ℕ) → i < n → get_or (operand_bytes s a n) i 0 ≡ byte_at s (a + i)
 operand_bytes-at s a n i l =

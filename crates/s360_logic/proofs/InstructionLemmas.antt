@@ -1,11 +1,10 @@
 -- The instruction that was fetched.
-use Rattle.std.proofs.Common.{◌≡◌, ◌∙◌, ◌+◌, ◌*◌, ◌/◌, ◌%◌, length, slice_index, Bor, Result, Ok, Err, IfOk, ℕ, Bool, true, false, refl, List, [], Option, Some, None, IfSome, ap, arith, sym, is_none}
+use Rattle.std.proofs.Common.{◌≡◌, ◌∙◌, ◌+◌, ◌*◌, ◌/◌, ◌%◌, length, slice_index, Bor, Result, Ok, Err, IfOk, ℕ, Bool, true, false, refl, List, Option, Some, None, IfSome, ap, arith, sym, is_none}
 use Rattle.std.specs.Option.{option_and_then, option_map}
 use Rattle.std.specs.Prelude.{OnOk}
 use Rattle.std.specs.Result.{result_ok}
 use Rattle.s360_model.specs.Core.{Core}
 use Rattle.s360_model.specs.Psw.{instruction_address_of, protection_key_of}
-use Rattle.s360_store.specs.declared.place.Cell.{Cell}
 use Rattle.s360_fixed.specs.declared.ended.Ended.{Ended}
 use Rattle.s360_fixed.specs.declared.ended.Ended.TheVariants.{Program, Svc}
 use Rattle.s360_fixed.specs.declared.form.Form.{Form}
@@ -15,15 +14,14 @@ use Rattle.s360_fixed.specs.declared.plain.Plain.{Plain}
 use Rattle.s360_fixed.specs.declared.program_code.ProgramCode.{ProgramCode}
 use Rattle.s360_fixed.specs.declared.program_code.ProgramCode.TheVariants.{Operation}
 use Rattle.s360_psw.specs.declared.instruction_length.InstructionLength.TheVariants.{NotAvailable, OneHalfword}
-use Rattle.s360_store.proofs.PlannedLemmas.{IsPlanOf-none}
 use Rattle.s360_fixed.specs.Fetching.{fetch_conditions, instruction_bytes, length_at}
 use Rattle.s360_fixed.specs.Fixed.{fixed_outcome}
 use Rattle.s360_fixed.specs.Plain.{Completes, CompletesIfAny}
-use Rattle.s360_fixed.specs.Plans.{PlansOutcome}
+use Rattle.s360_fixed.specs.Plans.{PutsOutcome}
 use Rattle.s360_fixed.specs.ProgramCodes.{Conditions, no_conditions, program_code}
 use Rattle.s360_fixed.specs.Table.{form_of, instruction_length}
 use Rattle.s360_fixed.specs.View.{Outcome, View}
-use Rattle.s360_logic.specs.Instruction.{Fetched, IsFetched, IsSimple, PlansInstruction, conditions_at, fetched_outcome, instruction, instruction_at, instruction_of, length_of_bytes, view_at}
+use Rattle.s360_logic.specs.Instruction.{Fetched, IsFetched, IsSimple, PutsInstruction, conditions_at, fetched_outcome, instruction, instruction_at, instruction_of, length_of_bytes, view_at}
 use Rattle.s360_logic.specs.declared.cpu.Simple.TheVariants.{Call}
 use Rattle.s360_logic.specs.Logic.{by_row, logic_outcome, outcome_of, status_outcome}
 
@@ -60,15 +58,15 @@ outcome-fetched f h =
     ∙ ap (λ v. fetched_outcome v (form_of (instruction_bytes f.view.core.storage a))) (sym h.view)
     ∙ ap (λ x. fetched_outcome f.view x) (sym h.form)
 
--- what is planned of it
-pub PlansInstruction-fetched : (f : Fetched) (plan : List Cell) (ended : Ended) → IsFetched f → PlansOutcome f.view.core plan (fetched_outcome f.view f.form) ended
-    → PlansInstruction f.view.core plan (instruction f.view.core) (record { ended = ended; next_address = f.view.next_address; instruction_length = f.view.instruction_length })
+-- what is put of it
+pub PutsInstruction-fetched : (f : Fetched) (made : Core → Core) (may : Core → Type 0) (count : ℕ) (ended : Ended) → IsFetched f → PutsOutcome f.view.core made may count (fetched_outcome f.view f.form) ended
+    → PutsInstruction f.view.core made may count (instruction f.view.core) (record { ended = ended; next_address = f.view.next_address; instruction_length = f.view.instruction_length })
 unfolding instruction
-PlansInstruction-fetched f plan ended h p =
+PutsInstruction-fetched f made may count ended h p =
     let a : ℕ = instruction_address_of f.view.core.psw
     in let outcome : (instruction_at f.view.core a).outcome ≡ fetched_outcome f.view f.form = outcome-fetched f h
     in record {
-      plans = rw outcome p;
+      puts = rw outcome p;
       next = ap (λ (v : View). v.next_address) h.view;
       length = ap (λ (v : View). v.instruction_length) h.view;
     }
@@ -93,15 +91,16 @@ instruction_of-refused m a form code h =
     in rw (refused-met c.odd_address c.outside_first c.protected_first c.outside_rest c.protected_rest (is_none form) code h) refl
 
 -- one that could not be fetched puts nothing, and has no length
-pub PlansInstruction-refused : (m : Core) (plan : List Cell) (code : ProgramCode) → plan ≡ [] → program_code (conditions_at m (instruction_address_of m.psw)) ≡ Some code
-    → PlansInstruction m plan (instruction m) (record { ended = Program code; next_address = instruction_address_of m.psw; instruction_length = NotAvailable })
+pub PutsInstruction-refused : (m : Core) (made : Core → Core) (may : Core → Type 0) (count : ℕ) (code : ProgramCode) → made m ≡ m → may m → count ≡ 0
+    → program_code (conditions_at m (instruction_address_of m.psw)) ≡ Some code
+    → PutsInstruction m made may count (instruction m) (record { ended = Program code; next_address = instruction_address_of m.psw; instruction_length = NotAvailable })
 unfolding instruction
-PlansInstruction-refused m plan code e h =
+PutsInstruction-refused m made may count code same allowed none h =
     let a : ℕ = instruction_address_of m.psw
     in let outcome : (instruction_at m a).outcome ≡ refused_outcome m code = instruction_of-refused m a (form_of (instruction_bytes m.storage a)) code h
-    in let nothing : PlansOutcome m [] (refused_outcome m code) (Program code) = record { ends = refl; makes = IsPlanOf-none m; few = omega arith }
+    in let nothing : PutsOutcome m made may count (refused_outcome m code) (Program code) = record { ends = refl; makes = same; allowed = allowed; few = omega (arith, none) }
     in record {
-      plans = rw (e, outcome) nothing;
+      puts = rw outcome nothing;
       next = rw h refl;
       length = rw h refl;
     }

@@ -11,7 +11,7 @@ use Rattle.s360_fixed.specs.declared.form.Form.{Form}
 use Rattle.s360_fixed.specs.declared.program_code.ProgramCode.TheVariants.{Operation}
 use Rattle.s360_fixed.specs.Fetching.{fetch_conditions, instruction_bytes, length_at}
 use Rattle.s360_fixed.specs.Outcomes.{unless_met}
-use Rattle.s360_fixed.specs.Plans.{PlansOutcome}
+use Rattle.s360_fixed.specs.Plans.{PlansOutcome, PutsOutcome}
 use Rattle.s360_fixed.specs.ProgramCodes.{Conditions, program_code}
 use Rattle.s360_fixed.specs.Table.{form_of}
 use Rattle.s360_fixed.specs.View.{Outcome, View}
@@ -80,8 +80,14 @@ pub record IsFetched (f : Fetched) : Type 0 where
   pub view : f.view ≡ view_at f.view.core (instruction_address_of f.view.core.psw)
   pub form : f.form ≡ form_of (instruction_bytes f.view.core.storage (instruction_address_of f.view.core.psw))
 
--- an instruction ends as the definition's does, with its next address and its length, and its plan makes
--- the definition's core
+-- an instruction ends as the definition's does, with its next address and its length, and its puts make the
+-- definition's core
+pub record PutsInstruction (m : Core) (made : Core → Core) (may : Core → Type 0) (count : ℕ) (i : Instruction) (planned : PlannedInstruction) : Type 0 where
+  pub puts : PutsOutcome m made may count i.outcome planned.ended
+  pub next : planned.next_address ≡ i.next_address
+  pub length : planned.instruction_length ≡ i.instruction_length
+
+-- and its plan makes the definition's core
 pub record PlansInstruction (m : Core) (plan : List Cell) (i : Instruction) (planned : PlannedInstruction) : Type 0 where
   pub plans : PlansOutcome m plan i.outcome planned.ended
   pub next : planned.next_address ≡ i.next_address

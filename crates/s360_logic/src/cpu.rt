@@ -1,4 +1,4 @@
-//! The instruction at the instruction address: fetched, what it makes, and its plan. Source:
+//! The instruction at the instruction address: fetched, what it makes, its puts, and its plan. Source:
 //! GA22-6821, "System Structure", program execution.
 ghost use Rattle.std.specs.Prelude.{◌≡◌, ◌≤◌, [], IfErr, IfOk, IfSome, Some, length, slice_index};
 ghost use Rattle.s360_model.specs.Psw.{instruction_address_of};
@@ -6,22 +6,22 @@ ghost use Rattle.s360_fixed.specs.Plain.{Completes, CompletesIfAny};
 ghost use Rattle.s360_fixed.specs.Table.{form_of};
 ghost use Rattle.s360_logic.specs.Logic.{outcome_of};
 ghost use Rattle.std.specs.Option.{option_map};
-ghost use Rattle.s360_fixed.specs.Plans.{PlansOutcome};
+ghost use Rattle.s360_fixed.specs.Plans.{PutsOutcome};
 ghost use Rattle.s360_fixed.specs.ProgramCodes.{program_code};
-ghost use Rattle.s360_fixed.specs.View.{core_with};
+ghost use Rattle.s360_store.specs.Puts.{HasNoPuts};
 ghost use Rattle.s360_psw.specs.declared.instruction_length.InstructionLength.TheVariants.{NotAvailable};
 ghost use Rattle.s360_fixed.specs.declared.ended.Ended.TheVariants.{Program};
-ghost use Rattle.s360_logic.specs.Instruction.{IsSimple, PlansInstruction, conditions_at, fetched_outcome, instruction, length_of_bytes};
+ghost use Rattle.s360_logic.specs.Instruction.{IsSimple, PlansInstruction, PutsInstruction, conditions_at, fetched_outcome, instruction, length_of_bytes};
 
-use crate::logic::plan_logic;
+use crate::logic::put_logic;
 use crate::status::loaded_psw;
 use s360_fixed::{
     Ended, Form, Plain, ProgramCode, View, altered, altered_register, base_and_displacement,
     decode_bytes, fetch_instruction, made, operand_address,
 };
 use s360_psw::{InstructionLength, Psw};
-use s360_store::{Plan, Storage};
-use s360_word::{RegisterNumber, Word};
+use s360_store::{Core, Plan, Puts};
+use s360_word::RegisterNumber;
 use std::alloc::AllocError;
 use std::marker::Model;
 
@@ -85,20 +85,16 @@ fn length_of_bytes(bytes: usize) -> InstructionLength
 /// Fetches the instruction at the instruction address, or says what keeps it from being fetched. It is done for each event of
 /// the CPU, and its call would cost more than what it does.
 #[inline(always)]
-pub fn fetch<'a>(
-    psw: Psw,
-    registers: &'a [Word; 16],
-    storage: &'a Storage,
-) -> Result<Fetched<'a>, ProgramCode>
-    ensures ok { IfOk result (λ f. f.view.core ≡ core_with psw registers.now storage.now) }
-    ensures err { IfErr result (λ code. program_code (conditions_at (core_with psw registers.now storage.now) (instruction_address_of psw)) ≡ Some code) }
+pub fn fetch(core: &Core) -> Result<Fetched<'_>, ProgramCode>
+    ensures ok { IfOk result (λ f. f.view.core ≡ core.now) }
+    ensures err { IfErr result (λ code. program_code (conditions_at core.now (instruction_address_of core.now.psw)) ≡ Some code) }
 {
-    let address = psw.instruction_address();
-    let bytes = fetch_instruction(storage, address, psw.protection_key())?;
+    let address = core.psw().instruction_address();
+    let bytes = fetch_instruction(core.storage(), address, core.psw().protection_key())?;
     let next_address = address + bytes.len() as u32;
     let length = length_of_bytes(bytes.len());
     Ok(Fetched {
-        view: View::new(psw, registers, storage, next_address, length),
+        view: View::new(core, next_address, length),
         form: decode_bytes(bytes),
     })
 }
@@ -117,12 +113,11 @@ fn altered_by_load(bytes: &[u8], view: &View) -> Option<Plain>
 
 /// What the instruction at the instruction address does, if it is a frequent one that alters the PSW and little beside it.
 #[inline(always)]
-pub fn frequent_instruction(psw: Psw, registers: &[Word; 16], storage: &Storage) -> Option<Simple>
-    ensures { let core = core_with psw registers.now storage.now
-        in IfSome result (λ x. IsSimple core x (instruction core)) }
+pub fn frequent_instruction(core: &Core) -> Option<Simple>
+    ensures { IfSome result (λ x. IsSimple core.now x (instruction core.now)) }
 {
-    let address = psw.instruction_address();
-    let bytes = fetch_instruction(storage, address, psw.protection_key()).ok()?;
+    let address = core.psw().instruction_address();
+    let bytes = fetch_instruction(core.storage(), address, core.psw().protection_key()).ok()?;
     let next_address = address + bytes.len() as u32;
     if bytes[0] == SUPERVISOR_CALL {
         return Some(Simple::Call {
@@ -131,7 +126,7 @@ pub fn frequent_instruction(psw: Psw, registers: &[Word; 16], storage: &Storage)
         });
     }
     let length = length_of_bytes(bytes.len());
-    let view = View::new(psw, registers, storage, next_address, length);
+    let view = View::new(core, next_address, length);
     let altered = if bytes[0] == LOAD_PSW {
         altered_by_load(bytes, &view)
     } else {
@@ -176,15 +171,30 @@ impl<'a> Fetched<'a> {
         made.altered(&self.view)
     }
 
-    /// Plans what it does by its form, if it has one.
-    fn plan_form(&self, plan: &mut Plan) -> Result<Ended, AllocError>
-        requires empty { plan.old ≡ [] }
-        ensures { IfOk result (PlansOutcome self.now.view.core plan.new (fetched_outcome self.now.view self.now.form)) }
+    /// Puts what it does by its form, if it has one.
+    #[inline(always)]
+    fn put_form<P: Puts>(&self, puts: &mut P) -> Result<Ended, AllocError>
+        requires none { HasNoPuts self.now.view.core (P.made puts.old) (P.may puts.old) (P.past puts.old) (P.count puts.old) }
+        ensures { IfOk result (PutsOutcome self.now.view.core (P.made puts.new) (P.may puts.new) (P.count puts.new) (fetched_outcome self.now.view self.now.form)) }
     {
         match &self.form {
-            Some(form) => plan_logic(form, &self.view, plan),
+            Some(form) => put_logic(form, &self.view, puts),
             None => Ok(Ended::Program(ProgramCode::Operation)),
         }
+    }
+
+    /// Puts it, and says how it ends.
+    #[inline(always)]
+    pub fn put<P: Puts>(&self, puts: &mut P) -> Result<PlannedInstruction, AllocError>
+        requires none { HasNoPuts self.now.view.core (P.made puts.old) (P.may puts.old) (P.past puts.old) (P.count puts.old) }
+        ensures { IfOk result (PutsInstruction self.now.view.core (P.made puts.new) (P.may puts.new) (P.count puts.new) (instruction self.now.view.core)) }
+    {
+        let ended = self.put_form(puts)?;
+        Ok(PlannedInstruction {
+            ended,
+            next_address: self.view.next_address(),
+            instruction_length: self.view.instruction_length(),
+        })
     }
 
     /// Plans it: how it ends, and the values that it puts. Where memory is wanting, the plan is to be
@@ -193,30 +203,30 @@ impl<'a> Fetched<'a> {
         requires empty { plan.old ≡ [] }
         ensures { IfOk result (PlansInstruction self.now.view.core plan.new (instruction self.now.view.core)) }
     {
-        let ended = self.plan_form(plan)?;
-        Ok(PlannedInstruction {
-            ended,
-            next_address: self.view.next_address(),
-            instruction_length: self.view.instruction_length(),
-        })
+        self.put(plan)
+    }
+}
+
+/// Puts the instruction at the instruction address, and says how it ends.
+#[tactic(auto, unfolding(crate::specs::Instruction::instruction))]
+pub fn put_instruction<P: Puts>(
+    core: &Core,
+    puts: &mut P,
+) -> Result<PlannedInstruction, AllocError>
+    requires none { HasNoPuts core.now (P.made puts.old) (P.may puts.old) (P.past puts.old) (P.count puts.old) }
+    ensures { IfOk result (PutsInstruction core.now (P.made puts.new) (P.may puts.new) (P.count puts.new) (instruction core.now)) }
+{
+    match fetch(core) {
+        Ok(fetched) => fetched.put(puts),
+        Err(code) => Ok(not_fetched(core.psw(), code)),
     }
 }
 
 /// Plans the instruction at the instruction address: how it ends, and the values that it puts. Where
 /// memory is wanting, the plan is to be dropped.
-#[tactic(auto, unfolding(crate::specs::Instruction::instruction))]
-pub fn plan_instruction(
-    psw: Psw,
-    registers: &[Word; 16],
-    storage: &Storage,
-    plan: &mut Plan,
-) -> Result<PlannedInstruction, AllocError>
+pub fn plan_instruction(core: &Core, plan: &mut Plan) -> Result<PlannedInstruction, AllocError>
     requires empty { plan.old ≡ [] }
-    ensures { let core = core_with psw registers.now storage.now
-        in IfOk result (PlansInstruction core plan.new (instruction core)) }
+    ensures { IfOk result (PlansInstruction core.now plan.new (instruction core.now)) }
 {
-    match fetch(psw, registers, storage) {
-        Ok(fetched) => fetched.plan(plan),
-        Err(code) => Ok(not_fetched(psw, code)),
-    }
+    put_instruction(core, plan)
 }

@@ -1,14 +1,14 @@
 //! Storage as an instruction has it so far, which stores into its first operand alone.
-ghost use Rattle.std.specs.Prelude.{◌≡◌, ◌<◌, ◌≤◌, ◌+◌, ◌^◌, [], IfOk, IfSome, OnSome, length, slice_set};
-ghost use Rattle.s360_fixed.specs.Plans.{PlansOutcome};
+ghost use Rattle.std.specs.Prelude.{◌≡◌, ◌<◌, ◌≤◌, ◌+◌, ◌^◌, IfOk, IfSome, OnSome, length, slice_set};
+ghost use Rattle.s360_store.specs.Puts.{HasNoPuts};
+ghost use Rattle.s360_fixed.specs.Plans.{PutsOutcome};
 ghost use Rattle.s360_logic.specs.Bytes.{byte_at, completed_with, operand_bytes};
 ghost use Rattle.s360_logic.specs.Operands.{IsApart, IsBeside, first_operand, stored_in};
 
 use crate::field::Field;
 use arrayvec::ArrayVec;
-use s360_fixed::{Effect, Ended, Setting, View};
-use s360_store::{GREATEST_SIZE, Plan, Storage};
-use s360_word::RegisterNumber;
+use s360_fixed::{Ended, Setting, View};
+use s360_store::{GREATEST_SIZE, Puts, Storage};
 use std::alloc::AllocError;
 use std::marker::Model;
 
@@ -134,27 +134,21 @@ impl<'a> FirstOperand<'a> {
         self.bytes[i as usize] = byte;
     }
 
-    /// Plans the bytes, and a condition code, after which the next instruction comes.
-    pub(crate) fn plan(
+    /// Puts the bytes, and a condition code, after which the next instruction comes.
+    pub(crate) fn put<P: Puts>(
         &self,
         view: &View,
         setting: Setting,
-        plan: &mut Plan,
+        puts: &mut P,
     ) -> Result<Ended, AllocError>
         requires storage { self.now.storage ≡ view.now.core.storage }
-        requires empty { plan.old ≡ [] }
-        ensures { IfOk result (PlansOutcome view.now.core plan.new (completed_with view.now setting (stored_in self.now))) }
+        requires none { HasNoPuts view.now.core (P.made puts.old) (P.may puts.old) (P.past puts.old) (P.count puts.old) }
+        ensures { IfOk result (PutsOutcome view.now.core (P.made puts.new) (P.may puts.new) (P.count puts.new) (completed_with view.now setting (stored_in self.now))) }
     {
         prove!(self.address() + self.len() <= self.storage.size());
-        let effect = Effect::condition(setting);
-        let ended = effect.setting.ended(view.psw());
-        effect.put(
-            view.psw(),
-            RegisterNumber::new(0),
-            view.next_address(),
-            plan,
-        )?;
-        plan.put_bytes(self.address(), self.bytes())?;
-        Ok(ended)
+        let psw = setting.psw(view.psw()).with_instruction_address(view.next_address());
+        puts.put_psw(view.core(), psw)?;
+        puts.put_bytes(view.core(), self.address(), self.bytes())?;
+        Ok(setting.ended(view.psw()))
     }
 }

@@ -1,8 +1,9 @@
 //! Rows of two operands in storage of one length, a byte after another from left to right. Source:
 //! GA22-6821, "Logical Operations".
 ghost use Rattle.std.specs.Option.{option_map};
-ghost use Rattle.std.specs.Prelude.{◌≡◌, ◌≤◌, ◌<◌, ◌+◌, ◌^◌, [], ◌≢◌, IfNone, IfOk, IfSome, IsTrue, length};
-ghost use Rattle.s360_fixed.specs.Plans.{PlansOutcome};
+ghost use Rattle.std.specs.Prelude.{◌≡◌, ◌≤◌, ◌<◌, ◌+◌, ◌^◌, ◌≢◌, IfNone, IfOk, IfSome, IsTrue, length};
+ghost use Rattle.s360_store.specs.Puts.{HasNoPuts};
+ghost use Rattle.s360_fixed.specs.Plans.{PutsOutcome};
 ghost use Rattle.s360_fixed.specs.ProgramCodes.{program_code};
 ghost use Rattle.s360_logic.specs.LeftToRight.{combine_outcome, combined, compare_outcome};
 ghost use Rattle.s360_logic.specs.LeftToRight.{conditions_of};
@@ -19,12 +20,12 @@ ghost use Rattle.s360_store.specs.Protection.{access, met_of_both};
 ghost use Rattle.s360_store.specs.declared.protection.Access.TheVariants.{Fetch};
 ghost use Rattle.s360_store.specs.declared.protection.Checked.TheVariants.{Addressing, Clear};
 
-use crate::condition::plan_code;
+use crate::condition::put_code;
 use crate::field::{Field, check, fields_exception};
 use crate::first_operand::FirstOperand;
 use crate::row::ByteCombination;
 use s360_fixed::{ADDRESSES, Effect, Ended, ProgramCode, Setting, View};
-use s360_store::{Access, Checked, GREATEST_SIZE, Plan, Storage};
+use s360_store::{Access, Checked, GREATEST_SIZE, Puts, Storage};
 use s360_word::{Cc, ProtectionKey, RegisterNumber, Word, compare_logical};
 use std::alloc::AllocError;
 
@@ -86,18 +87,18 @@ fn combine(combination: ByteCombination, operand: &mut FirstOperand, second: u32
     }
 }
 
-/// Plans a row whose bytes are made of the two bytes with the same number.
-pub(crate) fn plan_combine(
+/// Puts a row whose bytes are made of the two bytes with the same number.
+pub(crate) fn put_combine<P: Puts>(
     view: &View,
     combination: ByteCombination,
     first: u32,
     second: u32,
     count: u32,
-    plan: &mut Plan,
+    puts: &mut P,
 ) -> Result<Ended, AllocError>
     requires few { count ≤ 256 }
-    requires empty { plan.old ≡ [] }
-    ensures { IfOk result (PlansOutcome view.now.core plan.new (combine_outcome combination view.now first second count)) }
+    requires none { HasNoPuts view.now.core (P.made puts.old) (P.may puts.old) (P.past puts.old) (P.count puts.old) }
+    ensures { IfOk result (PutsOutcome view.now.core (P.made puts.new) (P.may puts.new) (P.count puts.new) (combine_outcome combination view.now first second count)) }
 {
     let field = Field {
         address: first,
@@ -113,7 +114,7 @@ pub(crate) fn plan_combine(
     let mut operand = FirstOperand::new(view.storage(), field);
     combine(combination, &mut operand, second);
     let setting = combination.setting(operand.bytes());
-    operand.plan(view, setting, plan)
+    operand.put(view, setting, puts)
 }
 
 /// The condition code of the first bytes that differ.
@@ -132,16 +133,16 @@ fn compared(storage: &Storage, first: u32, second: u32, count: u32) -> Cc
     Cc::new(0)
 }
 
-/// Plans a comparison.
-pub(crate) fn plan_compare(
+/// Puts a comparison.
+pub(crate) fn put_compare<P: Puts>(
     view: &View,
     first: u32,
     second: u32,
     count: u32,
-    plan: &mut Plan,
+    puts: &mut P,
 ) -> Result<Ended, AllocError>
-    requires empty { plan.old ≡ [] }
-    ensures { IfOk result (PlansOutcome view.now.core plan.new (compare_outcome view.now first second count)) }
+    requires none { HasNoPuts view.now.core (P.made puts.old) (P.may puts.old) (P.past puts.old) (P.count puts.old) }
+    ensures { IfOk result (PutsOutcome view.now.core (P.made puts.new) (P.may puts.new) (P.count puts.new) (compare_outcome view.now first second count)) }
 {
     let field = Field {
         address: first,
@@ -153,7 +154,7 @@ pub(crate) fn plan_compare(
     };
     match fields_exception(view, Access::Fetch, field, other) {
         Some(code) => Ok(Ended::Program(code)),
-        None => plan_code(view, compared(view.storage(), first, second, count), plan),
+        None => put_code(view, compared(view.storage(), first, second, count), puts),
     }
 }
 
@@ -263,19 +264,19 @@ fn exception_of(operand: Checked, functions: Checked) -> Option<ProgramCode>
     ProgramCode::of_access(operand.and(functions))
 }
 
-/// Plans a translation. A function byte outside storage comes before a protected one, and before a protected first
+/// Puts a translation. A function byte outside storage comes before a protected one, and before a protected first
 /// operand.
-pub(crate) fn plan_translate(
+pub(crate) fn put_translate<P: Puts>(
     view: &View,
     first: u32,
     table: u32,
     count: u32,
-    plan: &mut Plan,
+    puts: &mut P,
 ) -> Result<Ended, AllocError>
     requires few { count ≤ 256 }
     requires table { table < 2 ^ 24 }
-    requires empty { plan.old ≡ [] }
-    ensures { IfOk result (PlansOutcome view.now.core plan.new (translate_outcome view.now first table count)) }
+    requires none { HasNoPuts view.now.core (P.made puts.old) (P.may puts.old) (P.past puts.old) (P.count puts.old) }
+    ensures { IfOk result (PutsOutcome view.now.core (P.made puts.new) (P.may puts.new) (P.count puts.new) (translate_outcome view.now first table count)) }
 {
     let field = Field {
         address: first,
@@ -290,7 +291,7 @@ pub(crate) fn plan_translate(
     let met = translate(&mut operand, view.storage(), table, key);
     match exception_of(checked, met) {
         Some(code) => Ok(Ended::Program(code)),
-        None => operand.plan(view, Setting::Kept, plan),
+        None => operand.put(view, Setting::Kept, puts),
     }
 }
 
@@ -354,12 +355,12 @@ fn with_low_byte(word: Word, byte: u8) -> Word
     word / 256 * 256 + Word::from(byte)
 }
 
-/// Plans what a search does that has found a byte.
-fn plan_found(view: &View, found: Found, field: Field, plan: &mut Plan) -> Result<Ended, AllocError>
+/// Puts what a search does that has found a byte.
+fn put_found<P: Puts>(view: &View, found: Found, field: Field, puts: &mut P) -> Result<Ended, AllocError>
     requires inside { field.address + field.count ≤ length view.now.core.storage.bytes }
     requires number { found.number < field.count }
-    requires empty { plan.old ≡ [] }
-    ensures { IfOk result (PlansOutcome view.now.core plan.new (found_outcome found.number found.function_byte view.now field.address field.count)) }
+    requires none { HasNoPuts view.now.core (P.made puts.old) (P.may puts.old) (P.past puts.old) (P.count puts.old) }
+    ensures { IfOk result (PutsOutcome view.now.core (P.made puts.new) (P.may puts.new) (P.count puts.new) (found_outcome found.number found.function_byte view.now field.address field.count)) }
 {
     // So no address of the operand passes 24 bits.
     prove!(view.storage().size() <= GREATEST_SIZE);
@@ -370,20 +371,20 @@ fn plan_found(view: &View, found: Found, field: Field, plan: &mut Plan) -> Resul
         with_address(view.register(one), field.address + found.number),
         with_low_byte(view.register(RegisterNumber::new(2)), found.function_byte),
     );
-    Effect::double(words, Setting::Code(code)).plan(view, one, view.next_address(), plan)
+    Effect::double(words, Setting::Code(code)).put_alone(view, one, view.next_address(), puts)
 }
 
-/// Plans a search of a table.
-pub(crate) fn plan_translate_and_test(
+/// Puts a search of a table.
+pub(crate) fn put_translate_and_test<P: Puts>(
     view: &View,
     first: u32,
     table: u32,
     count: u32,
-    plan: &mut Plan,
+    puts: &mut P,
 ) -> Result<Ended, AllocError>
     requires table { table < 2 ^ 24 }
-    requires empty { plan.old ≡ [] }
-    ensures { IfOk result (PlansOutcome view.now.core plan.new (translate_and_test_outcome view.now first table count)) }
+    requires none { HasNoPuts view.now.core (P.made puts.old) (P.may puts.old) (P.past puts.old) (P.count puts.old) }
+    ensures { IfOk result (PutsOutcome view.now.core (P.made puts.new) (P.may puts.new) (P.count puts.new) (translate_and_test_outcome view.now first table count)) }
 {
     let field = Field {
         address: first,
@@ -397,7 +398,7 @@ pub(crate) fn plan_translate_and_test(
     let (met, found) = search(view.storage(), field, table, key);
     match (exception_of(checked, met), found) {
         (Some(code), _) => Ok(Ended::Program(code)),
-        (None, Some(found)) => plan_found(view, found, field, plan),
-        (None, None) => plan_code(view, Cc::new(0), plan),
+        (None, Some(found)) => put_found(view, found, field, puts),
+        (None, None) => put_code(view, Cc::new(0), puts),
     }
 }

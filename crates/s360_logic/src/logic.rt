@@ -1,28 +1,29 @@
-//! The plan of an instruction that was decoded: by its row, or by that of the subject of an execute.
+//! The puts and the plan of an instruction that was decoded: by its row, or by that of the subject of an execute.
 //! Source: GA22-6821, "Logical Operations", "Fixed-Point Arithmetic", "Decimal Arithmetic", "Status
 //! Switching", and "Branching", EXECUTE.
 ghost use Rattle.std.specs.Prelude.{◌≡◌, ◌<◌, ◌≤◌, ◌^◌, [], None, IfOk, length, slice_index};
-ghost use Rattle.s360_fixed.specs.Plans.{PlansOutcome};
+ghost use Rattle.s360_store.specs.Puts.{HasNoPuts};
+ghost use Rattle.s360_fixed.specs.Plans.{PlansOutcome, PutsOutcome};
 ghost use Rattle.s360_logic.specs.Logic.{address_of, by_row, execute_outcome, logic_outcome};
 ghost use Rattle.s360_logic.specs.Logic.{outcome_of, row_outcome, status_outcome};
 ghost use Rattle.s360_logic.specs.Logic.{storage_outcome, subject_of, with_ored_byte};
 ghost use Rattle.arrayvec.specs.ArrayVec.{array_vec_len};
 
-use crate::converting::plan_conversion;
+use crate::converting::put_conversion;
 use crate::field::Field;
-use crate::immediate::plan_immediate;
-use crate::left_to_right::{plan_combine, plan_compare, plan_translate, plan_translate_and_test};
-use crate::right_to_left::plan_digits;
+use crate::immediate::put_immediate;
+use crate::left_to_right::{put_combine, put_compare, put_translate, put_translate_and_test};
+use crate::right_to_left::put_digits;
 use crate::row::{
     StorageRow, conversion_of, immediate_row_of, register_status_of, storage_row_of,
     storage_status_of,
 };
-use crate::status::{plan_register_status, plan_storage_status};
+use crate::status::{put_register_status, put_storage_status};
 use arrayvec::ArrayVec;
 use s360_fixed::{
     Ended, Form, Operation, ProgramCode, View, decode, fetch_instruction, made, operand_address,
 };
-use s360_store::Plan;
+use s360_store::{Plan, Puts};
 use s360_word::RegisterNumber;
 use std::alloc::AllocError;
 
@@ -37,27 +38,27 @@ fn address_of(view: &View, base: RegisterNumber, displacement: u16) -> u32
     operand_address(view, RegisterNumber::new(0), base, displacement)
 }
 
-/// Plans a row of two operands in storage, by the length field and the addresses.
-fn plan_storage(
+/// Puts a row of two operands in storage, by the length field and the addresses.
+fn put_storage<P: Puts>(
     view: &View,
     row: StorageRow,
     l: u8,
     first: u32,
     second: u32,
-    plan: &mut Plan,
+    puts: &mut P,
 ) -> Result<Ended, AllocError>
     requires second { second < 2 ^ 24 }
-    requires empty { plan.old ≡ [] }
-    ensures { IfOk result (PlansOutcome view.now.core plan.new (storage_outcome row view.now l first second)) }
+    requires none { HasNoPuts view.now.core (P.made puts.old) (P.may puts.old) (P.past puts.old) (P.count puts.old) }
+    ensures { IfOk result (PutsOutcome view.now.core (P.made puts.new) (P.may puts.new) (P.count puts.new) (storage_outcome row view.now l first second)) }
 {
     let count = u32::from(l) + 1;
     match row {
         StorageRow::Combine(combination) => {
-            plan_combine(view, combination, first, second, count, plan)
+            put_combine(view, combination, first, second, count, puts)
         }
-        StorageRow::Compare => plan_compare(view, first, second, count, plan),
-        StorageRow::Translate => plan_translate(view, first, second, count, plan),
-        StorageRow::TranslateAndTest => plan_translate_and_test(view, first, second, count, plan),
+        StorageRow::Compare => put_compare(view, first, second, count, puts),
+        StorageRow::Translate => put_translate(view, first, second, count, puts),
+        StorageRow::TranslateAndTest => put_translate_and_test(view, first, second, count, puts),
         StorageRow::Digits(row) => {
             let field = Field {
                 address: first,
@@ -67,15 +68,15 @@ fn plan_storage(
                 address: second,
                 count: u32::from(l % 16) + 1,
             };
-            plan_digits(view, row, field, other, plan)
+            put_digits(view, row, field, other, puts)
         }
     }
 }
 
-/// Plans an instruction by its row in these chapters, if it has one.
-fn plan_own(form: &Form, view: &View, plan: &mut Plan) -> Result<Ended, AllocError>
-    requires empty { plan.old ≡ [] }
-    ensures { IfOk result (PlansOutcome view.now.core plan.new (by_row None (logic_outcome form.now) (status_outcome form.now) view.now)) }
+/// Puts an instruction by its row in these chapters, if it has one.
+fn put_own<P: Puts>(form: &Form, view: &View, puts: &mut P) -> Result<Ended, AllocError>
+    requires none { HasNoPuts view.now.core (P.made puts.old) (P.may puts.old) (P.past puts.old) (P.count puts.old) }
+    ensures { IfOk result (PutsOutcome view.now.core (P.made puts.new) (P.may puts.new) (P.count puts.new) (by_row None (logic_outcome form.now) (status_outcome form.now) view.now)) }
 {
     match *form {
         Form::Rx {
@@ -85,7 +86,7 @@ fn plan_own(form: &Form, view: &View, plan: &mut Plan) -> Result<Ended, AllocErr
             b2,
             d2,
         } => match conversion_of(operation) {
-            Some(row) => { plan_conversion(view, row, r1, operand_address(view, x2, b2, d2), plan) }
+            Some(row) => { put_conversion(view, row, r1, operand_address(view, x2, b2, d2), puts) }
             None => Ok(NO_SUCH_OPERATION),
         },
         Form::Si {
@@ -94,9 +95,9 @@ fn plan_own(form: &Form, view: &View, plan: &mut Plan) -> Result<Ended, AllocErr
             b1,
             d1,
         } => match immediate_row_of(operation) {
-            Some(row) => plan_immediate(view, row, i2, address_of(view, b1, d1), plan),
+            Some(row) => put_immediate(view, row, i2, address_of(view, b1, d1), puts),
             None => match storage_status_of(operation) {
-                Some(row) => plan_storage_status(view, row, address_of(view, b1, d1), plan),
+                Some(row) => put_storage_status(view, row, address_of(view, b1, d1), puts),
                 None => Ok(NO_SUCH_OPERATION),
             },
         },
@@ -110,26 +111,26 @@ fn plan_own(form: &Form, view: &View, plan: &mut Plan) -> Result<Ended, AllocErr
         } => match storage_row_of(operation) {
             Some(row) => {
                 let (first, second) = (address_of(view, b1, d1), address_of(view, b2, d2));
-                plan_storage(view, row, l, first, second, plan)
+                put_storage(view, row, l, first, second, puts)
             }
             None => Ok(NO_SUCH_OPERATION),
         },
         Form::Rr { operation, r1, r2 } => match register_status_of(operation) {
-            Some(row) => plan_register_status(view, row, r1, r2, plan),
+            Some(row) => put_register_status(view, row, r1, r2, puts),
             None => Ok(NO_SUCH_OPERATION),
         },
         Form::Rs { .. } => Ok(NO_SUCH_OPERATION),
     }
 }
 
-/// Plans an instruction by its row.
-fn plan_row(form: &Form, view: &View, plan: &mut Plan) -> Result<Ended, AllocError>
-    requires empty { plan.old ≡ [] }
-    ensures { IfOk result (PlansOutcome view.now.core plan.new (row_outcome view.now form.now)) }
+/// Puts an instruction by its row.
+fn put_row<P: Puts>(form: &Form, view: &View, puts: &mut P) -> Result<Ended, AllocError>
+    requires none { HasNoPuts view.now.core (P.made puts.old) (P.may puts.old) (P.past puts.old) (P.count puts.old) }
+    ensures { IfOk result (PutsOutcome view.now.core (P.made puts.new) (P.may puts.new) (P.count puts.new) (row_outcome view.now form.now)) }
 {
     match made(form, view) {
-        Some(made) => made.plan(view, plan),
-        None => plan_own(form, view, plan),
+        Some(made) => made.put(view, puts),
+        None => put_own(form, view, puts),
     }
 }
 
@@ -164,15 +165,15 @@ pub fn with_ored_byte(view: &View, r1: RegisterNumber, bytes: &[u8]) -> ArrayVec
     bytes
 }
 
-/// Plans an execute: what its subject does, with the next address and the length of the execute.
-fn plan_execute(
+/// Puts an execute: what its subject does, with the next address and the length of the execute.
+fn put_execute<P: Puts>(
     view: &View,
     r1: RegisterNumber,
     address: u32,
-    plan: &mut Plan,
+    puts: &mut P,
 ) -> Result<Ended, AllocError>
-    requires empty { plan.old ≡ [] }
-    ensures { IfOk result (PlansOutcome view.now.core plan.new (execute_outcome view.now r1 address)) }
+    requires none { HasNoPuts view.now.core (P.made puts.old) (P.may puts.old) (P.past puts.old) (P.count puts.old) }
+    ensures { IfOk result (PutsOutcome view.now.core (P.made puts.new) (P.may puts.new) (P.count puts.new) (execute_outcome view.now r1 address)) }
 {
     let bytes = match fetch_instruction(view.storage(), address, view.psw().protection_key()) {
         Ok(bytes) => with_ored_byte(view, r1, bytes),
@@ -184,7 +185,18 @@ fn plan_execute(
     if subject_of(&form, view).is_some() {
         return Ok(Ended::Program(ProgramCode::Execute));
     }
-    plan_row(&form, view, plan)
+    put_row(&form, view, puts)
+}
+
+/// Puts what an instruction does that was decoded, and says how it ends.
+pub fn put_logic<P: Puts>(form: &Form, view: &View, puts: &mut P) -> Result<Ended, AllocError>
+    requires none { HasNoPuts view.now.core (P.made puts.old) (P.may puts.old) (P.past puts.old) (P.count puts.old) }
+    ensures { IfOk result (PutsOutcome view.now.core (P.made puts.new) (P.may puts.new) (P.count puts.new) (outcome_of view.now form.now)) }
+{
+    match subject_of(form, view) {
+        Some((r1, address)) => put_execute(view, r1, address, puts),
+        None => put_row(form, view, puts),
+    }
 }
 
 /// Plans an instruction that was decoded: how it ends, and the values that it puts. Where memory is
@@ -193,8 +205,5 @@ pub fn plan_logic(form: &Form, view: &View, plan: &mut Plan) -> Result<Ended, Al
     requires empty { plan.old ≡ [] }
     ensures { IfOk result (PlansOutcome view.now.core plan.new (outcome_of view.now form.now)) }
 {
-    match subject_of(form, view) {
-        Some((r1, address)) => plan_execute(view, r1, address, plan),
-        None => plan_row(form, view, plan),
-    }
+    put_logic(form, view, plan)
 }

@@ -1,7 +1,8 @@
 //! Rows of two operands in storage, each with its length, a byte of the result after another from
 //! right to left. Source: GA22-6821, "Decimal Arithmetic", MOVE WITH OFFSET, PACK and UNPACK.
-ghost use Rattle.std.specs.Prelude.{◌≡◌, ◌≤◌, ◌<◌, ◌+◌, [], IfOk, length};
-ghost use Rattle.s360_fixed.specs.Plans.{PlansOutcome};
+ghost use Rattle.std.specs.Prelude.{◌≡◌, ◌≤◌, ◌<◌, ◌+◌, IfOk, length};
+ghost use Rattle.s360_store.specs.Puts.{HasNoPuts};
+ghost use Rattle.s360_fixed.specs.Plans.{PutsOutcome};
 ghost use Rattle.s360_logic.specs.Operands.{field_of, stored_in};
 ghost use Rattle.s360_logic.specs.Held.{made_at};
 ghost use Rattle.s360_logic.specs.RightToLeft.{byte_from_right, digits, digits_outcome};
@@ -12,7 +13,7 @@ use crate::first_operand::FirstOperand;
 use crate::row::DigitRow;
 use s360_fixed::{Ended, Setting, View};
 use s360_psw::Psw;
-use s360_store::{Access, Plan};
+use s360_store::{Access, Puts};
 use std::alloc::AllocError;
 
 /// A byte of the result, and the byte of the second operand that is held for the next.
@@ -117,23 +118,23 @@ fn make_digits(row: DigitRow, zone: u8, operand: &mut FirstOperand, second: Fiel
     }
 }
 
-/// Plans a row of digits.
-pub(crate) fn plan_digits(
+/// Puts a row of digits.
+pub(crate) fn put_digits<P: Puts>(
     view: &View,
     row: DigitRow,
     first: Field,
     second: Field,
-    plan: &mut Plan,
+    puts: &mut P,
 ) -> Result<Ended, AllocError>
     requires some { 0 < first.count }
     requires few { first.count ≤ 16 }
-    requires empty { plan.old ≡ [] }
-    ensures { IfOk result (PlansOutcome view.now.core plan.new (digits_outcome row view.now first second)) }
+    requires none { HasNoPuts view.now.core (P.made puts.old) (P.may puts.old) (P.past puts.old) (P.count puts.old) }
+    ensures { IfOk result (PutsOutcome view.now.core (P.made puts.new) (P.may puts.new) (P.count puts.new) (digits_outcome row view.now first second)) }
 {
     if let Some(code) = fields_exception(view, Access::Store, first, second) {
         return Ok(Ended::Program(code));
     }
     let mut operand = FirstOperand::new(view.storage(), first);
     make_digits(row, zone_of(view.psw()), &mut operand, second);
-    operand.plan(view, Setting::Kept, plan)
+    operand.put(view, Setting::Kept, puts)
 }

@@ -1,10 +1,11 @@
 //! Status switching: the PSW and its masks, the storage keys and the supervisor call. Source:
 //! GA22-6821, "Status Switching", and "System Structure", protection feature.
-ghost use Rattle.std.specs.Prelude.{◌≡◌, ◌<◌, [], IfErr, IfNone, IfOk, None, Some};
+ghost use Rattle.std.specs.Prelude.{◌≡◌, ◌<◌, IfErr, IfNone, IfOk, None, Some};
 ghost use Rattle.s360_model.specs.Psw.{current_psw};
 ghost use Rattle.s360_model.specs.Storage.{doubleword_at, key_limit};
 ghost use Rattle.s360_store.specs.Plans.{HasBlock, HasBytes};
-ghost use Rattle.s360_fixed.specs.Plans.{PlansOutcome};
+ghost use Rattle.s360_store.specs.Puts.{HasNoPuts};
+ghost use Rattle.s360_fixed.specs.Plans.{PutsOutcome};
 ghost use Rattle.s360_fixed.specs.ProgramCodes.{program_code};
 ghost use Rattle.s360_fixed.specs.Storing.{next_psw};
 ghost use Rattle.s360_logic.specs.declared.row.StorageStatus.TheVariants.{LoadPsw, SetSystemMask};
@@ -15,7 +16,7 @@ ghost use Rattle.s360_logic.specs.Status.{storage_status_outcome, unit_of, with_
 use crate::row::{KeyRow, RegisterStatus, StorageStatus};
 use s360_fixed::{Ended, ProgramCode, View, operand_exception, put_next_psw};
 use s360_psw::Psw;
-use s360_store::{Access, BLOCK_SIZE, BlockKey, Plan};
+use s360_store::{Access, BLOCK_SIZE, BlockKey, Puts};
 use s360_word::{ProtectionKey, RegisterNumber, Unit, Word};
 use std::alloc::AllocError;
 
@@ -45,12 +46,12 @@ fn next_psw(view: &View) -> Psw
     view.psw().with_instruction_address(view.next_address())
 }
 
-/// Plans a PSW alone.
-fn plan_psw(view: &View, psw: Psw, plan: &mut Plan) -> Result<Ended, AllocError>
-    requires empty { plan.old ≡ [] }
-    ensures { IfOk result (PlansOutcome view.now.core plan.new (with_psw view.now psw)) }
+/// Puts a PSW alone.
+fn put_psw<P: Puts>(view: &View, psw: Psw, puts: &mut P) -> Result<Ended, AllocError>
+    requires none { HasNoPuts view.now.core (P.made puts.old) (P.may puts.old) (P.past puts.old) (P.count puts.old) }
+    ensures { IfOk result (PutsOutcome view.now.core (P.made puts.new) (P.may puts.new) (P.count puts.new) (with_psw view.now psw)) }
 {
-    plan.put_psw(psw)?;
+    puts.put_psw(view.core(), psw)?;
     Ok(Ended::Done)
 }
 
@@ -95,54 +96,55 @@ fn key_exception(view: &View, word: Word) -> Option<ProgramCode>
     }
 }
 
-/// Plans what is done with the storage key of a block inside storage.
-fn plan_key(
+/// Puts what is done with the storage key of a block inside storage.
+fn put_key<P: Puts>(
     view: &View,
     row: KeyRow,
     r1: RegisterNumber,
     block: u32,
-    plan: &mut Plan,
+    puts: &mut P,
 ) -> Result<Ended, AllocError>
     requires inside { HasBlock block view.now.core }
-    requires empty { plan.old ≡ [] }
-    ensures { IfOk result (PlansOutcome view.now.core plan.new (key_outcome row view.now r1 block)) }
+    requires none { HasNoPuts view.now.core (P.made puts.old) (P.may puts.old) (P.past puts.old) (P.count puts.old) }
+    ensures { IfOk result (PutsOutcome view.now.core (P.made puts.new) (P.may puts.new) (P.count puts.new) (key_outcome row view.now r1 block)) }
 {
     let word = view.register(r1);
-    put_next_psw(view, plan)?;
+    put_next_psw(view, puts)?;
     match row {
         KeyRow::Set => {
             let key = key_in(view.storage().fetch_protection(), word);
-            plan.put_key(block, key)?;
+            puts.put_key(view.core(), block, key)?;
         }
         KeyRow::Insert => {
-            plan.put_register(r1, with_key_in(word, view.storage().block_key(block)))?;
+            let inserted = with_key_in(word, view.storage().block_key(block));
+            puts.put_register(view.core(), r1, inserted)?;
         }
     }
     Ok(Ended::Done)
 }
 
-/// Plans a row of registers, or of the second byte of the instruction.
-pub(crate) fn plan_register_status(
+/// Puts a row of registers, or of the second byte of the instruction.
+pub(crate) fn put_register_status<P: Puts>(
     view: &View,
     row: RegisterStatus,
     r1: RegisterNumber,
     r2: RegisterNumber,
-    plan: &mut Plan,
+    puts: &mut P,
 ) -> Result<Ended, AllocError>
-    requires empty { plan.old ≡ [] }
-    ensures { IfOk result (PlansOutcome view.now.core plan.new (register_status_outcome row view.now r1 r2)) }
+    requires none { HasNoPuts view.now.core (P.made puts.old) (P.may puts.old) (P.past puts.old) (P.count puts.old) }
+    ensures { IfOk result (PutsOutcome view.now.core (P.made puts.new) (P.may puts.new) (P.count puts.new) (register_status_outcome row view.now r1 r2)) }
 {
     match row {
         RegisterStatus::SetProgramMask => {
             let psw = next_psw(view).with_program_mask(view.register(r1));
-            plan_psw(view, psw, plan)
+            put_psw(view, psw, puts)
         }
         RegisterStatus::SupervisorCall => Ok(Ended::Svc(r1.number() * 16 + r2.number())),
         RegisterStatus::StorageKey(row) => {
             let word = view.register(r2);
             match key_exception(view, word) {
                 Some(code) => Ok(Ended::Program(code)),
-                None => plan_key(view, row, r1, block_of(word), plan),
+                None => put_key(view, row, r1, block_of(word), puts),
             }
         }
     }
@@ -163,16 +165,16 @@ fn fetch_exception(view: &View, address: u32, count: u32) -> Option<ProgramCode>
     }
 }
 
-/// Plans the system mask that is the byte at an address.
-fn plan_system_mask(view: &View, address: u32, plan: &mut Plan) -> Result<Ended, AllocError>
-    requires empty { plan.old ≡ [] }
-    ensures { IfOk result (PlansOutcome view.now.core plan.new (storage_status_outcome SetSystemMask view.now address)) }
+/// Puts the system mask that is the byte at an address.
+fn put_system_mask<P: Puts>(view: &View, address: u32, puts: &mut P) -> Result<Ended, AllocError>
+    requires none { HasNoPuts view.now.core (P.made puts.old) (P.may puts.old) (P.past puts.old) (P.count puts.old) }
+    ensures { IfOk result (PutsOutcome view.now.core (P.made puts.new) (P.may puts.new) (P.count puts.new) (storage_status_outcome SetSystemMask view.now address)) }
 {
     match fetch_exception(view, address, 1) {
         Some(code) => Ok(Ended::Program(code)),
         None => {
             let mask = view.storage().byte(address);
-            plan_psw(view, next_psw(view).with_system_mask(mask), plan)
+            put_psw(view, next_psw(view).with_system_mask(mask), puts)
         }
     }
 }
@@ -189,30 +191,30 @@ pub(crate) fn loaded_psw(view: &View, address: u32) -> Result<Psw, ProgramCode>
     }
 }
 
-/// Plans the PSW that is the doubleword at an address.
-fn plan_load_psw(view: &View, address: u32, plan: &mut Plan) -> Result<Ended, AllocError>
-    requires empty { plan.old ≡ [] }
-    ensures { IfOk result (PlansOutcome view.now.core plan.new (storage_status_outcome LoadPsw view.now address)) }
+/// Puts the PSW that is the doubleword at an address.
+fn put_load_psw<P: Puts>(view: &View, address: u32, puts: &mut P) -> Result<Ended, AllocError>
+    requires none { HasNoPuts view.now.core (P.made puts.old) (P.may puts.old) (P.past puts.old) (P.count puts.old) }
+    ensures { IfOk result (PutsOutcome view.now.core (P.made puts.new) (P.may puts.new) (P.count puts.new) (storage_status_outcome LoadPsw view.now address)) }
 {
     match loaded_psw(view, address) {
-        Ok(psw) => plan_psw(view, psw, plan),
+        Ok(psw) => put_psw(view, psw, puts),
         Err(code) => Ok(Ended::Program(code)),
     }
 }
 
-/// Plans a row of an operand in storage, or of a unit.
-pub(crate) fn plan_storage_status(
+/// Puts a row of an operand in storage, or of a unit.
+pub(crate) fn put_storage_status<P: Puts>(
     view: &View,
     row: StorageStatus,
     address: u32,
-    plan: &mut Plan,
+    puts: &mut P,
 ) -> Result<Ended, AllocError>
-    requires empty { plan.old ≡ [] }
-    ensures { IfOk result (PlansOutcome view.now.core plan.new (storage_status_outcome row view.now address)) }
+    requires none { HasNoPuts view.now.core (P.made puts.old) (P.may puts.old) (P.past puts.old) (P.count puts.old) }
+    ensures { IfOk result (PutsOutcome view.now.core (P.made puts.new) (P.may puts.new) (P.count puts.new) (storage_status_outcome row view.now address)) }
 {
     match row {
-        StorageStatus::SetSystemMask => plan_system_mask(view, address, plan),
-        StorageStatus::LoadPsw => plan_load_psw(view, address, plan),
+        StorageStatus::SetSystemMask => put_system_mask(view, address, puts),
+        StorageStatus::LoadPsw => put_load_psw(view, address, puts),
         StorageStatus::InputOutput(_) if view.psw().problem_state() => {
             Ok(Ended::Program(ProgramCode::Privileged))
         }

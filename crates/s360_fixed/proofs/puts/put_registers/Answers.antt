@@ -12,13 +12,13 @@ loop-number-init g c = record {
 
 pub loop-number-preserved : goal.loop-number-preserved
 loop-number-preserved g c = record {
-  made = loaded_below-more _ _ _ _ c.loop-number.number _ _ _ c.loop-number.invariant.made c.in_ok-put_loaded.ensures.made;
+  made = loaded_below-more _ _ _ _ c.loop-number.number _ _ _ c.loop-number.invariant.made (rw c.new.ensures at c.in_ok-put_loaded.ensures.made);
   may = c.in_ok-put_loaded.ensures.may;
-  past = λ k l. c.in_ok-put_loaded.ensures.past k (omega (arith, l));
+  past = λ k l. c.in_ok-put_loaded.ensures.past k (rw c.new.ensures (omega (arith, l)));
   few = omega (arith, c.loop-number.invariant.few, c.in_ok-put_loaded.ensures.few);
 }
 
 pub returns-clause-made : goal.returns-clause-made
 returns-clause-made g c =
     let all : c.loop-number.number ≡ 16 = omega arith
-    in loaded_below-all _ c.args.words.r1 _ c.args.words.count _ _ (omega arith) c.requires.count c.requires.sixteen (rw all at c.loop-number.invariant.made)
+    in loaded_below-all _ c.args.words.now.r1 _ c.args.words.now.count _ _ (omega arith) c.requires.count c.requires.sixteen (rw all at c.loop-number.invariant.made)

@@ -1,14 +1,13 @@
 use Rattle.std.proofs.Common.{◌≡◌, ◌∙◌, sym, List, ℕ, refl, Some}
 use Rattle.s360_model.specs.Core.{Core}
 use Rattle.s360_fixed.specs.Table.{form_of}
-use Rattle.s360_fixed.specs.View.{core_with}
 use Rattle.s360_logic.proofs.InstructionLemmas.{AreFetched, IsSimple-call, are-fetched, completes-fetched, completes-fixed, completes-form, view_of_bytes}
 use Rattle.s360_logic.proofs.cpu.frequent_instruction.Goals as goal
 use Rattle.s360_logic.proofs.cpu.frequent_instruction.Goals.{In_ok-bytes, then-bytes, else-bytes}
 
 -- the core that it works on, and the bytes of the instruction
 abbrev core : (c : In_ok-bytes) → Core
-core c = core_with c.args.psw c.args.registers.now c.args.storage.now
+core c = c.args.core.now
 
 fetched : (c : In_ok-bytes) → AreFetched (core c) c.in_ok-bytes.bytes.now
 fetched c =
@@ -22,7 +21,7 @@ returns-then-bytes-eq-SUPERVISOR_CALL c =
 
 pub returns : goal.returns
 returns c =
-    let m : Core = core_with c.args.psw c.args.registers.now c.args.storage.now
+    let m : Core = c.args.core.now
     in let bytes : List ℕ = c.in_ok-bytes.bytes.now
     in let view : c.new-view.result ≡ view_of_bytes m bytes = rw (c.new-view.ensures, c.length_of_bytes-length.ensures, c.instruction_address-address.ensures.value) refl
     in completes-fetched m bytes c.in_ok-altered.field-0 (fetched (goal.at.returns c).In_ok-bytes) (elim c.if-bytes.branch [

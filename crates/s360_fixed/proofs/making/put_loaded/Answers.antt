@@ -1,0 +1,18 @@
+use Rattle.std.proofs.Common.{◌∙◌, refl, ap, arith}
+use Rattle.s360_model.specs.Core.{core_with_psw}
+use Rattle.s360_fixed.specs.Storing.{next_psw, with_registers_loaded}
+use Rattle.s360_fixed.proofs.PutLemmas.{with_registers_loaded-psw}
+use Rattle.s360_fixed.proofs.making.put_loaded.Goals as goal
+
+pub put_registers-requires-clause-sixteen : goal.put_registers-requires-clause-sixteen
+put_registers-requires-clause-sixteen g c = rw (c.in_ok-put_next_psw.ensures.made, c.requires.none.same) c.register.ensures.sixteen
+
+pub returns : goal.returns
+returns g c = record {
+  ends = refl;
+  makes = c.in_ok-put_registers.ensures.made
+      ∙ ap (λ n. with_registers_loaded c.args.view.now.core.storage.bytes c.args.words.now.r1 c.args.words.now.address c.args.words.now.count n) (c.in_ok-put_next_psw.ensures.made ∙ ap (λ n. core_with_psw (next_psw c.args.view.now) n) c.requires.none.same)
+      ∙ with_registers_loaded-psw c.args.view.now.core.storage.bytes c.args.words.now.r1 c.args.words.now.address c.args.words.now.count (next_psw c.args.view.now) c.args.view.now.core;
+  allowed = c.in_ok-put_registers.ensures.may;
+  few = omega (arith, c.in_ok-put_registers.ensures.few, c.in_ok-put_next_psw.ensures.few, c.requires.none.none, c.requires.count);
+}
