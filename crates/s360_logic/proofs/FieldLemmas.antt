@@ -2,14 +2,11 @@
 use Rattle.std.proofs.Common.{◌^◌, ◌≡◌, ◌≢◌, ◌⊎◌, inl, inr, get_or, ◌<◌, ◌≤◌, ◌+◌, ◌-◌, ◌++◌, ℕ, suc, List, [], length, take, drop, set, arith, refl, None, ap, sym, slice_set, nat_eq, ◌∙◌, true, rules}
 use Rattle.std.proofs.lemmas.List.{get_or-drop, get_or-set_other, get_or-take, places, same_lists, length-append, length-set, length-take-le, set-append_left, set-append_right}
 use Rattle.s360_model.specs.Storage.{Storage, with_run}
-use Rattle.s360_model.specs.Core.{Core, core_with_bytes}
+use Rattle.s360_model.specs.Core.{Core, core_with_bytes, core_with_psw}
+use Rattle.s360_model.specs.Psw.{with_instruction_address}
 use Rattle.s360_store.specs.declared.place.Cell.{Cell}
-use Rattle.s360_store.specs.Plans.{AddsToPlan, HasBytes, HasRegisters}
-use Rattle.s360_store.proofs.PlannedLemmas.{IsPlanOf-none}
 use Rattle.s360_fixed.specs.declared.setting.Setting.{Setting}
-use Rattle.s360_fixed.specs.Outcomes.{core_after_effect}
-use Rattle.s360_fixed.specs.Plans.{PlansOutcome}
-use Rattle.s360_fixed.specs.Settings.{ended_with}
+use Rattle.s360_fixed.specs.Settings.{psw_with}
 use Rattle.s360_fixed.specs.View.{View}
 use Rattle.s360_logic.specs.Bytes.{completed_with, byte_at, operand_bytes, with_byte}
 use Rattle.s360_logic.specs.Operands.{FirstOperand, IsApart, IsBeside, first_operand, stored_in}
@@ -58,6 +55,12 @@ comparison_code-step s first second i n h e =
     in let other : second + (i + 1) ≡ second + i + 1 = omega arith
     in let more : n - i ≡ suc (n - (i + 1)) = omega arith
     in rw (one, other, more) (sym (rw (e, nat_eq-same (byte_at s (second + i))) refl))
+
+-- the PSW with a condition code, and then the bytes of an operand
+pub stored-made : (v : View) (o : FirstOperand) (setting : Setting) (psw : ℕ) (a b c : Core) → a ≡ v.core → b ≡ core_with_psw psw a → c ≡ core_with_bytes o.address o.bytes b
+    → psw ≡ with_instruction_address (psw_with v.core.psw setting) v.next_address → o.storage ≡ v.core.storage
+    → c ≡ (completed_with v setting (stored_in o)).core
+stored-made v o setting psw a b c none first then is same = rw (then, first, none, is, same) refl
 
 -- a byte of an operand of which nothing is stored
 pub operand_bytes-at : (s : Storage) (a n i : ℕ) → i < n → get_or (operand_bytes s a n) i 0 ≡ byte_at s (a + i)

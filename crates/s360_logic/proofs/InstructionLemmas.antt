@@ -5,6 +5,7 @@ use Rattle.std.specs.Prelude.{OnOk}
 use Rattle.std.specs.Result.{result_ok}
 use Rattle.s360_model.specs.Core.{Core}
 use Rattle.s360_model.specs.Psw.{instruction_address_of, protection_key_of}
+use Rattle.s360_model.specs.Storage.{Storage}
 use Rattle.s360_fixed.specs.declared.ended.Ended.{Ended}
 use Rattle.s360_fixed.specs.declared.ended.Ended.TheVariants.{Program, Svc}
 use Rattle.s360_fixed.specs.declared.form.Form.{Form}
@@ -139,16 +140,16 @@ pub record AreFetched (m : Core) (bytes : List ℕ) : Type 0 where
   pub are : bytes ≡ instruction_bytes m.storage (instruction_address_of m.psw)
   pub whole : length bytes ≡ instruction_length (slice_index bytes 0)
 
-pub are-fetched : (m : Core) (address key : ℕ) (r : Result (Bor (List ℕ)) ProgramCode) (bytes : Bor (List ℕ)) → result_ok r ≡ Some bytes → address ≡ instruction_address_of m.psw → key ≡ protection_key_of m.psw
-    → OnOk r (program_code (fetch_conditions m.storage address key) ≡ None) → IfOk r (λ b. length b.now ≡ length_at m.storage address) → IfOk r (λ b. b.now ≡ instruction_bytes m.storage address)
+pub are-fetched : (m : Core) (s : Storage) (address key : ℕ) (r : Result (Bor (List ℕ)) ProgramCode) (bytes : Bor (List ℕ)) → result_ok r ≡ Some bytes → s ≡ m.storage → address ≡ instruction_address_of m.psw → key ≡ protection_key_of m.psw
+    → OnOk r (program_code (fetch_conditions s address key) ≡ None) → IfOk r (λ b. length b.now ≡ length_at s address) → IfOk r (λ b. b.now ≡ instruction_bytes s address)
     → IfOk r (λ b. length b.now ≡ instruction_length (slice_index b.now 0)) → AreFetched m bytes.now
-are-fetched m address key (Err code) bytes ok a k can count are whole = absurd (cc)
-are-fetched m address key (Ok b) bytes ok a k can count are whole =
+are-fetched m s address key (Err code) bytes ok e a k can count are whole = absurd (cc)
+are-fetched m s address key (Ok b) bytes ok e a k can count are whole =
     let same : b ≡ bytes = cc
     in record {
-      can = rw (a, k) at can;
-      count = rw (same, a) at count;
-      are = rw (same, a) at are;
+      can = rw (e, a, k) at can;
+      count = rw (same, e, a) at count;
+      are = rw (same, e, a) at are;
       whole = rw same at whole;
     }
 

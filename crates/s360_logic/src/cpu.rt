@@ -89,8 +89,9 @@ pub fn fetch(core: &Core) -> Result<Fetched<'_>, ProgramCode>
     ensures ok { IfOk result (λ f. f.view.core ≡ core.now) }
     ensures err { IfErr result (λ code. program_code (conditions_at core.now (instruction_address_of core.now.psw)) ≡ Some code) }
 {
-    let address = core.psw().instruction_address();
-    let bytes = fetch_instruction(core.storage(), address, core.psw().protection_key())?;
+    let psw = core.psw();
+    let address = psw.instruction_address();
+    let bytes = fetch_instruction(core.storage(), address, psw.protection_key())?;
     let next_address = address + bytes.len() as u32;
     let length = length_of_bytes(bytes.len());
     Ok(Fetched {
@@ -116,8 +117,9 @@ fn altered_by_load(bytes: &[u8], view: &View) -> Option<Plain>
 pub fn frequent_instruction(core: &Core) -> Option<Simple>
     ensures { IfSome result (λ x. IsSimple core.now x (instruction core.now)) }
 {
-    let address = core.psw().instruction_address();
-    let bytes = fetch_instruction(core.storage(), address, core.psw().protection_key()).ok()?;
+    let psw = core.psw();
+    let address = psw.instruction_address();
+    let bytes = fetch_instruction(core.storage(), address, psw.protection_key()).ok()?;
     let next_address = address + bytes.len() as u32;
     if bytes[0] == SUPERVISOR_CALL {
         return Some(Simple::Call {

@@ -7,7 +7,7 @@ ghost use Rattle.s360_logic.specs.Operands.{IsApart, IsBeside, first_operand, st
 
 use crate::field::Field;
 use arrayvec::ArrayVec;
-use s360_fixed::{Ended, Setting, View};
+use s360_fixed::{Effect, Ended, Setting, View};
 use s360_store::{GREATEST_SIZE, Puts, Storage};
 use std::alloc::AllocError;
 use std::marker::Model;
@@ -146,9 +146,11 @@ impl<'a> FirstOperand<'a> {
         ensures { IfOk result (PutsOutcome view.now.core (P.made puts.new) (P.may puts.new) (P.count puts.new) (completed_with view.now setting (stored_in self.now))) }
     {
         prove!(self.address() + self.len() <= self.storage.size());
-        let psw = setting.psw(view.psw()).with_instruction_address(view.next_address());
+        let effect = Effect::condition(setting);
+        let ended = effect.setting.ended(view.psw());
+        let psw = effect.setting.psw(view.psw()).with_instruction_address(view.next_address());
         puts.put_psw(view.core(), psw)?;
         puts.put_bytes(view.core(), self.address(), self.bytes())?;
-        Ok(setting.ended(view.psw()))
+        Ok(ended)
     }
 }

@@ -11,19 +11,19 @@ core c = c.args.core.now
 
 fetched : (c : In_ok-bytes) → AreFetched (core c) c.in_ok-bytes.bytes.now
 fetched c =
-    are-fetched (core c) c.instruction_address-address.result c.protection_key.result c.fetch_instruction.result c.in_ok-bytes.bytes (sym c.ok.ensures.value ∙ c.in_ok-bytes.was)
-    c.instruction_address-address.ensures.value c.protection_key.ensures c.fetch_instruction.ensures.none c.fetch_instruction.ensures.length c.fetch_instruction.ensures.bytes c.fetch_instruction.ensures.whole
+    are-fetched (core c) c.storage.result.now c.instruction_address-address.result c.protection_key.result c.fetch_instruction.result c.in_ok-bytes.bytes (sym c.ok.ensures.value ∙ c.in_ok-bytes.was) c.storage.ensures.storage
+    (rw c.psw-psw.ensures.psw at c.instruction_address-address.ensures.value) (rw c.psw-psw.ensures.psw at c.protection_key.ensures) c.fetch_instruction.ensures.none c.fetch_instruction.ensures.length c.fetch_instruction.ensures.bytes c.fetch_instruction.ensures.whole
 
 pub returns-then-bytes-eq-SUPERVISOR_CALL : goal.returns-then-bytes-eq-SUPERVISOR_CALL
 returns-then-bytes-eq-SUPERVISOR_CALL c =
-    rw c.instruction_address-address.ensures.value
+    rw (c.instruction_address-address.ensures.value, c.psw-psw.ensures.psw)
     (IsSimple-call _ c.in_ok-bytes.bytes.now (fetched (goal.at.returns-then-bytes-eq-SUPERVISOR_CALL c).In_ok-bytes) c.if-bytes-eq-SUPERVISOR_CALL.true)
 
 pub returns : goal.returns
 returns c =
     let m : Core = c.args.core.now
     in let bytes : List ℕ = c.in_ok-bytes.bytes.now
-    in let view : c.new-view.result ≡ view_of_bytes m bytes = rw (c.new-view.ensures, c.length_of_bytes-length.ensures, c.instruction_address-address.ensures.value) refl
+    in let view : c.new-view.result ≡ view_of_bytes m bytes = rw (c.new-view.ensures, c.length_of_bytes-length.ensures, c.instruction_address-address.ensures.value, c.psw-psw.ensures.psw) refl
     in completes-fetched m bytes c.in_ok-altered.field-0 (fetched (goal.at.returns c).In_ok-bytes) (elim c.if-bytes.branch [
       | then-bytes w ↦
           let some : w.altered_by_load-altered.result ≡ Some c.in_ok-altered.field-0 = sym w.altered-is ∙ c.in_ok-altered.was
