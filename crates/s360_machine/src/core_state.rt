@@ -20,29 +20,23 @@ use crate::row::Row;
 use s360_fixed::{Plain, ProgramCode, ShortRun, View};
 use s360_logic::{Fetched, PlannedInstruction, Simple};
 use s360_psw::{Class, InstructionLength, Psw};
-use s360_store::{Cell, Cells, GREATEST_SIZE, Item, Part, Place, Plan, Storage, exchange_items};
+use s360_store::{Cell, Cells, GREATEST_SIZE, Item, Part, Place, Plan, Storage};
 use s360_word::{RegisterNumber, Word};
 use std::alloc::{AllocError, Global};
 use std::marker::Model;
-use std::mem;
 
 /// The current PSW, the sixteen general registers and main storage.
 #[derive(Drop)]
 pub(crate) struct Core {
-    psw: Psw,
-    registers: [Word; 16],
-    storage: Storage,
+    inner: s360_store::Core,
 }
 
 impl Model for Core {
-    ghost use Rattle.std.specs.Prelude.{◌≡◌, length};
     ghost use Rattle.s360_model.specs.Core.{Core as Contents};
 
     ghost Value = { Contents };
 
-    ghost view = { λ c. record { psw = c.psw; registers = c.registers; storage = c.storage } };
-
-    ghost invariant = { λ c. length c.registers ≡ 16 };
+    ghost view = { λ c. c.inner };
 }
 
 impl Core {
@@ -50,12 +44,8 @@ impl Core {
     pub(crate) fn copy(&self) -> Result<Core, AllocError>
         ensures { IfOk result (λ core. core ≡ self.now) }
     {
-        let storage = self.storage.copy()?;
-        Ok(Core {
-            psw: self.psw,
-            registers: self.registers,
-            storage,
-        })
+        let inner = self.inner.copy()?;
+        Ok(Core { inner })
     }
 
     /// A core with this storage, and with PSW and registers zero.
@@ -63,32 +53,33 @@ impl Core {
         ensures { result ≡ zero_core_with storage }
     {
         Core {
-            psw: Psw::from_u64(0),
-            registers: [0; 16],
-            storage,
+            inner: s360_store::Core::with(storage),
         }
     }
 
     /// The current PSW.
+    #[inline(always)]
     pub(crate) fn psw(&self) -> Psw
         ensures { result ≡ self.now.psw }
     {
-        self.psw
+        self.inner.psw()
     }
 
     /// The word in a general register.
+    #[inline(always)]
     pub(crate) fn register(&self, register: RegisterNumber) -> Word
         ensures word { result ≡ slice_index self.now.registers register }
         ensures sixteen { length self.now.registers ≡ 16 }
     {
-        self.registers[register.number() as usize]
+        self.inner.register(register)
     }
 
     /// Main storage.
+    #[inline(always)]
     pub(crate) fn storage(&self) -> &Storage
         ensures { result.now ≡ self.now.storage }
     {
-        &self.storage
+        self.inner.storage()
     }
 
     /// It as an instruction sees it.
@@ -97,7 +88,7 @@ impl Core {
         ensures { result.core ≡ self.now }
     {
         let length = InstructionLength::NotAvailable;
-        View::new(self.psw, &self.registers, &self.storage, 0, length)
+        View::new(&self.inner, 0, length)
     }
 
     /// Fetches the instruction at the instruction address.
@@ -105,7 +96,7 @@ impl Core {
         ensures ok { IfOk result (λ f. f.view.core ≡ self.now) }
         ensures err { IfErr result (λ code. program_code (conditions_at self.now (instruction_address_of self.now.psw)) ≡ Some code) }
     {
-        s360_logic::fetch(self.psw, &self.registers, &self.storage)
+        s360_logic::fetch(&self.inner)
     }
 
     /// What the instruction at the instruction address alters with the interruption that it causes, if it is a frequent one.
@@ -115,10 +106,10 @@ impl Core {
         ensures change { IfSome result (λ x. IsPlainChange self.now x (core_after_ended (instruction self.now).outcome.ended (instruction self.now))) }
         ensures core { OnSome result (IsOfCore (instruction self.now).outcome.ended) }
     {
-        match s360_logic::frequent_instruction(self.psw, &self.registers, &self.storage)? {
+        match s360_logic::frequent_instruction(&self.inner)? {
             Simple::Completed(plain) => Some(plain),
             Simple::Call { code, next_address } => {
-                let psw = self.psw.with_instruction_address(next_address);
+                let psw = self.psw().with_instruction_address(next_address);
                 let length = InstructionLength::OneHalfword;
                 self.altered_by_interruption(Class::Supervisor, psw, u16::from(code), length)
             }
@@ -137,7 +128,7 @@ impl Core {
     {
         match fetched {
             Ok(fetched) => fetched.plan(plan),
-            Err(_) => s360_logic::plan_instruction(self.psw, &self.registers, &self.storage, plan),
+            Err(_) => s360_logic::plan_instruction(&self.inner, plan),
         }
     }
 
@@ -154,7 +145,7 @@ impl Core {
         ensures { OnOk result (IsPlanOf self.now plan.new (core_with_bytes at bytes.now self.now)) }
     {
         // So no address of the run passes 32 bits.
-        prove!(self.storage.size() <= GREATEST_SIZE);
+        prove!(self.storage().size() <= GREATEST_SIZE);
         plan.put_bytes(at, bytes)?;
         Ok(())
     }
@@ -165,10 +156,14 @@ impl Core {
         ensures { result ≡ value_at self.now place }
     {
         match place {
-            Place::Psw => self.psw.stored(0, InstructionLength::NotAvailable),
-            Place::Register(register) => u64::from(self.registers[register as usize]),
-            Place::Byte(address) => u64::from(self.storage.byte(address)),
-            Place::Key(block) => u64::from(self.storage.block_key(block).number()),
+            Place::Psw => self.psw().stored(0, InstructionLength::NotAvailable),
+            Place::Register(number) => {
+                // So the number is below sixteen.
+                let _ = self.inner.psw();
+                u64::from(self.register(RegisterNumber::new(number)))
+            }
+            Place::Byte(address) => u64::from(self.storage().byte(address)),
+            Place::Key(block) => u64::from(self.storage().block_key(block).number()),
             _ => unreachable!(),
         }
     }
@@ -189,8 +184,8 @@ impl Core {
         ensures few { OnOk result (length kept.new ≤ length kept.old + length new.now) }
     {
         // So no address of the run passes 32 bits.
-        prove!(self.storage.size() <= GREATEST_SIZE);
-        let stored = self.storage.bytes(address, new.len() as u32);
+        prove!(self.storage().size() <= GREATEST_SIZE);
+        let stored = self.storage().bytes(address, new.len() as u32);
         let mut at = 0;
         while at < new.len() {
             let (start, end) = next_run(new, stored, at);
@@ -244,39 +239,6 @@ impl Core {
         Ok(sorted)
     }
 
-    /// Exchanges the PSW with another.
-    #[inline(always)]
-    fn exchange_psw(&mut self, psw: &mut Psw)
-        ensures core { self.new ≡ core_with_psw psw.old self.old }
-        ensures psw { psw.new ≡ self.old.psw }
-        ensures current { IsCurrentPsw psw.new }
-    {
-        // So it is a current PSW.
-        prove!(Psw::from_u64(self.psw.stored(0, InstructionLength::NotAvailable)) == self.psw);
-        mem::swap(&mut self.psw, psw);
-    }
-
-    /// Exchanges the word in a general register with another.
-    fn exchange_register(&mut self, register: RegisterNumber, word: &mut Word)
-        ensures core { self.new ≡ core_with_word register word.old self.old }
-        ensures word { word.new ≡ slice_index self.old.registers register }
-        ensures fits { word.new < 2 ^ 32 }
-    {
-        mem::swap(&mut self.registers[register.number() as usize], word);
-    }
-
-    /// Exchanges the bytes from an address on with others.
-    fn exchange_run(&mut self, bytes: &mut [u8], address: u32)
-        requires some { 0 < length bytes.old }
-        requires can { AreCellsOf self.old (byte_cells address bytes.old) }
-        ensures core { self.new ≡ after_exchange self.old (byte_cells address bytes.old) }
-        ensures cells { byte_cells address bytes.new ≡ cells_after_exchange self.old (byte_cells address bytes.old) }
-        ensures count { length bytes.new ≡ length bytes.old }
-        ensures fit { AllFit self.new.storage.fetch_protection (byte_cells address bytes.new) }
-    {
-        self.storage.swap_run(address, bytes);
-    }
-
     /// Exchanges what stands at the places of cells with their values.
     pub(crate) fn exchange_cells(&mut self, cells: &mut Cells)
         requires can { AreCellsOf self.old cells.old }
@@ -285,7 +247,7 @@ impl Core {
         ensures fit { AllFit self.new.storage.fetch_protection cells.new }
         ensures values { AllFit true cells.new }
     {
-        cells.exchange(&mut self.psw, &mut self.registers, &mut self.storage);
+        self.inner.exchange_cells(cells);
     }
 
     /// Exchanges what stands at the places of a change with its values.
@@ -300,19 +262,19 @@ impl Core {
     {
         match plain {
             Plain::Nothing => {}
-            Plain::Psw(psw) => self.exchange_psw(psw),
+            Plain::Psw(psw) => self.inner.exchange_psw(psw),
             Plain::Register {
                 register,
                 word,
                 psw,
             } => {
-                self.exchange_psw(psw);
-                self.exchange_register(*register, word);
+                self.inner.exchange_psw(psw);
+                self.inner.exchange_register(*register, word);
             }
             Plain::Bytes { address, psw, run } => {
-                self.exchange_psw(psw);
+                self.inner.exchange_psw(psw);
                 let (mut bytes, count) = (run.bytes(), run.len());
-                self.exchange_run(&mut bytes[..count], *address);
+                self.inner.exchange_run(&mut bytes[..count], *address);
                 *run = ShortRun::first(bytes, count);
             }
         }
@@ -332,26 +294,20 @@ impl Core {
     {
         match row {
             Row::Nothing => {}
-            Row::Psw(psw) => self.exchange_psw(psw),
+            Row::Psw(psw) => self.inner.exchange_psw(psw),
             Row::Register {
                 register,
                 word,
                 psw,
             } => {
-                self.exchange_psw(psw);
-                self.exchange_register(*register, word);
+                self.inner.exchange_psw(psw);
+                self.inner.exchange_register(*register, word);
             }
             Row::Bytes { address, psw, .. } => {
-                self.exchange_psw(psw);
-                self.exchange_run(bytes, *address);
+                self.inner.exchange_psw(psw);
+                self.inner.exchange_run(bytes, *address);
             }
-            Row::More { .. } => exchange_items(
-                &mut self.psw,
-                &mut self.registers,
-                &mut self.storage,
-                items,
-                bytes,
-            ),
+            Row::More { .. } => self.inner.exchange_items(items, bytes),
         }
     }
 }

@@ -9,8 +9,7 @@ use crate::storage::put_bytes;
 use s360_fixed::{Ended, Form, View, made, plan_fixed};
 use s360_logic::{fetch, plan_instruction};
 use s360_psw::Psw;
-use s360_store::{Place, Plan, Storage};
-use s360_word::Word;
+use s360_store::{Core, Place, Plan, Storage};
 use std::alloc::{AllocError, Global};
 
 /// Plans a form by the call for fixed-point, branch and shift instructions, if it is one.
@@ -26,8 +25,7 @@ fn plan_if_fixed(form: &Form, view: &View, plan: &mut Plan) -> Result<Option<End
 /// What stands before an instruction at `200`.
 #[derive(Drop)]
 struct Before {
-    registers: [Word; 16],
-    storage: Storage,
+    core: Core,
 }
 
 impl Before {
@@ -40,15 +38,15 @@ impl Before {
             registers[register] = words.word();
         }
         put_bytes(&mut storage, 0x600, &words.number().to_be_bytes());
-        Ok(Before { registers, storage })
+        let core = Core::new(Psw::from_u64(0x200), registers, storage);
+        Ok(Before { core })
     }
 
     /// How it ends, the next address, what is planned for register 1, and how many places are, by an empty plan.
     fn ending(&self, alloc: Global, plan: &mut Plan) -> Result<String, Fault>
         requires { plan.old ≡ [] }
     {
-        let psw = Psw::from_u64(0x200);
-        let planned = plan_instruction(psw, &self.registers, &self.storage, plan)?;
+        let planned = plan_instruction(&self.core, plan)?;
         let (ended, next) = (planned.ended, planned.next_address);
         let first = plan.value(Place::Register(1)).unwrap_or_default();
         Ok(format!(in alloc; "{ended:?} {next:X} r1 {first:X} of {}", plan.len())?)
@@ -59,7 +57,7 @@ impl Before {
     fn fixed_ending(&self, alloc: Global, plan: &mut Plan) -> Result<String, Fault>
         requires { plan.old ≡ [] }
     {
-        let Ok(fetched) = fetch(Psw::from_u64(0x200), &self.registers, &self.storage) else {
+        let Ok(fetched) = fetch(&self.core) else {
             return Err(Fault::Unforeseen);
         };
         let form = fetched.form().ok_or(Fault::Unforeseen)?;
