@@ -1,5 +1,5 @@
 -- Registers that are loaded in the order of their numbers, not from R1 on.
-use Rattle.std.proofs.Common.{◌≡◌, ◌≢◌, ◌<◌, ◌≤◌, ◌+◌, ◌*◌, ◌%◌, ◌∙◌, ℕ, zero, suc, List, Bool, true, false, cond, nat_lt, refl, ap, sym, get_or, set, length, arith, inl, inr, get_or-set_other, get_or-set_same, length-set}
+use Rattle.std.proofs.Common.{◌≡◌, ◌≢◌, ◌<◌, ◌≤◌, ◌+◌, ◌*◌, ◌%◌, ◌∙◌, ℕ, zero, suc, List, true, false, nat_lt, refl, ap, sym, get_or, set, length, arith, inl, inr, get_or-set_other, get_or-set_same, length-set}
 use Rattle.std.proofs.lemmas.Bool.{cases_lt, le-ltb, lt-ltb}
 use Rattle.std.proofs.lemmas.List.{ext_get_or}
 use Rattle.s360_model.specs.Core.{Core, core_with_word}
@@ -124,7 +124,7 @@ same-registers bytes r1 at count m f c s =
     let many : length (loaded_below bytes r1 at count 16 m).registers ≡ 16 = below-length bytes r1 at count 16 m ∙ s
     in ext_get_or 0 (loaded_below bytes r1 at count 16 m).registers (with_registers_loaded bytes r1 at count m).registers (below-length bytes r1 at count 16 m ∙ sym (from-length bytes r1 at count m))
     (λ r l. let inside : r < 16 = omega (arith, l, many) in is-loaded bytes r1 at count r (get_or m.registers r 0) _ _
-        (below-done bytes r1 at count 16 r m inside (rw s (omega arith))) (from-done bytes r1 at count r m f inside c s))
+    (below-done bytes r1 at count 16 r m inside (rw s (omega arith))) (from-done bytes r1 at count r m f inside c s))
 
 -- neither alters more than registers
 below-rest : (bytes : List ℕ) (r1 at count k : ℕ) (m : Core) → loaded_below bytes r1 at count k m ≡ record m { registers = (loaded_below bytes r1 at count k m).registers }

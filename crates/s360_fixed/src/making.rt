@@ -54,7 +54,12 @@ pub enum Made {
 
 /// Puts bytes from an address on, after which the next instruction comes.
 #[inline(always)]
-fn put_bytes<P: Puts>(view: &View, address: u32, bytes: &[u8], puts: &mut P) -> Result<Ended, AllocError>
+fn put_bytes<P: Puts>(
+    view: &View,
+    address: u32,
+    bytes: &[u8],
+    puts: &mut P,
+) -> Result<Ended, AllocError>
     requires inside { HasBytes address (length bytes.now) view.now.core }
     requires few { length bytes.now ≤ 8 }
     requires none { HasNoPuts view.now.core (P.made puts.old) (P.may puts.old) (P.past puts.old) (P.count puts.old) }
@@ -66,7 +71,11 @@ fn put_bytes<P: Puts>(view: &View, address: u32, bytes: &[u8], puts: &mut P) -> 
 }
 
 /// Puts registers at successive words, after which the next instruction comes.
-fn put_stored<P: Puts>(view: &View, words: &RegisterWords, puts: &mut P) -> Result<Ended, AllocError>
+fn put_stored<P: Puts>(
+    view: &View,
+    words: &RegisterWords,
+    puts: &mut P,
+) -> Result<Ended, AllocError>
     requires inside { HasBytes words.now.address (4 * words.now.count) view.now.core }
     requires count { words.now.count ≤ 16 }
     requires none { HasNoPuts view.now.core (P.made puts.old) (P.may puts.old) (P.past puts.old) (P.count puts.old) }
@@ -78,7 +87,11 @@ fn put_stored<P: Puts>(view: &View, words: &RegisterWords, puts: &mut P) -> Resu
 }
 
 /// Puts successive words in registers, after which the next instruction comes.
-fn put_loaded<P: Puts>(view: &View, words: &RegisterWords, puts: &mut P) -> Result<Ended, AllocError>
+fn put_loaded<P: Puts>(
+    view: &View,
+    words: &RegisterWords,
+    puts: &mut P,
+) -> Result<Ended, AllocError>
     requires inside { HasBytes words.now.address (4 * words.now.count) view.now.core }
     requires count { words.now.count ≤ 16 }
     requires none { HasNoPuts view.now.core (P.made puts.old) (P.may puts.old) (P.past puts.old) (P.count puts.old) }

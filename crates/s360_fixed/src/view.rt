@@ -30,11 +30,7 @@ impl<'a> View<'a> {
     /// The view of an instruction of this length, after which the instruction at `next_address`
     /// comes.
     #[inline(always)]
-    pub fn new(
-        core: &'a Core,
-        next_address: u32,
-        instruction_length: InstructionLength,
-    ) -> View<'a>
+    pub fn new(core: &'a Core, next_address: u32, instruction_length: InstructionLength) -> View<'a>
         ensures { result ≡ record { core = core.now; next_address = next_address; instruction_length = instruction_length } }
     {
         View {

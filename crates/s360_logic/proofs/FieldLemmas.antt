@@ -1,10 +1,9 @@
 -- Storage while bytes of an operand are stored, and what is planned of it.
-use Rattle.std.proofs.Common.{◌^◌, ◌≡◌, ◌≢◌, ◌⊎◌, inl, inr, get_or, ◌<◌, ◌≤◌, ◌+◌, ◌-◌, ◌++◌, ℕ, suc, List, [], length, take, drop, set, arith, refl, None, ap, sym, slice_set, nat_eq, ◌∙◌, true, rules}
+use Rattle.std.proofs.Common.{◌^◌, ◌≡◌, ◌≢◌, ◌⊎◌, inl, inr, get_or, ◌<◌, ◌≤◌, ◌+◌, ◌-◌, ◌++◌, ℕ, suc, List, length, take, drop, set, arith, refl, ap, sym, slice_set, nat_eq, ◌∙◌, true, rules}
 use Rattle.std.proofs.lemmas.List.{get_or-drop, get_or-set_other, get_or-take, places, same_lists, length-append, length-set, length-take-le, set-append_left, set-append_right}
 use Rattle.s360_model.specs.Storage.{Storage, with_run}
 use Rattle.s360_model.specs.Core.{Core, core_with_bytes, core_with_psw}
 use Rattle.s360_model.specs.Psw.{with_instruction_address}
-use Rattle.s360_store.specs.declared.place.Cell.{Cell}
 use Rattle.s360_fixed.specs.declared.setting.Setting.{Setting}
 use Rattle.s360_fixed.specs.Settings.{psw_with}
 use Rattle.s360_fixed.specs.View.{View}

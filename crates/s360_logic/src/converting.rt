@@ -26,7 +26,12 @@ fn put_converted<P: Puts>(
     ensures { IfOk result (PutsOutcome view.now.core (P.made puts.new) (P.may puts.new) (P.count puts.new) (converted_outcome (packed_value doubleword) view.now r1)) }
 {
     match from_packed(doubleword) {
-        Ok(word) => Effect::single(word, Setting::Kept).put_alone(view, r1, view.next_address(), puts),
+        Ok(word) => Effect::single(word, Setting::Kept).put_alone(
+            view,
+            r1,
+            view.next_address(),
+            puts,
+        ),
         Err(PackedFault::BadDigit) => Ok(Ended::Program(ProgramCode::Data)),
         Err(PackedFault::TooLarge(low)) => {
             Effect::single(low, Setting::Kept).put_alone(view, r1, view.next_address(), puts)?;

@@ -148,7 +148,10 @@ impl<'a> FirstOperand<'a> {
         prove!(self.address() + self.len() <= self.storage.size());
         let effect = Effect::condition(setting);
         let ended = effect.setting.ended(view.psw());
-        let psw = effect.setting.psw(view.psw()).with_instruction_address(view.next_address());
+        let psw = effect
+            .setting
+            .psw(view.psw())
+            .with_instruction_address(view.next_address());
         puts.put_psw(view.core(), psw)?;
         puts.put_bytes(view.core(), self.address(), self.bytes())?;
         Ok(ended)

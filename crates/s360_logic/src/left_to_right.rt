@@ -356,7 +356,12 @@ fn with_low_byte(word: Word, byte: u8) -> Word
 }
 
 /// Puts what a search does that has found a byte.
-fn put_found<P: Puts>(view: &View, found: Found, field: Field, puts: &mut P) -> Result<Ended, AllocError>
+fn put_found<P: Puts>(
+    view: &View,
+    found: Found,
+    field: Field,
+    puts: &mut P,
+) -> Result<Ended, AllocError>
     requires inside { field.address + field.count ≤ length view.now.core.storage.bytes }
     requires number { found.number < field.count }
     requires none { HasNoPuts view.now.core (P.made puts.old) (P.may puts.old) (P.past puts.old) (P.count puts.old) }

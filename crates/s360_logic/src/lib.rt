@@ -20,7 +20,8 @@ mod row;
 mod status;
 
 pub use cpu::{
-    Fetched, PlannedInstruction, Simple, fetch, frequent_instruction, plan_instruction, put_instruction,
+    Fetched, PlannedInstruction, Simple, fetch, frequent_instruction, plan_instruction,
+    put_instruction,
 };
 pub use laws::digits_of_apart_operands;
 pub use logic::{plan_logic, put_logic, subject_of, with_ored_byte};

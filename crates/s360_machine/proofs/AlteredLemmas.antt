@@ -4,12 +4,12 @@ use Rattle.std.specs.Prelude.{OnSome}
 use Rattle.std.specs.Bool.{beq}
 use Rattle.std.specs.List.{list_any}
 use Rattle.std.proofs.lemmas.Bool.{eq-eqb}
-use Rattle.std.proofs.lemmas.List.{drop_all, append-nil, length-set}
+use Rattle.std.proofs.lemmas.List.{drop_all, append-nil}
 use Rattle.s360_model.specs.Core.{Core}
 use Rattle.s360_store.specs.declared.place.Place.{Place}
-use Rattle.s360_store.specs.declared.place.Place.TheVariants.{Byte, Register}
+use Rattle.s360_store.specs.declared.place.Place.TheVariants.{Byte}
 use Rattle.s360_store.specs.declared.place.Cell.{Cell}
-use Rattle.s360_store.specs.Places.{same_place, with_value}
+use Rattle.s360_store.specs.Places.{same_place}
 use Rattle.s360_store.specs.Cells.{AllDiffer, AllFit, AreCellsOf, after_exchange, places_of_cells}
 use Rattle.s360_store.specs.Differences.{IsCoreChangeTo}
 use Rattle.s360_store.specs.Order.{IsAscending}

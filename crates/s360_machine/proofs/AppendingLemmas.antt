@@ -7,8 +7,8 @@ use Rattle.s360_store.specs.declared.place.Place.{Place}
 use Rattle.s360_store.specs.declared.place.Place.TheVariants.{Byte}
 use Rattle.s360_store.specs.declared.items.Item.{Item}
 use Rattle.s360_store.specs.declared.items.Item.TheVariants.{Run}
-use Rattle.s360_store.specs.Cells.{AreCellsOf, after_exchange, byte_cells, places_of_cells}
-use Rattle.s360_store.specs.Differences.{AreKept, IsCoreChangeTo}
+use Rattle.s360_store.specs.Cells.{byte_cells, places_of_cells}
+use Rattle.s360_store.specs.Differences.{AreKept}
 use Rattle.s360_store.specs.Items.{AddsRun, Appended}
 use Rattle.s360_store.specs.Order.{IsAscending, IsBefore}
 use Rattle.s360_store.proofs.ByteCellLemmas.{AllBefore, IsAscending-bytes, length-byte_cells}

@@ -1,8 +1,8 @@
 -- The exchange of single cells and runs, item after item.
-use Rattle.std.proofs.Common.{◌≡◌, ◌<◌, ◌≤◌, ◌+◌, ◌-◌, ◌++◌, ◌∙◌, ℕ, Bool, suc, List, [], ◌∷◌, refl, ap, sym, take, drop, set, get_or, length, append-nil, arith}
+use Rattle.std.proofs.Common.{◌≡◌, ◌<◌, ◌+◌, ◌-◌, ◌++◌, ◌∙◌, ℕ, Bool, suc, List, [], ◌∷◌, refl, ap, sym, take, drop, set, get_or, length, arith}
 use Rattle.std.proofs.lemmas.Slice.{drop-put_mid, take-put_mid}
 use borrow.Rule.Slice.PartMut.{put_mid}
-use Rattle.std.proofs.lemmas.List.{append_assoc, drop-drop, length-set, drop-set-lt, drop_all, drop_more, length-append, length-drop, length-take-le, set-get_or, take-append-drop, take_all, take_more, take_more_set}
+use Rattle.std.proofs.lemmas.List.{append_assoc, drop-drop, length-set, drop-set-lt, drop_more, length-append, length-drop, length-take-le, set-get_or, take-append-drop, take_more, take_more_set}
 use Rattle.s360_model.specs.Core.{Core}
 use Rattle.s360_model.specs.Storage.{Storage, with_run}
 use Rattle.s360_store.specs.declared.items.Item.{Item}

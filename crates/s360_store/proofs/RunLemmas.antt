@@ -3,7 +3,7 @@ use Rattle.std.proofs.Common.{◌≡◌, ◌<◌, ◌≤◌, ◌+◌, ◌++◌, 
 use Rattle.std.proofs.lemmas.List.{append_assoc, drop-drop, drop_at, drop_more, length-append, length-drop, length-take-le, take-append-drop, take_at}
 use Rattle.s360_model.specs.Core.{Core, core_with_bytes}
 use Rattle.s360_model.specs.Storage.{with_run}
-use Rattle.s360_store.specs.declared.place.Place.TheVariants.{Psw, Byte}
+use Rattle.s360_store.specs.declared.place.Place.TheVariants.{Byte}
 use Rattle.s360_store.specs.Cells.{AllFit, AreCellsOf, IsFresh, byte_cells, cells_after_exchange}
 use Rattle.s360_store.specs.Plans.{IsPlanOf, AddsToPlan, HasBytes, after_put_bytes}
 use Rattle.s360_store.proofs.ByteCellLemmas.{AddsToPlan-bytes, after_put_bytes-new}

@@ -148,6 +148,12 @@ impl Core {
         ensures items { AreItems items.new }
         ensures all { bytes_of_items items.new ≡ length bytes.new }
     {
-        exchange_items(&mut self.psw, &mut self.registers, &mut self.storage, items, bytes);
+        exchange_items(
+            &mut self.psw,
+            &mut self.registers,
+            &mut self.storage,
+            items,
+            bytes,
+        );
     }
 }

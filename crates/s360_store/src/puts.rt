@@ -39,7 +39,12 @@ pub trait Puts {
         ensures few { OnOk result (count self.new ≤ count self.old + 1) };
 
     /// Puts a word into a general register.
-    fn put_register(&mut self, core: &Core, register: RegisterNumber, word: Word) -> Result<(), AllocError>
+    fn put_register(
+        &mut self,
+        core: &Core,
+        register: RegisterNumber,
+        word: Word,
+    ) -> Result<(), AllocError>
         requires may { may self.old core.now }
         requires few { count self.old < 1000000 }
         requires past { past self.old (Register register) }
@@ -90,7 +95,12 @@ impl Puts for Plan {
         Ok(())
     }
 
-    fn put_register(&mut self, core: &Core, register: RegisterNumber, word: Word) -> Result<(), AllocError> {
+    fn put_register(
+        &mut self,
+        core: &Core,
+        register: RegisterNumber,
+        word: Word,
+    ) -> Result<(), AllocError> {
         // So the core has the register.
         let _ = core.register(register);
         Plan::put_register(self, register, word)?;

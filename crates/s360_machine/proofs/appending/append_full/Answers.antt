@@ -1,4 +1,4 @@
-use Rattle.std.proofs.Common.{◌++◌, ◌∷◌, ◌∙◌, [], List, true, ap, length, arith, box_value}
+use Rattle.std.proofs.Common.{◌++◌, ◌∷◌, ◌∙◌, [], List, ap, length, arith, box_value}
 use Rattle.std.proofs.lemmas.List.{length-append}
 use Rattle.s360_machine.specs.declared.beside.Beside.{Beside}
 use Rattle.s360_machine.proofs.PackedLemmas.{appended-full, bytes-few, items-few}

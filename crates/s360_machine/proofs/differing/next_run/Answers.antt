@@ -1,4 +1,4 @@
-use Rattle.std.proofs.Common.{◌≡◌, ◌<◌, ◌+◌, ◌-◌, ◌∙◌, ℕ, ap, sym, get_or, arith}
+use Rattle.std.proofs.Common.{◌≡◌, ◌<◌, ◌+◌, ◌-◌, ◌∙◌, ap, sym, get_or, arith}
 use Rattle.s360_machine.proofs.KeepLemmas.{stored-at}
 use Rattle.s360_machine.proofs.RunLemmas.{differ-more}
 use Rattle.s360_machine.proofs.differing.next_run.Goals as goal

@@ -1,4 +1,4 @@
-use Rattle.std.proofs.Common.{◌≡◌, ◌++◌, ◌∷◌, ◌∙◌, [], List, ap, length, arith, true}
+use Rattle.std.proofs.Common.{◌++◌, ◌∷◌, ◌∙◌, [], List, ap, length, arith, true}
 use Rattle.std.proofs.lemmas.List.{length-append}
 use Rattle.s360_store.specs.Cells.{AllFit, after_exchange, byte_cells}
 use Rattle.s360_store.specs.Differences.{IsCoreChangeTo}

@@ -1,23 +1,16 @@
 use Rattle.std.proofs.Common.{◌≡◌, ◌∙◌, ℕ, List, ap, length, arith}
-use Rattle.s360_model.specs.Core.{Core}
 use Rattle.s360_store.specs.declared.items.Item.{Item}
 use Rattle.s360_store.specs.Cells.{byte_cells}
-use Rattle.s360_store.specs.Items.{cells_of_items, core_of}
+use Rattle.s360_store.specs.Items.{cells_of_items}
 use Rattle.s360_store.specs.declared.place.Place.TheVariants.{Psw}
 use Rattle.s360_store.proofs.ExchangeLemmas.{AllFit-any, AreCellsOf-kept}
 use Rattle.s360_store.proofs.ItemExchangeLemmas.{length-cells_after_exchange}
-use Rattle.s360_machine.proofs.AlteredLemmas.{registers-after}
 use Rattle.s360_machine.proofs.core_state.Core.exchange_row.Goals as goal
 
 pub exchange_run-requires-clause-can : goal.exchange_run-requires-clause-can
 exchange_run-requires-clause-can c =
     let can = rw c.in-Bytes.is at c.requires.can
-    in rw c.exchange_psw-in-Bytes.ensures.core (AreCellsOf-kept c.args.self.now (byte_cells c.in-Bytes.address c.args.bytes.now) Psw c.in-Bytes.psw can.3)
-
-pub invariant_of-self : goal.invariant_of-self
-invariant_of-self c =
-    let before : Core = core_of c.self.inside.psw c.self.inside.registers c.self.inside.storage
-    in registers-after before (core_of c.exchange_items.new.psw c.exchange_items.new.registers c.exchange_items.new.storage) (cells_of_items c.args.items.now c.args.bytes.now) 16 c.exchange_items.ensures.core c.self.told
+    in rw (c.exchange_psw-in-Bytes.ensures.core, c.self.view_is) (AreCellsOf-kept c.args.self.now (byte_cells c.in-Bytes.address c.args.bytes.now) Psw c.in-Bytes.psw can.3)
 
 pub returns-in-More-clause-over : goal.returns-in-More-clause-over
 returns-in-More-clause-over c =

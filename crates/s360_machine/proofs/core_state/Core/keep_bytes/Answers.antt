@@ -1,6 +1,5 @@
 use Rattle.std.proofs.Common.{◌<◌, ◌+◌, ◌∙◌, ℕ, ap, get_or, length}
-use Rattle.s360_model.specs.Core.{Core}
-use Rattle.s360_machine.proofs.CswLemmas.{on-ok}
+use Rattle.s360_model.specs.Storage.{Storage}
 use Rattle.s360_machine.proofs.KeepLemmas.{keeping-none, keeping-run, keeps-all, stored-at}
 use Rattle.s360_machine.proofs.core_state.Core.keep_bytes.Goals as goal
 
@@ -12,7 +11,7 @@ loop-at-preserved c =
     let m = c.args.self.now
     in let new = c.args.new.now
     in let there = λ (i : ℕ) (l : i < length new).
-    ap (λ xs. get_or xs i 0) c.bytes-stored.ensures.bytes ∙ stored-at c.self.inside.storage.bytes c.args.address (length new) i l ∙ ap (λ (k : Core). get_or k.storage.bytes (c.args.address + i) 0) c.self.view_is
+    ap (λ xs. get_or xs i 0) c.bytes-stored.ensures.bytes ∙ stored-at c.storage-2.result.now.bytes c.args.address (length new) i l ∙ ap (λ (s : Storage). get_or s.bytes (c.args.address + i) 0) c.storage-2.ensures
     in keeping-run m c.args.kept.now c.loop-at.kept c.push_bytes.new.self c.args.address new c.bytes-stored.result.now c.loop-at.at c.next_run-start.result.0 c.next_run-start.result.1 there c.next_run-start.ensures c.loop-at.invariant
     c.in_ok-push_bytes.ensures.ok
 
