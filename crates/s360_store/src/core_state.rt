@@ -65,6 +65,7 @@ impl Core {
     }
 
     /// The current PSW.
+    #[inline(always)]
     pub fn psw(&self) -> Psw
         ensures psw { result ≡ self.now.psw }
         ensures sixteen { HasRegisters self.now }
@@ -73,6 +74,7 @@ impl Core {
     }
 
     /// The word in a general register.
+    #[inline(always)]
     pub fn register(&self, register: RegisterNumber) -> Word
         ensures word { result ≡ slice_index self.now.registers register }
         ensures inside { register < length self.now.registers }
@@ -82,6 +84,7 @@ impl Core {
     }
 
     /// Main storage.
+    #[inline(always)]
     pub fn storage(&self) -> &Storage
         ensures storage { result.now ≡ self.now.storage }
         ensures small { length self.now.storage.bytes ≤ 1048576 }
