@@ -14,9 +14,9 @@ use Rattle.s360_store.specs.Order.{IsAscending, IsBefore}
 use Rattle.s360_store.proofs.ByteCellLemmas.{AllBefore, IsAscending-bytes, length-byte_cells}
 use Rattle.s360_store.proofs.ItemLemmas.{AddsRun-new}
 use Rattle.s360_store.proofs.SortLemmas.{IsCoreChangeTo-ascending}
-use Rattle.s360_machine.specs.AlteredRuns.{IsNextRun}
+use Rattle.s360_store.specs.Differing.{IsNextRun}
 use Rattle.s360_machine.specs.Appending.{AppendsAltering, items_of_run}
-use Rattle.s360_machine.proofs.KeepLemmas.{Keeping, keeping-none, keeping-run, keeps-all}
+use Rattle.s360_store.proofs.KeepLemmas.{Keeping, keeping-none, keeping-run, keeps-all}
 
 -- a run more
 run-appended : (oi ni mi : List Item) (ob nb mb : List ℕ) (cells : List Cell) (a : ℕ) (run : List ℕ) → Appended oi ni ob nb cells → mi ≡ ni ++ items_of_run a run → mb ≡ nb ++ run → a + length run ≤ 2 ^ 32

@@ -8,7 +8,6 @@ pub mod CswLemmas
 pub mod InterruptionLemmas
 pub mod LoadingLemmas
 mod KnownEvents
-pub mod KeepLemmas
 pub mod RunLemmas
 pub mod SpanLemmas
 pub mod PackedLemmas

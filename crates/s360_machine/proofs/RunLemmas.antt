@@ -11,46 +11,7 @@ use Rattle.s360_store.proofs.ByteCellLemmas.{IsAscending-bytes, length-byte_cell
 use Rattle.s360_store.proofs.SortLemmas.{IsCoreChangeTo-ascending}
 use Rattle.s360_fixed.specs.Plain.{psw_cell}
 use Rattle.s360_machine.specs.AlteredRuns.{IsOneRun}
-use Rattle.s360_machine.proofs.KeepLemmas.{Keeping, keeping-none, keeping-others, keeping-passed, keeping-same, keeps-all, keeps-bytes, waiting, waiting-slice}
-
--- those from one place up to another stand there
-pub record SameFrom (stored new : List ℕ) (from start : ℕ) : Type 0 where
-  pub order : from ≤ start
-  pub within : start ≤ length new
-  pub same : (i : ℕ) → from ≤ i → i < start → get_or stored i 0 ≡ get_or new i 0
-
-pub same-none : (stored new : List ℕ) (from : ℕ) → from ≤ length new → SameFrom stored new from from
-same-none stored new from l = record { order = omega arith; within = l; same = λ i m n. absurd (omega (arith, m, n)) }
-
-same-at : (stored new : List ℕ) (from start i : ℕ) → SameFrom stored new from start → get_or stored start 0 ≡ get_or new start 0 → from ≤ i → i < start + 1 → (i < start) ⊎ (start ≤ i) → get_or stored i 0 ≡ get_or new i 0
-same-at stored new from start i h e f l (inl m) = h.same i f m
-same-at stored new from start i h e f l (inr m) = let here : start ≡ i = omega (arith, l, m) in subst (λ k. get_or stored k 0 ≡ get_or new k 0) here e
-
-pub same-more : (stored new : List ℕ) (from start : ℕ) → start < length new → SameFrom stored new from start → get_or stored start 0 ≡ get_or new start 0 → SameFrom stored new from (start + 1)
-same-more stored new from start l h e = record { order = omega (arith, h.order); within = omega (arith, l); same = λ i f m. same-at stored new from start i h e f m (cases_lt i start) }
-
--- those from one place up to another do not
-pub record DifferWithin (stored new : List ℕ) (start end : ℕ) : Type 0 where
-  pub order : start ≤ end
-  pub within : end ≤ length new
-  pub other : (i : ℕ) → start ≤ i → i < end → get_or stored i 0 ≢ get_or new i 0
-
-pub differ-none : (stored new : List ℕ) (start : ℕ) → start ≤ length new → DifferWithin stored new start start
-differ-none stored new start l = record { order = omega arith; within = l; other = λ i m n. absurd (omega (arith, m, n)) }
-
-differ-at : (stored new : List ℕ) (start end n i : ℕ) → DifferWithin stored new start end → ((j : ℕ) → end ≤ j → j < end + n → get_or stored j 0 ≢ get_or new j 0) → start ≤ i → i < end + n
-    → (i < end) ⊎ (end ≤ i) → get_or stored i 0 ≢ get_or new i 0
-differ-at stored new start end n i h more l m (inl k) = h.other i l k
-differ-at stored new start end n i h more l m (inr k) = more i k m
-
-pub differ-more : (stored new : List ℕ) (start end n : ℕ) → end + n ≤ length new → DifferWithin stored new start end → ((j : ℕ) → end ≤ j → j < end + n → get_or stored j 0 ≢ get_or new j 0)
-    → DifferWithin stored new start (end + n)
-differ-more stored new start end n l h more =
-    record { order = omega (arith, h.order); within = l; other = λ i a b. differ-at stored new start end n i h more a b (cases_lt i end) }
-
-pub differ-one : (stored new : List ℕ) (start end : ℕ) → end < length new → DifferWithin stored new start end → get_or stored end 0 ≢ get_or new end 0 → DifferWithin stored new start (end + 1)
-differ-one stored new start end l h other =
-    differ-more stored new start end 1 (omega (arith, l)) h (λ j a b e. let here : j ≡ end = omega (arith, a, b) in other (rw here at e))
+use Rattle.s360_store.proofs.KeepLemmas.{Keeping, keeping-none, keeping-others, keeping-passed, keeping-same, keeps-all, keeps-bytes, waiting, waiting-slice}
 
 -- what is behind both is the same
 pub same-behind : (stored new : List ℕ) (end i : ℕ) → length stored ≡ length new → take (length new - end) (drop end new) ≡ take (length stored - end) (drop end stored) → end ≤ i → i < length new

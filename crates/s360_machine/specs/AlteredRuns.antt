@@ -21,13 +21,3 @@ pub record IsOneRun (stored : List ℕ) (address : ℕ) (new : List ℕ) (start 
   pub before : (i : ℕ) → i < start → slice_index stored (address + i) ≡ slice_index new i
   pub inside : (i : ℕ) → start ≤ i → i < end → slice_index stored (address + i) ≢ slice_index new i
   pub behind : (i : ℕ) → end ≤ i → i < length new → slice_index stored (address + i) ≡ slice_index new i
-
--- from a place on the next bytes that differ from those that stand there are these, up to one that does not or the end of all
-pub record IsNextRun (stored new : List ℕ) (from start end : ℕ) : Type 0 where
-  pub order : from ≤ start
-  pub begun : start ≤ end
-  pub within : end ≤ length new
-  pub before : (i : ℕ) → from ≤ i → i < start → slice_index stored i ≡ slice_index new i
-  pub inside : (i : ℕ) → start ≤ i → i < end → slice_index stored i ≢ slice_index new i
-  pub some : start < length new → start < end
-  pub behind : end < length new → slice_index stored end ≡ slice_index new end

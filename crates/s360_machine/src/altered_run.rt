@@ -11,10 +11,9 @@ ghost use Rattle.s360_machine.specs.Planned.{IsChangeTo, IsPlanOfMachine};
 
 use crate::control_change::ControlChange;
 use crate::core_state::Core;
-use crate::differing::next_run;
 use crate::machine::{Machine, PlannedEvent};
 use s360_psw::Psw;
-use s360_store::{GREATEST_SIZE, Part, Place, Plan};
+use s360_store::{GREATEST_SIZE, Part, Place, Plan, next_run};
 
 /// A PSW, and at least one byte from an address on.
 #[derive(Clone, Copy)]

@@ -23,14 +23,13 @@ use crate::beside::Beside;
 use crate::changes::{Changes, Full, Parts};
 use crate::core_state::Core;
 use crate::cpu::CpuCase;
-use crate::differing::next_run;
 use crate::event::Event;
 use crate::machine::{Machine, PlannedEvent};
 use crate::packed::Packed;
 use crate::refusal::Refusal;
 use crate::row::Row;
 use s360_fixed::Plain;
-use s360_store::{GREATEST_SIZE, Item, Part, Plan};
+use s360_store::{GREATEST_SIZE, Item, Part, Plan, next_run};
 use s360_word::Unit;
 use std::alloc::AllocError;
 

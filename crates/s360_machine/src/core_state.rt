@@ -15,12 +15,11 @@ ghost use Rattle.s360_logic.specs.Instruction.{PlansInstruction, conditions_at, 
 ghost use Rattle.s360_machine.specs.Cpu.{IsOfCore, core_after_ended};
 ghost use Rattle.s360_machine.specs.Rows.{HasSameCounts, IsOver, cells_of_row};
 
-use crate::differing::next_run;
 use crate::row::Row;
 use s360_fixed::{Plain, ProgramCode, ShortRun, View};
 use s360_logic::{Fetched, PlannedInstruction, Simple};
 use s360_psw::{Class, InstructionLength, Psw};
-use s360_store::{Cell, Cells, GREATEST_SIZE, Item, Part, Place, Plan, Storage};
+use s360_store::{Cell, Cells, GREATEST_SIZE, Item, Part, Place, Plan, Storage, next_run};
 use s360_word::{RegisterNumber, Word};
 use std::alloc::{AllocError, Global};
 use std::marker::Model;

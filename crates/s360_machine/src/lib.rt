@@ -15,7 +15,6 @@ mod control;
 mod control_change;
 mod core_state;
 mod cpu;
-mod differing;
 mod event;
 mod event_kind;
 mod external;

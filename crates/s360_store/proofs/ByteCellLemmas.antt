@@ -6,6 +6,7 @@ use Rattle.s360_store.specs.declared.place.Place.{Place}
 use Rattle.s360_store.specs.declared.place.Place.TheVariants.{Byte}
 use Rattle.s360_store.specs.declared.place.Cell.{Cell}
 use Rattle.s360_store.specs.Cells.{IsFresh, HasEachOnce, byte_cells, places_of_cells}
+use Rattle.s360_store.specs.CoreChanges.{AllBefore}
 use Rattle.s360_store.specs.PlanParts.{IsPlan}
 use Rattle.std.specs.Prelude.{if◌then◌else◌}
 use Rattle.s360_store.specs.Order.{IsAscending, IsBefore}
@@ -14,11 +15,6 @@ use Rattle.s360_store.proofs.AscendingLemmas.{IsBefore-trans}
 use Rattle.s360_store.proofs.PlanLemmas.{HasEachOnce-after_put, IsFresh-push}
 use Rattle.s360_store.proofs.PlanPartLemmas.{EndsBefore, IsAscending-push, after_put-fresh}
 use Rattle.s360_store.proofs.PutLemmas.{AddsToPlan-byte, AddsToPlan-no_bytes, length-after_put}
-
--- each of the cells comes before the place
-abbrev pub AllBefore : List Cell → Place → Type 0
-AllBefore [] p = Unit {0}
-AllBefore (c ∷ cs) p = IsBefore c.place p × AllBefore cs p
 
 -- the byte after
 next_byte : (a : ℕ) → IsBefore (Byte a) (Byte (a + 1))
@@ -37,7 +33,7 @@ after_put_bytes-new cs a (b ∷ bs) h =
     in rw here (after_put_bytes-new (cs ++ x ∷ []) (a + 1) bs (λ y l m. IsFresh-push cs x (Byte y) (λ e. let w : y ≡ a = cc in omega (arith, w, l)) (h y (omega arith) (omega (arith, m))))
     ∙ append_assoc cs (x ∷ []) (byte_cells (a + 1) bs))
 
-EndsBefore-all : (cs : List Cell) (p : Place) → AllBefore cs p → EndsBefore cs p
+pub EndsBefore-all : (cs : List Cell) (p : Place) → AllBefore cs p → EndsBefore cs p
 EndsBefore-all [] p h = tt
 EndsBefore-all (c ∷ []) p h = h.0
 EndsBefore-all (c ∷ (d ∷ cs)) p h = EndsBefore-all (d ∷ cs) p h.1

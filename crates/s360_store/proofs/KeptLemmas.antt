@@ -28,7 +28,7 @@ pub AreCellsOf-push : (m : Core) (cs : List Cell) (c : Cell) → AreCellsOf m cs
 AreCellsOf-push m [] c h i f n = (i, f, tt, tt)
 AreCellsOf-push m (d ∷ cs) c h i f n = (h.0, h.1, IsFresh-push cs c d.place (λ e. n.0 (sym e)) h.2, AreCellsOf-push m cs c h.3 i f n.1)
 
-AllDiffer-push : (m : Core) (cs : List Cell) (c : Cell) → AllDiffer m cs → value_at m c.place ≢ c.value → AllDiffer m (cs ++ c ∷ [])
+pub AllDiffer-push : (m : Core) (cs : List Cell) (c : Cell) → AllDiffer m cs → value_at m c.place ≢ c.value → AllDiffer m (cs ++ c ∷ [])
 AllDiffer-push m [] c h n = (n, tt)
 AllDiffer-push m (d ∷ cs) c h n = (h.0, AllDiffer-push m cs c h.1 n)
 

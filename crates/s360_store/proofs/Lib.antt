@@ -15,3 +15,6 @@ pub mod RunLemmas
 pub mod ItemLemmas
 pub mod ItemExchangeLemmas
 pub mod SpanLemmas
+pub mod DifferingLemmas
+pub mod KeepLemmas
+pub mod CoreChangeLemmas

@@ -1,6 +1,8 @@
 pub mod Places
 pub mod Order
 pub mod Cells
+pub mod CoreChanges
+pub mod Differing
 pub mod Plans
 pub mod Puts
 pub mod Items

@@ -37,7 +37,7 @@ fn exchange_cell(psw: &mut Psw, registers: &mut [Word; 16], storage: &mut Storag
 }
 
 /// Exchanges what stands at the places of items with their values, one after another.
-pub fn exchange_items(
+pub(crate) fn exchange_items(
     psw: &mut Psw,
     registers: &mut [Word; 16],
     storage: &mut Storage,

@@ -2,7 +2,7 @@ use Rattle.std.proofs.Common.{◌≡◌, ◌<◌, ◌+◌, ◌-◌, ◌∙◌, �
 use Rattle.std.proofs.lemmas.Bool.Decides.{Decides-eqb}
 use Rattle.std.proofs.lemmas.Slice.Eq.{slice_eq-Decides}
 use Rattle.s360_model.specs.Storage.{Storage}
-use Rattle.s360_machine.proofs.KeepLemmas.{stored-at}
+use Rattle.s360_store.proofs.KeepLemmas.{stored-at}
 use Rattle.s360_machine.proofs.RunLemmas.{same-behind}
 use Rattle.s360_machine.proofs.core_state.Core.altered_within.Goals as goal
 

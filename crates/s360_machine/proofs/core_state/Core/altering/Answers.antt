@@ -1,7 +1,7 @@
 use Rattle.std.proofs.Common.{◌≡◌, ◌<◌, ◌≤◌, ◌+◌, take, length, arith}
 use Rattle.std.proofs.lemmas.List.{take_all}
 use Rattle.s360_store.specs.Items.{cells_of_part}
-use Rattle.s360_machine.proofs.KeepLemmas.{AreCellsOf-part, AreCellsOf-through, part-few, take-part}
+use Rattle.s360_store.proofs.KeepLemmas.{AreCellsOf-part, AreCellsOf-through, part-few, take-part}
 use Rattle.s360_machine.proofs.core_state.Core.altering.Goals as goal
 
 pub keep-requires-clause-cells : goal.keep-requires-clause-cells

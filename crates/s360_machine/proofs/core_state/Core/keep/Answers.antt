@@ -2,7 +2,7 @@ use Rattle.std.proofs.Common.{arith}
 use Rattle.s360_store.proofs.ByteCellLemmas.{length-byte_cells}
 use Rattle.s360_store.proofs.RunLemmas.{run-inside}
 use Rattle.s360_machine.proofs.CswLemmas.{on-ok}
-use Rattle.s360_machine.proofs.KeepLemmas.{keeps-altering, keeps-same}
+use Rattle.s360_store.proofs.KeepLemmas.{keeps-altering, keeps-same}
 use Rattle.s360_machine.proofs.core_state.Core.keep.Goals as goal
 
 pub keep_bytes-requires-clause-inside : goal.keep_bytes-requires-clause-inside

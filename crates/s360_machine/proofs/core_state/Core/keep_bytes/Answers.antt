@@ -1,6 +1,6 @@
 use Rattle.std.proofs.Common.{◌<◌, ◌+◌, ◌∙◌, ℕ, ap, get_or, length}
 use Rattle.s360_model.specs.Storage.{Storage}
-use Rattle.s360_machine.proofs.KeepLemmas.{keeping-none, keeping-run, keeps-all, stored-at}
+use Rattle.s360_store.proofs.KeepLemmas.{keeping-none, keeping-run, keeps-all, stored-at}
 use Rattle.s360_machine.proofs.core_state.Core.keep_bytes.Goals as goal
 
 pub loop-at-init : goal.loop-at-init

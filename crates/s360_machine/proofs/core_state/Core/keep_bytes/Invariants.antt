@@ -1,5 +1,5 @@
 use Rattle.std.proofs.Common.{◌-◌, length}
-use Rattle.s360_machine.proofs.KeepLemmas.{Keeping}
+use Rattle.s360_store.proofs.KeepLemmas.{Keeping}
 use Rattle.s360_machine.proofs.core_state.Core.keep_bytes.Given as goal
 
 abbrev pub invariant-loop-at : goal.invariant-loop-at

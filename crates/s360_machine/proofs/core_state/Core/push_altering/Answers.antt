@@ -1,7 +1,7 @@
 use Rattle.std.proofs.Common.{◌≡◌, ◌<◌, ◌≤◌, ◌+◌, ◌^◌, ◌∙◌, ℕ, ap, get_or, length, arith}
 use Rattle.s360_model.specs.Storage.{Storage}
 use Rattle.s360_machine.proofs.AppendingLemmas.{altering-all, altering-none, altering-run}
-use Rattle.s360_machine.proofs.KeepLemmas.{stored-at}
+use Rattle.s360_store.proofs.KeepLemmas.{stored-at}
 use Rattle.s360_machine.proofs.core_state.Core.push_altering.Goals as goal
 
 pub loop-at-init : goal.loop-at-init

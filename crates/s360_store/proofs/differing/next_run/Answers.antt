@@ -1,7 +1,7 @@
 use Rattle.std.proofs.Common.{◌≡◌, ◌<◌, ◌+◌, ◌-◌, ◌∙◌, ap, sym, get_or, arith}
-use Rattle.s360_machine.proofs.KeepLemmas.{stored-at}
-use Rattle.s360_machine.proofs.RunLemmas.{differ-more}
-use Rattle.s360_machine.proofs.differing.next_run.Goals as goal
+use Rattle.s360_store.proofs.KeepLemmas.{stored-at}
+use Rattle.s360_store.proofs.DifferingLemmas.{differ-more}
+use Rattle.s360_store.proofs.differing.next_run.Goals as goal
 
 pub loop-end-preserved : goal.loop-end-preserved
 loop-end-preserved c =

@@ -1,6 +1,6 @@
 //! Which of bytes differ from those that stand there, run by run.
 ghost use Rattle.std.specs.Prelude.{◌≡◌, ◌≢◌, ◌<◌, ◌≤◌, ℕ, length, slice_index, IsTrue};
-ghost use Rattle.s360_machine.specs.AlteredRuns.{IsNextRun};
+ghost use Rattle.s360_store.specs.Differing.{IsNextRun};
 
 /// So many bytes are compared at once.
 const STRIDE: usize = 16;
@@ -22,7 +22,7 @@ fn all_differ(bytes: &[u8], others: &[u8]) -> bool
 /// Where the next of bytes begin and end, from a place on, that differ from what stands there: at the end of all, if none
 /// does.
 #[inline(always)]
-pub(crate) fn next_run(new: &[u8], stored: &[u8], from: usize) -> (usize, usize)
+pub fn next_run(new: &[u8], stored: &[u8], from: usize) -> (usize, usize)
     requires as_many { length stored.now ≡ length new.now }
     requires within { from ≤ length new.now }
     ensures { IsNextRun stored.now new.now from result.0 result.1 }

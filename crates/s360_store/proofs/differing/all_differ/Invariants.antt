@@ -1,5 +1,5 @@
 use Rattle.std.proofs.Common.{◌≡◌, ◌≢◌, ◌<◌, ℕ, false, get_or}
-use Rattle.s360_machine.proofs.differing.all_differ.Given as goal
+use Rattle.s360_store.proofs.differing.all_differ.Given as goal
 
 abbrev pub invariant-loop-i : goal.invariant-loop-i
 invariant-loop-i l = l.is_any_same ≡ false → (j : ℕ) → j < l.i → get_or l.bytes j 0 ≢ get_or l.others j 0

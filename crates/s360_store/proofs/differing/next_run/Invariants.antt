@@ -1,6 +1,6 @@
 use Rattle.std.proofs.Common.{◌+◌, ◌-◌, length}
-use Rattle.s360_machine.proofs.RunLemmas.{DifferWithin, SameFrom}
-use Rattle.s360_machine.proofs.differing.next_run.Given as goal
+use Rattle.s360_store.proofs.DifferingLemmas.{DifferWithin, SameFrom}
+use Rattle.s360_store.proofs.differing.next_run.Given as goal
 
 abbrev pub invariant-loop-start : goal.invariant-loop-start
 invariant-loop-start l = SameFrom l.stored l.new l.from l.start

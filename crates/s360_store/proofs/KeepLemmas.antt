@@ -8,7 +8,7 @@ use Rattle.s360_store.specs.declared.place.Cell.{Cell}
 use Rattle.s360_store.specs.Cells.{AreCellsOf, IsFresh, byte_cells}
 use Rattle.s360_store.specs.Places.{value_at}
 use Rattle.s360_store.specs.Differences.{AreKept, KeepsAltering}
-use Rattle.s360_machine.specs.AlteredRuns.{IsNextRun}
+use Rattle.s360_store.specs.Differing.{IsNextRun}
 use Rattle.s360_store.proofs.ByteCellLemmas.{byte_cells-more, byte_cells-parts, length-byte_cells}
 use Rattle.s360_store.proofs.KeptLemmas.{AreKept-other, AreKept-same, IsCellOf}
 use Rattle.s360_store.proofs.ItemExchangeLemmas.{AreCellsOf-left, AreCellsOf-right}

@@ -1,0 +1,136 @@
+//! The change of a core that an event makes. It takes what the event puts, and keeps those values that differ from what
+//! stands there.
+ghost use Rattle.std.specs.Prelude.{◌≡◌, ◌≤◌, ◌+◌, ◌∷◌, [], None, OnOk, length};
+ghost use Rattle.s360_model.specs.Psw.{IsCurrentPsw};
+ghost use Rattle.s360_store.specs.Cells.{byte_cells, places_of_cells};
+ghost use Rattle.s360_store.specs.CoreChanges.{AllBefore, other_psw};
+ghost use Rattle.s360_store.specs.Differences.{KeepsAltering};
+ghost use Rattle.s360_store.specs.Order.{IsAscending};
+ghost use Rattle.s360_store.specs.Plans.{HasBytes};
+ghost use Rattle.s360_store.specs.declared.place.Place.TheVariants.{Byte, Psw as psw_place};
+
+use crate::block_key::BlockKey;
+use crate::cells::Cells;
+use crate::core_state::Core;
+use crate::differing::next_run;
+use crate::place::{Cell, Place};
+use crate::puts::Puts;
+use s360_psw::{InstructionLength, Psw};
+use s360_word::{RegisterNumber, Word};
+use std::alloc::{AllocError, Global};
+use std::marker::Model;
+
+/// The values of an event that differ from what stands at their places, in the order of places.
+#[derive(Drop)]
+pub struct CoreChange {
+    /// The PSW, if it is another.
+    psw: Option<Psw>,
+    /// The other places.
+    cells: Cells,
+}
+
+impl Model for CoreChange {
+    ghost use Rattle.s360_store.specs.CoreChanges.{CoreChange as Seen};
+
+    ghost Value = { Seen };
+
+    ghost view = { λ x. record { psw = x.psw; cells = x.cells } };
+}
+
+impl CoreChange {
+    /// A change of nothing, which takes no memory.
+    pub fn new(alloc: Global) -> CoreChange
+        ensures { result ≡ record { psw = None; cells = [] } }
+    {
+        CoreChange {
+            psw: None,
+            cells: Cells::new(alloc),
+        }
+    }
+}
+
+/// A PSW that is put, if it is another.
+#[inline(always)]
+fn other_psw(core: &Core, psw: Psw) -> Option<Psw>
+    ensures other { result ≡ other_psw core.now psw }
+    ensures current { IsCurrentPsw psw }
+{
+    // So it is a current PSW.
+    prove!(Psw::from_u64(psw.stored(0, InstructionLength::NotAvailable)) == psw);
+    if psw == core.psw() { None } else { Some(psw) }
+}
+
+/// Adds those of bytes from an address on that differ from storage, as runs.
+fn keep_bytes(core: &Core, address: u32, new: &[u8], kept: &mut Cells) -> Result<(), AllocError>
+    requires inside { HasBytes address (length new.now) core.now }
+    requires room { length kept.old + length new.now ≤ 1000000 }
+    requires ascending { IsAscending (psw_place ∷ places_of_cells kept.old) }
+    requires before { AllBefore kept.old (Byte address) }
+    ensures kept { OnOk result (KeepsAltering core.now (byte_cells address new.now) kept.old kept.new) }
+    ensures few { OnOk result (length kept.new ≤ length kept.old + length new.now) }
+    ensures ascending { OnOk result (IsAscending (psw_place ∷ places_of_cells kept.new)) }
+    ensures before { OnOk result (AllBefore kept.new (Byte (address + length new.now))) }
+{
+    let stored = core.storage().bytes(address, new.len() as u32);
+    let mut at = 0;
+    while at < new.len() {
+        let (start, end) = next_run(new, stored, at);
+        kept.push_bytes(address + start as u32, &new[start..end])?;
+        at = end;
+    }
+    Ok(())
+}
+
+/// A change keeps what differs.
+impl Puts for CoreChange {
+    ghost use Rattle.std.specs.Prelude.{length};
+    ghost use Rattle.s360_store.specs.CoreChanges.{AllBefore, IsCoreChange, after_core_change};
+
+    ghost made = { λ x m. after_core_change m x };
+
+    ghost may = { λ x m. IsCoreChange m x };
+
+    ghost past = { λ x p. AllBefore x.cells p };
+
+    ghost count = { λ x. length x.cells };
+
+    #[inline(always)]
+    fn put_psw(&mut self, core: &Core, psw: Psw) -> Result<(), AllocError> {
+        self.psw = other_psw(core, psw);
+        Ok(())
+    }
+
+    #[inline(always)]
+    fn put_register(
+        &mut self,
+        core: &Core,
+        register: RegisterNumber,
+        word: Word,
+    ) -> Result<(), AllocError> {
+        if core.register(register) != word {
+            let place = Place::Register(register.number());
+            self.cells.push(Cell {
+                place,
+                value: u64::from(word),
+            })?;
+        }
+        Ok(())
+    }
+
+    #[inline(always)]
+    fn put_bytes(&mut self, core: &Core, address: u32, bytes: &[u8]) -> Result<(), AllocError> {
+        // So no address of the run passes 32 bits.
+        let _ = core.storage();
+        keep_bytes(core, address, bytes, &mut self.cells)?;
+        Ok(())
+    }
+
+    fn put_key(&mut self, core: &Core, block: u32, key: BlockKey) -> Result<(), AllocError> {
+        let value = u64::from(key.number());
+        if u64::from(core.storage().block_key(block).number()) != value {
+            let place = Place::Key(block);
+            self.cells.push(Cell { place, value })?;
+        }
+        Ok(())
+    }
+}
