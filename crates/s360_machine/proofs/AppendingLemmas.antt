@@ -11,7 +11,8 @@ use Rattle.s360_store.specs.Cells.{byte_cells, places_of_cells}
 use Rattle.s360_store.specs.Differences.{AreKept}
 use Rattle.s360_store.specs.Items.{AddsRun, Appended}
 use Rattle.s360_store.specs.Order.{IsAscending, IsBefore}
-use Rattle.s360_store.proofs.ByteCellLemmas.{AllBefore, IsAscending-bytes, length-byte_cells}
+use Rattle.s360_store.specs.CoreChanges.{AllBefore}
+use Rattle.s360_store.proofs.ByteCellLemmas.{IsAscending-bytes, length-byte_cells}
 use Rattle.s360_store.proofs.ItemLemmas.{AddsRun-new}
 use Rattle.s360_store.proofs.SortLemmas.{IsCoreChangeTo-ascending}
 use Rattle.s360_store.specs.Differing.{IsNextRun}
