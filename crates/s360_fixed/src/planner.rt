@@ -166,7 +166,7 @@ pub fn made(form: &Form, view: &View) -> Option<Made>
 pub fn put_fixed<P: Puts>(form: &Form, view: &View, puts: &mut P) -> Result<Ended, AllocError>
     requires fixed { IsSome (fixed_outcome form.now) }
     requires none { HasNoPuts view.now.core (P.made puts.old) (P.may puts.old) (P.past puts.old) (P.count puts.old) }
-    ensures { IfSome (fixed_outcome form.now) (λ outcome. IfOk result (PutsOutcome view.now.core (P.made puts.new) (P.may puts.new) (P.count puts.new) (outcome view.now))) }
+    ensures { IfSome (fixed_outcome form.now) (λ outcome. IfOk result (PutsOutcome view.now.core (P.made puts.new) (P.may puts.new) (P.past puts.new) (P.count puts.new) (outcome view.now))) }
 {
     made(form, view).unwrap().put(view, puts)
 }

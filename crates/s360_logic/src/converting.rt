@@ -23,7 +23,7 @@ fn put_converted<P: Puts>(
     puts: &mut P,
 ) -> Result<Ended, AllocError>
     requires none { HasNoPuts view.now.core (P.made puts.old) (P.may puts.old) (P.past puts.old) (P.count puts.old) }
-    ensures { IfOk result (PutsOutcome view.now.core (P.made puts.new) (P.may puts.new) (P.count puts.new) (converted_outcome (packed_value doubleword) view.now r1)) }
+    ensures { IfOk result (PutsOutcome view.now.core (P.made puts.new) (P.may puts.new) (P.past puts.new) (P.count puts.new) (converted_outcome (packed_value doubleword) view.now r1)) }
 {
     match from_packed(doubleword) {
         Ok(word) => Effect::single(word, Setting::Kept).put_alone(
@@ -49,7 +49,7 @@ pub(crate) fn put_conversion<P: Puts>(
     puts: &mut P,
 ) -> Result<Ended, AllocError>
     requires none { HasNoPuts view.now.core (P.made puts.old) (P.may puts.old) (P.past puts.old) (P.count puts.old) }
-    ensures { IfOk result (PutsOutcome view.now.core (P.made puts.new) (P.may puts.new) (P.count puts.new) (conversion_outcome conversion view.now r1 address)) }
+    ensures { IfOk result (PutsOutcome view.now.core (P.made puts.new) (P.may puts.new) (P.past puts.new) (P.count puts.new) (conversion_outcome conversion view.now r1 address)) }
 {
     match conversion {
         Conversion::ToBinary => {

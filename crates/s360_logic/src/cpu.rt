@@ -177,7 +177,7 @@ impl<'a> Fetched<'a> {
     #[inline(always)]
     fn put_form<P: Puts>(&self, puts: &mut P) -> Result<Ended, AllocError>
         requires none { HasNoPuts self.now.view.core (P.made puts.old) (P.may puts.old) (P.past puts.old) (P.count puts.old) }
-        ensures { IfOk result (PutsOutcome self.now.view.core (P.made puts.new) (P.may puts.new) (P.count puts.new) (fetched_outcome self.now.view self.now.form)) }
+        ensures { IfOk result (PutsOutcome self.now.view.core (P.made puts.new) (P.may puts.new) (P.past puts.new) (P.count puts.new) (fetched_outcome self.now.view self.now.form)) }
     {
         match &self.form {
             Some(form) => put_logic(form, &self.view, puts),
@@ -189,7 +189,7 @@ impl<'a> Fetched<'a> {
     #[inline(always)]
     pub fn put<P: Puts>(&self, puts: &mut P) -> Result<PlannedInstruction, AllocError>
         requires none { HasNoPuts self.now.view.core (P.made puts.old) (P.may puts.old) (P.past puts.old) (P.count puts.old) }
-        ensures { IfOk result (PutsInstruction self.now.view.core (P.made puts.new) (P.may puts.new) (P.count puts.new) (instruction self.now.view.core)) }
+        ensures { IfOk result (PutsInstruction self.now.view.core (P.made puts.new) (P.may puts.new) (P.past puts.new) (P.count puts.new) (instruction self.now.view.core)) }
     {
         let ended = self.put_form(puts)?;
         Ok(PlannedInstruction {
@@ -213,7 +213,7 @@ impl<'a> Fetched<'a> {
 #[tactic(auto, unfolding(crate::specs::Instruction::instruction))]
 pub fn put_instruction<P: Puts>(core: &Core, puts: &mut P) -> Result<PlannedInstruction, AllocError>
     requires none { HasNoPuts core.now (P.made puts.old) (P.may puts.old) (P.past puts.old) (P.count puts.old) }
-    ensures { IfOk result (PutsInstruction core.now (P.made puts.new) (P.may puts.new) (P.count puts.new) (instruction core.now)) }
+    ensures { IfOk result (PutsInstruction core.now (P.made puts.new) (P.may puts.new) (P.past puts.new) (P.count puts.new) (instruction core.now)) }
 {
     match fetch(core) {
         Ok(fetched) => fetched.put(puts),

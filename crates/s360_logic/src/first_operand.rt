@@ -143,7 +143,7 @@ impl<'a> FirstOperand<'a> {
     ) -> Result<Ended, AllocError>
         requires storage { self.now.storage ≡ view.now.core.storage }
         requires none { HasNoPuts view.now.core (P.made puts.old) (P.may puts.old) (P.past puts.old) (P.count puts.old) }
-        ensures { IfOk result (PutsOutcome view.now.core (P.made puts.new) (P.may puts.new) (P.count puts.new) (completed_with view.now setting (stored_in self.now))) }
+        ensures { IfOk result (PutsOutcome view.now.core (P.made puts.new) (P.may puts.new) (P.past puts.new) (P.count puts.new) (completed_with view.now setting (stored_in self.now))) }
     {
         prove!(self.address() + self.len() <= self.storage.size());
         let effect = Effect::condition(setting);
