@@ -6,6 +6,9 @@ use Rattle.std.specs.Result.{result_ok}
 use Rattle.s360_model.specs.Core.{Core}
 use Rattle.s360_model.specs.Psw.{instruction_address_of, protection_key_of}
 use Rattle.s360_model.specs.Storage.{Storage}
+use Rattle.s360_store.specs.declared.place.Place.{Place}
+use Rattle.s360_store.specs.declared.place.Place.TheVariants.{Byte}
+use Rattle.s360_store.specs.Puts.{HasNoPuts}
 use Rattle.s360_fixed.specs.declared.ended.Ended.{Ended}
 use Rattle.s360_fixed.specs.declared.ended.Ended.TheVariants.{Program, Svc}
 use Rattle.s360_fixed.specs.declared.form.Form.{Form}
@@ -60,10 +63,10 @@ outcome-fetched f h =
     ∙ ap (λ x. fetched_outcome f.view x) (sym h.form)
 
 -- what is put of it
-pub PutsInstruction-fetched : (f : Fetched) (made : Core → Core) (may : Core → Type 0) (count : ℕ) (ended : Ended) → IsFetched f → PutsOutcome f.view.core made may count (fetched_outcome f.view f.form) ended
-    → PutsInstruction f.view.core made may count (instruction f.view.core) (record { ended = ended; next_address = f.view.next_address; instruction_length = f.view.instruction_length })
+pub PutsInstruction-fetched : (f : Fetched) (made : Core → Core) (may : Core → Type 0) (past : Place → Type 0) (count : ℕ) (ended : Ended) → IsFetched f → PutsOutcome f.view.core made may past count (fetched_outcome f.view f.form) ended
+    → PutsInstruction f.view.core made may past count (instruction f.view.core) (record { ended = ended; next_address = f.view.next_address; instruction_length = f.view.instruction_length })
 unfolding instruction
-PutsInstruction-fetched f made may count ended h p =
+PutsInstruction-fetched f made may past count ended h p =
     let a : ℕ = instruction_address_of f.view.core.psw
     in let outcome : (instruction_at f.view.core a).outcome ≡ fetched_outcome f.view f.form = outcome-fetched f h
     in record {
@@ -92,14 +95,14 @@ instruction_of-refused m a form code h =
     in rw (refused-met c.odd_address c.outside_first c.protected_first c.outside_rest c.protected_rest (is_none form) code h) refl
 
 -- one that could not be fetched puts nothing, and has no length
-pub PutsInstruction-refused : (m : Core) (made : Core → Core) (may : Core → Type 0) (count : ℕ) (code : ProgramCode) → made m ≡ m → may m → count ≡ 0
+pub PutsInstruction-refused : (m : Core) (made : Core → Core) (may : Core → Type 0) (past : Place → Type 0) (count : ℕ) (code : ProgramCode) → HasNoPuts m made may past count
     → program_code (conditions_at m (instruction_address_of m.psw)) ≡ Some code
-    → PutsInstruction m made may count (instruction m) (record { ended = Program code; next_address = instruction_address_of m.psw; instruction_length = NotAvailable })
+    → PutsInstruction m made may past count (instruction m) (record { ended = Program code; next_address = instruction_address_of m.psw; instruction_length = NotAvailable })
 unfolding instruction
-PutsInstruction-refused m made may count code same allowed none h =
+PutsInstruction-refused m made may past count code h₀ h =
     let a : ℕ = instruction_address_of m.psw
     in let outcome : (instruction_at m a).outcome ≡ refused_outcome m code = instruction_of-refused m a (form_of (instruction_bytes m.storage a)) code h
-    in let nothing : PutsOutcome m made may count (refused_outcome m code) (Program code) = record { ends = refl; makes = same; allowed = allowed; few = omega (arith, none) }
+    in let nothing : PutsOutcome m made may past count (refused_outcome m code) (Program code) = record { ends = refl; makes = h₀.same; allowed = h₀.allowed; few = omega (arith, h₀.none); follow = (ap (λ (n : Core). n.storage) h₀.same, λ a. h₀.any (Byte a)) }
     in record {
       puts = rw outcome nothing;
       next = rw h refl;

@@ -6,6 +6,7 @@ use Rattle.s360_model.specs.Psw.{instruction_address_of, protection_key_of}
 use Rattle.s360_psw.specs.declared.instruction_length.InstructionLength.{InstructionLength}
 use Rattle.s360_psw.specs.declared.instruction_length.InstructionLength.TheVariants.{NotAvailable, OneHalfword, TwoHalfwords, ThreeHalfwords}
 use Rattle.s360_store.specs.declared.place.Cell.{Cell}
+use Rattle.s360_store.specs.declared.place.Place.{Place}
 use Rattle.s360_fixed.specs.declared.ended.Ended.TheVariants.{Program, Svc}
 use Rattle.s360_fixed.specs.declared.form.Form.{Form}
 use Rattle.s360_fixed.specs.declared.program_code.ProgramCode.TheVariants.{Operation}
@@ -82,8 +83,8 @@ pub record IsFetched (f : Fetched) : Type 0 where
 
 -- an instruction ends as the definition's does, with its next address and its length, and its puts make the
 -- definition's core
-pub record PutsInstruction (m : Core) (made : Core → Core) (may : Core → Type 0) (count : ℕ) (i : Instruction) (planned : PlannedInstruction) : Type 0 where
-  pub puts : PutsOutcome m made may count i.outcome planned.ended
+pub record PutsInstruction (m : Core) (made : Core → Core) (may : Core → Type 0) (past : Place → Type 0) (count : ℕ) (i : Instruction) (planned : PlannedInstruction) : Type 0 where
+  pub puts : PutsOutcome m made may past count i.outcome planned.ended
   pub next : planned.next_address ≡ i.next_address
   pub length : planned.instruction_length ≡ i.instruction_length
 

@@ -34,7 +34,8 @@ fn put_converted<P: Puts>(
         ),
         Err(PackedFault::BadDigit) => Ok(Ended::Program(ProgramCode::Data)),
         Err(PackedFault::TooLarge(low)) => {
-            Effect::single(low, Setting::Kept).put_alone(view, r1, view.next_address(), puts)?;
+            let effect = Effect::single(low, Setting::Kept);
+            effect.put(view.psw(), r1, view.next_address(), view.core(), puts)?;
             Ok(Ended::Program(ProgramCode::FixedPointDivide))
         }
     }
