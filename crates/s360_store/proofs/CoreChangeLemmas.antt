@@ -76,7 +76,7 @@ psw-apart : (m : Core) (cs : List Cell) (q : ℕ) → IsBeforeAll Psw (places_of
 psw-apart m [] q h = refl
 psw-apart m (c ∷ cs) q h = ap (λ n. after_exchange n cs) (psw-beside m c.place c.value q h.0) ∙ psw-apart (with_value m c.place c.value) cs q h.1
 
-psw-left : (m : Core) (cs : List Cell) → IsBeforeAll Psw (places_of_cells cs) → (after_exchange m cs).psw ≡ m.psw
+pub psw-left : (m : Core) (cs : List Cell) → IsBeforeAll Psw (places_of_cells cs) → (after_exchange m cs).psw ≡ m.psw
 psw-left m cs h = ap (λ (n : Core). n.psw) (psw-apart m cs m.psw h)
 
 -- a PSW is put, in place of the one that was
@@ -188,3 +188,10 @@ Appended-psw old middle new old_bytes new_bytes x psw e first a few = rw e (reco
   cells_are = ap (λ (cs : List Cell). psw_cell psw ∷ cs) a.cells_are;
   few = omega (arith, few);
 })
+
+-- the PSW that a change leaves
+pub psw-none : (m : Core) (x : CoreChange) → IsCoreChange m x → x.psw ≡ None → m.psw ≡ (after_core_change m x).psw
+psw-none m x h e = rw e (sym (psw-left m x.cells h.ascending.0))
+
+pub psw-some : (m : Core) (x : CoreChange) (psw : ℕ) → x.psw ≡ Some psw → psw ≡ (after_core_change m x).psw
+psw-some m x psw e = rw e refl

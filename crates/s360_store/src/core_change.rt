@@ -50,9 +50,16 @@ impl CoreChange {
         }
     }
 
+    /// A change of these cells.
+    pub fn of(cells: Cells) -> CoreChange
+        ensures { cells_of_change result ≡ cells }
+    {
+        CoreChange { psw: None, cells }
+    }
+
     /// The PSW, if it is another.
     #[inline(always)]
-    pub fn psw(&self) -> Option<Psw>
+    pub fn altered_psw(&self) -> Option<Psw>
         ensures { result ≡ self.now.psw }
     {
         self.psw
@@ -180,6 +187,14 @@ impl Puts for CoreChange {
     ghost past = { λ x p. AllBefore x.cells p };
 
     ghost count = { λ x. length x.cells };
+
+    #[inline(always)]
+    fn psw(&self, core: &Core) -> Psw {
+        match self.psw {
+            Some(psw) => psw,
+            None => core.psw(),
+        }
+    }
 
     #[inline(always)]
     fn put_psw(&mut self, core: &Core, psw: Psw) -> Result<(), AllocError> {
