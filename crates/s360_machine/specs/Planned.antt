@@ -5,9 +5,9 @@ use Rattle.s360_store.specs.declared.place.Cell.{Cell}
 use Rattle.s360_store.specs.Plans.{IsPlanOf}
 use Rattle.s360_machine.specs.declared.beside.Beside.{Beside}
 use Rattle.s360_machine.specs.ControlCells.{ControlCell, control_cells}
-use Rattle.s360_fixed.specs.declared.plain.Plain.{Plain}
-use Rattle.s360_fixed.specs.Plain.{IsFit, cells_of_plain}
-use Rattle.s360_machine.specs.Changes.{change_of_core}
+use Rattle.s360_model.specs.Core.{Core}
+use Rattle.s360_machine.specs.declared.event.Event.{Event}
+use Rattle.s360_machine.specs.declared.event.Event.TheVariants.{Channel}
 use Rattle.s360_machine.specs.declared.machine.PlannedEvent.{PlannedEvent}
 use Rattle.s360_machine.specs.declared.media.MediaChange.{MediaChange}
 use Rattle.s360_channel.specs.declared.unit_change.UnitChange.{UnitChange}
@@ -42,6 +42,15 @@ pub record IsPlanOfMachine (w : Whole) (plan : List Cell) (planned : PlannedEven
   pub units : IsUnitsChangeTo w.units planned.units n.units
   pub media : IsMediaChangeTo w.media planned.media n.media
 
+-- puts make the core of a machine out of that of a whole, and may be made in it, and what was planned beside it makes
+-- the other parts
+pub record PutsMachine (w : Whole) (made : Core → Core) (may : Core → Type 0) (planned : PlannedEvent) (n : Machine) : Type 0 where
+  pub core : made w.core ≡ n.core
+  pub allowed : may w.core
+  pub control : planned.control ≡ n.control
+  pub units : IsUnitsChangeTo w.units planned.units n.units
+  pub media : IsMediaChangeTo w.media planned.media n.media
+
 -- what was planned has this control part, and alters this of the units
 pub record PlansIo (planned : PlannedEvent) (c : Control) (us : Option UnitChange) (ms : Option MediaChange) : Type 0 where
   pub control : planned.control ≡ c
@@ -68,14 +77,14 @@ pub record IsChangeTo (w : Whole) (x : Change) (n : Machine) : Type 0 where
   pub lists : places_of_change x ≡ differences (seen w) n
   pub back : NeedsNoRoom (change_after_swap w x)
 
--- so does one of the PSW and little beside it
-pub record IsPlainChangeTo (w : Whole) (x : Plain) (n : Machine) : Type 0 where
-  pub fit : IsFit x
-  pub change : IsChangeTo w (change_of_core (cells_of_plain x)) n
-
 -- a list has one change more, which makes a machine of which the second is seen, and has room for it
 pub record AppendsChangeTo (w : Whole) (s : Spare) (xs ys : List Change) (n : Machine) : Type 0 where
   pub change : Change
   pub appended : ys ≡ xs ++ change ∷ []
   pub change_to : IsChangeTo w change n
   pub room : HasRoom s change
+
+-- the event is none of a channel
+abbrev pub IsOfNoChannel : Event → Type 0
+IsOfNoChannel (Channel unit) = ⊥
+IsOfNoChannel event = Unit {0}

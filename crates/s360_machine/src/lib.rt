@@ -5,7 +5,6 @@
 //! Operations" and "System Control Panel".
 #![tactic(auto)]
 
-mod altered_run;
 mod appending;
 mod beside;
 mod change_spans;
@@ -13,7 +12,6 @@ mod changes;
 mod channel_event;
 mod control;
 mod control_change;
-mod core_state;
 mod cpu;
 mod event;
 mod event_kind;
@@ -26,6 +24,7 @@ mod machine;
 mod media;
 mod operator;
 mod packed;
+mod plan_changes;
 mod planning;
 mod refusal;
 mod row;

@@ -5,12 +5,13 @@ ghost use Rattle.s360_channel.specs.UnitChanges.{IsUnitsChangeTo};
 ghost use Rattle.s360_machine.specs.Loading.{units_after_reset};
 ghost use Rattle.s360_machine.specs.Machine.{seen};
 ghost use Rattle.s360_machine.specs.Operator.{after_key, units_after_key};
-ghost use Rattle.s360_machine.specs.Planned.{IsPlanOfMachine};
+ghost use Rattle.s360_machine.specs.Planned.{IsPlanOfMachine, PutsMachine};
+ghost use Rattle.s360_store.specs.Puts.{HasNoPuts};
 ghost use Rattle.s360_machine.specs.Refusals.{refusal_of_key};
 
 use crate::machine::{Machine, PlannedEvent};
 use s360_channel::{ConfiguredUnit, Program, UnitChange, UnitControl, UnitState, Units};
-use s360_store::Bytes;
+use s360_store::{Bytes, Puts};
 use s360_word::Unit;
 use std::alloc::AllocError;
 
@@ -83,9 +84,9 @@ impl Machine {
         }
     }
 
-    /// Plans that a key is pressed.
+    /// Plans that a key is pressed, which leaves the core.
     #[inline(never)]
-    pub(crate) fn plan_key(&self, key: &Key) -> Result<PlannedEvent, AllocError>
+    fn plan_key(&self, key: &Key) -> Result<PlannedEvent, AllocError>
         requires accepted { refusal_of_key key.now ≡ None }
         ensures { IfOk result (λ planned. IsPlanOfMachine self.now.whole [] planned (after_key (seen self.now.whole) key.now)) }
     {
@@ -97,5 +98,20 @@ impl Machine {
             units,
             media,
         })
+    }
+
+    /// Puts that a key is pressed.
+    #[inline(never)]
+    pub(crate) fn put_key<P: Puts>(
+        &self,
+        key: &Key,
+        puts: &mut P,
+    ) -> Result<PlannedEvent, AllocError>
+        requires none { HasNoPuts self.now.whole.core (P.made puts.old) (P.may puts.old) (P.past puts.old) (P.count puts.old) }
+        requires accepted { refusal_of_key key.now ≡ None }
+        ensures { IfOk result (λ planned. PutsMachine self.now.whole (P.made puts.new) (P.may puts.new) planned (after_key (seen self.now.whole) key.now)) }
+    {
+        let _ = puts;
+        self.plan_key(key)
     }
 }

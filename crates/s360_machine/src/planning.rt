@@ -12,11 +12,11 @@ ghost use Rattle.s360_machine.specs.declared.refusal.Refusal.TheVariants.{Memory
 
 use crate::changes::Changes;
 use crate::control::Control;
-use crate::event::{Event, Patch};
+use crate::event::Event;
 use crate::machine::{Machine, PlannedEvent};
-use crate::operator::Key;
+use crate::plan_changes::changes_of_plan;
 use crate::refusal::Refusal;
-use s360_store::Plan;
+use s360_store::{CoreChange, Plan, Puts};
 use s360_word::Unit;
 use std::alloc::AllocError;
 
@@ -33,19 +33,6 @@ impl Machine {
         Ok(self.changes_of(event)?)
     }
 
-    /// What was planned alters.
-    pub(crate) fn changes_planned(
-        &self,
-        plan: &Plan,
-        planned: PlannedEvent,
-    ) -> Result<Changes, AllocError>
-        requires cells { AreCellsOf self.now.whole.core plan.now }
-        ensures { IfOk result (λ changes. (n : SeenMachine) → IsPlanOfMachine self.now.whole plan.now planned n → IsChangeTo self.now.whole changes n) }
-    {
-        let cells = self.core.changes(self.alloc, plan)?;
-        Changes::of(self.alloc, cells, planned.into_beside(&self.control))
-    }
-
     /// What an event makes that leaves the units alone.
     pub(crate) fn planned(&self, control: Control) -> PlannedEvent
         ensures { LeavesUnits self.now.whole control result }
@@ -57,19 +44,35 @@ impl Machine {
         }
     }
 
+    /// Puts an event that is none of a channel, unless it is refused for its own sake (refusals 2 to 5).
+    #[inline(always)]
+    fn put_event<P: Puts>(&self, event: &Event, puts: &mut P) -> Result<PlannedEvent, AllocError>
+        requires none { HasNoPuts self.now.whole.core (P.made puts.old) (P.may puts.old) (P.past puts.old) (P.count puts.old) }
+        requires accepted { refusal_of (storage_size (seen self.now.whole)) event.now ≡ None }
+        requires channel { IsOfNoChannel event.now }
+        ensures { IfOk result (λ planned. PutsMachine self.now.whole (P.made puts.new) (P.may puts.new) planned (after (seen self.now.whole) event.now)) }
+    {
+        match event {
+            Event::Cpu => self.put_cpu(puts),
+            Event::Tick => self.put_tick(puts),
+            Event::Key(key) => self.put_key(key, puts),
+            Event::Patch(patch) => self.put_patch(patch, puts),
+            Event::Channel(_) => unreachable!(),
+        }
+    }
+
     /// What an event alters, unless it is refused for its own sake (refusals 2 to 5).
     #[inline(always)]
     pub(crate) fn changes_of(&self, event: &Event) -> Result<Changes, AllocError>
         requires accepted { refusal_of (storage_size (seen self.now.whole)) event.now ≡ None }
         ensures { IfOk result (λ changes. IsChangeTo self.now.whole changes (after (seen self.now.whole) event.now)) }
     {
-        match event {
-            Event::Cpu => self.changes_of_cpu(),
-            Event::Channel(unit) => Ok(self.changes_of_channel(*unit)?),
-            Event::Tick => Ok(self.changes_of_tick()?),
-            Event::Key(key) => Ok(self.changes_of_key(key)?),
-            Event::Patch(patch) => Ok(self.changes_of_patch(patch)?),
+        if let Event::Channel(unit) = event {
+            return self.changes_of_channel(*unit);
         }
+        let mut core = CoreChange::new(self.alloc);
+        let planned = self.put_event(event, &mut core)?;
+        Ok(Changes::of(core, planned.into_beside(&self.control)))
     }
 
     /// What a channel event of a unit alters.
@@ -79,38 +82,8 @@ impl Machine {
     {
         let mut plan = Plan::new(self.alloc);
         let planned = self.plan_channel(unit, &mut plan)?;
-        self.changes_planned(&plan, planned)
-    }
-
-    /// What a tick alters.
-    #[inline(never)]
-    fn changes_of_tick(&self) -> Result<Changes, AllocError>
-        ensures { IfOk result (λ changes. IsChangeTo self.now.whole changes (after_tick (seen self.now.whole))) }
-    {
-        let mut plan = Plan::new(self.alloc);
-        let planned = self.plan_tick(&mut plan)?;
-        self.changes_planned(&plan, planned)
-    }
-
-    /// What a key alters that is not refused.
-    #[inline(never)]
-    fn changes_of_key(&self, key: &Key) -> Result<Changes, AllocError>
-        requires accepted { refusal_of_key key.now ≡ None }
-        ensures { IfOk result (λ changes. IsChangeTo self.now.whole changes (after_key (seen self.now.whole) key.now)) }
-    {
-        let plan = Plan::new(self.alloc);
-        let planned = self.plan_key(key)?;
-        self.changes_planned(&plan, planned)
-    }
-
-    /// What a patch alters that is not refused.
-    #[inline(never)]
-    fn changes_of_patch(&self, patch: &Patch) -> Result<Changes, AllocError>
-        requires accepted { refusal_of_patch (storage_size (seen self.now.whole)) patch.now ≡ None }
-        ensures { IfOk result (λ changes. IsChangeTo self.now.whole changes (after_patch (seen self.now.whole) patch.now)) }
-    {
-        let mut plan = Plan::new(self.alloc);
-        self.plan_patch(patch, &mut plan)?;
-        self.changes_planned(&plan, self.planned(self.control))
+        let cells = changes_of_plan(&self.core, self.alloc, &plan)?;
+        let beside = planned.into_beside(&self.control);
+        Ok(Changes::of(CoreChange::of(cells), beside))
     }
 }
