@@ -1,19 +1,24 @@
 -- Changes of the whole machine.
-use Rattle.std.proofs.Common.{◌≡◌, List, arith, refl}
-use Rattle.std.specs.Prelude.{Option, Some, None, Result, Ok, Err, IfOk}
+use Rattle.std.proofs.Common.{◌≡◌, List, arith, refl, subst}
+use Rattle.std.specs.Prelude.{Option, Some, None, Result, Ok, Err, OnOk}
+use Rattle.s360_model.specs.Core.{Core}
 use Rattle.s360_model.specs.Exchanges.{need_if_any}
 use Rattle.s360_store.specs.declared.place.Cell.{Cell}
 use Rattle.s360_store.specs.Differences.{IsCoreChangeTo}
-use Rattle.s360_store.specs.Plans.{IsPlanOf}
+use Rattle.s360_store.specs.Cells.{after_exchange}
+use Rattle.s360_store.specs.CoreChanges.{CoreChange, IsCoreChange, after_core_change, cells_of_change}
+use Rattle.s360_store.proofs.CoreChangeLemmas.{IsCoreChangeTo-made}
 use Rattle.s360_channel.specs.declared.unit_change.UnitChange.{UnitChange}
 use Rattle.s360_channel.specs.UnitChanges.{IsUnitsChangeTo}
+use Rattle.s360_machine.specs.declared.beside.Beside.{Beside}
 use Rattle.s360_machine.specs.declared.machine.PlannedEvent.{PlannedEvent}
+use Rattle.s360_machine.specs.Changes.{change_of}
 use Rattle.s360_machine.specs.declared.media.MediaChange.{MediaChange}
 use Rattle.s360_machine.specs.Change.{Change, NeedsNoRoom, change_after_swap}
-use Rattle.s360_machine.specs.ControlCells.{ControlCell}
+use Rattle.s360_machine.specs.ControlCells.{ControlCell, control_cells}
 use Rattle.s360_machine.specs.IoChanges.{media_needs}
 use Rattle.s360_machine.specs.Machine.{Machine, Whole, seen}
-use Rattle.s360_machine.specs.Planned.{IsChangeTo, IsControlChangeTo, IsMediaChangeTo, IsPlanOfMachine, LeavesUnits}
+use Rattle.s360_machine.specs.Planned.{IsBesideOf, IsChangeTo, IsControlChangeTo, IsMediaChangeTo, IsPlanOfMachine, LeavesUnits, PutsMachine}
 use Rattle.s360_machine.specs.Step.{after_patch}
 use Rattle.s360_machine.specs.declared.event.Patch.{Patch}
 use Rattle.s360_machine.specs.declared.event.Patch.TheVariants.{Bytes, Register, StorageKey, FetchBit, Psw}
@@ -34,17 +39,30 @@ IsChangeTo-parts w cs xs us ms n h k u m = record {
   back = needs-nothing (change_after_swap w (record { cells = cs; control = xs; units = us; media = ms })) _ refl m.back;
 }
 
--- what a plan makes of a machine is what its changes make
-pub planned-changes : {E : Type 0} (r : Result Change E) (w : Whole) (plan : List Cell) (planned : PlannedEvent) (n : Machine)
-    → IfOk r (λ x. (k : Machine) → IsPlanOfMachine w plan planned k → IsChangeTo w x k) → IsPlanOfMachine w plan planned n → IfOk r (λ x. IsChangeTo w x n)
-planned-changes (Ok x) w plan planned n h p = h n p
-planned-changes (Err e) w plan planned n h p = tt
+-- what puts and what is beside the core make of a machine
+pub IsChangeTo-puts : (w : Whole) (x : CoreChange) (planned : PlannedEvent) (b : Beside) (n : Machine) → PutsMachine w (λ m. after_core_change m x) (λ m. IsCoreChange m x) planned n → IsBesideOf w.control planned b
+    → IsChangeTo w (change_of (cells_of_change x) b) n
+IsChangeTo-puts w x planned b n p h =
+    let core : IsCoreChangeTo w.core (cells_of_change x) n.core = subst (λ k. IsCoreChangeTo w.core (cells_of_change x) k) p.core (IsCoreChangeTo-made w.core x p.allowed)
+    in IsChangeTo-parts w (cells_of_change x) (control_cells b.control) b.units b.media n core (rw p.control at h.control) (rw h.units p.units) (rw h.media p.media)
+
+-- and a plan
+pub IsChangeTo-planned : (w : Whole) (plan cells : List Cell) (planned : PlannedEvent) (b : Beside) (n : Machine) → IsPlanOfMachine w plan planned n → IsCoreChangeTo w.core cells (after_exchange w.core plan) → IsBesideOf w.control planned b
+    → IsChangeTo w (change_of cells b) n
+IsChangeTo-planned w plan cells planned b n p c h =
+    let core : IsCoreChangeTo w.core cells n.core = subst (λ k. IsCoreChangeTo w.core cells k) p.core.makes c
+    in IsChangeTo-parts w cells (control_cells b.control) b.units b.media n core (rw p.control at h.control) (rw h.units p.units) (rw h.media p.media)
 
 -- a patch leaves all beside the core
-pub IsPlanOfMachine-patch : (w : Whole) (plan : List Cell) (planned : PlannedEvent) (p : Patch) → IsPlanOf w.core plan (after_patch (seen w) p).core → LeavesUnits w w.control planned
-    → IsPlanOfMachine w plan planned (after_patch (seen w) p)
-IsPlanOfMachine-patch w plan planned (Bytes at bytes) c l = record { core = c; control = l.control; units = l.units; media = l.media }
-IsPlanOfMachine-patch w plan planned (Register n word) c l = record { core = c; control = l.control; units = l.units; media = l.media }
-IsPlanOfMachine-patch w plan planned (StorageKey at k) c l = record { core = c; control = l.control; units = l.units; media = l.media }
-IsPlanOfMachine-patch w plan planned (FetchBit at bit) c l = record { core = c; control = l.control; units = l.units; media = l.media }
-IsPlanOfMachine-patch w plan planned (Psw psw) c l = record { core = c; control = l.control; units = l.units; media = l.media }
+pub PutsMachine-patch : (w : Whole) (made : Core → Core) (may : Core → Type 0) (planned : PlannedEvent) (p : Patch) → made w.core ≡ (after_patch (seen w) p).core → may w.core → LeavesUnits w w.control planned
+    → PutsMachine w made may planned (after_patch (seen w) p)
+PutsMachine-patch w made may planned (Bytes at bytes) c a l = record { core = c; allowed = a; control = l.control; units = l.units; media = l.media }
+PutsMachine-patch w made may planned (Register n word) c a l = record { core = c; allowed = a; control = l.control; units = l.units; media = l.media }
+PutsMachine-patch w made may planned (StorageKey at k) c a l = record { core = c; allowed = a; control = l.control; units = l.units; media = l.media }
+PutsMachine-patch w made may planned (FetchBit at bit) c a l = record { core = c; allowed = a; control = l.control; units = l.units; media = l.media }
+PutsMachine-patch w made may planned (Psw psw) c a l = record { core = c; allowed = a; control = l.control; units = l.units; media = l.media }
+
+-- what follows of what is so where memory is not wanting
+pub on-ok : {T E : Type 0} (r : Result T E) {P Q : Type 0} → (P → Q) → OnOk r P → OnOk r Q
+on-ok (Ok x) f h = f h
+on-ok (Err e) f h = tt

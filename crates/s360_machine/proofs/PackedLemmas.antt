@@ -4,9 +4,6 @@ use Rattle.std.proofs.lemmas.List.{append_assoc, drop-append-le, drop-drop, drop
 use Rattle.std.specs.List.{slice_get}
 use Rattle.std.specs.Prelude.{Err, IfOk, IfSome, Ok, Result}
 use Rattle.std.specs.declared.alloc.AllocError.{AllocError}
-use Rattle.s360_fixed.specs.declared.plain.Plain.{Plain}
-use Rattle.s360_fixed.specs.declared.plain.Plain.TheVariants.{Nothing as nothing, Psw as psw_alone, Register as with_register, Bytes as with_bytes}
-use Rattle.s360_fixed.specs.Plain.{IsFit, bytes_of_plain, cells_of_plain, psw_cell}
 use Rattle.s360_machine.specs.declared.packed.End.{End}
 use Rattle.s360_machine.specs.declared.row.Row.{Row}
 use Rattle.s360_machine.specs.declared.row.Row.TheVariants.{Nothing, Psw, Register, Bytes, More}
@@ -24,7 +21,7 @@ use Rattle.s360_machine.specs.Change.{CanSwap, Change, after_swap, change_after_
 use Rattle.s360_machine.specs.Machine.{Whole}
 use Rattle.s360_machine.specs.Changes.{change_of, change_of_core, change_with}
 use Rattle.s360_machine.specs.Packed.{ArePacked, HasBefore, HasOwn, IsAppended, IsSwapOf, byte_values, bytes_of_changes, value_if_byte, changes_of_rows, lists, IsEnd, IsWithin, Lists, change_of_row, end_before, joined, lists_from, lists_to, newest, older, others, own, unpacked}
-use Rattle.s360_machine.specs.Rows.{HasNoMore, HasSameCounts, IsOver, beside_of_row, bytes_of_row, cells_of_row, items_of_row, row_of_plain}
+use Rattle.s360_machine.specs.Rows.{HasNoMore, HasSameCounts, IsOver, IsRowOf, beside_of_row, bytes_of_row, cells_of_row, items_of_row}
 use Rattle.s360_machine.specs.ChangeSpans.{AreSpansOf, spans_of_row}
 use Rattle.s360_machine.proofs.SpanLemmas.{within-own}
 use Rattle.s360_machine.proofs.SwapLemmas.{IsSwap, IsSwap-from, same-change}
@@ -301,77 +298,39 @@ bytes-few (Run a n ∷ is) bs e =
     let front : length (take n bs) ≡ n = length-take-le n bs (omega (arith, e))
     in omega (arith, e, bytes-few is (drop n bs) (omega (arith, e, length-drop n bs)), length-append (byte_cells a (take n bs)) (cells_of_items is (drop n bs)), length-byte_cells a (take n bs), front, length-drop n bs)
 
--- a change of the PSW and little beside it, as its row has it
-pub over-plain : (x : Plain) → IsFit x → IsOver (row_of_plain x) [] (bytes_of_plain x)
-over-plain nothing h = (refl, refl)
-over-plain (psw_alone psw) h = (refl, refl)
-over-plain (with_register r word psw) h = (refl, refl)
-over-plain (with_bytes address psw run) h = (refl, refl, h.0, h.1)
+-- a change that has all but its bytes within its row is one change more
+within-items : (row : Row) → HasNoMore row → items_of_row row ≡ 0
+within-items Nothing h = refl
+within-items (Psw psw) h = refl
+within-items (Register r word psw) h = refl
+within-items (Bytes count address psw) h = refl
+within-items (More beside items bytes count) h = absurd h
 
-pub cells-plain : (x : Plain) → cells_of_row (row_of_plain x) [] (bytes_of_plain x) ≡ cells_of_plain x
-cells-plain nothing = refl
-cells-plain (psw_alone psw) = refl
-cells-plain (with_register r word psw) = refl
-cells-plain (with_bytes address psw run) = refl
+within-beside : (row : Row) → HasNoMore row → beside_of_row row ≡ 0
+within-beside Nothing h = refl
+within-beside (Psw psw) h = refl
+within-beside (Register r word psw) h = refl
+within-beside (Bytes count address psw) h = refl
+within-beside (More beside items bytes count) h = absurd h
 
-plain-items : (x : Plain) → items_of_row (row_of_plain x) ≡ 0
-plain-items nothing = refl
-plain-items (psw_alone psw) = refl
-plain-items (with_register r word psw) = refl
-plain-items (with_bytes address psw run) = refl
+within-bytes : (row : Row) (bs : List ℕ) → HasNoMore row → IsOver row [] bs → length bs ≡ bytes_of_row row
+within-bytes Nothing bs h o = ap length o.1
+within-bytes (Psw psw) bs h o = ap length o.1
+within-bytes (Register r word psw) bs h o = ap length o.1
+within-bytes (Bytes count address psw) bs h o = o.1
+within-bytes (More beside items bytes count) bs h o = absurd h
 
-plain-bytes : (x : Plain) → bytes_of_row (row_of_plain x) ≡ length (bytes_of_plain x)
-plain-bytes nothing = refl
-plain-bytes (psw_alone psw) = refl
-plain-bytes (with_register r word psw) = refl
-plain-bytes (with_bytes address psw run) = refl
-
-plain-beside : (x : Plain) → beside_of_row (row_of_plain x) ≡ 0
-plain-beside nothing = refl
-plain-beside (psw_alone psw) = refl
-plain-beside (with_register r word psw) = refl
-plain-beside (with_bytes address psw run) = refl
-
-plain-alone : (x : Plain) → HasNoMore (row_of_plain x)
-plain-alone nothing = tt
-plain-alone (psw_alone psw) = tt
-plain-alone (with_register r word psw) = tt
-plain-alone (with_bytes address psw run) = tt
-
--- its places
-pub plain-spans : (x : Plain) → IsFit x → AreSpansOf (spans_of_row (row_of_plain x)) (change_of_core (cells_of_plain x))
-plain-spans x fit =
-    within-own (row_of_plain x) [] (bytes_of_plain x) [] (change_of_core (cells_of_plain x)) (plain-alone x) (over-plain x fit) (sym (plain-beside x)) (ap (λ (cs : List Cell). change_of_core cs) (cells-plain x))
-
-pub appended-plain : (old : Lists) (new : List ℕ) (x : Plain) → IsFit x → new ≡ old.bytes ++ bytes_of_plain x
-    → IsAppended old (lists old.items new old.beside) (row_of_plain x) (change_of_core (cells_of_plain x))
-appended-plain old new x h e = record {
-  own_lists = lists [] (bytes_of_plain x) [];
-  lists_are = same-lists (lists old.items new old.beside) (joined old (lists [] (bytes_of_plain x) [])) (sym (append-nil old.items)) e (sym (append-nil old.beside));
-  items = sym (plain-items x);
-  bytes = sym (plain-bytes x);
-  beside = sym (plain-beside x);
-  over = over-plain x h;
-  change = ap change_of_core (cells-plain x);
+pub appended-row : (old : Lists) (new : List ℕ) (cells : List Cell) (b : Beside) (row : Row) (bytes : List ℕ) → IsRowOf cells row bytes → IsNothing b → new ≡ old.bytes ++ bytes
+    → IsAppended old (lists old.items new old.beside) row (change_of cells b)
+appended-row old new cells b row bytes h nothing e = record {
+  own_lists = lists [] bytes [];
+  lists_are = same-lists (lists old.items new old.beside) (joined old (lists [] bytes [])) (sym (append-nil old.items)) e (sym (append-nil old.beside));
+  items = sym (within-items row h.within);
+  bytes = within-bytes row bytes h.within h.over;
+  beside = sym (within-beside row h.within);
+  over = h.over;
+  change = ap change_of_core h.cells_are ∙ same-change (change_of_core cells) (change_of cells b) refl (sym nothing.control) (sym nothing.units) (sym nothing.media);
 }
-
--- and one of the PSW and a run
-pub appended-run : (old : Lists) (new : List ℕ) (address psw : ℕ) (bs : List ℕ) → 0 < length bs → address + length bs ≤ 2 ^ 32 → new ≡ old.bytes ++ bs
-    → IsAppended old (lists old.items new old.beside) (Bytes (length bs) address psw) (change_of_core (psw_cell psw ∷ byte_cells address bs))
-appended-run old new address psw bs some inside e = record {
-  own_lists = lists [] bs [];
-  lists_are = same-lists (lists old.items new old.beside) (joined old (lists [] bs [])) (sym (append-nil old.items)) e (sym (append-nil old.beside));
-  items = refl;
-  bytes = refl;
-  beside = refl;
-  over = (refl, refl, some, inside);
-  change = refl;
-}
-
-pub appended-bytes : (old : Lists) (new : List ℕ) (x : Plain) (o : Result Row AllocError) → IsFit x → IfOk o (λ row. row ≡ row_of_plain x) → IfOk o (λ row. new ≡ old.bytes ++ bytes_of_plain x)
-    → IfOk o (λ row. IsAppended old (lists old.items new old.beside) row (change_of_core (cells_of_plain x)))
-appended-bytes old new x (Ok row) h e b = rw e (appended-plain old new x h b)
-appended-bytes old new x (Err failed) h e b = tt
 
 -- and one of more
 pub appended-full : (oi ni : List Item) (ob nb : List ℕ) (ol nl : List Beside) (cells : List Cell) (b : Beside) (done : Bool) (items bytes count : ℕ)
@@ -390,7 +349,7 @@ appended-full oi ni ob nb ol nl cells b true items bytes count a fit some none e
         sym (ei ∙ omega (arith, ap length a.items_are, length-append oi a.items)),
         sym (eb ∙ omega (arith, ap length a.bytes_are, length-append ob a.bytes)),
         ap length a.cells_are ∙ sym ec,
-        record { whole = a.whole; all = a.all; fit = subst (AllFit true) (sym a.cells_are) fit; few = subst (λ cs. length cs ≤ 1000000) (sym a.cells_are) a.few },
+        record { whole = a.whole; all = a.all; fit = subst (AllFit true) (sym a.cells_are) fit; few = subst (λ cs. length cs ≤ 1000001) (sym a.cells_are) a.few },
       );
       change = ap (λ cs. change_of cs b) a.cells_are;
     }
@@ -407,7 +366,7 @@ appended-full oi ni ob nb ol nl cells b false items bytes count a fit some none 
         sym (ei ∙ omega (arith, ap length a.items_are, length-append oi a.items)),
         sym (eb ∙ omega (arith, ap length a.bytes_are, length-append ob a.bytes)),
         ap length a.cells_are ∙ sym ec,
-        record { whole = a.whole; all = a.all; fit = subst (AllFit true) (sym a.cells_are) fit; few = subst (λ cs. length cs ≤ 1000000) (sym a.cells_are) a.few },
+        record { whole = a.whole; all = a.all; fit = subst (AllFit true) (sym a.cells_are) fit; few = subst (λ cs. length cs ≤ 1000001) (sym a.cells_are) a.few },
       );
       change = ap change_of_core a.cells_are ∙ same-change (change_of_core cells) (change_of cells b) refl (sym nothing.control) (sym nothing.units) (sym nothing.media);
     }

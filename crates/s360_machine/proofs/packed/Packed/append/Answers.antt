@@ -2,7 +2,8 @@ use Rattle.std.proofs.Common.{◌≡◌, ◌++◌, ◌∷◌, ◌∙◌, [], Lis
 use Rattle.std.proofs.lemmas.List.{length-append}
 use Rattle.s360_machine.specs.declared.row.Row.{Row}
 use Rattle.s360_machine.specs.Change.{Change}
-use Rattle.s360_machine.specs.Changes.{change_of_parts}
+use Rattle.s360_store.specs.CoreChanges.{cells_of_change}
+use Rattle.s360_machine.specs.Changes.{change_of}
 use Rattle.s360_machine.specs.Packed.{ArePacked, Lists, changes_of_rows, lists}
 use Rattle.s360_machine.proofs.PackedLemmas.{changes-appended, length-changes, packed-appended}
 use Rattle.s360_machine.proofs.packed.Packed.append.Goals as goal
@@ -23,13 +24,13 @@ invariant_of-self-2 c =
     in let room : length c.self.inside.rows.items < 10000000 = rw (← length-changes c.self.inside.rows.items (before c)) (rw (← c.self.view_is) at c.requires)
     in (
       subst (λ (l : List Row). ArePacked (reverse l) (after c)) (sym more)
-          (packed-appended c.self.inside.rows.items (before c) (after c) c.in_ok-row.row (change_of_parts c.into_parts.result) c.self.invariant.0 c.in_ok-row.ensures.ok),
+          (packed-appended c.self.inside.rows.items (before c) (after c) c.in_ok-row.row (change_of (cells_of_change c.into_parts.result.0) c.into_parts.result.1) c.self.invariant.0 c.in_ok-row.ensures.ok),
       omega (arith, ap length more, length-append c.self.inside.rows.items (c.in_ok-row.row ∷ []), room, length-changes c.self.inside.rows.items (before c), c.in_ok-reserve.ensures.items),
     )
 
 pub returns-clause-ok : goal.returns-clause-ok
 returns-clause-ok c =
     ap (λ (l : List Row). changes_of_rows l (after c)) (rows c)
-    ∙ changes-appended c.self.inside.rows.items (before c) (after c) c.in_ok-row.row (change_of_parts c.into_parts.result) c.in_ok-row.ensures.ok
-    ∙ ap (λ (xs : List Change). xs ++ change_of_parts c.into_parts.result ∷ []) c.self.view_is
+    ∙ changes-appended c.self.inside.rows.items (before c) (after c) c.in_ok-row.row (change_of (cells_of_change c.into_parts.result.0) c.into_parts.result.1) c.in_ok-row.ensures.ok
+    ∙ ap (λ (xs : List Change). xs ++ change_of (cells_of_change c.into_parts.result.0) c.into_parts.result.1 ∷ []) c.self.view_is
     ∙ ap (λ (x : Change). c.args.self.now ++ x ∷ []) c.into_parts.ensures.parts
