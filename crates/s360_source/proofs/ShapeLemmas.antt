@@ -1,5 +1,5 @@
 -- The shape of an instruction that was fetched and planned.
-use Rattle.std.proofs.Common.{◌≡◌, ◌∙◌, ◌+◌, ℕ, refl, ap, sym, List, [], Option, Some, None}
+use Rattle.std.proofs.Common.{◌≡◌, ◌∙◌, ◌+◌, ℕ, refl, ap, sym, List, [], Option, Some, None, arith}
 use Rattle.s360_model.specs.Core.{Core}
 use Rattle.s360_model.specs.Psw.{instruction_address_of, protection_key_of}
 use Rattle.s360_model.specs.Storage.{Storage}
@@ -16,7 +16,7 @@ use Rattle.s360_fixed.specs.Table.{form_of}
 use Rattle.s360_fixed.specs.View.{View}
 use Rattle.s360_logic.specs.declared.cpu.PlannedInstruction.{PlannedInstruction}
 use Rattle.s360_logic.specs.Instruction.{PlansInstruction, conditions_at, instruction, length_of_bytes}
-use Rattle.s360_logic.proofs.InstructionLemmas.{PlansInstruction-refused}
+use Rattle.s360_logic.proofs.InstructionLemmas.{PutsInstruction-refused}
 use Rattle.s360_source.specs.declared.shape.InstructionShape.{InstructionShape}
 use Rattle.s360_source.specs.declared.shape.Performance.{Performance}
 use Rattle.s360_source.specs.Shapes.{instruction_shape, performed_at, performed_if}
@@ -68,5 +68,11 @@ shape-of-planned m plan planned performed p e =
 pub shape-of-refused : (m : Core) (code : ProgramCode) → program_code (conditions_at m (instruction_address_of m.psw)) ≡ Some code
     → record { performed = None; next_address = instruction_address_of m.psw; length = NotAvailable; ended = Program code } ≡ instruction_shape m
 shape-of-refused m code met =
-    shape-of-planned m [] (record { ended = Program code; next_address = instruction_address_of m.psw; instruction_length = NotAvailable }) None
-    (performed-nowhere m (instruction_address_of m.psw) code met) (PlansInstruction-refused m [] code refl met)
+    let puts = PutsInstruction-refused m (λ n. n) (λ n. Unit {0}) (λ q. Unit {0}) 0 code (record { same = refl; allowed = tt; any = λ q. tt; none = refl }) met
+    in let plans : PlansInstruction m [] (instruction m) (record { ended = Program code; next_address = instruction_address_of m.psw; instruction_length = NotAvailable }) = record {
+      plans = record { ends = puts.puts.ends; makes = record { cells = tt; makes = puts.puts.makes }; few = omega arith };
+      next = puts.next;
+      length = puts.length;
+    }
+    in shape-of-planned m [] (record { ended = Program code; next_address = instruction_address_of m.psw; instruction_length = NotAvailable }) None
+    (performed-nowhere m (instruction_address_of m.psw) code met) plans
