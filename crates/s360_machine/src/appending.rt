@@ -1,5 +1,5 @@
 //! How a change comes to the end of the journal's list.
-ghost use Rattle.std.specs.Prelude.{◌≡◌, ◌<◌, ◌++◌, ◌∷◌, false, true, vec_capacity, vec_len, Err, IfOk, IsOkUnless, IsTrue, MatchOption, OnErr, OnOk, length};
+ghost use Rattle.std.specs.Prelude.{◌≡◌, ◌<◌, ◌++◌, ◌∷◌, [], false, true, vec_capacity, vec_len, Err, IfOk, IsOkUnless, IsTrue, MatchOption, OnErr, OnOk, length};
 ghost use Rattle.s360_store.specs.Cells.{AllFit};
 ghost use Rattle.s360_store.specs.CoreChanges.{cells_of_change};
 ghost use Rattle.s360_machine.specs.Beside.{IsNothing};

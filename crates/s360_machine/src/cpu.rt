@@ -153,8 +153,17 @@ impl Machine {
                 return self.put_io(operation, unit, planned.next_address, puts);
             }
         };
-        let psw = puts.psw(&self.core).with_instruction_address(planned.next_address);
-        put_interruption(&self.core, class, psw, code, planned.instruction_length, puts)?;
+        let psw = puts
+            .psw(&self.core)
+            .with_instruction_address(planned.next_address);
+        put_interruption(
+            &self.core,
+            class,
+            psw,
+            code,
+            planned.instruction_length,
+            puts,
+        )?;
         Ok(self.planned(self.control))
     }
 }

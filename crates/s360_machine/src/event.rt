@@ -79,12 +79,7 @@ fn put_storage_key<P: Puts>(
 }
 
 /// Puts a fetch bit of the block that an address lies in, if fetches are protected.
-fn put_fetch_bit<P: Puts>(
-    core: &Core,
-    at: u32,
-    on: bool,
-    puts: &mut P,
-) -> Result<(), AllocError>
+fn put_fetch_bit<P: Puts>(core: &Core, at: u32, on: bool, puts: &mut P) -> Result<(), AllocError>
     requires none { HasNoPuts core.now (P.made puts.old) (P.may puts.old) (P.past puts.old) (P.count puts.old) }
     requires inside { at < length core.now.storage.bytes }
     ensures made { OnOk result (P.made puts.new core.now ≡ core_with_fetch_bit (at / block_size) on core.now) }

@@ -69,12 +69,7 @@ fn put_io_result<P: Puts>(
 
 /// Puts the interruption of a unit at an address whose condition is taken. The old PSW and the channel status word are
 /// put in the order of their addresses, next to each other.
-fn put_taken<P: Puts>(
-    core: &Core,
-    address: u16,
-    csw: Csw,
-    puts: &mut P,
-) -> Result<(), AllocError>
+fn put_taken<P: Puts>(core: &Core, address: u16, csw: Csw, puts: &mut P) -> Result<(), AllocError>
     requires none { HasNoPuts core.now (P.made puts.old) (P.may puts.old) (P.past puts.old) (P.count puts.old) }
     ensures made { OnOk result (P.made puts.new core.now ≡ after_interruption InputOutput address NotAvailable (core_with_csw (WholeCsw csw) core.now)) }
     ensures may { OnOk result (P.may puts.new core.now) }

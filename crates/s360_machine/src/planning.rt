@@ -1,10 +1,10 @@
 //! What an event alters: it is planned, and what the plan alters is its change.
 ghost use Rattle.std.specs.Prelude.{◌≡◌, None, Err, IfOk, IsOkUnless, MatchOption};
-ghost use Rattle.s360_store.specs.Cells.{AreCellsOf};
+ghost use Rattle.s360_store.specs.Puts.{HasNoPuts};
 ghost use Rattle.s360_machine.specs.ChannelEvents.{after_channel_event};
 ghost use Rattle.s360_machine.specs.Machine.{Machine as SeenMachine, storage_size, seen};
 ghost use Rattle.s360_machine.specs.Operator.{after_key};
-ghost use Rattle.s360_machine.specs.Planned.{IsChangeTo, IsPlanOfMachine, LeavesUnits};
+ghost use Rattle.s360_machine.specs.Planned.{IsChangeTo, IsOfNoChannel, LeavesUnits, PutsMachine};
 ghost use Rattle.s360_machine.specs.Refusals.{refusal_of, refusal_of_key, refusal_of_patch};
 ghost use Rattle.s360_machine.specs.Step.{after, after_patch};
 ghost use Rattle.s360_machine.specs.Timer.{after_tick};

@@ -78,7 +78,14 @@ impl Row {
             Part::Cell(cell) if cells.len() == 1 => Some((with_register(psw, cell)?, &[])),
             Part::Bytes(address, bytes) if bytes.len() == cells.len() as usize => {
                 let count = u16::try_from(bytes.len()).ok()?;
-                Some((Row::Bytes { count, address, psw }, bytes))
+                Some((
+                    Row::Bytes {
+                        count,
+                        address,
+                        psw,
+                    },
+                    bytes,
+                ))
             }
             _ => None,
         }

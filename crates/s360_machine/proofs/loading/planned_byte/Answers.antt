@@ -13,5 +13,5 @@ returns-in-Some c = planned_byte-some c.args.core.now c.args.plan.now c.args.add
 
 pub returns-in-None : goal.returns-in-None
 returns-in-None c =
-    c.byte.ensures ∙ ap (λ (s : Storage). slice_index s.bytes c.args.address) c.storage.ensures
+    c.byte.ensures ∙ ap (λ (s : Storage). slice_index s.bytes c.args.address) c.storage.ensures.storage
     ∙ planned_byte-none c.args.core.now c.args.plan.now c.args.address c.requires.cells c.requires.inside (sym c.value.ensures ∙ c.in-None.is)

@@ -19,7 +19,7 @@ use Rattle.s360_machine.proofs.machine.Machine.plan_execution.Goals as goal
 
 pub returns-in_ok-step-in-Reader-clause-plan : goal.returns-in_ok-step-in-Reader-clause-plan
 returns-in_ok-step-in-Reader-clause-plan c =
-    let run = rw (c.storage-storage.ensures, c.control-control.ensures.control) at c.in_ok-step-in-Reader.ensures
+    let run = rw (c.storage-storage.ensures.storage, c.control-control.ensures.control) at c.in_ok-step-in-Reader.ensures
     in let change : c.map.result ≡ option_map (λ x. Reader x) c.in_ok-step-in-Reader.step.change = search rules
     in let io = rw change at c.planned_step.ensures
     in let media = IsMediaChangeTo-reader (media_of c.self.inside.devices) _ _ (device-step reader_kind same_reader same_reader-Decides c.self.inside.devices.reader _ _ _ _ run)
@@ -27,7 +27,7 @@ returns-in_ok-step-in-Reader-clause-plan c =
 
 pub returns-in_ok-step-in-Punch-clause-plan : goal.returns-in_ok-step-in-Punch-clause-plan
 returns-in_ok-step-in-Punch-clause-plan c =
-    let run = rw (c.storage-storage.ensures, c.control-control.ensures.control) at c.in_ok-step-in-Punch.ensures
+    let run = rw (c.storage-storage.ensures.storage, c.control-control.ensures.control) at c.in_ok-step-in-Punch.ensures
     in let change : c.map-in-Punch.result ≡ option_map (λ x. Punch x) c.in_ok-step-in-Punch.step.change = search rules
     in let io = rw change at c.planned_step-in-Punch.ensures
     in let media = IsMediaChangeTo-punch (media_of c.self.inside.devices) _ _ (device-step punch_kind same_punch same_punch-Decides c.self.inside.devices.punch _ _ _ _ run)
@@ -35,7 +35,7 @@ returns-in_ok-step-in-Punch-clause-plan c =
 
 pub returns-in_ok-step-in-Printer-clause-plan : goal.returns-in_ok-step-in-Printer-clause-plan
 returns-in_ok-step-in-Printer-clause-plan c =
-    let run = rw (c.storage-storage.ensures, c.control-control.ensures.control) at c.in_ok-step-in-Printer.ensures
+    let run = rw (c.storage-storage.ensures.storage, c.control-control.ensures.control) at c.in_ok-step-in-Printer.ensures
     in let change : c.map-in-Printer.result ≡ option_map (λ x. Printer x) c.in_ok-step-in-Printer.step.change = search rules
     in let io = rw change at c.planned_step-in-Printer.ensures
     in let media = IsMediaChangeTo-printer (media_of c.self.inside.devices) _ _ (device-step printer_kind same_printer same_printer-Decides c.self.inside.devices.printer _ _ _ _ run)
@@ -43,7 +43,7 @@ returns-in_ok-step-in-Printer-clause-plan c =
 
 pub returns-in_ok-step-in-Console-clause-plan : goal.returns-in_ok-step-in-Console-clause-plan
 returns-in_ok-step-in-Console-clause-plan c =
-    let run = rw (c.storage-storage.ensures, c.control-control.ensures.control) at c.in_ok-step-in-Console.ensures
+    let run = rw (c.storage-storage.ensures.storage, c.control-control.ensures.control) at c.in_ok-step-in-Console.ensures
     in let change : c.map-in-Console.result ≡ option_map (λ x. Console x) c.in_ok-step-in-Console.step.change = search rules
     in let io = rw change at c.planned_step-in-Console.ensures
     in let media = IsMediaChangeTo-console (media_of c.self.inside.devices) _ _ (device-step console_kind same_console same_console-Decides c.self.inside.devices.console _ _ _ _ run)
@@ -51,7 +51,7 @@ returns-in_ok-step-in-Console-clause-plan c =
 
 pub returns-in_ok-step-in-Tape0-clause-plan : goal.returns-in_ok-step-in-Tape0-clause-plan
 returns-in_ok-step-in-Tape0-clause-plan c =
-    let run = rw (c.storage-storage.ensures, c.control-control.ensures.control) at c.in_ok-step-in-Tape0.ensures
+    let run = rw (c.storage-storage.ensures.storage, c.control-control.ensures.control) at c.in_ok-step-in-Tape0.ensures
     in let change : c.map-in-Tape0.result ≡ option_map (λ x. Tape0 x) c.in_ok-step-in-Tape0.step.change = search rules
     in let io = rw change at c.planned_step-in-Tape0.ensures
     in let media = IsMediaChangeTo-tape0 (media_of c.self.inside.devices) _ _ (device-step tape_kind same_tape same_tape-Decides c.self.inside.devices.tape0 _ _ _ _ run)
@@ -59,7 +59,7 @@ returns-in_ok-step-in-Tape0-clause-plan c =
 
 pub returns-in_ok-step-in-Tape1-clause-plan : goal.returns-in_ok-step-in-Tape1-clause-plan
 returns-in_ok-step-in-Tape1-clause-plan c =
-    let run = rw (c.storage-storage.ensures, c.control-control.ensures.control) at c.in_ok-step-in-Tape1.ensures
+    let run = rw (c.storage-storage.ensures.storage, c.control-control.ensures.control) at c.in_ok-step-in-Tape1.ensures
     in let change : c.map-in-Tape1.result ≡ option_map (λ x. Tape1 x) c.in_ok-step-in-Tape1.step.change = search rules
     in let io = rw change at c.planned_step-in-Tape1.ensures
     in let media = IsMediaChangeTo-tape1 (media_of c.self.inside.devices) _ _ (device-step tape_kind same_tape same_tape-Decides c.self.inside.devices.tape1 _ _ _ _ run)
