@@ -34,10 +34,6 @@ or_full-room None count limit h =
     [ true ↦ λ e k. ltb-true count limit e | false ↦ λ e k. cc ]
     in by (nat_lt count limit) refl h
 
--- where the event's own sake refuses nothing, a journal with room refuses nothing
-pub or_full-few : (count limit : ℕ) → count < limit → or_full None count limit ≡ None
-or_full-few count limit h = ap (λ b. cond b None (Some JournalFull)) (lt-ltb count limit h)
-
 -- the journal with the exchanged change of an accepted event at its end
 pub IsHistory-forward : (w v : Whole) (xs : List Entry) (e : Event) (x y : Change) → IsHistory w (reverse xs)
     → refusal_of (storage_size (seen w)) e ≡ None → IsChangeTo w x (after (seen w) e)

@@ -58,8 +58,8 @@ pub(crate) fn stand(
         changes.drop_last();
         return Err(AllocError);
     }
-    let number = changes.len();
-    if index_last(index, changes, number).is_err() {
+    let count = changes.len();
+    if index_last(index, changes, count).is_err() {
         events.drop_last();
         changes.drop_last();
         return Err(AllocError);
