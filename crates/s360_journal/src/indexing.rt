@@ -1,7 +1,7 @@
 //! The number of the last change, in the index at the places that the change alters.
 ghost use Rattle.std.specs.Prelude.{◌≡◌, ◌<◌, ◌-◌, length, slice_get, take, IfSome, OnErr, OnOk};
 ghost use Rattle.s360_store.specs.Spans.{places_of_spans};
-ghost use Rattle.s360_index.specs.Histories.{Gains, GainsInPart, Loses};
+ghost use Rattle.s360_index.specs.Histories.{Gains, GainsInPart};
 ghost use Rattle.s360_index.specs.Sizes.{AreSpansWithinSize, AreWithinSize};
 ghost use Rattle.s360_machine.specs.Change.{places_of_change};
 ghost use Rattle.s360_machine.specs.ChangeSpans.{spans_within};
