@@ -298,21 +298,22 @@ bytes-few (Run a n ∷ is) bs e =
     let front : length (take n bs) ≡ n = length-take-le n bs (omega (arith, e))
     in omega (arith, e, bytes-few is (drop n bs) (omega (arith, e, length-drop n bs)), length-append (byte_cells a (take n bs)) (cells_of_items is (drop n bs)), length-byte_cells a (take n bs), front, length-drop n bs)
 
--- a change that has all but its bytes within its row is one change more
-within-items : (row : Row) → HasNoMore row → items_of_row row ≡ 0
+-- a row that has all but its bytes within itself
+within-items : (r : Row) → HasNoMore r → items_of_row r ≡ 0
 within-items Nothing h = refl
 within-items (Psw psw) h = refl
-within-items (Register r word psw) h = refl
+within-items (Register n word psw) h = refl
 within-items (Bytes count address psw) h = refl
 within-items (More beside items bytes count) h = absurd h
 
-within-beside : (row : Row) → HasNoMore row → beside_of_row row ≡ 0
+pub within-beside : (r : Row) → HasNoMore r → beside_of_row r ≡ 0
 within-beside Nothing h = refl
 within-beside (Psw psw) h = refl
-within-beside (Register r word psw) h = refl
+within-beside (Register n word psw) h = refl
 within-beside (Bytes count address psw) h = refl
 within-beside (More beside items bytes count) h = absurd h
 
+-- a change that has all but its bytes within its row is one change more
 within-bytes : (row : Row) (bs : List ℕ) → HasNoMore row → IsOver row [] bs → length bs ≡ bytes_of_row row
 within-bytes Nothing bs h o = ap length o.1
 within-bytes (Psw psw) bs h o = ap length o.1
@@ -553,21 +554,6 @@ IsEnd-all rows ls h =
       rest_packed = λ rs ms k.
           subst (λ (l : List Row). ArePacked (reverse l ++ rs) (joined ms (lists_from e ls))) (sym (none-behind rows)) (subst (λ j. ArePacked rs (joined ms j)) (sym from) (subst (λ j. ArePacked rs j) (sym (alone ms)) k));
     }
-
--- a row that has all but its bytes within itself
-within-items : (r : Row) → HasNoMore r → items_of_row r ≡ 0
-within-items Nothing h = refl
-within-items (Psw psw) h = refl
-within-items (Register n word psw) h = refl
-within-items (Bytes count address psw) h = refl
-within-items (More beside items bytes count) h = absurd h
-
-pub within-beside : (r : Row) → HasNoMore r → beside_of_row r ≡ 0
-within-beside Nothing h = refl
-within-beside (Psw psw) h = refl
-within-beside (Register n word psw) h = refl
-within-beside (Bytes count address psw) h = refl
-within-beside (More beside items bytes count) h = absurd h
 
 newest-none : {X : Type 0} (n : ℕ) (xs : List X) → n ≡ 0 → newest n (take (length xs) xs) ≡ []
 newest-none n xs e = rw (e, all-before xs) (drop_all (length xs - 0) xs (omega arith))
