@@ -10,7 +10,7 @@ use Rattle.s360_machine.proofs.loading.plan_loaded.Goals.{In_ok-put_bytes}
 
 address_stored : (c : In_ok-put_bytes) → IsPlanOf c.args.core.now c.put_bytes.new.self (core_with_bytes 2 (bytes_high_first 2 c.args.address) (after_exchange c.args.core.now c.args.plan.now))
 address_stored c =
-    let size : c.size.result ≡ length c.args.core.now.storage.bytes = c.size.ensures.size ∙ ap (λ (s : Storage). length s.bytes) c.storage.ensures
+    let size : c.size.result ≡ length c.args.core.now.storage.bytes = c.size.ensures.size ∙ ap (λ (s : Storage). length s.bytes) c.storage.ensures.storage
     in let count : length c.to_be_bytes.result ≡ 2 = ap length c.to_be_bytes.ensures
     in let inside : 2 + length c.to_be_bytes.result ≤ length c.args.core.now.storage.bytes = omega (arith, size, count, c.size.ensures.least)
     in IsPlanOf-address c.args.core.now c.args.plan.now c.put_bytes.new.self c.args.address c.to_be_bytes.result c.requires.cells inside c.to_be_bytes.ensures c.in_ok-put_bytes.ensures.ok
