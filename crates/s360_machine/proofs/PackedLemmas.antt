@@ -13,6 +13,7 @@ use Rattle.s360_store.specs.declared.place.Cell.{Cell}
 use Rattle.s360_store.specs.declared.place.Place.{Place}
 use Rattle.s360_store.specs.declared.place.Place.TheVariants.{Byte}
 use Rattle.s360_store.specs.Cells.{AllFit, byte_cells}
+use Rattle.s360_store.specs.CoreChanges.{CoreChange, cells_of_change, psw_cell}
 use Rattle.s360_store.specs.Items.{Appended, AreItems, bytes_of_items, cells_of_items}
 use Rattle.s360_store.proofs.ByteCellLemmas.{length-byte_cells}
 use Rattle.s360_machine.specs.declared.beside.Beside.{Beside}
@@ -704,3 +705,15 @@ bytes-unpacked (r ∷ rs) ls h =
 
 pub bytes-of-rows : (rows : List Row) (ls : Lists) → ArePacked (reverse rows) ls → bytes_of_changes (changes_of_rows rows ls) ≡ ls.bytes
 bytes-of-rows rows ls h = bytes-unpacked (reverse rows) ls h
+
+-- a PSW and one run have all but the bytes within a row
+pub row-of-bytes : (x : CoreChange) (psw address count : ℕ) (bs : List ℕ) → x.psw ≡ Some psw → x.cells ≡ byte_cells address bs ++ drop (length (byte_cells address bs)) x.cells → length bs ≡ length x.cells
+    → 0 < length bs → address + length bs ≤ 2 ^ 32 → length bs ≡ count → IsRowOf (cells_of_change x) (Bytes count address psw) bs
+row-of-bytes x psw address count bs p is all some small e =
+    let none : drop (length (byte_cells address bs)) x.cells ≡ [] = drop_all (length (byte_cells address bs)) x.cells (omega (arith, all, length-byte_cells address bs))
+    in let cells : byte_cells address bs ≡ x.cells = sym (is ∙ ap (λ (cs : List Cell). byte_cells address bs ++ cs) none ∙ append-nil (byte_cells address bs))
+    in record {
+      within = tt;
+      over = (refl, e, omega (arith, some, e), omega (arith, small, e));
+      cells_are = rw p (ap (λ (cs : List Cell). psw_cell psw ∷ cs) cells);
+    }
