@@ -8,8 +8,8 @@ use Rattle.s360_journal.proofs.ForwardLemmas.{or_full-None, or_full-room, unless
 use Rattle.s360_journal.proofs.IndexLemmas.{index-appended}
 use Rattle.s360_journal.proofs.SessionLemmas.{HasAdvanced, if-appended, machine_of-session, session-advanced, some-appended}
 use Rattle.s360_journal.proofs.WithdrawalLemmas.{size-session}
-use Rattle.s360_journal.proofs.session.Session.accept.Goals as goal
-use Rattle.s360_journal.proofs.session.Session.accept.Goals.{In_ok-stand}
+use Rattle.s360_journal.proofs.session.Session.advance.Goals as goal
+use Rattle.s360_journal.proofs.session.Session.advance.Goals.{In_ok-stand}
 
 pub returns-in_err-append_event-clause-refused : goal.returns-in_err-append_event-clause-refused
 returns-in_err-append_event-clause-refused c =
