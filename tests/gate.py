@@ -1,17 +1,18 @@
 #!/usr/bin/env python3
 """Passes the tests, and ends with one line that says how many passed.
 
-    ./test            looks at the scripts that a user starts; then proves every crate from nothing
+    ./test            looks at the scripts that a user starts, and at listings; then proves every crate from nothing
                       with `rt ci`, which also tries the wrong bodies and runs the unit tests; then
                       runs the worked rows, which have to carry out each instruction, command, line
                       and request, and the program where no row can say what has to hold; then
                       rows, unit tests and packets with growths of memory refused one by one; and
                       compares the program with a second machine over random scripts and over
                       sessions that nobody wrote; and sends packets to s360gdb, lets it save files,
-                      lets a real gdb drive it, and compares it with a second target, and tries the
-                      sources and deciders that it tells; and looks that the documents are true
-    ./test --quick    looks at the scripts, runs the worked rows over the program with no proof, in
-                      some three minutes, and looks at the documents
+                      lets a real gdb drive it, also on a screen and for an editor, and compares it with
+                      a second target, and tries the sources and deciders that it tells; and loads what
+                      the tools for decks and tapes make; and looks that the documents are true
+    ./test --quick    looks at the scripts and at listings, runs the worked rows over the program with
+                      no proof, in some three minutes, and looks at these tools and at the documents
 
 tools/setup sees to what it needs.
 """
@@ -33,6 +34,7 @@ SESSIONS = "20"
 BYTES_OF_A_CHECK = 5 * 2**30
 WHOLE = [
     ("scripts", ["tests/scripts.py"]),
+    ("listings", ["tests/listings.py"]),
     ("where wrong bodies apply", ["tests/wrong_bodies", "--apply"]),
     ("rt ci", ["rt", "ci"]),
     ("worked rows", ["tests/rows.py"]),
@@ -44,14 +46,18 @@ WHOLE = [
     ("packet rows", ["tests/packet_rows.py"]),
     ("saved files", ["tests/saved_files.py"]),
     ("gdb sessions", ["tests/gdb_sessions.py"]),
+    ("front ends of gdb", ["tests/gdb_front_ends.py"]),
     ("fuzzed packets", ["tests/packet_fuzz.py", "--requests", PACKETS]),
     ("fuzzed commands of gdb", ["tests/gdb_fuzz.py", "--commands", COMMANDS]),
     ("chains by experiment", ["tests/why_by_experiment.py", "--sessions", SESSIONS]),
+    ("media", ["tests/media.py"]),
     ("documents", ["tests/documents.py"]),
 ]
 QUICK = [
     ("scripts", ["tests/scripts.py"]),
+    ("listings", ["tests/listings.py"]),
     ("worked rows", ["tests/rows.py", "--unproved"]),
+    ("media", ["tests/media.py", "--unproved"]),
     ("documents", ["tests/documents.py", "--unproved"]),
 ]
 

@@ -455,7 +455,7 @@ def fault_of(seed, count, program):
         subprocess.run([TOP / "tools/gdb/make_elf.py", elf], check=True)
         commands.write_text(json.dumps([command for command, _ in ended]))
         told, out = os.pipe()
-        gdb = ["gdb-multiarch", "-q", "-nx", "-batch", "-x", TOP / "tools/gdb/s360.gdb"]
+        gdb = ["gdb-multiarch", "-q", "-nx", "-batch", "-x", TOP / "tools/gdb/s360.py"]
         setup = [*QUIET, f"file {elf}", f"target remote | {target}"]
         gdb += [word for line in setup for word in ("-ex", line)]
         gdb += ["-x", TOP / "tests/fuzzer/gdb_driver.py"]

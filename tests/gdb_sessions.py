@@ -5,11 +5,13 @@
 
 A session is two files of tests/gdb: NAME.gdb has gdb's commands, and NAME.transcript what a
 terminal shows of them: each command behind gdb's prompt, and what gdb prints then. The first line
-of the commands is `# s360gdb WORD ..`: the words of the program's command line, with files named
-from the top; or `# extended s360gdb WORD ..`, if gdb is to be in extended mode. What comes before the first prompt is not compared. The screens of gdb in
-docs/reference/gdb.md have to be parts of the transcripts of `guide` and `saved`. gdb is started in
-a folder of its own, where files can be saved. `--print` prints sessions and compares nothing. The
-status is 0 if each session prints what it has to.
+of the commands is `# s360gdb WORD ..`: the words of the program's command line and those for
+symbols, with files named from the top; or `# extended s360gdb WORD ..`, if gdb is to be in extended
+mode. What comes before the first prompt is not compared. The screens of gdb in docs/reference/gdb.md
+have to be parts of the transcripts of `guide`, `saved` and `places`. gdb is started in a folder of its own,
+where files can be saved, and where NAME.elf is the program that GNU as makes of tests/gdb/NAME.s.
+`--print` prints sessions and compares nothing. Some session has to carry out each command of
+tools/gdb/s360.py. The status is 0 if each session prints what it has to.
 """
 import argparse
 import difflib
@@ -35,10 +37,17 @@ SCREENS = [
         "guide",
     ),
     ("docs/reference/gdb.md", "With the deck of `examples/cards.deck`, once it has run:", "saved"),
+    ("docs/reference/gdb.md", "Events are told with labels and lines; instructions as statements, if they are what was assembled:", "places"),
 ]
 # What a session finds in the folder in which gdb is started.
 FOLDERS = ["examples", "tests"]
 SECONDS = 120
+GDB = ["gdb-multiarch", "-q", "-nx", "-x", TOP / "tools/gdb/s360.py"]
+ENVIRONMENT = {**os.environ, "TERM": "dumb", "LC_ALL": "C.UTF-8"}
+# The words that are not those of the machine.
+SYMBOLS = argparse.ArgumentParser()
+SYMBOLS.add_argument("--symbols")
+SYMBOLS.add_argument("--listing-columns")
 # Nothing is asked, no page is waited for, and no line is cut.
 QUIET = ["set confirm off", "set pagination off", "set width 0"]
 
@@ -53,20 +62,30 @@ def commands_of(session):
     return target, shlex.split(head[2]), [line for line in lines if line and not line.startswith("#")]
 
 
+def linked(source, folder):
+    """Makes a program of what GNU as reads."""
+    made = folder / source.with_suffix(".o").name
+    words = ["-m31", "-g", "-o", made, source.relative_to(TOP)]
+    subprocess.run(["s390x-linux-gnu-as", *words], cwd=folder, check=True)
+    words = ["-m", "elf_s390", "-Ttext=0", "-e", "0", "-o", made.with_suffix(".elf"), made]
+    subprocess.run(["s390x-linux-gnu-ld", *words], check=True)
+
+
 def shown(session, program):
     """What a terminal shows of a session: if gdb reads no terminal, it prints the prompts alone."""
     target, words, commands = commands_of(session)
+    _symbols, machine = SYMBOLS.parse_known_args(words)
     with tempfile.TemporaryDirectory() as folder:
         elf = pathlib.Path(folder, "s360.elf")
-        subprocess.run([TOP / "tools/gdb/make_elf.py", elf, *words], check=True)
-        setup = [*QUIET, f"file {elf}", f"target {target} | {shlex.join([str(program), *words])}"]
-        gdb = ["gdb-multiarch", "-q", "-nx", "-x", TOP / "tools/gdb/s360.gdb"]
-        gdb += [word for line in setup for word in ("-ex", line)]
-        how = {"stdout": subprocess.PIPE, "stderr": subprocess.STDOUT, "timeout": SECONDS}
-        how |= {"encoding": "utf-8", "errors": "replace"}
-        how |= {"env": {**os.environ, "TERM": "dumb", "LC_ALL": "C.UTF-8"}}
         for name in FOLDERS:
             pathlib.Path(folder, name).symlink_to(TOP / name)
+        for source in SESSIONS.glob("*.s"):
+            linked(source, elf.parent)
+        subprocess.run([TOP / "tools/gdb/make_elf.py", elf, *words], cwd=folder, check=True)
+        setup = [*QUIET, f"file {elf}", f"target {target} | {shlex.join([str(program), *machine])}"]
+        gdb = [*GDB, *(word for line in setup for word in ("-ex", line))]
+        how = {"stdout": subprocess.PIPE, "stderr": subprocess.STDOUT, "timeout": SECONDS}
+        how |= {"encoding": "utf-8", "errors": "replace", "env": ENVIRONMENT}
         printed = subprocess.run(gdb, input="\n".join([*commands, ""]), cwd=folder, **how).stdout
     return echoed(printed.replace(f"{elf.parent}/", ""), commands)
 
@@ -83,6 +102,15 @@ def differences(session, program):
     wanted = session.with_suffix(".transcript").read_text().splitlines()
     got = shown(session, program)
     return list(difflib.unified_diff(wanted, got, "wanted", "shown", lineterm=""))
+
+
+def commands_not_carried_out(sessions):
+    """The commands of s360.py that stand in no session."""
+    words = [*GDB, "-batch", "-ex", "help user-defined"]
+    told = subprocess.run(words, stdout=subprocess.PIPE, text=True, env=ENVIRONMENT, check=True).stdout
+    there = {line.partition(" -- ")[0] for line in told.splitlines() if " -- " in line and "hook" not in line}
+    lines = [line for session in sessions for line in session.read_text().splitlines()]
+    return sorted(name for name in there if not any(line.startswith(name) for line in lines))
 
 
 def screen(page, above):
@@ -127,6 +155,8 @@ def main():
     if not options.names:
         names = [*names, *(page for page, *_ in SCREENS)]
         found = [*found, *itertools.starmap(differences_of_screen, SCREENS)]
+        names.append("commands that no session carries out")
+        found.append(commands_not_carried_out(sessions))
     for name, lines in zip(names, found):
         if lines:
             print("\n".join([f"{name}: gdb shows something else", *lines]))

@@ -18,7 +18,7 @@ import tempfile
 from gdb_sessions import PROMPT, echoed
 
 TOP = pathlib.Path(__file__).resolve().parent.parent
-COPIED = ("run", "gdb", "tools", "examples")
+COPIED = ("run", "gdb", "tools", "examples", ".vscode")
 # Nothing has to be built there.
 BUILD = "#!/bin/sh\n"
 # Where the second and the third column of README.md begin.

@@ -1,75 +1,60 @@
 #!/usr/bin/env python3
-"""Writes a tape file in the format AWSTAPE on standard output.
+"""Makes a tape file in the format AWSTAPE, on standard output or in a file that --out names.
 
     tools/media/make_tape.py blocks LENGTH FILE ..    each file in blocks of LENGTH bytes, and a mark behind it
     tools/media/make_tape.py simh FILE                the blocks and marks of a tape in SIMH's format
+    tools/media/make_tape.py ipl FILE                 of an ELF, or of a flat image with --at: it loads itself, and starts
 
-The last block of a file has the bytes that are left. Sources: docs/reference/images.md; SIMH, "Magtape Representation and
-Handling": each record stands between two words with its length, low byte first, and is filled up to an even length; a word
-of zeros is a mark.
+The last block of a file has the bytes that are left. Addresses are hexadecimal.
 """
-import pathlib
-import struct
-import sys
+import argparse
 
-WHOLE_BLOCK, MARK = 0xA0, 0x40
-MOST_BYTES = 65_535
-SIMH_MARK, SIMH_GAP, SIMH_END = 0, 0xFFFFFFFE, 0xFFFFFFFF
+from common import carry_out, contents_of, parser_of, write
+from loading import add_places, judge, program_of, records_of
+from tapes import MOST_BYTES, items_of_simh, written
 
 
-def written(items):
-    """The file of blocks and marks. A mark is None."""
-    before = 0
-    for block in items:
-        length = len(block or b"")
-        if length > MOST_BYTES:
-            sys.exit(f"a block of {length} bytes: a tape has blocks of at most {MOST_BYTES}")
-        yield struct.pack("<HHBB", length, before, MARK if block is None else WHOLE_BLOCK, 0)
-        yield block or b""
-        before = length
+def length_of_block(digits):
+    if not digits.isdecimal() or not 1 <= int(digits) <= MOST_BYTES:
+        raise argparse.ArgumentTypeError(f"{digits!r} is no length of a block: give 1 to {MOST_BYTES}")
+    return int(digits)
 
 
-def blocks(length, *names):
+def blocks(length, names):
     """The blocks of files, with a mark behind each file."""
-    for contents in (pathlib.Path(name).read_bytes() for name in names):
+    for contents in map(contents_of, names):
         yield from (contents[at : at + length] for at in range(0, len(contents), length))
         yield None
 
 
-def items_of_simh(contents):
-    """The blocks and marks of a tape in SIMH's format."""
-    at = 0
-    while at < len(contents):
-        if at + 4 > len(contents):
-            sys.exit(f"no tape in SIMH's format: it ends within the word at {at}")
-        (length,) = struct.unpack_from("<I", contents, at)
-        at += 4
-        if length == SIMH_END:
-            return
-        if length == SIMH_MARK:
-            yield None
-        elif length != SIMH_GAP:
-            behind = at + length + length % 2
-            if contents[behind : behind + 4] != contents[at - 4 : at]:
-                sys.exit(f"no tape in SIMH's format: the record at {at - 4} has no end")
-            yield contents[at : at + length]
-            at = behind + 4
+def ipl_blocks(name, given):
+    program = program_of(name, contents_of(name), given.at, given.start)
+    judge(name, program, given.loader)
+    return [*records_of(program, given.loader, MOST_BYTES), None]
 
 
-def main(words):
-    match words:
-        case ["blocks", length, *names] if length.isdecimal() and int(length) and names:
-            items = blocks(int(length), *names)
-        case ["simh", name]:
-            items = items_of_simh(pathlib.Path(name).read_bytes())
+def main():
+    parser = parser_of(__doc__)
+    kinds = parser.add_subparsers(dest="kind", required=True, metavar="blocks|simh|ipl")
+    for kind, count in (("blocks", "+"), ("simh", 1), ("ipl", 1)):
+        words = kinds.add_parser(kind, allow_abbrev=False)
+        if kind == "blocks":
+            words.add_argument("length", metavar="LENGTH", type=length_of_block)
+        words.add_argument("files", metavar="FILE", nargs=count)
+        words.add_argument("--out", metavar="FILE", help="the tape; standard output unless given")
+        if kind == "ipl":
+            add_places(words)
+    given = parser.parse_args()
+    name = given.files[0]
+    match given.kind:
+        case "blocks":
+            items = blocks(given.length, given.files)
+        case "simh":
+            items = items_of_simh(name, contents_of(name))
         case _:
-            sys.exit(__doc__)
-    sys.stdout.buffer.write(b"".join(written(items)))
-    sys.stdout.flush()
+            items = ipl_blocks(name, given)
+    write(given.out, b"".join(written(items)))
 
 
 if __name__ == "__main__":
-    try:
-        main(sys.argv[1:])
-    except OSError as fault:
-        sys.exit(f"{fault.filename or 'standard output'}: {fault.strerror}")
+    carry_out(main)

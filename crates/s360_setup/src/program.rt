@@ -70,7 +70,7 @@ const SERVER_NOTES: &str = "\
 Lines: in gdb, `monitor LINE` carries a line of a script out, and `monitor help` lists all lines.
 
 Example:
-  gdb-multiarch -x s360.gdb -ex 'file s360.elf' -ex 'target remote | s360gdb session.s360'
+  gdb-multiarch -x s360.py -ex 'file s360.elf' -ex 'target remote | s360gdb session.s360'
 
 In the repository, examples/ has scripts, decks and tapes, docs/guide.md goes from a wrong value to
 its cause, and docs/reference/gdb.md tells what gdb sees and does.
