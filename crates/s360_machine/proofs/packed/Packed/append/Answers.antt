@@ -7,30 +7,27 @@ use Rattle.s360_machine.specs.Changes.{change_of}
 use Rattle.s360_machine.specs.Packed.{ArePacked, Lists, changes_of_rows, lists}
 use Rattle.s360_machine.proofs.PackedLemmas.{changes-appended, length-changes, packed-appended}
 use Rattle.s360_machine.proofs.packed.Packed.append.Goals as goal
-use Rattle.s360_machine.proofs.packed.Packed.append.Goals.{After-push_reserved}
-
-abbrev before : After-push_reserved → Lists
-before c = lists c.self.inside.items.items c.self.inside.bytes.items c.self.inside.beside.items
-
-abbrev after : After-push_reserved → Lists
-after c = lists c.append_parts.new.items.items c.append_parts.new.bytes.items c.append_parts.new.list.items
-
-rows : (c : After-push_reserved) → c.push_reserved.new.self.items ≡ c.self.inside.rows.items ++ c.in_ok-row.row ∷ []
-rows c = c.push_reserved.ensures.items ∙ ap (λ (l : List Row). l ++ c.in_ok-row.row ∷ []) c.in_ok-reserve.ensures.items
 
 pub invariant_of-self-2 : goal.invariant_of-self-2
 invariant_of-self-2 c =
-    let more = rows c
-    in let room : length c.self.inside.rows.items < 10000000 = rw (← length-changes c.self.inside.rows.items (before c)) (rw (← c.self.view_is) at c.requires)
+    let before : Lists = lists c.self.inside.items.items c.self.inside.bytes.items c.self.inside.beside.items
+    in let after : Lists = lists c.append_parts.new.items.items c.append_parts.new.bytes.items c.append_parts.new.list.items
+    in let more : c.push_reserved.new.self.items ≡ c.self.inside.rows.items ++ c.in_ok-row.row ∷ []
+    = c.push_reserved.ensures.items ∙ ap (λ (l : List Row). l ++ c.in_ok-row.row ∷ []) c.in_ok-reserve.ensures.items
+    in let room : length c.self.inside.rows.items < 10000000 = rw (← length-changes c.self.inside.rows.items before) (rw (← c.self.view_is) at c.requires)
     in (
-      subst (λ (l : List Row). ArePacked (reverse l) (after c)) (sym more)
-          (packed-appended c.self.inside.rows.items (before c) (after c) c.in_ok-row.row (change_of (cells_of_change c.into_parts.result.0) c.into_parts.result.1) c.self.invariant.0 c.in_ok-row.ensures.ok),
-      omega (arith, ap length more, length-append c.self.inside.rows.items (c.in_ok-row.row ∷ []), room, length-changes c.self.inside.rows.items (before c), c.in_ok-reserve.ensures.items),
+      subst (λ (l : List Row). ArePacked (reverse l) after) (sym more)
+          (packed-appended c.self.inside.rows.items before after c.in_ok-row.row (change_of (cells_of_change c.into_parts-core.result.0) c.into_parts-core.result.1) c.self.invariant.0 c.in_ok-row.ensures.ok),
+      omega (arith, ap length more, length-append c.self.inside.rows.items (c.in_ok-row.row ∷ []), room, length-changes c.self.inside.rows.items before, c.in_ok-reserve.ensures.items),
     )
 
 pub returns-clause-ok : goal.returns-clause-ok
 returns-clause-ok c =
-    ap (λ (l : List Row). changes_of_rows l (after c)) (rows c)
-    ∙ changes-appended c.self.inside.rows.items (before c) (after c) c.in_ok-row.row (change_of (cells_of_change c.into_parts.result.0) c.into_parts.result.1) c.in_ok-row.ensures.ok
-    ∙ ap (λ (xs : List Change). xs ++ change_of (cells_of_change c.into_parts.result.0) c.into_parts.result.1 ∷ []) c.self.view_is
-    ∙ ap (λ (x : Change). c.args.self.now ++ x ∷ []) c.into_parts.ensures.parts
+    let before : Lists = lists c.self.inside.items.items c.self.inside.bytes.items c.self.inside.beside.items
+    in let after : Lists = lists c.append_parts.new.items.items c.append_parts.new.bytes.items c.append_parts.new.list.items
+    in let more : c.push_reserved.new.self.items ≡ c.self.inside.rows.items ++ c.in_ok-row.row ∷ []
+    = c.push_reserved.ensures.items ∙ ap (λ (l : List Row). l ++ c.in_ok-row.row ∷ []) c.in_ok-reserve.ensures.items
+    in ap (λ (l : List Row). changes_of_rows l after) more
+    ∙ changes-appended c.self.inside.rows.items before after c.in_ok-row.row (change_of (cells_of_change c.into_parts-core.result.0) c.into_parts-core.result.1) c.in_ok-row.ensures.ok
+    ∙ ap (λ (xs : List Change). xs ++ change_of (cells_of_change c.into_parts-core.result.0) c.into_parts-core.result.1 ∷ []) c.self.view_is
+    ∙ ap (λ (x : Change). c.args.self.now ++ x ∷ []) c.into_parts-core.ensures.parts

@@ -1,0 +1,6 @@
+use Rattle.std.proofs.Common.{◌≡◌, ap}
+use Rattle.s360_store.proofs.ExchangeLemmas.{AllFit-any, AllFit-from}
+use Rattle.s360_machine.proofs.machine.Machine.changes_of_channel.Goals as goal
+
+pub of-requires-2 : goal.of-requires-2
+of-requires-2 c = ?
