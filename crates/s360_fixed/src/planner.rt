@@ -31,7 +31,7 @@ use std::alloc::AllocError;
 
 /// What a row makes in the format RR, if it has the row.
 #[inline(always)]
-pub(crate) fn made_rr(view: &View, row: Row, r1: RegisterNumber, r2: RegisterNumber) -> Option<Made>
+fn made_rr(view: &View, row: Row, r1: RegisterNumber, r2: RegisterNumber) -> Option<Made>
     ensures outcome { option_map (λ m. outcome_of_made view.now m) result ≡ option_map (λ outcome. outcome view.now r1 r2) (rr_outcome row) }
     ensures within { IfSome result (λ m. IsWithin view.now.core m) }
 {
@@ -91,7 +91,7 @@ fn register_stored(view: &View, width: Width, r1: RegisterNumber, address: u32) 
 
 /// What a row makes in the format RX, if it has the row.
 #[inline(always)]
-pub(crate) fn made_rx(view: &View, row: Row, r1: RegisterNumber, address: u32) -> Option<Made>
+fn made_rx(view: &View, row: Row, r1: RegisterNumber, address: u32) -> Option<Made>
     ensures outcome { option_map (λ m. outcome_of_made view.now m) result ≡ option_map (λ outcome. outcome view.now r1 address) (rx_outcome row) }
     ensures within { IfSome result (λ m. IsWithin view.now.core m) }
 {

@@ -1,27 +1,18 @@
 //! The instruction at the instruction address: fetched, what it makes, its puts, and its plan. Source:
 //! GA22-6821, "System Structure", program execution.
-ghost use Rattle.std.specs.Prelude.{◌≡◌, ◌≤◌, [], IfErr, IfOk, IfSome, Some, length, slice_index};
+ghost use Rattle.std.specs.Prelude.{◌≡◌, ◌≤◌, [], IfErr, IfOk, Some};
 ghost use Rattle.s360_model.specs.Psw.{instruction_address_of};
-ghost use Rattle.s360_fixed.specs.Plain.{Completes, CompletesIfAny};
-ghost use Rattle.s360_fixed.specs.Table.{form_of};
-ghost use Rattle.s360_logic.specs.Logic.{outcome_of};
-ghost use Rattle.std.specs.Option.{option_map};
 ghost use Rattle.s360_fixed.specs.Plans.{PutsOutcome};
 ghost use Rattle.s360_fixed.specs.ProgramCodes.{program_code};
 ghost use Rattle.s360_store.specs.Puts.{HasNoPuts};
 ghost use Rattle.s360_psw.specs.declared.instruction_length.InstructionLength.TheVariants.{NotAvailable};
 ghost use Rattle.s360_fixed.specs.declared.ended.Ended.TheVariants.{Program};
-ghost use Rattle.s360_logic.specs.Instruction.{IsSimple, PlansInstruction, PutsInstruction, conditions_at, fetched_outcome, instruction, length_of_bytes};
+ghost use Rattle.s360_logic.specs.Instruction.{PlansInstruction, PutsInstruction, conditions_at, fetched_outcome, instruction, length_of_bytes};
 
 use crate::logic::put_logic;
-use crate::status::loaded_psw;
-use s360_fixed::{
-    Ended, Form, Plain, ProgramCode, View, altered, altered_register, base_and_displacement,
-    decode_bytes, fetch_instruction, made, operand_address,
-};
+use s360_fixed::{Ended, Form, ProgramCode, View, decode_bytes, fetch_instruction};
 use s360_psw::{InstructionLength, Psw};
 use s360_store::{Core, Plan, Puts};
-use s360_word::RegisterNumber;
 use std::alloc::AllocError;
 use std::marker::Model;
 
@@ -56,21 +47,6 @@ impl<'a> Model for Fetched<'a> {
     ghost invariant = { λ f. IsFetched (record { view = f.view; form = f.form }) };
 }
 
-/// What an instruction does that alters the PSW and little beside it.
-#[derive(Drop)]
-pub enum Simple {
-    /// It is completed with no interruption, and alters this.
-    Completed(Plain),
-    /// It is a supervisor call with this code, after which the instruction at an address comes.
-    Call { code: u8, next_address: u32 },
-}
-
-/// The operation code of SVC.
-const SUPERVISOR_CALL: u8 = 0x0A;
-
-/// The operation code of LPSW.
-const LOAD_PSW: u8 = 0x82;
-
 /// The length of an instruction of 2, 4 or 6 bytes.
 fn length_of_bytes(bytes: usize) -> InstructionLength
     ensures { result ≡ length_of_bytes bytes }
@@ -100,43 +76,6 @@ pub fn fetch(core: &Core) -> Result<Fetched<'_>, ProgramCode>
     })
 }
 
-/// What the PSW that the doubleword at an address is alters, if it can be loaded.
-#[inline(always)]
-fn altered_by_load(bytes: &[u8], view: &View) -> Option<Plain>
-    requires four { 4 ≤ length bytes.now }
-    requires code { slice_index bytes.now 0 ≡ 0x82 }
-    ensures { IfSome result (λ x. CompletesIfAny view.now.core x (option_map (λ form. outcome_of view.now form) (form_of bytes.now))) }
-{
-    let (b1, d1) = base_and_displacement(bytes, 2);
-    let psw = loaded_psw(view, operand_address(view, RegisterNumber::new(0), b1, d1)).ok()?;
-    altered_register(view, psw, RegisterNumber::new(0), None)
-}
-
-/// What the instruction at the instruction address does, if it is a frequent one that alters the PSW and little beside it.
-#[inline(always)]
-pub fn frequent_instruction(core: &Core) -> Option<Simple>
-    ensures { IfSome result (λ x. IsSimple core.now x (instruction core.now)) }
-{
-    let psw = core.psw();
-    let address = psw.instruction_address();
-    let bytes = fetch_instruction(core.storage(), address, psw.protection_key()).ok()?;
-    let next_address = address + bytes.len() as u32;
-    if bytes[0] == SUPERVISOR_CALL {
-        return Some(Simple::Call {
-            code: bytes[1],
-            next_address,
-        });
-    }
-    let length = length_of_bytes(bytes.len());
-    let view = View::new(core, next_address, length);
-    let altered = if bytes[0] == LOAD_PSW {
-        altered_by_load(bytes, &view)
-    } else {
-        altered(bytes, &view)
-    };
-    Some(Simple::Completed(altered?))
-}
-
 /// An instruction that could not be fetched, which ends with this code.
 fn not_fetched(psw: Psw, code: ProgramCode) -> PlannedInstruction
     ensures { result ≡ record { ended = Program code; next_address = instruction_address_of psw; instruction_length = NotAvailable } }
@@ -161,16 +100,6 @@ impl<'a> Fetched<'a> {
         ensures { result ≡ self.now.form }
     {
         self.form
-    }
-
-    /// What it alters, if it is a fixed-point, branch or shift instruction and is completed with no interruption. None is
-    /// also where that is not the PSW and little beside it.
-    pub fn altered(&self) -> Option<Plain>
-        ensures { IfSome result (λ x. Completes self.now.view.core x (instruction self.now.view.core).outcome) }
-    {
-        let form = self.form.as_ref()?;
-        let made = made(form, &self.view)?;
-        made.altered(&self.view)
     }
 
     /// Puts what it does by its form, if it has one.
