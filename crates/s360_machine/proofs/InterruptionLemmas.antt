@@ -56,19 +56,23 @@ interruption-made m a b c class psw code il next at-old bytes same first then eo
 -- a run that begins where another ends may be put before it
 runs-joined : (xs bs cs : List ℕ) (a n : ℕ) → n ≡ a + length bs → n ≤ length xs → with_run (with_run xs a bs) n cs ≡ with_run (with_run xs n cs) a bs
 runs-joined xs bs cs a n e l =
-    let front : length (take a xs ++ bs) ≡ n = omega (arith, e, length-append (take a xs) bs, length-take-le a xs (omega (arith, e, l)))
-    in let first : with_run xs a bs ≡ (take a xs ++ bs) ++ drop n xs = ap (λ k. take a xs ++ bs ++ drop k xs) (sym e) ∙ sym (append_assoc (take a xs) bs (drop n xs))
-    in let behind : drop (n + length cs) ((take a xs ++ bs) ++ drop n xs) ≡ drop (n + length cs) xs
+    let past : List ℕ = drop (n + length cs) xs
+    in let front : length (take a xs ++ bs) ≡ n = omega (arith, e, length-append (take a xs) bs, length-take-le a xs (omega (arith, e, l)))
+    in let first : with_run xs a bs ≡ (take a xs ++ bs) ++ drop n xs = ap (λ k. (take a xs ++ bs) ++ drop k xs) (sym e)
+    in let behind : drop (n + length cs) ((take a xs ++ bs) ++ drop n xs) ≡ past
     = sym (drop-drop (length cs) n ((take a xs ++ bs) ++ drop n xs)) ∙ ap (λ l. drop (length cs) l) (drop_at (take a xs ++ bs) (drop n xs) n front) ∙ drop-drop (length cs) n xs
-    in let rest : List ℕ = cs ++ drop (n + length cs) xs
-    in let left : with_run (with_run xs a bs) n cs ≡ take a xs ++ bs ++ rest
-    = ap (λ ys. with_run ys n cs) first ∙ ap (λ l. take n ((take a xs ++ bs) ++ drop n xs) ++ cs ++ l) behind
-    ∙ ap (λ l. l ++ rest) (take_at (take a xs ++ bs) (drop n xs) n front) ∙ append_assoc (take a xs) bs rest
+    in let left : with_run (with_run xs a bs) n cs ≡ ((take a xs ++ bs) ++ cs) ++ past
+    = ap (λ ys. with_run ys n cs) first ∙ ap (λ l. (take n ((take a xs ++ bs) ++ drop n xs) ++ cs) ++ l) behind
+    ∙ ap (λ l. (l ++ cs) ++ past) (take_at (take a xs ++ bs) (drop n xs) n front)
     in let before : length (take n xs) ≡ n = length-take-le n xs l
-    in let kept : take a (take n xs ++ rest) ≡ take a xs
-    = sym (take-take a n (take n xs ++ rest) (omega (arith, e))) ∙ ap (λ l. take a l) (take_at (take n xs) rest n before) ∙ take-take a n xs (omega (arith, e))
-    in left ∙ sym (ap (λ l. l ++ bs ++ drop (a + length bs) (take n xs ++ rest)) kept
-    ∙ ap (λ k. take a xs ++ bs ++ drop k (take n xs ++ rest)) (sym e) ∙ ap (λ l. take a xs ++ bs ++ l) (drop_at (take n xs) rest n before))
+    in let second : with_run xs n cs ≡ take n xs ++ (cs ++ past) = append_assoc (take n xs) cs past
+    in let kept : take a (with_run xs n cs) ≡ take a xs
+    = sym (take-take a n (with_run xs n cs) (omega (arith, e))) ∙ ap (λ ys. take a (take n ys)) second ∙ ap (λ l. take a l) (take_at (take n xs) (cs ++ past) n before)
+    ∙ take-take a n xs (omega (arith, e))
+    in let rest : drop (a + length bs) (with_run xs n cs) ≡ cs ++ past
+    = ap (λ k. drop k (with_run xs n cs)) (sym e) ∙ ap (λ ys. drop n ys) second ∙ drop_at (take n xs) (cs ++ past) n before
+    in left ∙ append_assoc (take a xs ++ bs) cs past
+    ∙ sym (ap (λ l. (l ++ bs) ++ drop (a + length bs) (with_run xs n cs)) kept ∙ ap (λ l. (take a xs ++ bs) ++ l) rest)
 
 -- a number behind a run is as it was
 number-behind : (xs ys : List ℕ) (n at count : ℕ) → n ≤ at → drop n xs ≡ drop n ys → number_at xs at count ≡ number_at ys at count
@@ -83,7 +87,7 @@ behind-run : (xs bs : List ℕ) (a at count : ℕ) → a + length bs ≤ at → 
 behind-run xs bs a at count l within =
     let front : length (take a xs ++ bs) ≡ a + length bs = omega (arith, length-append (take a xs) bs, length-take-le a xs within)
     in number-behind (with_run xs a bs) xs (a + length bs) at count l
-    (ap (λ l. drop (a + length bs) l) (sym (append_assoc (take a xs) bs (drop (a + length bs) xs))) ∙ drop_at (take a xs ++ bs) (drop (a + length bs) xs) (a + length bs) front)
+    (drop_at (take a xs ++ bs) (drop (a + length bs) xs) (a + length bs) front)
 
 -- the puts of an input/output interruption: PSW, old PSW, channel status word
 pub taken-made : (m a b c : Core) (code next : ℕ) (old csw : List ℕ) → 128 ≤ length m.storage.bytes → length csw ≡ 8 → a ≡ core_with_psw next m → b ≡ core_with_bytes 56 old a → c ≡ core_with_bytes 64 csw b

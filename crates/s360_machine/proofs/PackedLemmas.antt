@@ -706,14 +706,15 @@ bytes-unpacked (r ∷ rs) ls h =
 pub bytes-of-rows : (rows : List Row) (ls : Lists) → ArePacked (reverse rows) ls → bytes_of_changes (changes_of_rows rows ls) ≡ ls.bytes
 bytes-of-rows rows ls h = bytes-unpacked (reverse rows) ls h
 
--- a PSW and one run have all but the bytes within a row
-pub row-of-bytes : (x : CoreChange) (psw address count : ℕ) (bs : List ℕ) → x.psw ≡ Some psw → x.cells ≡ byte_cells address bs ++ drop (length (byte_cells address bs)) x.cells → length bs ≡ length x.cells
-    → 0 < length bs → address + length bs ≤ 2 ^ 32 → length bs ≡ count → IsRowOf (cells_of_change x) (Bytes count address psw) bs
-row-of-bytes x psw address count bs p is all some small e =
-    let none : drop (length (byte_cells address bs)) x.cells ≡ [] = drop_all (length (byte_cells address bs)) x.cells (omega (arith, all, length-byte_cells address bs))
-    in let cells : byte_cells address bs ≡ x.cells = sym (is ∙ ap (λ (cs : List Cell). byte_cells address bs ++ cs) none ∙ append-nil (byte_cells address bs))
+-- a change of the PSW and of one run has the row of a run
+pub row-of-bytes : (x : CoreChange) (psw address count n : ℕ) (bs : List ℕ) → x.psw ≡ Some psw → x.cells ≡ byte_cells address bs ++ drop n x.cells → length (byte_cells address bs) ≤ n
+    → 0 < length (byte_cells address bs) → address + length bs ≤ 2 ^ 32 → length bs ≡ length x.cells → length bs ≡ count → IsRowOf (cells_of_change x) (Bytes count address psw) bs
+row-of-bytes x psw address count n bs p is past some fit all many =
+    let few : length (byte_cells address bs) ≡ length bs = length-byte_cells address bs
+    in let none : drop n x.cells ≡ [] = drop_all n x.cells (omega (arith, few, past, all))
+    in let cells : byte_cells address bs ≡ x.cells = sym (is ∙ ap (λ (l : List Cell). byte_cells address bs ++ l) none ∙ append-nil (byte_cells address bs))
     in record {
       within = tt;
-      over = (refl, e, omega (arith, some, e), omega (arith, small, e));
-      cells_are = rw p (ap (λ (cs : List Cell). psw_cell psw ∷ cs) cells);
+      over = (refl, many, omega (arith, few, some, many), omega (arith, many, fit));
+      cells_are = rw p (ap (λ (l : List Cell). psw_cell psw ∷ l) cells);
     }

@@ -1,18 +1,14 @@
-use Rattle.std.proofs.Common.{◌≡◌, ap, ◌∙◌}
 use Rattle.s360_store.specs.CoreChanges.{cells_of_change}
 use Rattle.s360_machine.specs.Changes.{change_of}
-use Rattle.s360_machine.specs.Change.{after_swap, change_after_swap}
-use Rattle.s360_machine.proofs.SwapLemmas.{IsSwap, IsSwap-from}
+use Rattle.s360_machine.proofs.SwapLemmas.{IsSwap, IsSwap-parts}
 use Rattle.s360_machine.proofs.machine.Machine.swap_all.Goals as goal
 use Rattle.s360_machine.proofs.machine.Machine.swap_all.Goals.{After-exchange_beside}
 
 exchanged : (c : After-exchange_beside) → IsSwap c.args.self.now.whole c.args.changes.now c.exchange_beside.new.self.whole (change_of (cells_of_change c.exchange.new.self) c.exchange_beside.new.beside)
 exchanged c =
-    let machine : c.exchange_beside.new.self.whole ≡ after_swap c.args.self.now.whole c.args.changes.now
-    = rw (c.exchange_beside.ensures.machine, c.exchange.ensures.core) ?
-    in let change : change_of (cells_of_change c.exchange.new.self) c.exchange_beside.new.beside ≡ change_after_swap c.args.self.now.whole c.args.changes.now
-    = ?
-    in IsSwap-from c.args.self.now.whole c.args.changes.now _ _ c.requires.can machine change ?
+    rw (← c.self.view_is, ← c.changes.view_is)
+    (IsSwap-parts _ c.exchange_beside.new.self.whole (cells_of_change c.changes.inside.core) (cells_of_change c.exchange.new.self) c.changes.inside.beside c.exchange_beside.new.beside c.exchange.new.core
+    c.exchange.ensures.core c.exchange_beside.ensures.machine c.exchange.ensures.change c.exchange_beside.ensures.beside (rw (← c.self.view_is, ← c.changes.view_is) at c.requires.can) c.exchange.ensures.fit)
 
 pub returns-clause-again : goal.returns-clause-again
 returns-clause-again c = (exchanged (goal.at.returns-clause-again c).After-exchange_beside).again
