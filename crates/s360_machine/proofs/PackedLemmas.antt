@@ -2,8 +2,7 @@
 use Rattle.std.proofs.Common.{subst, ◌≡◌, ◌<◌, ◌≤◌, ◌+◌, ◌-◌, ◌^◌, ◌++◌, ◌∙◌, ℕ, zero, suc, List, [], ◌∷◌, refl, ap, sym, take, drop, set, get_or, length, reverse, arith, Some, None, append-nil, Option, Bool, true, false}
 use Rattle.std.proofs.lemmas.List.{append_assoc, drop-append-le, drop-drop, drop-take, drop_all, drop_at, length-append, length-drop, length-reverse, length-take-le, reverse-append, take-append-drop, take-take, take_all, take_at, take_more}
 use Rattle.std.specs.List.{slice_get}
-use Rattle.std.specs.Prelude.{Err, IfOk, IfSome, Ok, Result}
-use Rattle.std.specs.declared.alloc.AllocError.{AllocError}
+use Rattle.std.specs.Prelude.{IfSome}
 use Rattle.s360_machine.specs.declared.packed.End.{End}
 use Rattle.s360_machine.specs.declared.row.Row.{Row}
 use Rattle.s360_machine.specs.declared.row.Row.TheVariants.{Nothing, Psw, Register, Bytes, More}
@@ -23,8 +22,6 @@ use Rattle.s360_machine.specs.Machine.{Whole}
 use Rattle.s360_machine.specs.Changes.{change_of, change_of_core, change_with}
 use Rattle.s360_machine.specs.Packed.{ArePacked, HasBefore, HasOwn, IsAppended, IsSwapOf, byte_values, bytes_of_changes, value_if_byte, changes_of_rows, lists, IsEnd, IsWithin, Lists, change_of_row, end_before, joined, lists_from, lists_to, newest, older, others, own, unpacked}
 use Rattle.s360_machine.specs.Rows.{HasNoMore, HasSameCounts, IsOver, IsRowOf, beside_of_row, bytes_of_row, cells_of_row, items_of_row}
-use Rattle.s360_machine.specs.ChangeSpans.{AreSpansOf, spans_of_row}
-use Rattle.s360_machine.proofs.SpanLemmas.{within-own}
 use Rattle.s360_machine.proofs.SwapLemmas.{IsSwap, IsSwap-from, same-change}
 
 -- the end of a list that had more put to it

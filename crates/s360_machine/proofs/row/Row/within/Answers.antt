@@ -1,4 +1,4 @@
-use Rattle.std.proofs.Common.{◌≡◌, ◌∙◌, ℕ, List, Some, None, Option, ap, sym, arith, length}
+use Rattle.std.proofs.Common.{◌≡◌, ◌∙◌, ℕ, Some, sym, arith, length}
 use Rattle.std.specs.Prelude.{Ok, Err, OkIff, Result}
 use Rattle.std.specs.Result.{result_ok}
 use Rattle.s360_store.specs.Items.{IsPartAt}
