@@ -16,7 +16,7 @@ use crate::events::Events;
 use crate::report::{Report, is_idle};
 use crate::standing::{stand, unmake_last};
 use s360_index::Index;
-use s360_machine::{Event, EventKind, Machine, Packed, Refusal};
+use s360_machine::{Changes, Event, EventKind, Machine, Packed, Refusal};
 use s360_store::Place;
 use std::alloc::{AllocError, Global};
 use std::marker::Model;
@@ -39,6 +39,8 @@ pub struct Session {
     changes: Packed,
     /// For each place the numbers of the changes that altered it, counted from 1.
     index: Index,
+    /// What the next event alters, until it stands. It is kept so that its memory is taken once.
+    next: Changes,
     limit: u32,
     alloc: Global,
 }
@@ -68,6 +70,7 @@ impl Session {
             events: Events::new(alloc),
             changes: Packed::new(alloc),
             index: Index::new(alloc),
+            next: Changes::new(alloc),
             limit,
             alloc,
         }
@@ -86,6 +89,7 @@ impl Session {
             events,
             changes,
             index,
+            next: Changes::new(self.alloc),
             limit: self.limit,
             alloc: self.alloc,
         })
@@ -207,7 +211,8 @@ impl Session {
         if let Some(refusal) = self.refusal(&event) {
             return Err(refusal);
         }
-        self.changes.append_event(&mut self.machine, &event)?;
+        self.changes
+            .append_event(&mut self.machine, &event, &mut self.next)?;
         stand(
             &mut self.machine,
             &mut self.events,

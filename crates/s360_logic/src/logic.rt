@@ -74,6 +74,7 @@ fn put_storage<P: Puts>(
 }
 
 /// Puts an instruction by its row in these chapters, if it has one.
+#[inline(never)]
 fn put_own<P: Puts>(form: &Form, view: &View, puts: &mut P) -> Result<Ended, AllocError>
     requires none { HasNoPuts view.now.core (P.made puts.old) (P.may puts.old) (P.past puts.old) (P.count puts.old) }
     ensures { IfOk result (PutsOutcome view.now.core (P.made puts.new) (P.may puts.new) (P.past puts.new) (P.count puts.new) (by_row None (logic_outcome form.now) (status_outcome form.now) view.now)) }
@@ -166,6 +167,7 @@ pub fn with_ored_byte(view: &View, r1: RegisterNumber, bytes: &[u8]) -> ArrayVec
 }
 
 /// Puts an execute: what its subject does, with the next address and the length of the execute.
+#[inline(never)]
 fn put_execute<P: Puts>(
     view: &View,
     r1: RegisterNumber,

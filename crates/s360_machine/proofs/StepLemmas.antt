@@ -33,7 +33,7 @@ use Rattle.s360_channel.specs.ConfiguredUnits.{HasEachUnit, Units}
 use Rattle.s360_machine.specs.ChannelEvents.{ExecutesProgram, IsAlterationOf, StepsTo, after_channel, after_ending, after_execution, execution_at, execution_of, execution_with, media_after, view_of}
 use Rattle.s360_channel.specs.declared.configured_unit.ConfiguredUnit.{ConfiguredUnit}
 use Rattle.s360_machine.specs.Machine.{Control, Machine, Spare, Whole, WholeMedia, WithRoom, seen, seen_media}
-use Rattle.s360_machine.specs.Planned.{IsMediaChangeTo, IsPlanOfMachine, PlansIo, PutsMachine}
+use Rattle.s360_machine.specs.Planned.{IsMediaChangeTo, IsPlanOfMachine, PlansIo}
 use Rattle.s360_channel.specs.ConfiguredUnits.{control_of, with_control_of}
 use Rattle.s360_channel.proofs.UnitChangeLemmas.{IsUnitsChangeTo-one}
 use Rattle.s360_machine.proofs.IoLemmas.{IsDeviceStep, device-becomes, device-stays}
@@ -47,17 +47,6 @@ pub IsPlanOfMachine-from : (w : Whole) (n : Machine) (plan : List Cell) (planned
     → IsPlanOfMachine w plan planned n
 IsPlanOfMachine-from w n plan planned us ms core io u x = record {
   core = core;
-  control = io.control;
-  units = rw io.units u;
-  media = rw io.media x;
-}
-
-pub PutsMachine-from : (w : Whole) (n : Machine) (made : Core → Core) (may : Core → Type 0) (planned : PlannedEvent) (us : Option UnitChange) (ms : Option MediaChange)
-    → made w.core ≡ n.core → may w.core → PlansIo planned n.control us ms → IsUnitsChangeTo w.units us n.units → IsMediaChangeTo w.media ms n.media
-    → PutsMachine w made may planned n
-PutsMachine-from w n made may planned us ms core allowed io u x = record {
-  core = core;
-  allowed = allowed;
   control = io.control;
   units = rw io.units u;
   media = rw io.media x;

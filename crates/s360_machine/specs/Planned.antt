@@ -42,14 +42,21 @@ pub record IsPlanOfMachine (w : Whole) (plan : List Cell) (planned : PlannedEven
   pub units : IsUnitsChangeTo w.units planned.units n.units
   pub media : IsMediaChangeTo w.media planned.media n.media
 
--- puts make the core of a machine out of that of a whole, and may be made in it, and what was planned beside it makes
--- the other parts
-pub record PutsMachine (w : Whole) (made : Core → Core) (may : Core → Type 0) (planned : PlannedEvent) (n : Machine) : Type 0 where
+-- what stands beside the core makes the other parts of a machine out of those of a whole
+pub record MakesOthers (w : Whole) (b : Beside) (n : Machine) : Type 0 where
+  pub control : IsControlChangeTo w.control (control_cells b.control) n.control
+  pub units : IsUnitsChangeTo w.units b.units n.units
+  pub media : IsMediaChangeTo w.media b.media n.media
+
+-- it leaves them
+abbrev pub LeavesOthers : Whole → Beside → Type 0
+LeavesOthers w b = MakesOthers w b (seen w)
+
+-- puts make the core of a machine out of that of a whole, and may be made in it, and what stands beside makes the rest
+pub record PutsMachine (w : Whole) (made : Core → Core) (may : Core → Type 0) (b : Beside) (n : Machine) : Type 0 where
   pub core : made w.core ≡ n.core
   pub allowed : may w.core
-  pub control : planned.control ≡ n.control
-  pub units : IsUnitsChangeTo w.units planned.units n.units
-  pub media : IsMediaChangeTo w.media planned.media n.media
+  pub others : MakesOthers w b n
 
 -- what was planned has this control part, and alters this of the units
 pub record PlansIo (planned : PlannedEvent) (c : Control) (us : Option UnitChange) (ms : Option MediaChange) : Type 0 where

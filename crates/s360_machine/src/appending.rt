@@ -12,6 +12,7 @@ ghost use Rattle.s360_machine.specs.Step.{after};
 ghost use Rattle.s360_machine.specs.declared.refusal.Refusal.TheVariants.{Memory};
 
 use crate::beside::Beside;
+use crate::changes::Changes;
 use crate::event::Event;
 use crate::machine::Machine;
 use crate::packed::Packed;
@@ -19,20 +20,21 @@ use crate::refusal::Refusal;
 use crate::row::Row;
 use s360_store::{CoreChange, Item};
 use std::alloc::AllocError;
+use std::mem;
 
 /// So few bytes are copied one by one: to copy them at once would be a call.
 const FEW: usize = 8;
 
-/// Adds what is beside the core to a list that has room for it, if there is anything, and says whether there is.
-fn push_if_any(list: &mut Vec<Beside>, beside: Beside) -> bool
+/// Moves what is beside the core to a list that has room for it, if there is anything, and says whether there is.
+fn push_if_any(list: &mut Vec<Beside>, beside: &mut Beside) -> bool
     requires { vec_len list.old < vec_capacity list.old }
-    ensures some { IsTrue result → list.new.items ≡ list.old.items ++ beside ∷ [] }
-    ensures none { result ≡ false → (list.new.items ≡ list.old.items) × IsNothing beside }
+    ensures some { IsTrue result → list.new.items ≡ list.old.items ++ beside.old ∷ [] }
+    ensures none { result ≡ false → (list.new.items ≡ list.old.items) × IsNothing beside.old }
 {
     if beside.is_empty() {
         return false;
     }
-    list.push_reserved(beside);
+    list.push_reserved(mem::replace(beside, Beside::nothing()));
     true
 }
 
@@ -41,13 +43,13 @@ fn push_if_any(list: &mut Vec<Beside>, beside: Beside) -> bool
 #[inline(never)]
 fn append_full(
     core: &CoreChange,
-    beside: Beside,
+    beside: &mut Beside,
     items: &mut Vec<Item>,
     bytes: &mut Vec<u8>,
     list: &mut Vec<Beside>,
 ) -> Result<Row, AllocError>
     requires { AllFit true (cells_of_change core.now) }
-    ensures ok { IfOk result (λ row. IsAppended (lists items.old.items bytes.old.items list.old.items) (lists items.new.items bytes.new.items list.new.items) row (change_of (cells_of_change core.now) beside)) }
+    ensures ok { IfOk result (λ row. IsAppended (lists items.old.items bytes.old.items list.old.items) (lists items.new.items bytes.new.items list.new.items) row (change_of (cells_of_change core.now) beside.old)) }
     ensures err_items { OnErr result (items.new.items ≡ items.old.items) }
     ensures err_bytes { OnErr result (bytes.new.items ≡ bytes.old.items) }
     ensures err_list { OnErr result (list.new.items ≡ list.old.items) }
@@ -84,13 +86,13 @@ fn push_run(list: &mut Vec<u8>, run: &[u8]) -> Result<(), AllocError>
 #[inline(always)]
 pub(crate) fn append_parts(
     core: &CoreChange,
-    beside: Beside,
+    beside: &mut Beside,
     items: &mut Vec<Item>,
     bytes: &mut Vec<u8>,
     list: &mut Vec<Beside>,
 ) -> Result<Row, AllocError>
     requires { AllFit true (cells_of_change core.now) }
-    ensures ok { IfOk result (λ row. IsAppended (lists items.old.items bytes.old.items list.old.items) (lists items.new.items bytes.new.items list.new.items) row (change_of (cells_of_change core.now) beside)) }
+    ensures ok { IfOk result (λ row. IsAppended (lists items.old.items bytes.old.items list.old.items) (lists items.new.items bytes.new.items list.new.items) row (change_of (cells_of_change core.now) beside.old)) }
     ensures err_items { OnErr result (items.new.items ≡ items.old.items) }
     ensures err_bytes { OnErr result (bytes.new.items ≡ bytes.old.items) }
     ensures err_list { OnErr result (list.new.items ≡ list.old.items) }
@@ -105,19 +107,27 @@ pub(crate) fn append_parts(
 }
 
 impl Packed {
-    /// Adds what an event alters at the end, for which it makes room in the machine, or says why it is refused. Want of
-    /// memory leaves the list as it was.
+    /// Adds what an event alters at the end, for which it makes room in the machine, or says why it is refused. The change
+    /// is put together in `next`, of which the memory is used again. Want of memory leaves the list as it was.
     #[inline(always)]
-    pub fn append_event(&mut self, machine: &mut Machine, event: &Event) -> Result<(), Refusal>
+    pub fn append_event(
+        &mut self,
+        machine: &mut Machine,
+        event: &Event,
+        next: &mut Changes,
+    ) -> Result<(), Refusal>
         requires few { length self.old < 10000000 }
         ensures ok { OnOk result (AppendsChangeTo machine.old.whole machine.new.spare self.old self.new (after (seen machine.old.whole) event.now)) }
         ensures refused { MatchOption (refusal_of (storage_size (seen machine.old.whole)) event.now) (IsOkUnless result Memory) (λ r. result ≡ Err r) }
         ensures err { OnErr result (self.new ≡ self.old) }
         ensures whole { machine.new.whole ≡ machine.old.whole }
     {
-        let changes = machine.plan(event)?;
-        machine.room(&changes)?;
-        self.append(changes)?;
+        if let Some(refusal) = machine.refusal(event) {
+            return Err(refusal);
+        }
+        machine.put_changes(event, next)?;
+        machine.room(next)?;
+        self.append_from(next)?;
         Ok(())
     }
 }

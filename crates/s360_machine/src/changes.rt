@@ -1,14 +1,15 @@
 //! What an event alters, ready to be exchanged with the machine.
-ghost use Rattle.std.specs.Prelude.{◌≡◌, ◌<◌, length, slice_get, true, Some};
+ghost use Rattle.std.specs.Prelude.{◌≡◌, ◌<◌, [], length, slice_get, true, Some};
 ghost use Rattle.std.specs.Option.{option_copied};
 ghost use Rattle.s360_store.specs.Cells.{AllFit};
 ghost use Rattle.s360_store.specs.CoreChanges.{cells_of_change};
 ghost use Rattle.s360_machine.specs.Change.{places_of_change};
-ghost use Rattle.s360_machine.specs.Changes.{change_of};
+ghost use Rattle.s360_machine.specs.Changes.{change_of, change_of_core};
 
 use crate::beside::Beside;
 use crate::media::MediaChange;
 use s360_store::{CoreChange, Place};
+use std::alloc::Global;
 use std::marker::Model;
 
 /// The places that an event alters, in their order, each with the value that stands there while the
@@ -40,23 +41,14 @@ impl Model for Changes {
 }
 
 impl Changes {
-    /// A change of the core and of this beside it.
-    #[inline(always)]
-    pub(crate) fn of(core: CoreChange, beside: Beside) -> Changes
-        requires fit { AllFit true (cells_of_change core) }
-        ensures { result ≡ change_of (cells_of_change core) beside }
+    /// No change. It takes no memory.
+    pub fn new(alloc: Global) -> Changes
+        ensures { result ≡ change_of_core [] }
     {
-        Changes { core, beside }
-    }
-
-    /// Its parts.
-    #[inline(always)]
-    pub(crate) fn into_parts(self) -> (CoreChange, Beside)
-        ensures parts { change_of (cells_of_change result.0) result.1 ≡ self }
-        ensures fit { AllFit true (cells_of_change result.0) }
-    {
-        let Changes { core, beside } = self;
-        (core, beside)
+        Changes {
+            core: CoreChange::new(alloc),
+            beside: Beside::nothing(),
+        }
     }
 
     /// What it alters of the media, if it alters any.

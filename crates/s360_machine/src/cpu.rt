@@ -1,6 +1,6 @@
 //! One CPU event: an interruption, or one instruction with the interruption that it causes. Source:
 //! GA22-6821, "Interruptions", "Status Switching" and "System Structure", program execution.
-ghost use Rattle.std.specs.Prelude.{◌≡◌, IfErr, IfOk, Some};
+ghost use Rattle.std.specs.Prelude.{◌≡◌, IfErr, IfOk, OnOk, Some};
 ghost use Rattle.s360_model.specs.Psw.{instruction_address_of};
 ghost use Rattle.s360_fixed.specs.ProgramCodes.{program_code};
 ghost use Rattle.s360_logic.specs.Instruction.{PutsInstruction, conditions_at, instruction};
@@ -8,12 +8,13 @@ ghost use Rattle.s360_psw.specs.Pending.{next_interruption_of};
 ghost use Rattle.s360_machine.specs.Cpu.{after_case, after_cpu, after_external, after_instruction};
 ghost use Rattle.s360_machine.specs.Cpu.{cpu_case, pending_of};
 ghost use Rattle.s360_machine.specs.Machine.{seen};
-ghost use Rattle.s360_machine.specs.Planned.{PutsMachine};
+ghost use Rattle.s360_machine.specs.Planned.{LeavesOthers, PutsMachine};
 ghost use Rattle.s360_store.specs.Puts.{HasNoPuts};
 ghost use Rattle.s360_machine.specs.declared.cpu.CpuCase.TheVariants.{Interrupted};
 
+use crate::beside::Beside;
 use crate::interruption::put_interruption;
-use crate::machine::{Machine, PlannedEvent};
+use crate::machine::Machine;
 use s360_fixed::{Ended, ProgramCode};
 use s360_logic::{Fetched, PlannedInstruction};
 use s360_psw::{Class, InstructionLength, Pending, next_interruption};
@@ -85,72 +86,83 @@ impl Machine {
 
     /// Puts a CPU event.
     #[inline(always)]
-    pub(crate) fn put_cpu<P: Puts>(&self, puts: &mut P) -> Result<PlannedEvent, AllocError>
+    pub(crate) fn put_cpu<P: Puts>(&self, puts: &mut P, beside: &mut Beside) -> Result<(), AllocError>
         requires none { HasNoPuts self.now.whole.core (P.made puts.old) (P.may puts.old) (P.past puts.old) (P.count puts.old) }
-        ensures { IfOk result (λ planned. PutsMachine self.now.whole (P.made puts.new) (P.may puts.new) planned (after_cpu (seen self.now.whole))) }
+        requires leaves { LeavesOthers self.now.whole beside.old }
+        ensures { OnOk result (PutsMachine self.now.whole (P.made puts.new) (P.may puts.new) beside.new (after_cpu (seen self.now.whole))) }
     {
         match self.cpu_case() {
-            CpuCase::Executing => self.put_instruction(puts),
-            CpuCase::Interrupted(class) => self.put_pending(class, puts),
-            CpuCase::Halted | CpuCase::Waiting => Ok(self.planned(self.control)),
+            CpuCase::Executing => self.put_instruction(puts, beside),
+            CpuCase::Interrupted(class) => self.put_pending(class, puts, beside),
+            CpuCase::Halted | CpuCase::Waiting => Ok(()),
         }
     }
 
     /// Puts a pending interruption. No other class waits for its mask.
     #[inline(never)]
-    fn put_pending<P: Puts>(&self, class: Class, puts: &mut P) -> Result<PlannedEvent, AllocError>
+    fn put_pending<P: Puts>(
+        &self,
+        class: Class,
+        puts: &mut P,
+        beside: &mut Beside,
+    ) -> Result<(), AllocError>
         requires none { HasNoPuts self.now.whole.core (P.made puts.old) (P.may puts.old) (P.past puts.old) (P.count puts.old) }
-        ensures { IfOk result (λ planned. PutsMachine self.now.whole (P.made puts.new) (P.may puts.new) planned (after_case (Interrupted class) (seen self.now.whole))) }
+        requires leaves { LeavesOthers self.now.whole beside.old }
+        ensures { OnOk result (PutsMachine self.now.whole (P.made puts.new) (P.may puts.new) beside.new (after_case (Interrupted class) (seen self.now.whole))) }
     {
         match class {
-            Class::External => self.put_external(puts),
-            Class::InputOutput => self.put_input_output(puts),
-            Class::Supervisor | Class::Program | Class::MachineCheck => {
-                Ok(self.planned(self.control))
-            }
+            Class::External => self.put_external(puts, beside),
+            Class::InputOutput => self.put_input_output(puts, beside),
+            Class::Supervisor | Class::Program | Class::MachineCheck => Ok(()),
         }
     }
 
     /// Puts an external interruption, in which all pending conditions go.
-    fn put_external<P: Puts>(&self, puts: &mut P) -> Result<PlannedEvent, AllocError>
+    fn put_external<P: Puts>(&self, puts: &mut P, beside: &mut Beside) -> Result<(), AllocError>
         requires none { HasNoPuts self.now.whole.core (P.made puts.old) (P.may puts.old) (P.past puts.old) (P.count puts.old) }
-        ensures { IfOk result (λ planned. PutsMachine self.now.whole (P.made puts.new) (P.may puts.new) planned (after_external (seen self.now.whole))) }
+        requires leaves { LeavesOthers self.now.whole beside.old }
+        ensures { OnOk result (PutsMachine self.now.whole (P.made puts.new) (P.may puts.new) beside.new (after_external (seen self.now.whole))) }
     {
         let code = self.control.external().code();
         let (core, length) = (&self.core, InstructionLength::NotAvailable);
         put_interruption(core, Class::External, core.psw(), code, length, puts)?;
-        Ok(self.planned(self.control.without_external()))
+        beside.control = self.control.changes_to(&self.control.without_external());
+        Ok(())
     }
 
     /// Puts an instruction, with the program or the supervisor call interruption that it causes.
     #[inline(always)]
-    fn put_instruction<P: Puts>(&self, puts: &mut P) -> Result<PlannedEvent, AllocError>
+    fn put_instruction<P: Puts>(&self, puts: &mut P, beside: &mut Beside) -> Result<(), AllocError>
         requires none { HasNoPuts self.now.whole.core (P.made puts.old) (P.may puts.old) (P.past puts.old) (P.count puts.old) }
-        ensures { IfOk result (λ planned. PutsMachine self.now.whole (P.made puts.new) (P.may puts.new) planned (after_instruction (seen self.now.whole))) }
+        requires leaves { LeavesOthers self.now.whole beside.old }
+        ensures { OnOk result (PutsMachine self.now.whole (P.made puts.new) (P.may puts.new) beside.new (after_instruction (seen self.now.whole))) }
     {
         let planned = s360_logic::put_instruction(&self.core, puts)?;
         match planned.ended {
-            Ended::Done => Ok(self.planned(self.control)),
-            _ => self.put_ended(planned, puts),
+            Ended::Done => Ok(()),
+            _ => self.put_ended(planned, puts, beside),
         }
     }
 
     /// Puts the end of an instruction that was put, with the program or the supervisor call interruption that it
     /// causes.
+    #[inline(never)]
     fn put_ended<P: Puts>(
         &self,
         planned: PlannedInstruction,
         puts: &mut P,
-    ) -> Result<PlannedEvent, AllocError>
+        beside: &mut Beside,
+    ) -> Result<(), AllocError>
         requires planned { PutsInstruction self.now.whole.core (P.made puts.old) (P.may puts.old) (P.past puts.old) (P.count puts.old) (instruction self.now.whole.core) planned }
-        ensures { IfOk result (λ planned. PutsMachine self.now.whole (P.made puts.new) (P.may puts.new) planned (after_instruction (seen self.now.whole))) }
+        requires leaves { LeavesOthers self.now.whole beside.old }
+        ensures { OnOk result (PutsMachine self.now.whole (P.made puts.new) (P.may puts.new) beside.new (after_instruction (seen self.now.whole))) }
     {
         let (class, code) = match planned.ended {
-            Ended::Done => return Ok(self.planned(self.control)),
+            Ended::Done => return Ok(()),
             Ended::Program(code) => (Class::Program, code.number()),
             Ended::Svc(code) => (Class::Supervisor, u16::from(code)),
             Ended::Io(operation, unit) => {
-                return self.put_io(operation, unit, planned.next_address, puts);
+                return self.put_io(operation, unit, planned.next_address, puts, beside);
             }
         };
         let psw = puts
@@ -163,7 +175,6 @@ impl Machine {
             code,
             planned.instruction_length,
             puts,
-        )?;
-        Ok(self.planned(self.control))
+        )
     }
 }

@@ -1,14 +1,13 @@
 //! The events of the machine, each of which is taken back as one change.
-ghost use Rattle.std.specs.Prelude.{◌≡◌, ◌<◌, ◌/◌, None, IfOk, OnOk, length};
+ghost use Rattle.std.specs.Prelude.{◌≡◌, ◌<◌, ◌/◌, None, OnOk, length};
 ghost use Rattle.s360_model.specs.Core.{core_with_fetch_bit, core_with_storage_key};
 ghost use Rattle.s360_model.specs.Storage.{block_size};
 ghost use Rattle.s360_store.specs.Puts.{HasNoPuts};
 ghost use Rattle.s360_machine.specs.Machine.{seen, storage_size};
-ghost use Rattle.s360_machine.specs.Planned.{PutsMachine};
 ghost use Rattle.s360_machine.specs.Refusals.{refusal_of_patch};
 ghost use Rattle.s360_machine.specs.Step.{after_patch};
 
-use crate::machine::{Machine, PlannedEvent};
+use crate::machine::Machine;
 use crate::operator::Key;
 use s360_psw::Psw;
 use s360_store::{BLOCK_SIZE, BlockKey, Bytes, Core, Puts};
@@ -96,8 +95,9 @@ fn put_fetch_bit<P: Puts>(core: &Core, at: u32, on: bool, puts: &mut P) -> Resul
 }
 
 impl Machine {
-    /// Puts a patch.
-    fn put_patched<P: Puts>(&self, patch: &Patch, puts: &mut P) -> Result<(), AllocError>
+    /// Puts a patch, which leaves all beside the core.
+    #[inline(never)]
+    pub(crate) fn put_patch<P: Puts>(&self, patch: &Patch, puts: &mut P) -> Result<(), AllocError>
         requires none { HasNoPuts self.now.whole.core (P.made puts.old) (P.may puts.old) (P.past puts.old) (P.count puts.old) }
         requires accepted { refusal_of_patch (storage_size (seen self.now.whole)) patch.now ≡ None }
         ensures made { OnOk result (P.made puts.new self.now.whole.core ≡ (after_patch (seen self.now.whole) patch.now).core) }
@@ -111,19 +111,5 @@ impl Machine {
             Patch::FetchBit { at, on } => put_fetch_bit(core, *at, *on, puts),
             Patch::Psw(doubleword) => puts.put_psw(core, Psw::from_u64(*doubleword)),
         }
-    }
-
-    /// Puts a patch, which leaves all beside the core.
-    pub(crate) fn put_patch<P: Puts>(
-        &self,
-        patch: &Patch,
-        puts: &mut P,
-    ) -> Result<PlannedEvent, AllocError>
-        requires none { HasNoPuts self.now.whole.core (P.made puts.old) (P.may puts.old) (P.past puts.old) (P.count puts.old) }
-        requires accepted { refusal_of_patch (storage_size (seen self.now.whole)) patch.now ≡ None }
-        ensures { IfOk result (λ planned. PutsMachine self.now.whole (P.made puts.new) (P.may puts.new) planned (after_patch (seen self.now.whole) patch.now)) }
-    {
-        self.put_patched(patch, puts)?;
-        Ok(self.planned(self.control))
     }
 }

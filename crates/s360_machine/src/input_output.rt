@@ -1,6 +1,6 @@
 //! What the CPU does with the channels: the input/output instructions, and the input/output
 //! interruption. Source: GA22-6821, "Input/Output Operations".
-ghost use Rattle.std.specs.Prelude.{ℕ, ◌≡◌, ◌≤◌, IfOk, OnOk};
+ghost use Rattle.std.specs.Prelude.{ℕ, ◌≡◌, ◌≤◌, OnOk};
 ghost use Rattle.s360_store.specs.Puts.{HasNoPuts};
 ghost use Rattle.s360_store.specs.declared.place.Place.TheVariants.{Byte};
 ghost use Rattle.s360_psw.specs.declared.class.Class.TheVariants.{InputOutput};
@@ -13,9 +13,10 @@ ghost use Rattle.s360_machine.specs.InputOutput.{after_input_output, after_io, a
 ghost use Rattle.s360_machine.specs.InputOutput.{core_after_io, core_with_csw, io_result};
 ghost use Rattle.s360_machine.specs.Interruptions.{after_interruption};
 ghost use Rattle.s360_machine.specs.Machine.{seen};
-ghost use Rattle.s360_machine.specs.Planned.{PutsMachine};
+ghost use Rattle.s360_machine.specs.Planned.{LeavesOthers, PutsMachine};
 
-use crate::machine::{Machine, PlannedEvent};
+use crate::beside::Beside;
+use crate::machine::Machine;
 use s360_channel::{
     Condition, ConfiguredUnit, Csw, CswStore, IoResult, UnitAfter, UnitChange, halt, start,
     status_halfword, test, test_channel,
@@ -120,31 +121,35 @@ impl Machine {
         unit: Unit,
         next_address: u32,
         puts: &mut P,
-    ) -> Result<PlannedEvent, AllocError>
+        beside: &mut Beside,
+    ) -> Result<(), AllocError>
         requires none { HasNoPuts self.now.whole.core (P.made puts.old) (P.may puts.old) (P.past puts.old) (P.count puts.old) }
-        ensures { IfOk result (λ planned. PutsMachine self.now.whole (P.made puts.new) (P.may puts.new) planned (after_io operation unit next_address (seen self.now.whole))) }
+        requires leaves { LeavesOthers self.now.whole beside.old }
+        ensures { OnOk result (PutsMachine self.now.whole (P.made puts.new) (P.may puts.new) beside.new (after_io operation unit next_address (seen self.now.whole))) }
     {
         let done = self.io_result(operation, unit);
         put_io_result(&self.core, &done, next_address, puts)?;
-        Ok(PlannedEvent {
-            control: self.control,
-            units: self.change_after_io(done.unit),
-            media: None,
-        })
+        beside.units = self.change_after_io(done.unit);
+        Ok(())
     }
 
     /// Puts an input/output interruption: the condition of the lowest unit whose channel the PSW
     /// lets interrupt is taken.
-    pub(crate) fn put_input_output<P: Puts>(&self, puts: &mut P) -> Result<PlannedEvent, AllocError>
+    pub(crate) fn put_input_output<P: Puts>(
+        &self,
+        puts: &mut P,
+        beside: &mut Beside,
+    ) -> Result<(), AllocError>
         requires none { HasNoPuts self.now.whole.core (P.made puts.old) (P.may puts.old) (P.past puts.old) (P.count puts.old) }
-        ensures { IfOk result (λ planned. PutsMachine self.now.whole (P.made puts.new) (P.may puts.new) planned (after_input_output (seen self.now.whole))) }
+        requires leaves { LeavesOthers self.now.whole beside.old }
+        ensures { OnOk result (PutsMachine self.now.whole (P.made puts.new) (P.may puts.new) beside.new (after_input_output (seen self.now.whole))) }
     {
         let Some(unit) = self.interrupting_unit() else {
-            return Ok(self.planned(self.control));
+            return Ok(());
         };
         match self.units.control(unit).condition() {
-            Some(condition) => self.put_taking(unit, condition, puts),
-            None => Ok(self.planned(self.control)),
+            Some(condition) => self.put_taking(unit, condition, puts, beside),
+            None => Ok(()),
         }
     }
 
@@ -154,16 +159,15 @@ impl Machine {
         unit: ConfiguredUnit,
         condition: Condition,
         puts: &mut P,
-    ) -> Result<PlannedEvent, AllocError>
+        beside: &mut Beside,
+    ) -> Result<(), AllocError>
         requires none { HasNoPuts self.now.whole.core (P.made puts.old) (P.may puts.old) (P.past puts.old) (P.count puts.old) }
-        ensures { IfOk result (λ planned. PutsMachine self.now.whole (P.made puts.new) (P.may puts.new) planned (after_taking unit condition (seen self.now.whole))) }
+        requires leaves { LeavesOthers self.now.whole beside.old }
+        ensures { OnOk result (PutsMachine self.now.whole (P.made puts.new) (P.may puts.new) beside.new (after_taking unit condition (seen self.now.whole))) }
     {
         let Condition { csw, unit: next } = condition;
         put_taken(&self.core, unit.unit().address(), csw, puts)?;
-        Ok(PlannedEvent {
-            control: self.control,
-            units: self.units.change_of(unit, next),
-            media: None,
-        })
+        beside.units = self.units.change_of(unit, next);
+        Ok(())
     }
 }

@@ -1,17 +1,17 @@
 //! The keys of the operator. Source: GA22-6821, "System Control Panel", and the component
 //! description of the 1052.
-ghost use Rattle.std.specs.Prelude.{◌≡◌, [], None, IfOk};
+ghost use Rattle.std.specs.Prelude.{◌≡◌, None, IfOk, OnOk};
 ghost use Rattle.s360_channel.specs.UnitChanges.{IsUnitsChangeTo};
 ghost use Rattle.s360_machine.specs.Loading.{units_after_reset};
 ghost use Rattle.s360_machine.specs.Machine.{seen};
 ghost use Rattle.s360_machine.specs.Operator.{after_key, units_after_key};
-ghost use Rattle.s360_machine.specs.Planned.{IsPlanOfMachine, PutsMachine};
-ghost use Rattle.s360_store.specs.Puts.{HasNoPuts};
+ghost use Rattle.s360_machine.specs.Planned.{MakesOthers};
 ghost use Rattle.s360_machine.specs.Refusals.{refusal_of_key};
 
-use crate::machine::{Machine, PlannedEvent};
+use crate::beside::Beside;
+use crate::machine::Machine;
 use s360_channel::{ConfiguredUnit, Program, UnitChange, UnitControl, UnitState, Units};
-use s360_store::{Bytes, Puts};
+use s360_store::Bytes;
 use s360_word::Unit;
 use std::alloc::AllocError;
 
@@ -84,34 +84,15 @@ impl Machine {
         }
     }
 
-    /// Plans that a key is pressed, which leaves the core.
+    /// Puts beside the core that a key is pressed, which leaves the core.
     #[inline(never)]
-    fn plan_key(&self, key: &Key) -> Result<PlannedEvent, AllocError>
+    pub(crate) fn put_key(&self, key: &Key, beside: &mut Beside) -> Result<(), AllocError>
         requires accepted { refusal_of_key key.now ≡ None }
-        ensures { IfOk result (λ planned. IsPlanOfMachine self.now.whole [] planned (after_key (seen self.now.whole) key.now)) }
+        ensures { OnOk result (MakesOthers self.now.whole beside.new (after_key (seen self.now.whole) key.now)) }
     {
-        let control = self.control.after_key(key);
-        let units = self.change_of_key(key)?;
-        let media = self.devices.change_of_key(key)?;
-        Ok(PlannedEvent {
-            control,
-            units,
-            media,
-        })
-    }
-
-    /// Puts that a key is pressed.
-    #[inline(never)]
-    pub(crate) fn put_key<P: Puts>(
-        &self,
-        key: &Key,
-        puts: &mut P,
-    ) -> Result<PlannedEvent, AllocError>
-        requires none { HasNoPuts self.now.whole.core (P.made puts.old) (P.may puts.old) (P.past puts.old) (P.count puts.old) }
-        requires accepted { refusal_of_key key.now ≡ None }
-        ensures { IfOk result (λ planned. PutsMachine self.now.whole (P.made puts.new) (P.may puts.new) planned (after_key (seen self.now.whole) key.now)) }
-    {
-        let _ = puts;
-        self.plan_key(key)
+        beside.control = self.control.changes_to(&self.control.after_key(key));
+        beside.units = self.change_of_key(key)?;
+        beside.media = self.devices.change_of_key(key)?;
+        Ok(())
     }
 }

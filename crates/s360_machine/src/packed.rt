@@ -179,17 +179,25 @@ impl Packed {
     }
 
     /// Adds a change at the end. Want of memory leaves the list as it was, and the change is dropped.
-    #[inline(always)]
-    pub fn append(&mut self, changes: Changes) -> Result<(), AllocError>
+    pub fn append(&mut self, mut changes: Changes) -> Result<(), AllocError>
         requires { length self.old < 10000000 }
         ensures ok { OnOk result (self.new ≡ self.old ++ changes ∷ []) }
         ensures err { OnErr result (self.new ≡ self.old) }
     {
+        self.append_from(&mut changes)
+    }
+
+    /// Adds a change at the end, of which the parts are taken. Want of memory leaves the list as it was.
+    #[inline(always)]
+    pub(crate) fn append_from(&mut self, changes: &mut Changes) -> Result<(), AllocError>
+        requires { length self.old < 10000000 }
+        ensures ok { OnOk result (self.new ≡ self.old ++ changes.old ∷ []) }
+        ensures err { OnErr result (self.new ≡ self.old) }
+    {
         self.rows.reserve(1)?;
-        let (core, beside) = changes.into_parts();
         let row = append_parts(
-            &core,
-            beside,
+            &changes.core,
+            &mut changes.beside,
             &mut self.items,
             &mut self.bytes,
             &mut self.beside,

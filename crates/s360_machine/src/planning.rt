@@ -1,15 +1,19 @@
 //! What an event alters: it is planned, and what the plan alters is its change.
-ghost use Rattle.std.specs.Prelude.{◌≡◌, None, Err, IfOk, IsOkUnless, MatchOption};
+ghost use Rattle.std.specs.Prelude.{◌≡◌, [], true, None, Err, IfOk, IsOkUnless, MatchOption, OnOk};
+ghost use Rattle.s360_store.specs.Cells.{AllFit};
+ghost use Rattle.s360_store.specs.CoreChanges.{cells_of_change};
 ghost use Rattle.s360_store.specs.Puts.{HasNoPuts};
 ghost use Rattle.s360_machine.specs.ChannelEvents.{after_channel_event};
-ghost use Rattle.s360_machine.specs.Machine.{Machine as SeenMachine, storage_size, seen};
+ghost use Rattle.s360_machine.specs.Changes.{change_of};
+ghost use Rattle.s360_machine.specs.Machine.{storage_size, seen};
 ghost use Rattle.s360_machine.specs.Operator.{after_key};
-ghost use Rattle.s360_machine.specs.Planned.{IsChangeTo, IsOfNoChannel, LeavesUnits, PutsMachine};
+ghost use Rattle.s360_machine.specs.Planned.{IsChangeTo, IsOfNoChannel, LeavesOthers, LeavesUnits, PutsMachine};
 ghost use Rattle.s360_machine.specs.Refusals.{refusal_of, refusal_of_key, refusal_of_patch};
 ghost use Rattle.s360_machine.specs.Step.{after, after_patch};
 ghost use Rattle.s360_machine.specs.Timer.{after_tick};
 ghost use Rattle.s360_machine.specs.declared.refusal.Refusal.TheVariants.{Memory};
 
+use crate::beside::Beside;
 use crate::changes::Changes;
 use crate::control::Control;
 use crate::event::Event;
@@ -22,7 +26,6 @@ use std::alloc::AllocError;
 
 impl Machine {
     /// What an event alters, or why it is refused.
-    #[inline(always)]
     pub fn plan(&self, event: &Event) -> Result<Changes, Refusal>
         ensures ok { IfOk result (λ changes. IsChangeTo self.now.whole changes (after (seen self.now.whole) event.now)) }
         ensures refused { MatchOption (refusal_of (storage_size (seen self.now.whole)) event.now) (IsOkUnless result Memory) (λ r. result ≡ Err r) }
@@ -46,44 +49,89 @@ impl Machine {
 
     /// Puts an event that is none of a channel, unless it is refused for its own sake (refusals 2 to 5).
     #[inline(always)]
-    fn put_event<P: Puts>(&self, event: &Event, puts: &mut P) -> Result<PlannedEvent, AllocError>
+    fn put_event<P: Puts>(
+        &self,
+        event: &Event,
+        puts: &mut P,
+        beside: &mut Beside,
+    ) -> Result<(), AllocError>
         requires none { HasNoPuts self.now.whole.core (P.made puts.old) (P.may puts.old) (P.past puts.old) (P.count puts.old) }
+        requires leaves { LeavesOthers self.now.whole beside.old }
         requires accepted { refusal_of (storage_size (seen self.now.whole)) event.now ≡ None }
         requires channel { IsOfNoChannel event.now }
-        ensures { IfOk result (λ planned. PutsMachine self.now.whole (P.made puts.new) (P.may puts.new) planned (after (seen self.now.whole) event.now)) }
+        ensures { OnOk result (PutsMachine self.now.whole (P.made puts.new) (P.may puts.new) beside.new (after (seen self.now.whole) event.now)) }
     {
         match event {
-            Event::Cpu => self.put_cpu(puts),
-            Event::Tick => self.put_tick(puts),
-            Event::Key(key) => self.put_key(key, puts),
+            Event::Cpu => self.put_cpu(puts, beside),
+            Event::Tick => self.put_tick(puts, beside),
+            Event::Key(key) => self.put_key(key, beside),
             Event::Patch(patch) => self.put_patch(patch, puts),
             Event::Channel(_) => unreachable!(),
         }
     }
 
-    /// What an event alters, unless it is refused for its own sake (refusals 2 to 5).
-    #[inline(always)]
-    pub(crate) fn changes_of(&self, event: &Event) -> Result<Changes, AllocError>
-        requires accepted { refusal_of (storage_size (seen self.now.whole)) event.now ≡ None }
-        ensures { IfOk result (λ changes. IsChangeTo self.now.whole changes (after (seen self.now.whole) event.now)) }
-    {
-        if let Event::Channel(unit) = event {
-            return self.changes_of_channel(*unit);
-        }
-        let mut core = CoreChange::new(self.alloc);
-        let planned = self.put_event(event, &mut core)?;
-        Ok(Changes::of(core, planned.into_beside(&self.control)))
-    }
-
-    /// What a channel event of a unit alters.
+    /// Puts a channel event of a unit, which is planned first.
     #[inline(never)]
-    fn changes_of_channel(&self, unit: Unit) -> Result<Changes, AllocError>
-        ensures { IfOk result (λ changes. IsChangeTo self.now.whole changes (after_channel_event unit (seen self.now.whole))) }
+    fn put_channel(
+        &self,
+        unit: Unit,
+        core: &mut CoreChange,
+        beside: &mut Beside,
+    ) -> Result<(), AllocError>
+        ensures change { OnOk result (IsChangeTo self.now.whole (change_of (cells_of_change core.new) beside.new) (after_channel_event unit (seen self.now.whole))) }
+        ensures fit { OnOk result (AllFit true (cells_of_change core.new)) }
     {
         let mut plan = Plan::new(self.alloc);
         let planned = self.plan_channel(unit, &mut plan)?;
         let cells = changes_of_plan(&self.core, self.alloc, &plan)?;
-        let beside = planned.into_beside(&self.control);
-        Ok(Changes::of(CoreChange::of(cells), beside))
+        *core = CoreChange::of(cells);
+        *beside = planned.into_beside(&self.control);
+        Ok(())
+    }
+
+    /// Puts an event into a change of the core and one beside it, which alter nothing yet.
+    #[inline(always)]
+    fn put_change(
+        &self,
+        event: &Event,
+        core: &mut CoreChange,
+        beside: &mut Beside,
+    ) -> Result<(), AllocError>
+        requires empty { core.old ≡ record { psw = None; cells = [] } }
+        requires leaves { LeavesOthers self.now.whole beside.old }
+        requires accepted { refusal_of (storage_size (seen self.now.whole)) event.now ≡ None }
+        ensures change { OnOk result (IsChangeTo self.now.whole (change_of (cells_of_change core.new) beside.new) (after (seen self.now.whole) event.now)) }
+        ensures fit { OnOk result (AllFit true (cells_of_change core.new)) }
+    {
+        if let Event::Channel(unit) = event {
+            return self.put_channel(*unit, core, beside);
+        }
+        self.put_event(event, core, beside)?;
+        Ok(())
+    }
+
+    /// Puts what an event alters, in place of what is there, unless it is refused for its own sake (refusals 2 to 5).
+    #[inline(always)]
+    pub(crate) fn put_changes(&self, event: &Event, changes: &mut Changes) -> Result<(), AllocError>
+        requires accepted { refusal_of (storage_size (seen self.now.whole)) event.now ≡ None }
+        ensures { OnOk result (IsChangeTo self.now.whole changes.new (after (seen self.now.whole) event.now)) }
+    {
+        changes.core.clear();
+        changes.beside.clear();
+        let Ok(()) = self.put_change(event, &mut changes.core, &mut changes.beside) else {
+            changes.core.clear();
+            return Err(AllocError);
+        };
+        Ok(())
+    }
+
+    /// What an event alters, unless it is refused for its own sake (refusals 2 to 5).
+    fn changes_of(&self, event: &Event) -> Result<Changes, AllocError>
+        requires accepted { refusal_of (storage_size (seen self.now.whole)) event.now ≡ None }
+        ensures { IfOk result (λ changes. IsChangeTo self.now.whole changes (after (seen self.now.whole) event.now)) }
+    {
+        let mut changes = Changes::new(self.alloc);
+        self.put_changes(event, &mut changes)?;
+        Ok(changes)
     }
 }

@@ -1,14 +1,15 @@
 //! The timer: a signed word in storage, which counts down. Source: GA22-6821, "System Structure",
 //! interval timer.
-ghost use Rattle.std.specs.Prelude.{◌≡◌, IfOk};
+ghost use Rattle.std.specs.Prelude.{◌≡◌, OnOk};
 ghost use Rattle.s360_store.specs.Plans.{HasBytes};
 ghost use Rattle.s360_store.specs.Puts.{HasNoPuts};
 ghost use Rattle.s360_machine.specs.Machine.{seen};
-ghost use Rattle.s360_machine.specs.Planned.{PutsMachine};
+ghost use Rattle.s360_machine.specs.Planned.{LeavesOthers, PutsMachine};
 ghost use Rattle.s360_machine.specs.Timer.{after_tick, is_negative, runs_out, timer_after_tick};
 ghost use Rattle.s360_machine.specs.Timer.{timer_location, timer_of};
 
-use crate::machine::{Machine, PlannedEvent};
+use crate::beside::Beside;
+use crate::machine::Machine;
 use s360_store::{Core, LEAST_SIZE, Puts};
 use s360_word::{Word, sub_signed};
 use std::alloc::AllocError;
@@ -52,15 +53,18 @@ fn timer_of(core: &Core) -> Word
 
 impl Machine {
     /// Puts a tick of the timer.
-    pub(crate) fn put_tick<P: Puts>(&self, puts: &mut P) -> Result<PlannedEvent, AllocError>
+    #[inline(never)]
+    pub(crate) fn put_tick<P: Puts>(&self, puts: &mut P, beside: &mut Beside) -> Result<(), AllocError>
         requires none { HasNoPuts self.now.whole.core (P.made puts.old) (P.may puts.old) (P.past puts.old) (P.count puts.old) }
-        ensures { IfOk result (λ planned. PutsMachine self.now.whole (P.made puts.new) (P.may puts.new) planned (after_tick (seen self.now.whole))) }
+        requires leaves { LeavesOthers self.now.whole beside.old }
+        ensures { OnOk result (PutsMachine self.now.whole (P.made puts.new) (P.may puts.new) beside.new (after_tick (seen self.now.whole))) }
     {
         if !self.control.run_state().is_operating() {
-            return Ok(self.planned(self.control));
+            return Ok(());
         }
         let word = timer_of(&self.core);
         puts.put_bytes(&self.core, TIMER, &timer_after_tick(word).to_be_bytes())?;
-        Ok(self.planned(self.control.after_tick(word)))
+        beside.control = self.control.changes_to(&self.control.after_tick(word));
+        Ok(())
     }
 }

@@ -108,6 +108,15 @@ impl Cells {
         }
     }
 
+    /// Drops all cells, and keeps their memory.
+    pub fn clear(&mut self)
+        ensures { self.new ≡ [] }
+    {
+        self.items.clear();
+        self.bytes.clear();
+        self.count = 0;
+    }
+
     /// The number of cells.
     pub fn len(&self) -> u32
         ensures len { result ≡ length self.now }

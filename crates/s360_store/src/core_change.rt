@@ -57,6 +57,15 @@ impl CoreChange {
         CoreChange { psw: None, cells }
     }
 
+    /// Drops what it has, and keeps its memory.
+    #[inline(always)]
+    pub fn clear(&mut self)
+        ensures { self.new ≡ record { psw = None; cells = [] } }
+    {
+        self.psw = None;
+        self.cells.clear();
+    }
+
     /// The PSW, if it is another.
     #[inline(always)]
     pub fn altered_psw(&self) -> Option<Psw>

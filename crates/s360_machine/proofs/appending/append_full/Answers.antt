@@ -17,9 +17,9 @@ overflow_cast-result-2 c =
 
 pub returns-clause-ok : goal.returns-clause-ok
 returns-clause-ok c =
-    appended-full c.args.items.now.items c.append_to.new.items.items c.args.bytes.now.items c.append_to.new.bytes.items c.args.list.now.items c.push_if_any-beside.new.list.items (cells_of_change c.args.core.now) c.args.beside
+    appended-full c.args.items.now.items c.append_to.new.items.items c.args.bytes.now.items c.append_to.new.bytes.items c.args.list.now.items c.push_if_any-beside.new.list.items (cells_of_change c.args.core.now) c.args.beside.now
     c.push_if_any-beside.result _ _ c.len.result c.in_ok-append_to.ensures.ok c.requires
-    (λ e. c.push_if_any-beside.ensures.some e ∙ ap (λ (l : List Beside). l ++ c.args.beside ∷ []) c.in_ok-reserve.ensures.items)
+    (λ e. c.push_if_any-beside.ensures.some e ∙ ap (λ (l : List Beside). l ++ c.args.beside.now ∷ []) c.in_ok-reserve.ensures.items)
     (λ e. ((c.push_if_any-beside.ensures.none e).0 ∙ c.in_ok-reserve.ensures.items, (c.push_if_any-beside.ensures.none e).1))
     (omega (arith, ap length c.as_slice-3.ensures.value, ap length c.as_slice.ensures.value))
     (omega (arith, ap length c.as_slice-4.ensures.value, ap length c.as_slice-2.ensures.value)) c.len.ensures.len

@@ -6,7 +6,7 @@ use Rattle.s360_store.specs.CoreChanges.{cells_of_change}
 use Rattle.s360_machine.specs.Changes.{change_of}
 use Rattle.s360_machine.specs.Packed.{ArePacked, Lists, changes_of_rows, lists}
 use Rattle.s360_machine.proofs.PackedLemmas.{changes-appended, length-changes, packed-appended}
-use Rattle.s360_machine.proofs.packed.Packed.append.Goals as goal
+use Rattle.s360_machine.proofs.packed.Packed.append_from.Goals as goal
 
 pub invariant_of-self-2 : goal.invariant_of-self-2
 invariant_of-self-2 c =
@@ -17,7 +17,7 @@ invariant_of-self-2 c =
     in let room : length c.self.inside.rows.items < 10000000 = rw (← length-changes c.self.inside.rows.items before) (rw (← c.self.view_is) at c.requires)
     in (
       subst (λ (l : List Row). ArePacked (reverse l) after) (sym more)
-          (packed-appended c.self.inside.rows.items before after c.in_ok-row.row (change_of (cells_of_change c.into_parts-core.result.0) c.into_parts-core.result.1) c.self.invariant.0 c.in_ok-row.ensures.ok),
+          (packed-appended c.self.inside.rows.items before after c.in_ok-row.row (change_of (cells_of_change c.changes.inside.core) c.changes.inside.beside) c.self.invariant.0 c.in_ok-row.ensures.ok),
       omega (arith, ap length more, length-append c.self.inside.rows.items (c.in_ok-row.row ∷ []), room, length-changes c.self.inside.rows.items before, c.in_ok-reserve.ensures.items),
     )
 
@@ -28,6 +28,6 @@ returns-clause-ok c =
     in let more : c.push_reserved.new.self.items ≡ c.self.inside.rows.items ++ c.in_ok-row.row ∷ []
     = c.push_reserved.ensures.items ∙ ap (λ (l : List Row). l ++ c.in_ok-row.row ∷ []) c.in_ok-reserve.ensures.items
     in ap (λ (l : List Row). changes_of_rows l after) more
-    ∙ changes-appended c.self.inside.rows.items before after c.in_ok-row.row (change_of (cells_of_change c.into_parts-core.result.0) c.into_parts-core.result.1) c.in_ok-row.ensures.ok
-    ∙ ap (λ (xs : List Change). xs ++ change_of (cells_of_change c.into_parts-core.result.0) c.into_parts-core.result.1 ∷ []) c.self.view_is
-    ∙ ap (λ (x : Change). c.args.self.now ++ x ∷ []) c.into_parts-core.ensures.parts
+    ∙ changes-appended c.self.inside.rows.items before after c.in_ok-row.row (change_of (cells_of_change c.changes.inside.core) c.changes.inside.beside) c.in_ok-row.ensures.ok
+    ∙ ap (λ (xs : List Change). xs ++ change_of (cells_of_change c.changes.inside.core) c.changes.inside.beside ∷ []) c.self.view_is
+    ∙ ap (λ (x : Change). c.args.self.now ++ x ∷ []) c.changes.view_is
