@@ -165,7 +165,8 @@ fn base_and_displacement(bytes: &[u8], i: usize) -> (RegisterNumber, u16)
 }
 
 /// The instruction of a format with these bytes.
-fn form(format: Format, operation: Operation, bytes: &[u8]) -> Form
+#[inline(always)]
+pub fn form_with(format: Format, operation: Operation, bytes: &[u8]) -> Form
     requires { bytes_of_format format ≤ length bytes.now }
     ensures { result ≡ form_with format operation bytes.now }
 {
@@ -222,5 +223,5 @@ pub fn decode_bytes(bytes: &[u8]) -> Option<Form>
     ensures { result ≡ form_of bytes.now }
 {
     let entry = entry_at(bytes[0])?;
-    Some(form(entry.format, entry.operation, bytes))
+    Some(form_with(entry.format, entry.operation, bytes))
 }

@@ -28,7 +28,7 @@ mod shifts;
 mod view;
 
 pub use address::{ADDRESSES, operand_address};
-pub use decoder::{decode, decode_bytes, length_of};
+pub use decoder::{decode, decode_bytes, form_with, length_of};
 pub use effect::Effect;
 pub use ended::{Ended, IoOperation};
 pub use fetch::fetch_instruction;

@@ -129,6 +129,7 @@ fn made_rs(
 }
 
 /// What an instruction makes, if it is a fixed-point, branch or shift instruction.
+#[inline(always)]
 pub fn made(form: &Form, view: &View) -> Option<Made>
     ensures outcome { option_map (λ m. outcome_of_made view.now m) result ≡ option_map (λ outcome. outcome view.now) (fixed_outcome form.now) }
     ensures within { IfSome result (λ m. IsWithin view.now.core m) }

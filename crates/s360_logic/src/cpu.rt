@@ -1,16 +1,21 @@
 //! The instruction at the instruction address: fetched, what it makes, its puts, and its plan. Source:
 //! GA22-6821, "System Structure", program execution.
-ghost use Rattle.std.specs.Prelude.{◌≡◌, ◌≤◌, [], IfErr, IfOk, Some};
+ghost use Rattle.std.specs.Prelude.{◌≡◌, ◌<◌, ◌≤◌, [], IfErr, IfOk, IfSome, IsSome, Some, length, slice_index};
 ghost use Rattle.s360_model.specs.Psw.{instruction_address_of};
+ghost use Rattle.s360_fixed.specs.Fixed.{fixed_outcome};
 ghost use Rattle.s360_fixed.specs.Plans.{PutsOutcome};
 ghost use Rattle.s360_fixed.specs.ProgramCodes.{program_code};
+ghost use Rattle.s360_fixed.specs.Table.{bytes_of_format, form_of, form_with, instruction_length};
 ghost use Rattle.s360_store.specs.Puts.{HasNoPuts};
 ghost use Rattle.s360_psw.specs.declared.instruction_length.InstructionLength.TheVariants.{NotAvailable};
 ghost use Rattle.s360_fixed.specs.declared.ended.Ended.TheVariants.{Program};
 ghost use Rattle.s360_logic.specs.Instruction.{PlansInstruction, PutsInstruction, conditions_at, fetched_outcome, instruction, length_of_bytes};
 
 use crate::logic::put_logic;
-use s360_fixed::{Ended, Form, ProgramCode, View, decode_bytes, fetch_instruction};
+use s360_fixed::{
+    Ended, Form, Format, Operation, ProgramCode, View, decode_bytes, fetch_instruction, form_with,
+    put_fixed,
+};
 use s360_psw::{InstructionLength, Psw};
 use s360_store::{Core, Plan, Puts};
 use std::alloc::AllocError;
@@ -34,17 +39,19 @@ pub struct PlannedInstruction {
 #[derive(Drop)]
 pub struct Fetched<'a> {
     view: View<'a>,
-    form: Option<Form>,
+    bytes: &'a [u8],
 }
 
 impl<'a> Model for Fetched<'a> {
+    ghost use Rattle.std.specs.Prelude.{◌≡◌, ◌<◌, length, slice_index};
+    ghost use Rattle.s360_fixed.specs.Table.{form_of, instruction_length};
     ghost use Rattle.s360_logic.specs.Instruction.{Fetched as Seen, IsFetched};
 
     ghost Value = { Seen };
 
-    ghost view = { λ f. record { view = f.view; form = f.form } };
+    ghost view = { λ f. record { view = f.view; form = form_of f.bytes.now } };
 
-    ghost invariant = { λ f. IsFetched (record { view = f.view; form = f.form }) };
+    ghost invariant = { λ f. (0 < length f.bytes.now) × (length f.bytes.now ≡ instruction_length (slice_index f.bytes.now 0)) × IsFetched (record { view = f.view; form = form_of f.bytes.now }) };
 }
 
 /// The length of an instruction of 2, 4 or 6 bytes.
@@ -72,8 +79,72 @@ pub fn fetch(core: &Core) -> Result<Fetched<'_>, ProgramCode>
     let length = length_of_bytes(bytes.len());
     Ok(Fetched {
         view: View::new(core, next_address, length),
-        form: decode_bytes(bytes),
+        bytes,
     })
+}
+
+/// Puts the fixed-point, branch or shift instruction of a format and an operation that these bytes are.
+#[inline(always)]
+fn put_arm<P: Puts>(
+    format: Format,
+    operation: Operation,
+    bytes: &[u8],
+    view: &View,
+    puts: &mut P,
+) -> Result<Ended, AllocError>
+    requires whole { bytes_of_format format ≤ length bytes.now }
+    requires fixed { IsSome (fixed_outcome (form_with format operation bytes.now)) }
+    requires none { HasNoPuts view.now.core (P.made puts.old) (P.may puts.old) (P.past puts.old) (P.count puts.old) }
+    ensures { IfSome (fixed_outcome (form_with format operation bytes.now)) (λ outcome. IfOk result (PutsOutcome view.now.core (P.made puts.new) (P.may puts.new) (P.past puts.new) (P.count puts.new) (outcome view.now))) }
+{
+    put_fixed(&form_with(format, operation, bytes), view, puts)
+}
+
+/// Puts the instruction that bytes are by its form, if it has one.
+#[inline(never)]
+fn put_decoded<P: Puts>(bytes: &[u8], view: &View, puts: &mut P) -> Result<Ended, AllocError>
+    requires begun { 0 < length bytes.now }
+    requires whole { length bytes.now ≡ instruction_length (slice_index bytes.now 0) }
+    requires none { HasNoPuts view.now.core (P.made puts.old) (P.may puts.old) (P.past puts.old) (P.count puts.old) }
+    ensures { IfOk result (PutsOutcome view.now.core (P.made puts.new) (P.may puts.new) (P.past puts.new) (P.count puts.new) (fetched_outcome view.now (form_of bytes.now))) }
+{
+    match decode_bytes(bytes) {
+        Some(form) => put_logic(&form, view, puts),
+        None => Ok(Ended::Program(ProgramCode::Operation)),
+    }
+}
+
+/// Puts the instruction that bytes are. The most frequent have an arm of their own, which the compiler has for it alone.
+#[inline(always)]
+fn put_bytes<P: Puts>(bytes: &[u8], view: &View, puts: &mut P) -> Result<Ended, AllocError>
+    requires begun { 0 < length bytes.now }
+    requires whole { length bytes.now ≡ instruction_length (slice_index bytes.now 0) }
+    requires none { HasNoPuts view.now.core (P.made puts.old) (P.may puts.old) (P.past puts.old) (P.count puts.old) }
+    ensures { IfOk result (PutsOutcome view.now.core (P.made puts.new) (P.may puts.new) (P.past puts.new) (P.count puts.new) (fetched_outcome view.now (form_of bytes.now))) }
+{
+    match bytes[0] {
+        0x05 => put_arm(Format::Rr, Operation::BranchAndLink, bytes, view, puts),
+        0x06 => put_arm(Format::Rr, Operation::BranchOnCount, bytes, view, puts),
+        0x07 => put_arm(Format::Rr, Operation::BranchOnCondition, bytes, view, puts),
+        0x12 => put_arm(Format::Rr, Operation::LoadAndTest, bytes, view, puts),
+        0x18 => put_arm(Format::Rr, Operation::Load, bytes, view, puts),
+        0x19 => put_arm(Format::Rr, Operation::Compare, bytes, view, puts),
+        0x1A => put_arm(Format::Rr, Operation::Add, bytes, view, puts),
+        0x1B => put_arm(Format::Rr, Operation::Subtract, bytes, view, puts),
+        0x41 => put_arm(Format::Rx, Operation::LoadAddress, bytes, view, puts),
+        0x42 => put_arm(Format::Rx, Operation::StoreCharacter, bytes, view, puts),
+        0x43 => put_arm(Format::Rx, Operation::InsertCharacter, bytes, view, puts),
+        0x45 => put_arm(Format::Rx, Operation::BranchAndLink, bytes, view, puts),
+        0x46 => put_arm(Format::Rx, Operation::BranchOnCount, bytes, view, puts),
+        0x47 => put_arm(Format::Rx, Operation::BranchOnCondition, bytes, view, puts),
+        0x48 => put_arm(Format::Rx, Operation::LoadHalfword, bytes, view, puts),
+        0x50 => put_arm(Format::Rx, Operation::Store, bytes, view, puts),
+        0x58 => put_arm(Format::Rx, Operation::Load, bytes, view, puts),
+        0x59 => put_arm(Format::Rx, Operation::Compare, bytes, view, puts),
+        0x5A => put_arm(Format::Rx, Operation::Add, bytes, view, puts),
+        0x5B => put_arm(Format::Rx, Operation::Subtract, bytes, view, puts),
+        _ => put_decoded(bytes, view, puts),
+    }
 }
 
 /// An instruction that could not be fetched, which ends with this code.
@@ -99,19 +170,7 @@ impl<'a> Fetched<'a> {
     pub fn form(&self) -> Option<Form>
         ensures { result ≡ self.now.form }
     {
-        self.form
-    }
-
-    /// Puts what it does by its form, if it has one.
-    #[inline(always)]
-    fn put_form<P: Puts>(&self, puts: &mut P) -> Result<Ended, AllocError>
-        requires none { HasNoPuts self.now.view.core (P.made puts.old) (P.may puts.old) (P.past puts.old) (P.count puts.old) }
-        ensures { IfOk result (PutsOutcome self.now.view.core (P.made puts.new) (P.may puts.new) (P.past puts.new) (P.count puts.new) (fetched_outcome self.now.view self.now.form)) }
-    {
-        match &self.form {
-            Some(form) => put_logic(form, &self.view, puts),
-            None => Ok(Ended::Program(ProgramCode::Operation)),
-        }
+        decode_bytes(self.bytes)
     }
 
     /// Puts it, and says how it ends.
@@ -120,7 +179,7 @@ impl<'a> Fetched<'a> {
         requires none { HasNoPuts self.now.view.core (P.made puts.old) (P.may puts.old) (P.past puts.old) (P.count puts.old) }
         ensures { IfOk result (PutsInstruction self.now.view.core (P.made puts.new) (P.may puts.new) (P.past puts.new) (P.count puts.new) (instruction self.now.view.core)) }
     {
-        let ended = self.put_form(puts)?;
+        let ended = put_bytes(self.bytes, &self.view, puts)?;
         Ok(PlannedInstruction {
             ended,
             next_address: self.view.next_address(),

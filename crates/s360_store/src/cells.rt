@@ -133,6 +133,7 @@ impl Cells {
     }
 
     /// Adds a cell. Want of memory leaves the cells as they were.
+    #[inline(always)]
     pub fn push(&mut self, cell: Cell) -> Result<(), AllocError>
         requires room { length self.old < 1000000 }
         ensures ok { OnOk result (self.new ≡ self.old ++ cell ∷ []) }
