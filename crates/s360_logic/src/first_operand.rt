@@ -149,7 +149,9 @@ impl<'a> FirstOperand<'a> {
         ensures { IfOk result (PutsOutcome view.now.core (P.made puts.new) (P.may puts.new) (P.past puts.new) (P.count puts.new) (completed_with view.now setting (stored_in self.now))) }
     {
         prove!(self.address() + self.len() <= self.storage.size());
-        let psw = setting.psw(view.psw()).with_instruction_address(view.next_address());
+        let psw = setting
+            .psw(view.psw())
+            .with_instruction_address(view.next_address());
         puts.put_psw(view.core(), psw)?;
         puts.put_bytes(view.core(), self.address(), self.bytes())?;
         Ok(Ended::Done)

@@ -86,7 +86,11 @@ impl Machine {
 
     /// Puts a CPU event.
     #[inline(always)]
-    pub(crate) fn put_cpu<P: Puts>(&self, puts: &mut P, beside: &mut Beside) -> Result<(), AllocError>
+    pub(crate) fn put_cpu<P: Puts>(
+        &self,
+        puts: &mut P,
+        beside: &mut Beside,
+    ) -> Result<(), AllocError>
         requires none { HasNoPuts self.now.whole.core (P.made puts.old) (P.may puts.old) (P.past puts.old) (P.count puts.old) }
         requires leaves { LeavesOthers self.now.whole beside.old }
         ensures { OnOk result (PutsMachine self.now.whole (P.made puts.new) (P.may puts.new) beside.new (after_cpu (seen self.now.whole))) }

@@ -54,7 +54,11 @@ fn timer_of(core: &Core) -> Word
 impl Machine {
     /// Puts a tick of the timer.
     #[inline(never)]
-    pub(crate) fn put_tick<P: Puts>(&self, puts: &mut P, beside: &mut Beside) -> Result<(), AllocError>
+    pub(crate) fn put_tick<P: Puts>(
+        &self,
+        puts: &mut P,
+        beside: &mut Beside,
+    ) -> Result<(), AllocError>
         requires none { HasNoPuts self.now.whole.core (P.made puts.old) (P.may puts.old) (P.past puts.old) (P.count puts.old) }
         requires leaves { LeavesOthers self.now.whole beside.old }
         ensures { OnOk result (PutsMachine self.now.whole (P.made puts.new) (P.may puts.new) beside.new (after_tick (seen self.now.whole))) }

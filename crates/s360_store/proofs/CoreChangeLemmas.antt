@@ -1,5 +1,5 @@
 -- What puts make of the change of a core.
-use Rattle.std.proofs.Common.{◌≡◌, ◌≢◌, ◌<◌, ◌≤◌, ◌+◌, ◌++◌, ◌∙◌, ◌⊎◌, ℕ, Bool, true, false, cond, nat_eq, List, [], ◌∷◌, Option, Some, None, IfSome, refl, ap, sym, subst, get_or, length, arith, inl, inr}
+use Rattle.std.proofs.Common.{◌≡◌, ◌≢◌, ◌<◌, ◌≤◌, ◌+◌, ◌++◌, ◌∙◌, ℕ, Bool, true, false, cond, nat_eq, List, [], ◌∷◌, Option, Some, None, IfSome, refl, ap, sym, subst, get_or, length, arith, inl, inr}
 use Rattle.std.proofs.lemmas.Bool.{cases_lt, eq-eqb, eqb-true}
 use Rattle.std.proofs.lemmas.List.{append_assoc}
 use Rattle.s360_model.specs.Core.{Core, core_with_bytes, core_with_psw}
@@ -17,7 +17,7 @@ use Rattle.s360_store.specs.Order.{IsAscending, IsBefore, IsBeforeAll}
 use Rattle.s360_store.specs.Places.{Fits, IsPlaceOf, value_at, with_value}
 use Rattle.s360_store.specs.Plans.{HasBytes, IsPlanOf, after_put_bytes}
 use Rattle.s360_store.proofs.AscendingLemmas.{IsBefore-trans}
-use Rattle.s360_store.proofs.ByteCellLemmas.{AddsToPlan-bytes, EndsBefore-all, IsAscending-bytes, after_put_bytes-new, byte_cells-parts}
+use Rattle.s360_store.proofs.ByteCellLemmas.{AddsToPlan-bytes, EndsBefore-all, IsAscending-bytes, after_put_bytes-new}
 use Rattle.s360_store.proofs.DifferenceLemmas.{places_of_cells-differences}
 use Rattle.s360_store.proofs.ExchangeLemmas.{value_at-after_exchange}
 use Rattle.s360_store.proofs.KeptLemmas.{AllDiffer-push, AreCellsOf-push, after_exchange-push}

@@ -1,7 +1,5 @@
-use Rattle.std.proofs.Common.{◌≡◌, ap, subst, sym}
+use Rattle.std.proofs.Common.{◌≡◌, ap, subst}
 use Rattle.s360_model.specs.Core.{Core}
-use Rattle.s360_channel.specs.IoInstructions.{units_after_io}
-use Rattle.s360_channel.specs.UnitChanges.{IsUnitsChangeTo}
 use Rattle.s360_machine.specs.InputOutput.{core_after_io, io_result}
 use Rattle.s360_machine.specs.Machine.{Whole, WithRoom, seen}
 use Rattle.s360_machine.proofs.machine.Machine.put_io.Goals as goal

@@ -1,4 +1,4 @@
-use Rattle.std.proofs.Common.{◌≡◌, ◌∙◌, Some, None, ap, sym}
+use Rattle.std.proofs.Common.{◌∙◌, ap, sym}
 use Rattle.s360_store.specs.CoreChanges.{CoreChange}
 use Rattle.s360_store.proofs.CoreChangeLemmas.{psw-none, psw-some}
 use Rattle.s360_store.proofs.core_change.CoreChangePuts.psw.Goals as goal
