@@ -5,13 +5,11 @@ use Rattle.s360_model.specs.Core.{Core}
 use Rattle.s360_model.specs.Exchanges.{need_if_any}
 use Rattle.s360_store.specs.declared.place.Cell.{Cell}
 use Rattle.s360_store.specs.Differences.{IsCoreChangeTo}
-use Rattle.s360_store.specs.Cells.{after_exchange}
 use Rattle.s360_store.specs.CoreChanges.{CoreChange, IsCoreChange, after_core_change, cells_of_change}
 use Rattle.s360_store.proofs.CoreChangeLemmas.{IsCoreChangeTo-made}
 use Rattle.s360_channel.specs.declared.unit_change.UnitChange.{UnitChange}
 use Rattle.s360_channel.specs.UnitChanges.{IsUnitsChangeTo}
 use Rattle.s360_machine.specs.declared.beside.Beside.{Beside}
-use Rattle.s360_machine.specs.declared.machine.PlannedEvent.{PlannedEvent}
 use Rattle.s360_machine.specs.Changes.{change_of}
 use Rattle.s360_machine.specs.declared.media.MediaChange.{MediaChange}
 use Rattle.s360_machine.specs.Change.{Change, NeedsNoRoom, change_after_swap}
@@ -23,7 +21,7 @@ use Rattle.s360_machine.specs.Differences.{same_external, same_run_state}
 use Rattle.s360_machine.specs.Machine.{Control, Machine, Whole, seen}
 use Rattle.s360_machine.proofs.DifferenceLemmas.{same_external-Decides, same_run_state-Decides}
 use Rattle.s360_machine.proofs.IoLemmas.{media-stay}
-use Rattle.s360_machine.specs.Planned.{IsBesideOf, IsChangeTo, IsControlChangeTo, IsMediaChangeTo, IsPlanOfMachine, LeavesOthers, PutsMachine}
+use Rattle.s360_machine.specs.Planned.{IsChangeTo, IsControlChangeTo, IsMediaChangeTo, LeavesOthers, PutsMachine}
 use Rattle.s360_machine.specs.Step.{after_patch}
 use Rattle.s360_machine.specs.declared.event.Patch.{Patch}
 use Rattle.s360_machine.specs.declared.event.Patch.TheVariants.{Bytes, Register, StorageKey, FetchBit, Psw}
@@ -59,13 +57,6 @@ pub IsChangeTo-puts : (w : Whole) (x : CoreChange) (b : Beside) (n : Machine) �
 IsChangeTo-puts w x b n p =
     let core : IsCoreChangeTo w.core (cells_of_change x) n.core = subst (λ k. IsCoreChangeTo w.core (cells_of_change x) k) p.core (IsCoreChangeTo-made w.core x p.allowed)
     in IsChangeTo-parts w (cells_of_change x) (control_cells b.control) b.units b.media n core p.others.control p.others.units p.others.media
-
--- and a plan
-pub IsChangeTo-planned : (w : Whole) (plan cells : List Cell) (planned : PlannedEvent) (b : Beside) (n : Machine) → IsPlanOfMachine w plan planned n → IsCoreChangeTo w.core cells (after_exchange w.core plan) → IsBesideOf w.control planned b
-    → IsChangeTo w (change_of cells b) n
-IsChangeTo-planned w plan cells planned b n p c h =
-    let core : IsCoreChangeTo w.core cells n.core = subst (λ k. IsCoreChangeTo w.core cells k) p.core.makes c
-    in IsChangeTo-parts w cells (control_cells b.control) b.units b.media n core (rw p.control at h.control) (rw h.units p.units) (rw h.media p.media)
 
 -- a patch leaves all beside the core
 pub PutsMachine-patch : (w : Whole) (made : Core → Core) (may : Core → Type 0) (b : Beside) (p : Patch) → made w.core ≡ (after_patch (seen w) p).core → may w.core → LeavesOthers w b

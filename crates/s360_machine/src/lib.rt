@@ -24,7 +24,6 @@ mod machine;
 mod media;
 mod operator;
 mod packed;
-mod plan_changes;
 mod planning;
 mod refusal;
 mod row;

@@ -18,7 +18,7 @@ ghost use Rattle.s360_device.specs.DeviceChanges.{bare};
 ghost use Rattle.s360_tape.specs.WholeTape.{seen as seen_tape};
 ghost use Rattle.s360_machine.specs.Media.{tape_of};
 ghost use Rattle.s360_channel.specs.ConfiguredUnits.{attention_at, state_at, unit_at};
-ghost use Rattle.s360_machine.specs.Planned.{IsBesideOf, IsChangeTo};
+ghost use Rattle.s360_machine.specs.Planned.{IsChangeTo};
 
 use crate::beside::{Beside, exchange_beside};
 use crate::changes::Changes;
@@ -56,45 +56,6 @@ impl Drop for Machine {
             devices: _,
             alloc: _,
         } = self;
-    }
-}
-
-/// What an event makes of the machine beside the core.
-pub(crate) struct PlannedEvent {
-    /// The control part after it.
-    pub(crate) control: Control,
-    /// What becomes of the units.
-    pub(crate) units: Option<UnitChange>,
-    /// What becomes of a device.
-    pub(crate) media: Option<MediaChange>,
-}
-
-impl Drop for PlannedEvent {
-    fn drop(self) {
-        let PlannedEvent {
-            control: _,
-            units: _,
-            media: _,
-        } = self;
-    }
-}
-
-impl PlannedEvent {
-    /// What it alters beside the core, where the control part stands so.
-    pub(crate) fn into_beside(self, control: &Control) -> Beside
-        ensures { IsBesideOf control.now self result }
-    {
-        let altered = control.changes_to(&self.control);
-        let PlannedEvent {
-            control: _,
-            units,
-            media,
-        } = self;
-        Beside {
-            control: altered,
-            units,
-            media,
-        }
     }
 }
 

@@ -3,11 +3,10 @@ ghost use Rattle.std.specs.Prelude.{◌≡◌, [], true, None, Err, IfOk, IsOkUn
 ghost use Rattle.s360_store.specs.Cells.{AllFit};
 ghost use Rattle.s360_store.specs.CoreChanges.{cells_of_change};
 ghost use Rattle.s360_store.specs.Puts.{HasNoPuts};
-ghost use Rattle.s360_machine.specs.ChannelEvents.{after_channel_event};
 ghost use Rattle.s360_machine.specs.Changes.{change_of};
 ghost use Rattle.s360_machine.specs.Machine.{storage_size, seen};
 ghost use Rattle.s360_machine.specs.Operator.{after_key};
-ghost use Rattle.s360_machine.specs.Planned.{IsChangeTo, IsOfNoChannel, LeavesOthers, LeavesUnits, PutsMachine};
+ghost use Rattle.s360_machine.specs.Planned.{IsChangeTo, LeavesOthers, PutsMachine};
 ghost use Rattle.s360_machine.specs.Refusals.{refusal_of, refusal_of_key, refusal_of_patch};
 ghost use Rattle.s360_machine.specs.Step.{after, after_patch};
 ghost use Rattle.s360_machine.specs.Timer.{after_tick};
@@ -15,13 +14,10 @@ ghost use Rattle.s360_machine.specs.declared.refusal.Refusal.TheVariants.{Memory
 
 use crate::beside::Beside;
 use crate::changes::Changes;
-use crate::control::Control;
 use crate::event::Event;
-use crate::machine::{Machine, PlannedEvent};
-use crate::plan_changes::changes_of_plan;
+use crate::machine::Machine;
 use crate::refusal::Refusal;
-use s360_store::{CoreChange, Plan, Puts};
-use s360_word::Unit;
+use s360_store::{CoreChange, Puts};
 use std::alloc::AllocError;
 
 impl Machine {
@@ -36,18 +32,7 @@ impl Machine {
         Ok(self.changes_of(event)?)
     }
 
-    /// What an event makes that leaves the units alone.
-    pub(crate) fn planned(&self, control: Control) -> PlannedEvent
-        ensures { LeavesUnits self.now.whole control result }
-    {
-        PlannedEvent {
-            control,
-            units: None,
-            media: None,
-        }
-    }
-
-    /// Puts an event that is none of a channel, unless it is refused for its own sake (refusals 2 to 5).
+    /// Puts an event, unless it is refused for its own sake (refusals 2 to 5).
     #[inline(always)]
     fn put_event<P: Puts>(
         &self,
@@ -58,35 +43,15 @@ impl Machine {
         requires none { HasNoPuts self.now.whole.core (P.made puts.old) (P.may puts.old) (P.past puts.old) (P.count puts.old) }
         requires leaves { LeavesOthers self.now.whole beside.old }
         requires accepted { refusal_of (storage_size (seen self.now.whole)) event.now ≡ None }
-        requires channel { IsOfNoChannel event.now }
         ensures { OnOk result (PutsMachine self.now.whole (P.made puts.new) (P.may puts.new) beside.new (after (seen self.now.whole) event.now)) }
     {
         match event {
             Event::Cpu => self.put_cpu(puts, beside),
+            Event::Channel(unit) => self.put_channel(*unit, puts, beside),
             Event::Tick => self.put_tick(puts, beside),
             Event::Key(key) => self.put_key(key, beside),
             Event::Patch(patch) => self.put_patch(patch, puts),
-            Event::Channel(_) => unreachable!(),
         }
-    }
-
-    /// Puts a channel event of a unit, which is planned first.
-    #[inline(never)]
-    fn put_channel(
-        &self,
-        unit: Unit,
-        core: &mut CoreChange,
-        beside: &mut Beside,
-    ) -> Result<(), AllocError>
-        ensures change { OnOk result (IsChangeTo self.now.whole (change_of (cells_of_change core.new) beside.new) (after_channel_event unit (seen self.now.whole))) }
-        ensures fit { OnOk result (AllFit true (cells_of_change core.new)) }
-    {
-        let mut plan = Plan::new(self.alloc);
-        let planned = self.plan_channel(unit, &mut plan)?;
-        let cells = changes_of_plan(&self.core, self.alloc, &plan)?;
-        *core = CoreChange::of(cells);
-        *beside = planned.into_beside(&self.control);
-        Ok(())
     }
 
     /// Puts an event into a change of the core and one beside it, which alter nothing yet.
@@ -103,9 +68,6 @@ impl Machine {
         ensures change { OnOk result (IsChangeTo self.now.whole (change_of (cells_of_change core.new) beside.new) (after (seen self.now.whole) event.now)) }
         ensures fit { OnOk result (AllFit true (cells_of_change core.new)) }
     {
-        if let Event::Channel(unit) = event {
-            return self.put_channel(*unit, core, beside);
-        }
         self.put_event(event, core, beside)?;
         Ok(())
     }
