@@ -2,7 +2,8 @@
 //! loading.
 ghost use Rattle.std.specs.Prelude.{◌≡◌, ◌<◌, ◌≤◌, ◌-◌, IfSome, OnOk, drop, length, slice_index, take};
 ghost use Rattle.s360_model.specs.Exchanges.{after_if_any};
-ghost use Rattle.s360_model.specs.Storage.{doubleword_at};
+ghost use Rattle.s360_model.specs.Psw.{current_psw};
+ghost use Rattle.s360_model.specs.Storage.{doubleword_at, with_run};
 ghost use Rattle.s360_channel.specs.ConfiguredUnits.{control_of};
 ghost use Rattle.s360_channel.specs.Execution.{core_with_run};
 ghost use Rattle.s360_channel.specs.Steps.{LiesIn};
@@ -20,10 +21,11 @@ use std::alloc::AllocError;
 /// Channel end and device end, and nothing else.
 const CLEAN_END: u16 = 0x0C00;
 
-/// The address at which the address of the unit is stored, in two bytes.
-const UNIT_ADDRESS: u32 = 2;
+/// The addresses at which the two bytes of the unit's address are stored, and the one behind them.
+const UNIT_HIGH: u32 = 2;
 
-/// The address behind it.
+const UNIT_LOW: u32 = 3;
+
 const BEHIND: u32 = 4;
 
 /// The byte at an address where a run is stored.
@@ -33,25 +35,42 @@ fn stored_byte(core: &Core, run: &Option<Run>, address: u32) -> u8
     ensures { result ≡ slice_index (core_with_run run.now core.now).storage.bytes address }
 {
     match run {
-        Some(run) if address >= run.at && address - run.at < run.bytes.as_slice().len() as u32 =>
-            run.bytes[(address - run.at) as usize],
+        Some(run) if address >= run.at && address - run.at < run.bytes.as_slice().len() as u32 => {
+            run.bytes[(address - run.at) as usize]
+        }
         _ => core.storage().byte(address),
     }
 }
 
-/// The PSW that stands at 0 where a run is stored, and then the address of the unit.
-fn initial_psw(core: &Core, run: &Option<Run>, address: u16) -> Psw
+/// The byte at an address where a run is stored, and then the address of the unit.
+fn loaded_byte(core: &Core, run: &Option<Run>, unit: [u8; 2], address: u32) -> u8
+    requires run { IfSome run.now (λ r. LiesIn core.now.storage r) }
+    requires inside { address < length core.now.storage.bytes }
+    ensures { result ≡ slice_index (with_run (core_with_run run.now core.now).storage.bytes 2 unit) address }
 {
-    let [high, low] = address.to_be_bytes();
+    match address {
+        UNIT_HIGH => unit[0],
+        UNIT_LOW => unit[1],
+        _ => stored_byte(core, run, address),
+    }
+}
+
+/// The PSW that then stands at 0.
+fn initial_psw(core: &Core, run: &Option<Run>, unit: [u8; 2]) -> Psw
+    requires run { IfSome run.now (λ r. LiesIn core.now.storage r) }
+    ensures { result ≡ current_psw (doubleword_at (with_run (core_with_run run.now core.now).storage.bytes 2 unit) 0) }
+{
+    // So the permanent locations are inside storage.
+    prove!(core.storage().size() >= LEAST_SIZE);
     Psw::from_u64(u64::from_be_bytes([
-        stored_byte(core, run, 0),
-        stored_byte(core, run, 1),
-        high,
-        low,
-        stored_byte(core, run, 4),
-        stored_byte(core, run, 5),
-        stored_byte(core, run, 6),
-        stored_byte(core, run, 7),
+        loaded_byte(core, run, unit, 0),
+        loaded_byte(core, run, unit, 1),
+        loaded_byte(core, run, unit, 2),
+        loaded_byte(core, run, unit, 3),
+        loaded_byte(core, run, unit, 4),
+        loaded_byte(core, run, unit, 5),
+        loaded_byte(core, run, unit, 6),
+        loaded_byte(core, run, unit, 7),
     ]))
 }
 
@@ -88,13 +107,14 @@ pub(crate) fn put_loaded<P: Puts>(
 {
     // So the permanent locations are inside storage.
     prove!(core.storage().size() >= LEAST_SIZE);
-    puts.put_psw(core, initial_psw(core, run, address))?;
+    let unit = address.to_be_bytes();
+    puts.put_psw(core, initial_psw(core, run, unit))?;
     if let Some(run) = run
-        && run.at < UNIT_ADDRESS
+        && run.at < UNIT_HIGH
     {
-        puts.put_bytes(core, run.at, below(run, UNIT_ADDRESS))?;
+        puts.put_bytes(core, run.at, below(run, UNIT_HIGH))?;
     }
-    puts.put_bytes(core, UNIT_ADDRESS, &address.to_be_bytes())?;
+    puts.put_bytes(core, UNIT_HIGH, &unit)?;
     if let Some(run) = run {
         puts.put_bytes(core, run.at.max(BEHIND), from(run, BEHIND))?;
     }

@@ -12,6 +12,7 @@ pub mod SortLemmas
 pub mod PutLemmas
 pub mod ByteCellLemmas
 pub mod RunLemmas
+pub mod StoredRunLemmas
 pub mod ItemLemmas
 pub mod ItemExchangeLemmas
 pub mod SpanLemmas
