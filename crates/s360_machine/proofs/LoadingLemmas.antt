@@ -1,20 +1,26 @@
 -- The end of initial program loading.
 use Rattle.std.proofs.Common.{◌≡◌, ◌<◌, ◌≤◌, ◌+◌, ◌-◌, ◌∙◌, ◌⊎◌, ℕ, List, ap, arith, drop, get_or, inl, inr, length, refl, set-set, sym, take}
-use Rattle.std.proofs.lemmas.Bool.{cases_lt}
+use Rattle.std.specs.Int.{bytes_high_first}
+use Rattle.std.specs.Prelude.{IfSome, Option, Some, None, if◌then◌else◌, nat_lt}
+use Rattle.std.proofs.lemmas.Bool.{cases_lt, le-ltb, lt-ltb}
 use Rattle.std.proofs.lemmas.List.{get_or-drop, get_or-take, get_or_default, length-drop, length-take, same_lists}
-use Rattle.s360_model.specs.Storage.{with_run}
+use Rattle.s360_model.specs.Core.{Core, core_with_bytes, core_with_psw}
+use Rattle.s360_model.specs.Psw.{current_psw}
+use Rattle.s360_model.specs.Storage.{doubleword_at, with_run}
 use Rattle.s360_store.proofs.StoredRunLemmas.{length-with_run, run-after, run-before, run-inside}
 use Rattle.s360_channel.specs.declared.configured_unit.ConfiguredUnit.{ConfiguredUnit}
 use Rattle.s360_channel.specs.declared.unit_control.UnitControl.{UnitControl}
 use Rattle.s360_channel.specs.declared.unit_state.UnitState.{UnitState}
 use Rattle.s360_channel.specs.declared.unit_state.UnitState.TheVariants.{Idle}
 use Rattle.s360_channel.specs.ConfiguredUnits.{HasEachUnit, Units, control_of, index_of, with_control_of}
+use Rattle.s360_channel.specs.Execution.{Run, core_with_run}
+use Rattle.s360_channel.specs.Steps.{LiesIn}
 use Rattle.s360_channel.specs.UnitChanges.{IsUnitsChangeTo}
 use Rattle.s360_channel.proofs.UnitChangeLemmas.{control-set}
 use Rattle.s360_machine.specs.declared.beside.Beside.{Beside}
 use Rattle.s360_machine.specs.declared.run_state.RunState.TheVariants.{Operating}
 use Rattle.s360_machine.specs.ControlCells.{control_cells}
-use Rattle.s360_machine.specs.Loading.{after_load}
+use Rattle.s360_machine.specs.Loading.{after_load, core_after_loading, with_behind, with_below}
 use Rattle.s360_machine.specs.Machine.{Machine, Whole}
 use Rattle.s360_machine.specs.Planned.{IsControlChangeTo, MakesOthers}
 
@@ -115,3 +121,27 @@ pub parts-from-behind : (xs run two : List ℕ) (at b : ℕ) → at + length run
     → with_run (with_run xs 2 two) b (drop (4 - at) run) ≡ with_run (with_run xs at run) 2 two
 parts-from-behind xs run two at b h four t l lo hi =
     parts-stored xs run two xs at b h four t refl lo hi (λ i u. sym (run-before xs run at i h (omega (arith, u, l)))) (λ i u. refl)
+
+-- storage where a run is stored
+pub length-core-run : (m : Core) (run : Option Run) → IfSome run (λ r. LiesIn m.storage r) → length (core_with_run run m).storage.bytes ≡ length m.storage.bytes
+length-core-run m None h = refl
+length-core-run m (Some r) h = length-with_run m.storage.bytes r.bytes r.at h.2
+
+-- the puts of the end of loading
+pub loaded-made : (m : Core) (run : Option Run) (address psw : ℕ) (two : List ℕ) → IfSome run (λ r. LiesIn m.storage r) → 4 ≤ length m.storage.bytes → two ≡ bytes_high_first 2 address
+    → psw ≡ current_psw (doubleword_at (with_run (core_with_run run m).storage.bytes 2 two) 0)
+    → with_behind run (core_with_bytes 2 two (with_below run (core_with_psw psw m))) ≡ core_after_loading address (core_with_run run m)
+unfolding core_after_loading
+loaded-made m None address psw two h four et ep = rw (ep, et) refl
+loaded-made m (Some r) address psw two h four et ep =
+    let t : length two ≡ 2 = ap length et
+    in let last : core_with_psw psw (core_with_bytes 2 two (core_with_bytes r.at r.bytes m)) ≡ core_after_loading address (core_with_run (Some r) m) = rw (ep, et) refl
+    in elim (cases_lt r.at 2) [
+      | inl l ↦
+          rw (lt-ltb r.at 2 l, lt-ltb r.at 4 (omega (arith, l)))
+          (ap (λ bs. core_with_psw psw (record m { storage = record m.storage { bytes = bs } })) (parts-from-below m.storage.bytes r.bytes two r.at 4 h.2 four t l refl) ∙ last)
+      | inr u ↦
+          rw (le-ltb r.at 2 u)
+          (ap (λ bs. core_with_psw psw (record m { storage = record m.storage { bytes = bs } }))
+          (parts-from-behind m.storage.bytes r.bytes two r.at (if nat_lt r.at 4 then 4 else r.at) h.2 four t u (λ k. rw (lt-ltb r.at 4 k) refl) (λ k. rw (le-ltb r.at 4 k) refl)) ∙ last)
+    ]

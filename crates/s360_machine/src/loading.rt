@@ -1,6 +1,6 @@
 //! The end of initial program loading. Source: GA22-6821, "System Control Panel", initial program
 //! loading.
-ghost use Rattle.std.specs.Prelude.{◌≡◌, ◌<◌, ◌≤◌, ◌-◌, IfSome, OnOk, drop, length, slice_index, take};
+ghost use Rattle.std.specs.Prelude.{ℕ, ◌≡◌, ◌<◌, ◌≤◌, ◌-◌, IfSome, OnOk, drop, length, slice_index, take};
 ghost use Rattle.s360_model.specs.Exchanges.{after_if_any};
 ghost use Rattle.s360_model.specs.Psw.{current_psw};
 ghost use Rattle.s360_model.specs.Storage.{doubleword_at, with_run};
@@ -9,7 +9,8 @@ ghost use Rattle.s360_channel.specs.Execution.{core_with_run};
 ghost use Rattle.s360_channel.specs.Steps.{LiesIn};
 ghost use Rattle.s360_channel.specs.UnitChanges.{units_after_swap};
 ghost use Rattle.s360_store.specs.Puts.{HasNoPuts};
-ghost use Rattle.s360_machine.specs.Loading.{core_after_loading, has_loaded};
+ghost use Rattle.s360_store.specs.declared.place.Place.TheVariants.{Byte};
+ghost use Rattle.s360_machine.specs.Loading.{core_after_loading, has_loaded, with_behind, with_below};
 
 use crate::machine::Machine;
 use crate::run_state::RunState;
@@ -21,10 +22,8 @@ use std::alloc::AllocError;
 /// Channel end and device end, and nothing else.
 const CLEAN_END: u16 = 0x0C00;
 
-/// The addresses at which the two bytes of the unit's address are stored, and the one behind them.
-const UNIT_HIGH: u32 = 2;
-
-const UNIT_LOW: u32 = 3;
+/// The address at which the address of the unit is stored, in two bytes, and the one behind them.
+const UNIT: u32 = 2;
 
 const BEHIND: u32 = 4;
 
@@ -48,11 +47,15 @@ fn loaded_byte(core: &Core, run: &Option<Run>, unit: [u8; 2], address: u32) -> u
     requires inside { address < length core.now.storage.bytes }
     ensures { result ≡ slice_index (with_run (core_with_run run.now core.now).storage.bytes 2 unit) address }
 {
-    match address {
-        UNIT_HIGH => unit[0],
-        UNIT_LOW => unit[1],
-        _ => stored_byte(core, run, address),
+    // So the unit's address is inside storage.
+    prove!(core.storage().size() >= LEAST_SIZE);
+    if address < UNIT {
+        return stored_byte(core, run, address);
     }
+    if address < BEHIND {
+        return unit[(address - UNIT) as usize];
+    }
+    stored_byte(core, run, address)
 }
 
 /// The PSW that then stands at 0.
@@ -74,22 +77,56 @@ fn initial_psw(core: &Core, run: &Option<Run>, unit: [u8; 2]) -> Psw
     ]))
 }
 
-/// The bytes of a run below an address.
-fn below(run: &Run, address: u32) -> &[u8]
-    ensures { result.now ≡ take (address - run.now.at) run.now.bytes }
+/// The bytes of a run below the unit's address.
+fn below(run: &Run) -> &[u8]
+    ensures { result.now ≡ take (2 - run.now.at) run.now.bytes }
 {
     let bytes = run.bytes.as_slice();
-    let count = (address.saturating_sub(run.at) as usize).min(bytes.len());
+    let count = (UNIT.saturating_sub(run.at) as usize).min(bytes.len());
     &bytes[..count]
 }
 
-/// Those from an address on.
-fn from(run: &Run, address: u32) -> &[u8]
-    ensures { result.now ≡ drop (address - run.now.at) run.now.bytes }
+/// Those behind it.
+fn behind(run: &Run) -> &[u8]
+    ensures { result.now ≡ drop (4 - run.now.at) run.now.bytes }
 {
     let bytes = run.bytes.as_slice();
-    let count = (address.saturating_sub(run.at) as usize).min(bytes.len());
+    let count = (BEHIND.saturating_sub(run.at) as usize).min(bytes.len());
     &bytes[count..]
+}
+
+/// Puts what of a run lies below the unit's address.
+fn put_below<P: Puts>(core: &Core, run: &Option<Run>, puts: &mut P) -> Result<(), AllocError>
+    requires inside { IfSome run.now (λ r. LiesIn core.now.storage r) }
+    requires may { P.may puts.old core.now }
+    requires few { P.count puts.old ≤ 1 }
+    requires past { (a : ℕ) → P.past puts.old (Byte a) }
+    ensures made { OnOk result (P.made puts.new core.now ≡ with_below run.now (P.made puts.old core.now)) }
+    ensures may { OnOk result (P.may puts.new core.now) }
+    ensures few { OnOk result (P.count puts.new ≤ 3) }
+    ensures past { OnOk result ((a : ℕ) → 2 ≤ a → P.past puts.new (Byte a)) }
+{
+    match run {
+        Some(run) if run.at < UNIT => puts.put_bytes(core, run.at, below(run)),
+        _ => Ok(()),
+    }
+}
+
+/// Puts what of it lies behind.
+fn put_behind<P: Puts>(core: &Core, run: &Option<Run>, puts: &mut P) -> Result<(), AllocError>
+    requires inside { IfSome run.now (λ r. LiesIn core.now.storage r) }
+    requires size { 4 ≤ length core.now.storage.bytes }
+    requires may { P.may puts.old core.now }
+    requires few { P.count puts.old ≤ 5 }
+    requires past { (a : ℕ) → 4 ≤ a → P.past puts.old (Byte a) }
+    ensures made { OnOk result (P.made puts.new core.now ≡ with_behind run.now (P.made puts.old core.now)) }
+    ensures may { OnOk result (P.may puts.new core.now) }
+{
+    let Some(run) = run else {
+        return Ok(());
+    };
+    let at = if run.at < BEHIND { BEHIND } else { run.at };
+    puts.put_bytes(core, at, behind(run))
 }
 
 /// Puts the end of loading from the unit at an address, behind a run: the address is stored, and the PSW at 0 is loaded.
@@ -109,15 +146,9 @@ pub(crate) fn put_loaded<P: Puts>(
     prove!(core.storage().size() >= LEAST_SIZE);
     let unit = address.to_be_bytes();
     puts.put_psw(core, initial_psw(core, run, unit))?;
-    if let Some(run) = run
-        && run.at < UNIT_HIGH
-    {
-        puts.put_bytes(core, run.at, below(run, UNIT_HIGH))?;
-    }
-    puts.put_bytes(core, UNIT_HIGH, &unit)?;
-    if let Some(run) = run {
-        puts.put_bytes(core, run.at.max(BEHIND), from(run, BEHIND))?;
-    }
+    put_below(core, run, puts)?;
+    puts.put_bytes(core, UNIT, &unit)?;
+    put_behind(core, run, puts)?;
     Ok(())
 }
 
