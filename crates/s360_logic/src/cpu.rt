@@ -1,11 +1,10 @@
 //! The instruction at the instruction address: fetched, what it makes, its puts, and its plan. Source:
 //! GA22-6821, "System Structure", program execution.
-ghost use Rattle.std.specs.Prelude.{◌≡◌, ◌<◌, ◌≤◌, [], IfErr, IfOk, IfSome, IsSome, Some, length, slice_index};
+ghost use Rattle.std.specs.Prelude.{◌≡◌, ◌<◌, ◌≤◌, [], IfErr, IfOk, Some, length, slice_index};
 ghost use Rattle.s360_model.specs.Psw.{instruction_address_of};
-ghost use Rattle.s360_fixed.specs.Fixed.{fixed_outcome};
 ghost use Rattle.s360_fixed.specs.Plans.{PutsOutcome};
 ghost use Rattle.s360_fixed.specs.ProgramCodes.{program_code};
-ghost use Rattle.s360_fixed.specs.Table.{bytes_of_format, form_of, form_with, instruction_length};
+ghost use Rattle.s360_fixed.specs.Table.{form_of, instruction_length};
 ghost use Rattle.s360_store.specs.Puts.{HasNoPuts};
 ghost use Rattle.s360_psw.specs.declared.instruction_length.InstructionLength.TheVariants.{NotAvailable};
 ghost use Rattle.s360_fixed.specs.declared.ended.Ended.TheVariants.{Program};
@@ -13,8 +12,7 @@ ghost use Rattle.s360_logic.specs.Instruction.{PlansInstruction, PutsInstruction
 
 use crate::logic::put_logic;
 use s360_fixed::{
-    Ended, Form, Format, Operation, ProgramCode, View, decode_bytes, fetch_instruction, form_with,
-    put_fixed,
+    Ended, Form, Operation, ProgramCode, View, decode_bytes, fetch_instruction, put_rr, put_rx,
 };
 use s360_psw::{InstructionLength, Psw};
 use s360_store::{Core, Plan, Puts};
@@ -83,23 +81,6 @@ pub fn fetch(core: &Core) -> Result<Fetched<'_>, ProgramCode>
     })
 }
 
-/// Puts the fixed-point, branch or shift instruction of a format and an operation that these bytes are.
-#[inline(always)]
-fn put_arm<P: Puts>(
-    format: Format,
-    operation: Operation,
-    bytes: &[u8],
-    view: &View,
-    puts: &mut P,
-) -> Result<Ended, AllocError>
-    requires whole { bytes_of_format format ≤ length bytes.now }
-    requires fixed { IsSome (fixed_outcome (form_with format operation bytes.now)) }
-    requires none { HasNoPuts view.now.core (P.made puts.old) (P.may puts.old) (P.past puts.old) (P.count puts.old) }
-    ensures { IfSome (fixed_outcome (form_with format operation bytes.now)) (λ outcome. IfOk result (PutsOutcome view.now.core (P.made puts.new) (P.may puts.new) (P.past puts.new) (P.count puts.new) (outcome view.now))) }
-{
-    put_fixed(&form_with(format, operation, bytes), view, puts)
-}
-
 /// Puts the instruction that bytes are by its form, if it has one.
 #[inline(never)]
 fn put_decoded<P: Puts>(bytes: &[u8], view: &View, puts: &mut P) -> Result<Ended, AllocError>
@@ -123,26 +104,26 @@ fn put_bytes<P: Puts>(bytes: &[u8], view: &View, puts: &mut P) -> Result<Ended, 
     ensures { IfOk result (PutsOutcome view.now.core (P.made puts.new) (P.may puts.new) (P.past puts.new) (P.count puts.new) (fetched_outcome view.now (form_of bytes.now))) }
 {
     match bytes[0] {
-        0x05 => put_arm(Format::Rr, Operation::BranchAndLink, bytes, view, puts),
-        0x06 => put_arm(Format::Rr, Operation::BranchOnCount, bytes, view, puts),
-        0x07 => put_arm(Format::Rr, Operation::BranchOnCondition, bytes, view, puts),
-        0x12 => put_arm(Format::Rr, Operation::LoadAndTest, bytes, view, puts),
-        0x18 => put_arm(Format::Rr, Operation::Load, bytes, view, puts),
-        0x19 => put_arm(Format::Rr, Operation::Compare, bytes, view, puts),
-        0x1A => put_arm(Format::Rr, Operation::Add, bytes, view, puts),
-        0x1B => put_arm(Format::Rr, Operation::Subtract, bytes, view, puts),
-        0x41 => put_arm(Format::Rx, Operation::LoadAddress, bytes, view, puts),
-        0x42 => put_arm(Format::Rx, Operation::StoreCharacter, bytes, view, puts),
-        0x43 => put_arm(Format::Rx, Operation::InsertCharacter, bytes, view, puts),
-        0x45 => put_arm(Format::Rx, Operation::BranchAndLink, bytes, view, puts),
-        0x46 => put_arm(Format::Rx, Operation::BranchOnCount, bytes, view, puts),
-        0x47 => put_arm(Format::Rx, Operation::BranchOnCondition, bytes, view, puts),
-        0x48 => put_arm(Format::Rx, Operation::LoadHalfword, bytes, view, puts),
-        0x50 => put_arm(Format::Rx, Operation::Store, bytes, view, puts),
-        0x58 => put_arm(Format::Rx, Operation::Load, bytes, view, puts),
-        0x59 => put_arm(Format::Rx, Operation::Compare, bytes, view, puts),
-        0x5A => put_arm(Format::Rx, Operation::Add, bytes, view, puts),
-        0x5B => put_arm(Format::Rx, Operation::Subtract, bytes, view, puts),
+        0x05 => put_rr(Operation::BranchAndLink, bytes, view, puts),
+        0x06 => put_rr(Operation::BranchOnCount, bytes, view, puts),
+        0x07 => put_rr(Operation::BranchOnCondition, bytes, view, puts),
+        0x12 => put_rr(Operation::LoadAndTest, bytes, view, puts),
+        0x18 => put_rr(Operation::Load, bytes, view, puts),
+        0x19 => put_rr(Operation::Compare, bytes, view, puts),
+        0x1A => put_rr(Operation::Add, bytes, view, puts),
+        0x1B => put_rr(Operation::Subtract, bytes, view, puts),
+        0x41 => put_rx(Operation::LoadAddress, bytes, view, puts),
+        0x42 => put_rx(Operation::StoreCharacter, bytes, view, puts),
+        0x43 => put_rx(Operation::InsertCharacter, bytes, view, puts),
+        0x45 => put_rx(Operation::BranchAndLink, bytes, view, puts),
+        0x46 => put_rx(Operation::BranchOnCount, bytes, view, puts),
+        0x47 => put_rx(Operation::BranchOnCondition, bytes, view, puts),
+        0x48 => put_rx(Operation::LoadHalfword, bytes, view, puts),
+        0x50 => put_rx(Operation::Store, bytes, view, puts),
+        0x58 => put_rx(Operation::Load, bytes, view, puts),
+        0x59 => put_rx(Operation::Compare, bytes, view, puts),
+        0x5A => put_rx(Operation::Add, bytes, view, puts),
+        0x5B => put_rx(Operation::Subtract, bytes, view, puts),
         _ => put_decoded(bytes, view, puts),
     }
 }

@@ -1,5 +1,5 @@
 -- A channel event of a unit.
-use Rattle.std.proofs.Common.{◌≡◌, ◌∙◌, ℕ, Bool, true, false, List, [], refl, ap, subst, sym, arith, if◌then◌else◌}
+use Rattle.std.proofs.Common.{◌≡◌, ◌∙◌, ℕ, Bool, true, false, List, refl, ap, subst, sym, if◌then◌else◌}
 use Rattle.std.specs.Option.{option_map}
 use Rattle.std.specs.Prelude.{Option, Some, None}
 use Rattle.s360_model.specs.Core.{Core}
@@ -11,7 +11,6 @@ use Rattle.s360_device.specs.DeviceChanges.{CanSwapDevice, bare, device_after_sw
 use Rattle.s360_device.specs.Differences.{DecidesEquality}
 use Rattle.s360_device.specs.Kinds.{Kind, MediaWithRoom}
 use Rattle.s360_device.specs.Rows.{Table, after_command}
-use Rattle.s360_channel.specs.declared.engine.ChannelStep.{ChannelStep}
 use Rattle.s360_channel.specs.declared.engine.ChannelStep.TheVariants.{NotYet}
 use Rattle.s360_channel.specs.declared.engine.Executed.{Executed}
 use Rattle.s360_channel.specs.declared.program.Program.{Program}
@@ -26,13 +25,12 @@ use Rattle.s360_machine.specs.declared.channel_event.UnitStep.{UnitStep}
 use Rattle.s360_machine.specs.declared.beside.Beside.{Beside}
 use Rattle.s360_machine.specs.ControlCells.{control_cells}
 use Rattle.s360_machine.specs.declared.media.MediaChange.{MediaChange}
-use Rattle.s360_channel.specs.declared.unit_change.UnitChange.{UnitChange}
 use Rattle.s360_channel.specs.declared.unit_change.UnitChange.TheVariants.{One}
 use Rattle.s360_channel.specs.UnitChanges.{IsUnitsChangeTo}
 use Rattle.s360_channel.specs.ConfiguredUnits.{HasEachUnit, Units}
-use Rattle.s360_machine.specs.ChannelEvents.{ExecutesProgram, IsAlterationOf, StepsTo, after_channel, after_ending, after_execution, execution_at, execution_of, execution_with, media_after, view_of}
+use Rattle.s360_machine.specs.ChannelEvents.{ExecutesProgram, IsAlterationOf, StepsTo, after_ending, execution_at, execution_of, execution_with, media_after, view_of}
 use Rattle.s360_channel.specs.declared.configured_unit.ConfiguredUnit.{ConfiguredUnit}
-use Rattle.s360_machine.specs.Machine.{Control, Machine, Spare, Whole, WholeMedia, WithRoom, seen, seen_media}
+use Rattle.s360_machine.specs.Machine.{Control, Spare, Whole, WholeMedia, WithRoom, seen, seen_media}
 use Rattle.s360_machine.specs.Planned.{ExecutesAt, IsControlChangeTo, IsMediaChangeTo}
 use Rattle.s360_channel.specs.ConfiguredUnits.{control_of, with_control_of}
 use Rattle.s360_channel.proofs.UnitChangeLemmas.{IsUnitsChangeTo-one}

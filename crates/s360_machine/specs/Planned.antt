@@ -5,7 +5,6 @@ use Rattle.s360_machine.specs.declared.beside.Beside.{Beside}
 use Rattle.s360_machine.specs.ControlCells.{ControlCell, control_cells}
 use Rattle.s360_model.specs.Core.{Core}
 use Rattle.s360_machine.specs.declared.media.MediaChange.{MediaChange}
-use Rattle.s360_channel.specs.declared.unit_change.UnitChange.{UnitChange}
 use Rattle.s360_channel.specs.UnitChanges.{IsUnitsChangeTo}
 use Rattle.s360_channel.specs.declared.configured_unit.ConfiguredUnit.{ConfiguredUnit}
 use Rattle.s360_channel.specs.Execution.{Run}
