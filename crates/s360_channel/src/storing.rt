@@ -47,7 +47,11 @@ pub(crate) fn run_of(
 }
 
 /// Plans what a word stores.
-pub(crate) fn plan_run(storage: &Storage, run: &Option<Run>, plan: &mut Plan) -> Result<(), AllocError>
+pub(crate) fn plan_run(
+    storage: &Storage,
+    run: &Option<Run>,
+    plan: &mut Plan,
+) -> Result<(), AllocError>
     requires empty { plan.old ≡ [] }
     requires inside { IfSome run.now (λ r. LiesIn storage.now r) }
     ensures stores { OnOk result (StoresRun storage.now plan.new run.now) }

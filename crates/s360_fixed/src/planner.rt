@@ -210,9 +210,7 @@ pub fn put_rr<P: Puts>(
     ensures { IfSome (fixed_outcome (form_with Rr operation bytes.now)) (λ outcome. IfOk result (PutsOutcome view.now.core (P.made puts.new) (P.may puts.new) (P.past puts.new) (P.count puts.new) (outcome view.now))) }
 {
     let (r1, r2) = (high_register(bytes, 1), low_register(bytes, 1));
-    made_in_rr(view, operation, r1, r2)
-        .unwrap()
-        .put(view, puts)
+    made_in_rr(view, operation, r1, r2).unwrap().put(view, puts)
 }
 
 /// Puts what one of the format RX makes, likewise.

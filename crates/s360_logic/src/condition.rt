@@ -1,6 +1,6 @@
 //! What comparisons and tests do: they set the condition code and alter nothing else. Source:
 //! GA22-6821, "Logical Operations".
-ghost use Rattle.std.specs.Prelude.{◌≡◌, IfOk};
+ghost use Rattle.std.specs.Prelude.{IfOk};
 ghost use Rattle.s360_fixed.specs.Outcomes.{after_effect, condition_code_alone};
 ghost use Rattle.s360_store.specs.Puts.{HasNoPuts};
 ghost use Rattle.s360_fixed.specs.Plans.{PutsOutcome};

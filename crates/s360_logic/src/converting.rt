@@ -1,6 +1,6 @@
 //! Conversions between a word in a register and a packed decimal number in storage. Source:
 //! GA22-6821, "Fixed-Point Arithmetic", CONVERT TO BINARY and CONVERT TO DECIMAL.
-ghost use Rattle.std.specs.Prelude.{◌≡◌, IfOk};
+ghost use Rattle.std.specs.Prelude.{IfOk};
 ghost use Rattle.s360_model.specs.Packed.{packed_value};
 ghost use Rattle.s360_store.specs.Puts.{HasNoPuts};
 ghost use Rattle.s360_fixed.specs.Plans.{PutsOutcome};

@@ -1,6 +1,6 @@
 //! The instruction at the instruction address: fetched, what it makes, its puts, and its plan. Source:
 //! GA22-6821, "System Structure", program execution.
-ghost use Rattle.std.specs.Prelude.{◌≡◌, ◌<◌, ◌≤◌, [], IfErr, IfOk, Some, length, slice_index};
+ghost use Rattle.std.specs.Prelude.{◌≡◌, ◌<◌, [], IfErr, IfOk, Some, length, slice_index};
 ghost use Rattle.s360_model.specs.Psw.{instruction_address_of};
 ghost use Rattle.s360_fixed.specs.Plans.{PutsOutcome};
 ghost use Rattle.s360_fixed.specs.ProgramCodes.{program_code};

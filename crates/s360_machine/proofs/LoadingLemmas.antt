@@ -56,7 +56,7 @@ byte-behind xs run two low at b i h four t n lo hi same l =
     in let fits : b + length (drop (4 - at) run) ≤ length xs = parts-inside xs run at b h four lo hi
     in let rest : get_or (with_run low 2 two) i 0 ≡ get_or xs i 0 = run-after low two 2 i (omega (arith, t, n, four)) (omega (arith, t, l)) ∙ same
     in let count : length (drop (4 - at) run) ≡ length run - (4 - at) = length-drop (4 - at) run
-    in let start : (b ≡ 4) × (at < 4) ⊎ (b ≡ at) × (4 ≤ at) = elim (cases_lt at 4) [ | inl k ↦ inl (lo k, k) | inr k ↦ inr (hi k, k) ]
+    in let start : (b ≡ 4) × (at < 4) ⊎ (b ≡ at) × (4 ≤ at) = elim (cases_lt at 4) [ inl k ↦ inl (lo k, k) | inr k ↦ inr (hi k, k) ]
     in elim (cases_lt i at) [
       | inl k ↦ run-before (with_run low 2 two) (drop (4 - at) run) b i (omega (arith, size, fits)) (omega (arith, hi (omega (arith, k, l)), k)) ∙ rest ∙ sym (run-before xs run at i h k)
       | inr k ↦ elim (cases_lt i (at + length run)) [
@@ -89,7 +89,7 @@ parts-stored xs run two low at b h four t n lo hi below above =
     in let byte : (i : ℕ) → get_or (with_run (with_run low 2 two) b (drop (4 - at) run)) i 0 ≡ get_or (with_run (with_run xs at run) 2 two) i 0
     = λ i. elim (cases_lt i 4) [
       | inl l ↦
-          let four_first : 4 ≤ b = elim (cases_lt at 4) [ | inl k ↦ omega (arith, lo k) | inr k ↦ omega (arith, hi k, k) ]
+          let four_first : 4 ≤ b = elim (cases_lt at 4) [ inl k ↦ omega (arith, lo k) | inr k ↦ omega (arith, hi k, k) ]
           in run-before (with_run low 2 two) (drop (4 - at) run) b i (omega (arith, size, fits)) (omega (arith, four_first, l))
           ∙ elim (cases_lt i 2) [
             | inl k ↦ run-before low two 2 i (omega (arith, t, n, four)) k ∙ below i k ∙ sym (run-before (with_run xs at run) two 2 i (omega (arith, t, one, four)) k)

@@ -91,7 +91,11 @@ fn execute_unit<D: Device>(
 }
 
 /// Puts what a channel event stores.
-pub(crate) fn put_run<P: Puts>(core: &Core, run: &Option<Run>, puts: &mut P) -> Result<(), AllocError>
+pub(crate) fn put_run<P: Puts>(
+    core: &Core,
+    run: &Option<Run>,
+    puts: &mut P,
+) -> Result<(), AllocError>
     requires none { HasNoPuts core.now (P.made puts.old) (P.may puts.old) (P.past puts.old) (P.count puts.old) }
     requires inside { IfSome run.now (λ r. LiesIn core.now.storage r) }
     ensures made { OnOk result (P.made puts.new core.now ≡ core_with_run run.now core.now) }

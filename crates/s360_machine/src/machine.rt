@@ -11,7 +11,7 @@ ghost use Rattle.s360_machine.specs.Change.{CanSwap, after_swap, change_after_sw
 ghost use Rattle.s360_machine.specs.Change.{HasRoom, NeedsNoRoom, NeedsRoom};
 ghost use Rattle.s360_machine.specs.Changes.{change_of, change_of_core};
 ghost use Rattle.s360_machine.specs.IoChanges.{CanSwapMedia, media_needs, unit_of_change};
-ghost use Rattle.s360_machine.specs.Packed.{IsSwapOf, change_of_row, lists};
+ghost use Rattle.s360_machine.specs.Packed.{change_of_row, lists};
 ghost use Rattle.s360_machine.specs.Rows.{HasSameCounts, IsOver, cells_of_row};
 ghost use Rattle.s360_model.specs.Exchanges.{CanIfAny};
 ghost use Rattle.s360_device.specs.DeviceChanges.{bare};

@@ -5,11 +5,9 @@ ghost use Rattle.s360_store.specs.CoreChanges.{cells_of_change};
 ghost use Rattle.s360_store.specs.Puts.{HasNoPuts};
 ghost use Rattle.s360_machine.specs.Changes.{change_of};
 ghost use Rattle.s360_machine.specs.Machine.{storage_size, seen};
-ghost use Rattle.s360_machine.specs.Operator.{after_key};
 ghost use Rattle.s360_machine.specs.Planned.{IsChangeTo, LeavesOthers, PutsMachine};
-ghost use Rattle.s360_machine.specs.Refusals.{refusal_of, refusal_of_key, refusal_of_patch};
-ghost use Rattle.s360_machine.specs.Step.{after, after_patch};
-ghost use Rattle.s360_machine.specs.Timer.{after_tick};
+ghost use Rattle.s360_machine.specs.Refusals.{refusal_of};
+ghost use Rattle.s360_machine.specs.Step.{after};
 ghost use Rattle.s360_machine.specs.declared.refusal.Refusal.TheVariants.{Memory};
 
 use crate::beside::Beside;

@@ -8,7 +8,6 @@ pub mod AscendingLemmas
 pub mod DifferenceLemmas
 pub mod PlannedLemmas
 pub mod KeptLemmas
-pub mod SortLemmas
 pub mod PutLemmas
 pub mod ByteCellLemmas
 pub mod RunLemmas

@@ -50,13 +50,6 @@ impl CoreChange {
         }
     }
 
-    /// A change of these cells.
-    pub fn of(cells: Cells) -> CoreChange
-        ensures { cells_of_change result ≡ cells }
-    {
-        CoreChange { psw: None, cells }
-    }
-
     /// Drops what it has, and keeps its memory.
     #[inline(always)]
     pub fn clear(&mut self)
