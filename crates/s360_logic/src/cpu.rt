@@ -19,7 +19,7 @@ use s360_store::{Core, Plan, Puts};
 use std::alloc::AllocError;
 use std::marker::Model;
 
-/// An instruction as it was planned: how it ends, and what an interruption that follows stores of
+/// An instruction as it was put: how it ends, and what an interruption that follows stores of
 /// it. Where it could not be fetched, or its address is odd, the length is not available and the
 /// address is its own.
 #[derive(Clone, Copy)]

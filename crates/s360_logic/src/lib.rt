@@ -1,5 +1,5 @@
 //! Logical and storage-to-storage instructions, decimal conversion, status switching and execute; and
-//! one instruction: fetched, decoded and planned by its row. Rows of other chapters come here.
+//! one instruction: fetched, decoded and put by its row. Rows of other chapters come here.
 //!
 //! Source: GA22-6821, "System Structure", "Logical Operations", "Fixed-Point Arithmetic", "Decimal
 //! Arithmetic", "Branching", "Status Switching" and "Interruptions".

@@ -1,4 +1,4 @@
-//! The machine and its events: what an event alters is planned first, room is made for it, and then
+//! The machine and its events: what an event alters is put together first, room is made for it, and then
 //! it is exchanged with the machine, which the same exchange takes back.
 //!
 //! Source: GA22-6821, "System Structure", "Interruptions", "Status Switching", "Input/Output

@@ -254,7 +254,7 @@ impl Machine {
     }
 
     /// Exchanges the values at the change's places with its own. It takes no memory, and done
-    /// again it restores the whole and the change. A planned change that was made wants no room to
+    /// again it restores the whole and the change. The change of an event, once made, wants no room to
     /// be taken back.
     pub fn swap_all(&mut self, changes: &mut Changes)
         requires can { CanSwap self.old.whole changes.old }

@@ -1,4 +1,4 @@
-//! What an event alters: it is planned, and what the plan alters is its change.
+//! What an event alters: its values are put, and those that differ from what stands there are its change.
 ghost use Rattle.std.specs.Prelude.{◌≡◌, [], true, None, Err, IfOk, IsOkUnless, MatchOption, OnOk};
 ghost use Rattle.s360_store.specs.Cells.{AllFit};
 ghost use Rattle.s360_store.specs.CoreChanges.{cells_of_change};
