@@ -18,12 +18,9 @@ use crate::machine::Machine;
 use crate::packed::Packed;
 use crate::refusal::Refusal;
 use crate::row::Row;
-use s360_store::{CoreChange, Item};
+use s360_store::{CoreChange, Item, append_bytes};
 use std::alloc::AllocError;
 use std::mem;
-
-/// So few bytes are copied one by one: to copy them at once would be a call.
-const FEW: usize = 8;
 
 /// Moves what is beside the core to a list that has room for it, if there is anything, and says whether there is.
 fn push_if_any(list: &mut Vec<Beside>, beside: &mut Beside) -> bool
@@ -66,22 +63,6 @@ fn append_full(
     })
 }
 
-/// Adds a run at the end of a list. Want of memory leaves the list as it was.
-#[inline(always)]
-fn push_run(list: &mut Vec<u8>, run: &[u8]) -> Result<(), AllocError>
-    ensures ok { OnOk result (list.new.items ≡ list.old.items ++ run.now) }
-    ensures err { OnErr result (list.new.items ≡ list.old.items) }
-{
-    if run.len() > FEW {
-        return list.extend_from_slice(run);
-    }
-    list.reserve(run.len())?;
-    for byte in run {
-        list.push_reserved(*byte);
-    }
-    Ok(())
-}
-
 /// Adds what a change has beside its row to the lists, and answers its row. Want of memory leaves the lists as they were.
 #[inline(always)]
 pub(crate) fn append_parts(
@@ -99,7 +80,9 @@ pub(crate) fn append_parts(
 {
     if beside.is_empty() {
         if let Some((row, run)) = Row::within(core) {
-            push_run(bytes, run)?;
+            if !run.is_empty() {
+                append_bytes(bytes, run)?;
+            }
             return Ok(row);
         }
     }
@@ -122,9 +105,6 @@ impl Packed {
         ensures err { OnErr result (self.new ≡ self.old) }
         ensures whole { machine.new.whole ≡ machine.old.whole }
     {
-        if let Some(refusal) = machine.refusal(event) {
-            return Err(refusal);
-        }
         machine.put_changes(event, next)?;
         machine.room(next)?;
         self.append_from(next)?;

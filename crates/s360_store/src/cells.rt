@@ -11,6 +11,7 @@ ghost use Rattle.s360_store.specs.Items.{core_of};
 ghost use Rattle.s360_store.specs.Places.{same_place};
 ghost use Rattle.s360_store.specs.Plans.{after_put, after_put_bytes, planned_value};
 
+use crate::bytes::append_bytes;
 use crate::exchange::exchange_items;
 use crate::items::{
     Item, Part, all_miss, byte_cell, find, joined, one_has, part_at, replace, value_at,
@@ -19,23 +20,17 @@ use crate::place::{Cell, Place};
 use crate::storage::Storage;
 use s360_psw::Psw;
 use s360_word::Word;
-use smallvec::SmallVec;
 use std::alloc::{AllocError, Global};
 use std::marker::Model;
-
-/// So many single cells and runs stand within cells, and so many bytes of runs, which takes no memory.
-const ITEMS: usize = 4;
-
-const BYTES: usize = 16;
 
 /// So many single cells and runs there are at most where each is looked at.
 const MOST: usize = 16;
 
 /// Cells, in their order.
 pub struct Cells {
-    items: SmallVec<Item, ITEMS>,
+    items: Vec<Item>,
     /// The bytes of the runs, run after run.
-    bytes: SmallVec<u8, BYTES>,
+    bytes: Vec<u8>,
     /// The number of cells.
     count: u32,
 }
@@ -63,7 +58,8 @@ impl Model for Cells {
 }
 
 /// Adds a run to items: to the last of them if it follows that. Want of memory leaves them as they were.
-fn push_run(items: &mut SmallVec<Item, ITEMS>, address: u32, count: u32) -> Result<(), AllocError>
+#[inline(always)]
+fn push_run(items: &mut Vec<Item>, address: u32, count: u32) -> Result<(), AllocError>
     requires items { AreItems items.old.items }
     requires some { 0 < count }
     requires inside { address + count ≤ 2 ^ 32 }
@@ -87,13 +83,14 @@ impl Cells {
         ensures { result ≡ [] }
     {
         Cells {
-            items: SmallVec::new(alloc),
-            bytes: SmallVec::new(alloc),
+            items: Vec::new(alloc),
+            bytes: Vec::new(alloc),
             count: 0,
         }
     }
 
     /// Drops all cells, and keeps their memory.
+    #[inline(always)]
     pub fn clear(&mut self)
         ensures { self.new ≡ [] }
     {
@@ -129,7 +126,8 @@ impl Cells {
                 self.push_bytes(address, &[cell.value as u8])
             }
             _ => {
-                self.items.push(Item::Single(cell))?;
+                self.items.reserve(1)?;
+                self.items.push_reserved(Item::Single(cell));
                 self.count += 1;
                 Ok(())
             }
@@ -149,7 +147,7 @@ impl Cells {
         let count = bytes.len() as u32;
         self.bytes.reserve(bytes.len())?;
         push_run(&mut self.items, address, count)?;
-        self.bytes.extend_from_slice(bytes)?;
+        append_bytes(&mut self.bytes, bytes)?;
         self.count += count;
         Ok(())
     }
@@ -159,7 +157,19 @@ impl Cells {
         requires { i < length self.now }
         ensures { IsPartAt self.now i result }
     {
-        part_at(&self.items, &self.bytes, i)
+        part_at(self.items.as_slice(), self.bytes.as_slice(), i)
+    }
+
+    /// All cells as one part, if they are one cell or one run.
+    #[inline(always)]
+    pub fn only(&self) -> Option<Part<'_>>
+        ensures { IfSome result (λ part. IsOnlyPart self.now part) }
+    {
+        match self.items.as_slice() {
+            [Item::Single(cell)] => Some(Part::Cell(*cell)),
+            [Item::Run { address, .. }] => Some(Part::Bytes(*address, self.bytes.as_slice())),
+            _ => None,
+        }
     }
 
     /// The cell at `i`, counted from 0.

@@ -21,7 +21,7 @@ mod span;
 mod storage;
 
 pub use block_key::BlockKey;
-pub use bytes::Bytes;
+pub use bytes::{Bytes, append_bytes};
 pub use cells::Cells;
 pub use core_change::CoreChange;
 pub use core_state::Core;
