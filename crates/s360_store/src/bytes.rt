@@ -1,5 +1,5 @@
 //! Bytes in their order, as patches, texts and channel programs have them.
-ghost use Rattle.std.specs.Prelude.{◌≡◌, ◌++◌, OnErr, OnOk};
+ghost use Rattle.std.specs.Prelude.{◌≡◌, ◌≤◌, ◌+◌, ◌++◌, IsOk, OnErr, OnOk, length, vec_capacity, vec_len};
 
 use std::alloc::AllocError;
 use std::marker::Model;
@@ -81,6 +81,7 @@ impl Eq for Bytes {
 pub fn append_bytes(list: &mut Vec<u8>, bytes: &[u8]) -> Result<(), AllocError>
     ensures ok { OnOk result (list.new.items ≡ list.old.items ++ bytes.now) }
     ensures err { OnErr result (list.new.items ≡ list.old.items) }
+    ensures room { vec_len list.old + length bytes.now ≤ vec_capacity list.old → IsOk result }
 {
     if bytes.len() > FEW {
         return list.extend_from_slice(bytes);

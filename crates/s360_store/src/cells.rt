@@ -1,11 +1,11 @@
 //! Cells as they stand in memory: single ones and runs. So a run takes memory for its bytes alone, and is copied, compared
 //! and exchanged as a whole. A contract sees the list of the cells.
 ghost use Rattle.std.specs.Prelude.{◌≡◌, ◌<◌, ◌≤◌, ◌+◌, ◌^◌, ◌++◌, ◌↔◌, [], ◌∷◌, length, slice_get};
-ghost use Rattle.std.specs.Prelude.{if◌then◌else◌, ◌⊎◌, IfOk, OnOk, OnErr, Some, IsSome, IsTrue};
+ghost use Rattle.std.specs.Prelude.{if◌then◌else◌, ◌⊎◌, IfOk, IfSome, OnOk, OnErr, Some, IsSome, IsTrue};
 ghost use Rattle.std.specs.List.{list_any};
 ghost use Rattle.s360_store.specs.Cells.{AllFit, AreCellsOf, after_exchange, byte_cells};
 ghost use Rattle.s360_store.specs.Cells.{cells_after_exchange, places_of_cells};
-ghost use Rattle.s360_store.specs.Items.{AddsRun, Appended, AreItems, IsPartAt};
+ghost use Rattle.s360_store.specs.Items.{AddsRun, Appended, AreItems, IsAllOf, IsPartAt};
 ghost use Rattle.s360_store.specs.Items.{bytes_of_items};
 ghost use Rattle.s360_store.specs.Items.{core_of};
 ghost use Rattle.s360_store.specs.Places.{same_place};
@@ -163,12 +163,15 @@ impl Cells {
     /// All cells as one part, if they are one cell or one run.
     #[inline(always)]
     pub fn only(&self) -> Option<Part<'_>>
-        ensures { IfSome result (λ part. IsOnlyPart self.now part) }
+        ensures { IfSome result (λ part. IsAllOf self.now part) }
     {
-        match self.items.as_slice() {
-            [Item::Single(cell)] => Some(Part::Cell(*cell)),
-            [Item::Run { address, .. }] => Some(Part::Bytes(*address, self.bytes.as_slice())),
-            _ => None,
+        let items = self.items.as_slice();
+        if items.len() != 1 {
+            return None;
+        }
+        match items[0] {
+            Item::Single(cell) => Some(Part::Cell(cell)),
+            Item::Run { address, .. } => Some(Part::Bytes(address, self.bytes.as_slice())),
         }
     }
 
@@ -187,14 +190,14 @@ impl Cells {
     pub fn value(&self, place: Place) -> Option<u64>
         ensures { result ≡ planned_value self.now place }
     {
-        value_at(&self.items, &self.bytes, place)
+        value_at(self.items.as_slice(), self.bytes.as_slice(), place)
     }
 
     /// Whether a cell has a place.
     pub fn has(&self, place: Place) -> bool
         ensures { result ≡ list_any (λ q. same_place q place) (places_of_cells self.now) }
     {
-        one_has(&self.items, place)
+        one_has(self.items.as_slice(), place)
     }
 
     /// Puts a value at a place, in its cell if it has one, and else in one at the end, and says whether it did. It
@@ -205,8 +208,8 @@ impl Cells {
         ensures ok { IfOk result (λ done. self.new ≡ (if done then after_put self.old place value else self.old)) }
         ensures err { OnErr result (self.new ≡ self.old) }
     {
-        match find(&self.items, place) {
-            Some(at) => Ok(replace(&mut self.items, at, Cell { place, value })),
+        match find(self.items.as_slice(), place) {
+            Some(at) => Ok(replace(self.items.as_mut_slice(), at, Cell { place, value })),
             None if self.items.len() < MOST => {
                 self.push(Cell { place, value })?;
                 Ok(true)
@@ -224,7 +227,7 @@ impl Cells {
         ensures err { OnErr result (self.new ≡ self.old) }
     {
         let count = bytes.len() as u32;
-        if self.items.len() >= MOST || !all_miss(&self.items, address, count) {
+        if self.items.len() >= MOST || !all_miss(self.items.as_slice(), address, count) {
             return Ok(false);
         }
         self.push_bytes(address, bytes)?;
@@ -239,8 +242,8 @@ impl Cells {
         ensures err_bytes { OnErr result (bytes.new.items ≡ bytes.old.items) }
     {
         items.reserve(self.items.len())?;
-        bytes.extend_from_slice(&self.bytes)?;
-        items.extend_from_slice(&self.items)
+        bytes.extend_from_slice(self.bytes.as_slice())?;
+        items.extend_from_slice(self.items.as_slice())
     }
 
     /// Exchanges what stands at the places of the cells in a PSW, registers and storage with their values. Done again,
@@ -251,6 +254,6 @@ impl Cells {
         ensures cells { self.new ≡ cells_after_exchange (core_of psw.old registers.old storage.old) self.old }
         ensures fit { AllFit storage.new.fetch_protection self.new }
     {
-        exchange_items(psw, registers, storage, &mut self.items, &mut self.bytes);
+        exchange_items(psw, registers, storage, self.items.as_mut_slice(), self.bytes.as_mut_slice());
     }
 }
