@@ -8,6 +8,8 @@ The columns of each form are those that its assembler prints. The last line says
 import pathlib
 import sys
 
+import tally
+
 sys.path.insert(0, str(pathlib.Path(__file__).resolve().parent.parent / "tools/gdb"))
 import listing  # noqa: E402
 from listing_symbols import assembly_of, labels_of, placed  # noqa: E402
@@ -124,8 +126,7 @@ def main():
     for name, text, columns, wanted in FAULTS:
         looks += 1
         wrong += [] if fault_of(text, columns) == wanted else [f"{name}: {fault_of(text, columns)!r}"]
-    print("\n".join([*wrong, f"{looks - len(wrong)} passed, {len(wrong)} failed"]))
-    return 1 if wrong else 0
+    return tally.end(looks - len(wrong), wrong)
 
 
 if __name__ == "__main__":

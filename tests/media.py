@@ -26,6 +26,7 @@ sys.path.insert(0, str(TOP / "tools/media"))
 import kinds
 import loading
 import objects
+import tally
 import tapes
 from common import Fault
 
@@ -812,10 +813,7 @@ def main():
         looks = Looks(pathlib.Path(folder), options.program.resolve())
         for part in parts:
             part(looks)
-    for fault in looks.wrong:
-        print(fault)
-    print(f"{looks.passed} passed, {len(looks.wrong)} failed")
-    return 1 if looks.wrong else 0
+    return tally.end(looks.passed, looks.wrong)
 
 
 if __name__ == "__main__":

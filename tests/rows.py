@@ -34,6 +34,7 @@ import tempfile
 from concurrent.futures import ThreadPoolExecutor
 from typing import NamedTuple
 
+import tally
 import worked_cases
 
 TOP = pathlib.Path(__file__).resolve().parent.parent
@@ -272,11 +273,8 @@ def main():
     options = parser.parse_args()
     wanted = [r for r in rows() if not options.words or any(w in r.name for w in options.words)]
     faults = unproved(wanted) if options.unproved else proved(wanted)
-    failed = [(row, fault) for row, fault in zip(wanted, faults) if fault]
-    for row, fault in failed:
-        print(f"{row.name}: {fault}")
-    print(f"{len(wanted) - len(failed)} passed, {len(failed)} failed")
-    return 1 if failed or not wanted else 0
+    failed = [f"{row.name}: {fault}" for row, fault in zip(wanted, faults) if fault]
+    return tally.end(len(wanted) - len(failed), failed)
 
 
 if __name__ == "__main__":

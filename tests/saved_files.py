@@ -15,6 +15,7 @@ import subprocess
 import sys
 import tempfile
 
+import tally
 from packet_rows import PROGRAM, framed, items_of
 
 SECONDS = 600
@@ -248,10 +249,7 @@ def main():
                 part()
             except (OSError, ValueError, subprocess.TimeoutExpired) as fault:
                 cases.wrong.append(f"{part.__name__}: {fault}")
-    for fault in cases.wrong:
-        print(fault)
-    print(f"{cases.passed} passed, {len(cases.wrong)} failed")
-    return 1 if cases.wrong else 0
+    return tally.end(cases.passed, cases.wrong)
 
 
 if __name__ == "__main__":

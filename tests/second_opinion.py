@@ -19,6 +19,7 @@ import sys
 import tempfile
 from concurrent.futures import ThreadPoolExecutor
 
+import tally
 from second.scripts import Script
 
 TOP = pathlib.Path(__file__).resolve().parent.parent
@@ -76,10 +77,7 @@ def main():
     seeds = range(options.first, options.last + 1)
     with ThreadPoolExecutor(os.cpu_count()) as pool:
         differences = [difference for difference in pool.map(first_difference, seeds) if difference]
-    for difference in differences:
-        print(difference)
-    print(f"{len(seeds) - len(differences)} passed, {len(differences)} failed")
-    return 1 if differences or not seeds else 0
+    return tally.end(len(seeds) - len(differences), differences)
 
 
 if __name__ == "__main__":

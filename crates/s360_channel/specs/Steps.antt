@@ -1,5 +1,5 @@
 -- What the plan of a channel event says of its execution.
-use Rattle.std.specs.Prelude.{◌≡◌, ◌≤◌, ℕ, Option, Some, None, List, length}
+use Rattle.std.specs.Prelude.{◌≡◌, ◌<◌, ◌≤◌, ◌+◌, ℕ, IfSome, Option, Some, None, List, length}
 use Rattle.s360_model.specs.Core.{Core}
 use Rattle.s360_model.specs.Storage.{Storage}
 use Rattle.s360_store.specs.declared.place.Cell.{Cell}
@@ -7,6 +7,7 @@ use Rattle.s360_store.specs.Plans.{IsPlanOf}
 use Rattle.s360_device.specs.declared.device.Begin.{Begin}
 use Rattle.s360_device.specs.Transfers.{MovesBytes}
 use Rattle.s360_channel.specs.declared.engine.ChannelStep.{ChannelStep}
+use Rattle.s360_channel.specs.declared.engine.Executed.{Executed}
 use Rattle.s360_channel.specs.declared.engine.ChannelStep.TheVariants.{NotYet, GoesOn, Ends}
 use Rattle.s360_channel.specs.declared.fetching.Fetched.{Fetched}
 use Rattle.s360_channel.specs.declared.fetching.Fetched.TheVariants.{Broken, Whole}
@@ -54,6 +55,17 @@ KeepsDevice IsAfter device e = IsAfter device e.command e.output device
 abbrev pub WordMovesBytes : (ℕ → Begin) → Progress → Fetched → Type 0
 WordMovesBytes begin progress (Broken last) = ⊥
 WordMovesBytes begin progress (Whole at c) = MovesBytes (begin (command_with progress c))
+
+-- a run has bytes, no more than a count counts, and lies in storage
+abbrev pub LiesIn : Storage → Run → Type 0
+LiesIn s r = (0 < length r.bytes) × (length r.bytes ≤ 65535) × (r.at + length r.bytes ≤ length s.bytes)
+
+-- what was executed stores what the execution stores, and its step is the execution's
+pub record Executes {C : Type 0} (s : Storage) (p : Program) (e : Execution) (Becomes : Ending → C → Type 0) (Stays : Ending → Type 0) (x : Executed C) : Type 0 where
+  pub stores : x.stores ≡ e.stores
+  pub inside : IfSome x.stores (λ r. LiesIn s r)
+  pub state : state_after_step p x.step ≡ e.state
+  pub change : IsDeviceChange Becomes Stays e.ending (change_of_step x.step)
 
 -- the plan puts a run, if there is one, into any core that has this storage
 abbrev pub StoresRun : Storage → List Cell → Option Run → Type 0

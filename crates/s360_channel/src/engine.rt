@@ -1,7 +1,7 @@
 //! One channel event: a channel command word executed over a device. Source: GA22-6821,
 //! "Input/Output Operations", execution of input/output operations.
 ghost use Rattle.std.specs.Prelude.{◌≡◌, ◌≤◌, ◌<◌, ◌+◌, ◌-◌, ◌^◌, ◌++◌};
-ghost use Rattle.std.specs.Prelude.{Some, None, [], IfOk, OnErr, length};
+ghost use Rattle.std.specs.Prelude.{Some, None, [], IfOk, IsSome, OnErr, length};
 ghost use Rattle.s360_device.specs.Transfers.{CanEndWith, IsOutput, MovesBytes};
 ghost use Rattle.s360_device.specs.declared.device.Begin.TheVariants.{Input, Output};
 ghost use Rattle.s360_channel.specs.Execution.{channel_execution, execute_begun};
@@ -11,7 +11,7 @@ ghost use Rattle.s360_channel.specs.Execution.{stored_bytes};
 ghost use Rattle.s360_channel.specs.Execution.{execute_without_bytes, ended_unit, refused_unit};
 ghost use Rattle.s360_channel.specs.Steps.{AltersDevice, IsDeviceChange, KeepsDevice};
 ghost use Rattle.s360_channel.specs.Programs.{next_ccw};
-ghost use Rattle.s360_channel.specs.Steps.{PlansExecution, WordMovesBytes, change_of_step, state_after_step};
+ghost use Rattle.s360_channel.specs.Steps.{Executes, PlansExecution, WordMovesBytes, change_of_step, state_after_step};
 ghost use Rattle.s360_channel.specs.declared.program.Progress.TheVariants.{InputChained, OutputChained};
 
 use crate::ccw::{Ccw, reads_backward};
@@ -20,7 +20,7 @@ use crate::csw::{ChannelStatus, Csw, UnitStatus};
 use crate::fetching::{Fetched, next_ccw};
 use crate::gathering::{fetched, gathered_with, input_in_order, output_of};
 use crate::program::{Program, Progress};
-use crate::storing::put_run;
+use crate::storing::{Run, plan_run, run_of};
 use crate::transfer::{Transfer, access_of, input_transfer, lowest_address, output_transfer};
 use s360_device::{Begin, Device};
 use s360_store::{Access, Checked, Plan, Storage};
@@ -35,6 +35,15 @@ pub enum ChannelStep<C> {
     GoesOn { program: Program, change: Option<C> },
     /// The program has ended and its status word waits, with the device's change likewise.
     Ends { csw: Csw, change: Option<C> },
+}
+
+/// What a word of a program does: its step, and what it stores.
+#[derive(Drop)]
+pub struct Executed<C> {
+    /// The step of the program.
+    pub step: ChannelStep<C>,
+    /// What is stored, if anything is.
+    pub stores: Option<Run>,
 }
 
 /// A word that is executed, with the command of its record.
@@ -85,40 +94,44 @@ fn end_without_bytes<C: Drop>(
     program.concluded(word.at, &word.ccw, &conclusion, change)
 }
 
+/// What was executed that stores nothing.
+fn without_stores<C: Drop>(step: ChannelStep<C>) -> Executed<C>
+    ensures step { result.step ≡ step }
+    ensures stores { result.stores ≡ None }
+{
+    Executed { step, stores: None }
+}
+
 /// A word of a control.
-fn plan_control<D: Device>(
+fn execute_control<D: Device>(
     storage: &Storage,
     program: &Program,
     device: &D,
-    plan: &Plan,
     word: &Word,
-) -> Result<ChannelStep<D::Change>, AllocError>
-    requires empty { plan.now ≡ [] }
+) -> Result<Executed<D::Change>, AllocError>
     requires can { CanEndWith (D.begin_of device.now word.now.command) [] }
     ensures memory { OnErr result (IsOutput (D.begin_of device.now word.now.command)) }
-    ensures executes { IfOk result (PlansExecution storage.now program.now plan.now (execute_without_bytes program.now word.now.at word.now.ccw word.now.command (ended_unit (D.exception_of device.now word.now.command))) (AltersDevice D.can_swap D.after_swap D.change_after_swap D.needs D.bare D.is_after device.now) (KeepsDevice D.is_after device.now)) }
+    ensures executes { IfOk result (Executes storage.now program.now (execute_without_bytes program.now word.now.at word.now.ccw word.now.command (ended_unit (D.exception_of device.now word.now.command))) (AltersDevice D.can_swap D.after_swap D.change_after_swap D.needs D.bare D.is_after device.now) (KeepsDevice D.is_after device.now)) }
 {
     let (change, exception) = change_of(device, word.command, &[])?;
     let unit = ended_unit(exception);
-    Ok(end_without_bytes(program, word, unit, change))
+    Ok(without_stores(end_without_bytes(program, word, unit, change)))
 }
 
 /// A word of a command that the device refuses.
-fn plan_refused<D: Device>(
+fn execute_refused<D: Device>(
     storage: &Storage,
     program: &Program,
     device: &D,
-    plan: &Plan,
     word: &Word,
-) -> Result<ChannelStep<D::Change>, AllocError>
-    requires empty { plan.now ≡ [] }
+) -> Result<Executed<D::Change>, AllocError>
     requires can { CanEndWith (D.begin_of device.now word.now.command) [] }
     ensures memory { OnErr result (IsOutput (D.begin_of device.now word.now.command)) }
-    ensures executes { IfOk result (PlansExecution storage.now program.now plan.now (execute_without_bytes program.now word.now.at word.now.ccw word.now.command refused_unit) (AltersDevice D.can_swap D.after_swap D.change_after_swap D.needs D.bare D.is_after device.now) (KeepsDevice D.is_after device.now)) }
+    ensures executes { IfOk result (Executes storage.now program.now (execute_without_bytes program.now word.now.at word.now.ccw word.now.command refused_unit) (AltersDevice D.can_swap D.after_swap D.change_after_swap D.needs D.bare D.is_after device.now) (KeepsDevice D.is_after device.now)) }
 {
     let (change, _) = change_of(device, word.command, &[])?;
     let unit = refused_unit();
-    Ok(end_without_bytes(program, word, unit, change))
+    Ok(without_stores(end_without_bytes(program, word, unit, change)))
 }
 
 /// The end of a command with these bytes of output, after the last of its transfers.
@@ -195,62 +208,56 @@ fn after_input<D: Device>(
 }
 
 /// A word of an input that moves so much and stores these bytes.
-fn plan_stored_input<D: Device>(
+fn execute_stored_input<D: Device>(
     storage: &Storage,
     program: &Program,
     device: &D,
-    plan: &mut Plan,
     word: &Word,
     transfer: &Transfer,
-    bytes: &[u8],
-) -> Result<ChannelStep<D::Change>, AllocError>
-    requires empty { plan.old ≡ [] }
+    bytes: Vec<u8>,
+) -> Result<Executed<D::Change>, AllocError>
     requires can { CanEndWith (D.begin_of device.now word.now.command) [] }
-    requires short { length bytes.now ≤ 65535 }
+    requires short { length bytes.items ≤ 65535 }
     requires moved { moved_before program.now.progress + transfer.now.count < 2 ^ 32 }
-    ensures { IfOk result (PlansExecution storage.now program.now plan.new (input_with (record { begin = D.begin_of device.now; input = D.input_of device.now; exception = D.exception_of device.now }) storage.now program.now word.now.at word.now.ccw word.now.command transfer.now bytes.now) (AltersDevice D.can_swap D.after_swap D.change_after_swap D.needs D.bare D.is_after device.now) (KeepsDevice D.is_after device.now)) }
+    ensures { IfOk result (Executes storage.now program.now (input_with (record { begin = D.begin_of device.now; input = D.input_of device.now; exception = D.exception_of device.now }) storage.now program.now word.now.at word.now.ccw word.now.command transfer.now bytes.items) (AltersDevice D.can_swap D.after_swap D.change_after_swap D.needs D.bare D.is_after device.now) (KeepsDevice D.is_after device.now)) }
 {
     let backward = reads_backward(word.command);
-    let count = bytes.len() as u16;
+    let count = bytes.as_slice().len() as u16;
     let lowest = lowest_address(backward, word.ccw.address, count);
     match access_of(storage, program.key, Access::Store, count, lowest) {
         Checked::Clear => {}
-        Checked::Addressing => return Ok(program.checked(word.at, ChannelStatus::program_check())),
-        Checked::Protection => return Ok(program.checked(word.at, protection_check())),
+        Checked::Addressing => {
+            let step = program.checked(word.at, ChannelStatus::program_check());
+            return Ok(without_stores(step));
+        }
+        Checked::Protection => {
+            let step = program.checked(word.at, protection_check());
+            return Ok(without_stores(step));
+        }
     }
-    put_run(storage, program.key, plan, lowest, bytes)?;
     let step = after_input(program, device, word, transfer)?;
-    Ok(step)
+    let stores = run_of(storage, program.key, lowest, bytes);
+    Ok(Executed { step, stores })
 }
 
 /// A word of an input of so many bytes.
-fn plan_input<D: Device>(
+fn execute_input<D: Device>(
     alloc: Global,
     storage: &Storage,
     program: &Program,
     device: &D,
-    plan: &mut Plan,
     word: &Word,
     total: u32,
-) -> Result<ChannelStep<D::Change>, AllocError>
-    requires empty { plan.old ≡ [] }
+) -> Result<Executed<D::Change>, AllocError>
     requires input { D.begin_of device.now word.now.command ≡ Input total }
     requires total { length (D.input_of device.now word.now.command) ≡ total }
-    ensures { IfOk result (PlansExecution storage.now program.now plan.new (execute_input (record { begin = D.begin_of device.now; input = D.input_of device.now; exception = D.exception_of device.now }) storage.now program.now word.now.at word.now.ccw word.now.command total) (AltersDevice D.can_swap D.after_swap D.change_after_swap D.needs D.bare D.is_after device.now) (KeepsDevice D.is_after device.now)) }
+    ensures { IfOk result (Executes storage.now program.now (execute_input (record { begin = D.begin_of device.now; input = D.input_of device.now; exception = D.exception_of device.now }) storage.now program.now word.now.at word.now.ccw word.now.command total) (AltersDevice D.can_swap D.after_swap D.change_after_swap D.needs D.bare D.is_after device.now) (KeepsDevice D.is_after device.now)) }
 {
     let left = total.saturating_sub(program.progress.moved_before());
     let transfer = input_transfer(&word.ccw, left);
     let bytes = stored_bytes(alloc, device, &program.progress, word, &transfer)?;
-    let step = plan_stored_input(
-        storage,
-        program,
-        device,
-        plan,
-        word,
-        &transfer,
-        bytes.as_slice(),
-    )?;
-    Ok(step)
+    let executed = execute_stored_input(storage, program, device, word, &transfer, bytes)?;
+    Ok(executed)
 }
 
 /// What follows a word of an output that has fetched its bytes.
@@ -286,18 +293,16 @@ fn after_output<D: Device>(
 }
 
 /// A word of an output of at most so many bytes.
-fn plan_output<D: Device>(
+fn execute_output<D: Device>(
     alloc: Global,
     storage: &Storage,
     program: &Program,
     device: &D,
-    plan: &Plan,
     word: &Word,
     limit: u32,
-) -> Result<ChannelStep<D::Change>, AllocError>
-    requires empty { plan.now ≡ [] }
+) -> Result<Executed<D::Change>, AllocError>
     requires output { D.begin_of device.now word.now.command ≡ Output limit }
-    ensures { IfOk result (PlansExecution storage.now program.now plan.now (execute_output (record { begin = D.begin_of device.now; input = D.input_of device.now; exception = D.exception_of device.now }) storage.now program.now word.now.at word.now.ccw word.now.command limit) (AltersDevice D.can_swap D.after_swap D.change_after_swap D.needs D.bare D.is_after device.now) (KeepsDevice D.is_after device.now)) }
+    ensures { IfOk result (Executes storage.now program.now (execute_output (record { begin = D.begin_of device.now; input = D.input_of device.now; exception = D.exception_of device.now }) storage.now program.now word.now.at word.now.ccw word.now.command limit) (AltersDevice D.can_swap D.after_swap D.change_after_swap D.needs D.bare D.is_after device.now) (KeepsDevice D.is_after device.now)) }
 {
     let address = word.ccw.address;
     let before = program.progress.count_within(limit);
@@ -310,42 +315,74 @@ fn plan_output<D: Device>(
         Some(address),
     ) {
         Checked::Clear => {}
-        Checked::Addressing => return Ok(program.checked(word.at, ChannelStatus::program_check())),
-        Checked::Protection => return Ok(program.checked(word.at, protection_check())),
+        Checked::Addressing => {
+            let step = program.checked(word.at, ChannelStatus::program_check());
+            return Ok(without_stores(step));
+        }
+        Checked::Protection => {
+            let step = program.checked(word.at, protection_check());
+            return Ok(without_stores(step));
+        }
     }
     let bytes = fetched(storage, address, transfer.count);
     let step = after_output(alloc, program, device, word, limit, &transfer, bytes)?;
-    Ok(step)
+    Ok(without_stores(step))
 }
 
 /// A word that is executed, by how the device begins its command.
-fn plan_word<D: Device>(
+fn execute_word<D: Device>(
     alloc: Global,
     storage: &Storage,
     program: &Program,
     device: &D,
-    plan: &mut Plan,
     word: &Word,
-) -> Result<ChannelStep<D::Change>, AllocError>
-    requires empty { plan.old ≡ [] }
+) -> Result<Executed<D::Change>, AllocError>
     ensures memory { OnErr result (MovesBytes (D.begin_of device.now word.now.command)) }
-    ensures executes { IfOk result (PlansExecution storage.now program.now plan.new (execute_begun (record { begin = D.begin_of device.now; input = D.input_of device.now; exception = D.exception_of device.now }) storage.now program.now word.now.at word.now.ccw word.now.command (D.begin_of device.now word.now.command)) (AltersDevice D.can_swap D.after_swap D.change_after_swap D.needs D.bare D.is_after device.now) (KeepsDevice D.is_after device.now)) }
+    ensures stored { IfOk result (λ x. IsSome x.stores → MovesBytes (D.begin_of device.now word.now.command)) }
+    ensures executes { IfOk result (Executes storage.now program.now (execute_begun (record { begin = D.begin_of device.now; input = D.input_of device.now; exception = D.exception_of device.now }) storage.now program.now word.now.at word.now.ccw word.now.command (D.begin_of device.now word.now.command)) (AltersDevice D.can_swap D.after_swap D.change_after_swap D.needs D.bare D.is_after device.now) (KeepsDevice D.is_after device.now)) }
 {
-    let step = match device.begin(word.command) {
-        Begin::Input(total) => plan_input(alloc, storage, program, device, plan, word, total)?,
-        Begin::Output(limit) => plan_output(alloc, storage, program, device, plan, word, limit)?,
-        Begin::Control => plan_control(storage, program, device, plan, word)?,
-        Begin::Refused(_) => plan_refused(storage, program, device, plan, word)?,
-        Begin::NotYet => ChannelStep::NotYet,
+    let executed = match device.begin(word.command) {
+        Begin::Input(total) => execute_input(alloc, storage, program, device, word, total)?,
+        Begin::Output(limit) => execute_output(alloc, storage, program, device, word, limit)?,
+        Begin::Control => execute_control(storage, program, device, word)?,
+        Begin::Refused(_) => execute_refused(storage, program, device, word)?,
+        Begin::NotYet => without_stores(ChannelStep::NotYet),
     };
-    Ok(step)
+    Ok(executed)
+}
+
+/// Executes one channel event of a unit that executes a program: it answers the step and what is stored. Storage and
+/// device are only read. Only a word that moves bytes takes memory: not one that meets a program check, nor a command
+/// that moves none, is refused or cannot begin yet.
+#[tactic(auto, unfolding(crate::specs::Execution::channel_execution))]
+pub fn execute<D: Device>(
+    alloc: Global,
+    storage: &Storage,
+    program: &Program,
+    device: &D,
+) -> Result<Executed<D::Change>, AllocError>
+    ensures memory { OnErr result (WordMovesBytes (D.begin_of device.now) program.now.progress (next_ccw storage.now program.now)) }
+    ensures stored { IfOk result (λ x. IsSome x.stores → WordMovesBytes (D.begin_of device.now) program.now.progress (next_ccw storage.now program.now)) }
+    ensures executes { IfOk result (Executes storage.now program.now (channel_execution (record { begin = D.begin_of device.now; input = D.input_of device.now; exception = D.exception_of device.now }) storage.now program.now) (AltersDevice D.can_swap D.after_swap D.change_after_swap D.needs D.bare D.is_after device.now) (KeepsDevice D.is_after device.now)) }
+{
+    match next_ccw(storage, program) {
+        Fetched::Broken(last) => {
+            let step = program.checked(last, ChannelStatus::program_check());
+            Ok(without_stores(step))
+        }
+        Fetched::Whole(at, ccw) => {
+            let command = program.progress.command_with(&ccw);
+            let word = Word { at, ccw, command };
+            let executed = execute_word(alloc, storage, program, device, &word)?;
+            Ok(executed)
+        }
+    }
 }
 
 /// Plans one channel event of a unit that executes a program: it puts what is stored into an empty
 /// plan, and answers the step. Storage and device are only read. Only a word that moves bytes takes memory: not one that
 /// meets a program check, nor a command that moves none, is refused or cannot begin yet. If memory is wanting, the plan is
 /// to be dropped.
-#[tactic(auto, unfolding(crate::specs::Execution::channel_execution))]
 pub fn channel_plan<D: Device>(
     alloc: Global,
     storage: &Storage,
@@ -357,13 +394,7 @@ pub fn channel_plan<D: Device>(
     ensures memory { OnErr result (WordMovesBytes (D.begin_of device.now) program.now.progress (next_ccw storage.now program.now)) }
     ensures executes { IfOk result (PlansExecution storage.now program.now plan.new (channel_execution (record { begin = D.begin_of device.now; input = D.input_of device.now; exception = D.exception_of device.now }) storage.now program.now) (AltersDevice D.can_swap D.after_swap D.change_after_swap D.needs D.bare D.is_after device.now) (KeepsDevice D.is_after device.now)) }
 {
-    match next_ccw(storage, program) {
-        Fetched::Broken(last) => Ok(program.checked(last, ChannelStatus::program_check())),
-        Fetched::Whole(at, ccw) => {
-            let command = program.progress.command_with(&ccw);
-            let word = Word { at, ccw, command };
-            let step = plan_word(alloc, storage, program, device, plan, &word)?;
-            Ok(step)
-        }
-    }
+    let executed = execute(alloc, storage, program, device)?;
+    plan_run(storage, &executed.stores, plan)?;
+    Ok(executed.step)
 }

@@ -1,4 +1,3 @@
 pub mod PutLemmas
 pub mod RegisterLemmas
 pub mod OperandLemmas
-pub mod AlteredLemmas

@@ -12,4 +12,3 @@ pub mod Made
 pub mod Shifting
 pub mod Fetching
 pub mod Fixed
-pub mod Plain

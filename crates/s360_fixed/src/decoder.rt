@@ -156,7 +156,7 @@ fn displacement(bytes: &[u8], i: usize) -> u16
 
 /// The base register and the displacement that two bytes have, from one on.
 #[inline(always)]
-pub fn base_and_displacement(bytes: &[u8], i: usize) -> (RegisterNumber, u16)
+pub(crate) fn base_and_displacement(bytes: &[u8], i: usize) -> (RegisterNumber, u16)
     requires { i + 1 < length bytes.now }
     ensures base { result.0 ≡ high_digit bytes.now i }
     ensures displacement { result.1 ≡ displacement_at bytes.now i }
@@ -165,7 +165,7 @@ pub fn base_and_displacement(bytes: &[u8], i: usize) -> (RegisterNumber, u16)
 }
 
 /// The instruction of a format with these bytes.
-fn form(format: Format, operation: Operation, bytes: &[u8]) -> Form
+fn form_with(format: Format, operation: Operation, bytes: &[u8]) -> Form
     requires { bytes_of_format format ≤ length bytes.now }
     ensures { result ≡ form_with format operation bytes.now }
 {
@@ -222,5 +222,5 @@ pub fn decode_bytes(bytes: &[u8]) -> Option<Form>
     ensures { result ≡ form_of bytes.now }
 {
     let entry = entry_at(bytes[0])?;
-    Some(form(entry.format, entry.operation, bytes))
+    Some(form_with(entry.format, entry.operation, bytes))
 }

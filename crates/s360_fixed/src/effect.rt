@@ -21,9 +21,10 @@ pub struct Effect {
 }
 
 impl Effect {
-    ghost use Rattle.std.specs.Prelude.{◌≡◌, ◌<◌, ◌≤◌, ◌+◌, IfOk, OnOk, OnSome};
+    ghost use Rattle.std.specs.Prelude.{ℕ, ◌≡◌, ◌<◌, ◌≤◌, ◌+◌, IfOk, OnOk, OnSome};
     ghost use Rattle.s360_store.specs.Puts.{HasNoPuts};
     ghost use Rattle.s360_store.specs.declared.place.Place.{Place};
+    ghost use Rattle.s360_store.specs.declared.place.Place.TheVariants.{Byte};
     ghost use Rattle.s360_fixed.specs.Outcomes.{after_effect, condition_alone, condition_code_alone, core_after_effect};
     ghost use Rattle.s360_fixed.specs.Outcomes.{double, no_effect, single};
     ghost use Rattle.s360_fixed.specs.Plans.{PutsOutcome};
@@ -100,6 +101,7 @@ impl Effect {
         requires past { (q : Place) → P.past puts.old q }
         ensures made { OnOk result (P.made puts.new core.now ≡ core_after_effect psw r1 self address (P.made puts.old core.now)) }
         ensures may { OnOk result (P.may puts.new core.now) }
+        ensures bytes { OnOk result ((a : ℕ) → P.past puts.new (Byte a)) }
         ensures few { OnOk result (P.count puts.new ≤ P.count puts.old + 3) }
     {
         let psw = self.setting.psw(psw).with_instruction_address(address);
@@ -111,6 +113,7 @@ impl Effect {
 
     /// Puts the effect alone, after which the instruction at an address comes.
     #[inline(always)]
+    #[tactic(auto, using(crate::proofs::PutLemmas::follows_effect))]
     pub fn put_alone<P: Puts>(
         self,
         view: &View,
@@ -120,7 +123,7 @@ impl Effect {
     ) -> Result<Ended, AllocError>
         requires pair { OnSome self.second (r1 + 1 < 16) }
         requires none { HasNoPuts view.now.core (P.made puts.old) (P.may puts.old) (P.past puts.old) (P.count puts.old) }
-        ensures { IfOk result (PutsOutcome view.now.core (P.made puts.new) (P.may puts.new) (P.count puts.new) (after_effect view.now.core r1 self address)) }
+        ensures { IfOk result (PutsOutcome view.now.core (P.made puts.new) (P.may puts.new) (P.past puts.new) (P.count puts.new) (after_effect view.now.core r1 self address)) }
     {
         let ended = self.setting.ended(view.psw());
         self.put(view.psw(), r1, address, view.core(), puts)?;

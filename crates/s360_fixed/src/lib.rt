@@ -6,7 +6,6 @@
 #![tactic(auto)]
 
 mod address;
-mod altering;
 mod arithmetic;
 mod branching;
 mod decoder;
@@ -18,7 +17,6 @@ mod load_store;
 mod making;
 mod operand;
 mod operation;
-mod plain;
 mod planner;
 mod program_code;
 mod puts;
@@ -27,12 +25,10 @@ mod row;
 mod second_operand;
 mod setting;
 mod shifts;
-mod short_run;
 mod view;
 
 pub use address::{ADDRESSES, operand_address};
-pub use altering::{altered, altered_bytes, altered_register};
-pub use decoder::{base_and_displacement, decode, decode_bytes, length_of};
+pub use decoder::{decode, decode_bytes, length_of};
 pub use effect::Effect;
 pub use ended::{Ended, IoOperation};
 pub use fetch::fetch_instruction;
@@ -41,10 +37,8 @@ pub use load_store::put_store;
 pub use making::{Made, RegisterWords};
 pub use operand::operand_exception;
 pub use operation::Operation;
-pub use plain::Plain;
-pub use planner::{made, plan_fixed, put_fixed};
+pub use planner::{made, plan_fixed, put_fixed, put_rr, put_rx};
 pub use program_code::ProgramCode;
 pub use puts::put_next_psw;
 pub use setting::Setting;
-pub use short_run::ShortRun;
 pub use view::View;

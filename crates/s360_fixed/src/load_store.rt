@@ -86,7 +86,7 @@ pub fn put_store<P: Puts>(
     requires none { HasNoPuts view.now.core (P.made puts.old) (P.may puts.old) (P.past puts.old) (P.count puts.old) }
     requires some { 0 < length bytes.now }
     requires few { length bytes.now ≤ 8 }
-    ensures { IfOk result (PutsOutcome view.now.core (P.made puts.new) (P.may puts.new) (P.count puts.new) (bytes_outcome bytes.now view.now address)) }
+    ensures { IfOk result (PutsOutcome view.now.core (P.made puts.new) (P.may puts.new) (P.past puts.new) (P.count puts.new) (bytes_outcome bytes.now view.now address)) }
 {
     stored(view, address, bytes).put(view, puts)
 }

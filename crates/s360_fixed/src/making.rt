@@ -63,7 +63,7 @@ fn put_bytes<P: Puts>(
     requires inside { HasBytes address (length bytes.now) view.now.core }
     requires few { length bytes.now ≤ 8 }
     requires none { HasNoPuts view.now.core (P.made puts.old) (P.may puts.old) (P.past puts.old) (P.count puts.old) }
-    ensures { IfOk result (PutsOutcome view.now.core (P.made puts.new) (P.may puts.new) (P.count puts.new) (completed view.now (core_with_bytes address bytes.now view.now.core))) }
+    ensures { IfOk result (PutsOutcome view.now.core (P.made puts.new) (P.may puts.new) (P.past puts.new) (P.count puts.new) (completed view.now (core_with_bytes address bytes.now view.now.core))) }
 {
     put_next_psw(view, puts)?;
     puts.put_bytes(view.core(), address, bytes)?;
@@ -79,7 +79,7 @@ fn put_stored<P: Puts>(
     requires inside { HasBytes words.now.address (4 * words.now.count) view.now.core }
     requires count { words.now.count ≤ 16 }
     requires none { HasNoPuts view.now.core (P.made puts.old) (P.may puts.old) (P.past puts.old) (P.count puts.old) }
-    ensures { IfOk result (PutsOutcome view.now.core (P.made puts.new) (P.may puts.new) (P.count puts.new) (completed view.now (with_registers_stored view.now.core.registers words.now.r1 words.now.address words.now.count view.now.core))) }
+    ensures { IfOk result (PutsOutcome view.now.core (P.made puts.new) (P.may puts.new) (P.past puts.new) (P.count puts.new) (completed view.now (with_registers_stored view.now.core.registers words.now.r1 words.now.address words.now.count view.now.core))) }
 {
     put_next_psw(view, puts)?;
     put_words(view, words, puts)?;
@@ -95,7 +95,7 @@ fn put_loaded<P: Puts>(
     requires inside { HasBytes words.now.address (4 * words.now.count) view.now.core }
     requires count { words.now.count ≤ 16 }
     requires none { HasNoPuts view.now.core (P.made puts.old) (P.may puts.old) (P.past puts.old) (P.count puts.old) }
-    ensures { IfOk result (PutsOutcome view.now.core (P.made puts.new) (P.may puts.new) (P.count puts.new) (completed view.now (with_registers_loaded view.now.core.storage.bytes words.now.r1 words.now.address words.now.count view.now.core))) }
+    ensures { IfOk result (PutsOutcome view.now.core (P.made puts.new) (P.may puts.new) (P.past puts.new) (P.count puts.new) (completed view.now (with_registers_loaded view.now.core.storage.bytes words.now.r1 words.now.address words.now.count view.now.core))) }
 {
     // Looked at, since its clauses have that there are sixteen registers.
     let _ = view.register(words.r1);
@@ -126,7 +126,7 @@ impl Made {
     pub fn put<P: Puts>(&self, view: &View, puts: &mut P) -> Result<Ended, AllocError>
         requires within { IsWithin view.now.core self.now }
         requires none { HasNoPuts view.now.core (P.made puts.old) (P.may puts.old) (P.past puts.old) (P.count puts.old) }
-        ensures { IfOk result (PutsOutcome view.now.core (P.made puts.new) (P.may puts.new) (P.count puts.new) (outcome_of_made view.now self.now)) }
+        ensures { IfOk result (PutsOutcome view.now.core (P.made puts.new) (P.may puts.new) (P.past puts.new) (P.count puts.new) (outcome_of_made view.now self.now)) }
     {
         match self {
             Made::Refused(code) => Ok(Ended::Program(*code)),

@@ -51,6 +51,7 @@ pub(crate) fn put_next_if_some<P: Puts>(
     requires past { (q : Place) → IsBefore (Register register) q → P.past puts.old q }
     ensures made { OnOk result (P.made puts.new core.now ≡ core_with_register (register + 1) word (P.made puts.old core.now)) }
     ensures may { OnOk result (P.may puts.new core.now) }
+    ensures bytes { OnOk result ((a : ℕ) → P.past puts.new (Byte a)) }
     ensures few { OnOk result (P.count puts.new ≤ P.count puts.old + 1) }
 {
     if let Some(word) = word {

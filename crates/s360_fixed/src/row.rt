@@ -1,5 +1,5 @@
 //! The rows of the instruction table: what the operations of these chapters do. A row has what its
-//! kind needs and no more, so that each kind is planned by a call that knows no other. Source:
+//! kind needs and no more, so that each kind is put by a call that knows no other. Source:
 //! GA22-6821, "Fixed-Point Arithmetic", "Logical Operations" and "Branching".
 ghost use Rattle.std.specs.Prelude.{◌≡◌};
 ghost use Rattle.s360_fixed.specs.Rows.{on_halfword, on_word, row_of};

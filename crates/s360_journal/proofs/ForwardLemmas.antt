@@ -1,7 +1,7 @@
 -- What an accepted event adds to the journal.
 use Rattle.std.proofs.Common.{◌≡◌, ◌<◌, ◌++◌, ℕ, List, [], ◌∷◌, refl, ap, sym, ◌∙◌, reverse, subst, Bool, true, false, Option, Some, None, Result, Ok, Err, nat_lt, cond}
 use Rattle.std.specs.Result.{IsErrAnd, IsOkUnless}
-use Rattle.std.proofs.lemmas.Bool.{lt-ltb, ltb-true}
+use Rattle.std.proofs.lemmas.Bool.{ltb-true}
 use Rattle.std.proofs.lemmas.List.{reverse-append}
 use Rattle.s360_machine.specs.declared.event.Event.{Event}
 use Rattle.s360_machine.specs.declared.refusal.Refusal.{Refusal}
@@ -33,10 +33,6 @@ or_full-room None count limit h =
     = λ b. elim b as (λ x. nat_lt count limit ≡ x → cond x None (Some JournalFull) ≡ None → count < limit)
     [ true ↦ λ e k. ltb-true count limit e | false ↦ λ e k. cc ]
     in by (nat_lt count limit) refl h
-
--- where the event's own sake refuses nothing, a journal with room refuses nothing
-pub or_full-few : (count limit : ℕ) → count < limit → or_full None count limit ≡ None
-or_full-few count limit h = ap (λ b. cond b None (Some JournalFull)) (lt-ltb count limit h)
 
 -- the journal with the exchanged change of an accepted event at its end
 pub IsHistory-forward : (w v : Whole) (xs : List Entry) (e : Event) (x y : Change) → IsHistory w (reverse xs)

@@ -333,10 +333,6 @@ last-of ys k some is =
     = ap (λ zs. slice_get zs (k - 1)) parts.1 ∙ ap (slice_get (take (k - 1) ys ++ parts.0 ∷ [])) (sym before) ∙ last-there (take (k - 1) ys) parts.0
     in (parts.0, record { split = parts.1; count = omega (arith, some, before); found = there; found_last = ap (λ n. slice_get ys (n - 1)) (sym is) ∙ there })
 
-pub err-there : {A E : Type 0} (r : Result A E) (P : Type 0) → is_err r ≡ true → OnErr r P → P
-err-there (Ok a) P h p = absurd (let no : false ≡ true = h in cc)
-err-there (Err e) P h p = p
-
 pub ok-there : {A E : Type 0} (r : Result A E) (P : Type 0) → is_err r ≡ false → OnOk r P → P
 ok-there (Ok a) P h p = p
 ok-there (Err e) P h p = absurd (let no : true ≡ false = h in cc)
@@ -379,39 +375,11 @@ indexing-more k g h i all left next s e x gains = record {
   gains = gains-more k x.past (places_of_span s) g h i x.gains gains;
 }
 
--- over optional spans
-AreSpans-parts : (ss ts : List Span) → AreSpans (ss ++ ts) → AreSpans ss × AreSpans ts
-AreSpans-parts [] ts h = (tt, h)
-AreSpans-parts (s ∷ ss) ts h = let parts : AreSpans ss × AreSpans ts = AreSpans-parts ss ts h.1 in ((h.0, parts.0), parts.1)
-
-pub within-spans : (ss ts : List Span) (x : Change) → AreSpansOf (ss ++ ts) x → AreSpans ss × AreSpans ts
-within-spans ss ts x h = AreSpans-parts ss ts h.whole
-
 pub index-all : (g h : Histories) (xs ys : List Change) (x : Change) (k : ℕ) (ss : List Span) → ys ≡ xs ++ x ∷ [] → k ≡ length xs + 1 → AreSpansOf ss x → IsIndexOf g xs → Gains k (places_of_spans ss) g h → IsIndexOf h ys
 index-all g h xs ys x k ss is count spans whole a = rw is (index-whole g h xs x (places_of_spans ss) spans.places whole (rw count at a))
 
-pub index-some : (g h : Histories) (xs : List Change) (x : Change) (k : ℕ) (ss : List Span) → k ≡ length xs + 1 → AreSpansOf ss x → IsIndexOf g xs → GainsInPart k (places_of_spans ss) g h → MayIndex h xs x
-index-some g h xs x k ss count spans whole a = index-part g h xs x (places_of_spans ss) [] (append-nil (places_of_spans ss) ∙ spans.places) whole (rw count at a)
-
 pub unindex-all : (g h : Histories) (xs : List Change) (x : Change) (k : ℕ) (ss : List Span) → k ≡ length xs + 1 → AreSpansOf ss x → MayIndex g xs x → Loses k (places_of_spans ss) g h → IsIndexOf h xs
 unindex-all g h xs x k ss count spans may a = index-before g h xs x (places_of_spans ss) spans.places may (rw count at a)
-
-pub index-within : (g h i : Histories) (xs ys : List Change) (x : Change) (k : ℕ) (ss ts : List Span) → ys ≡ xs ++ x ∷ [] → k ≡ length xs + 1 → AreSpansOf (ss ++ ts) x → IsIndexOf g xs
-    → Gains k (places_of_spans ss) g h → Gains k (places_of_spans ts) h i → IsIndexOf i ys
-index-within g h i xs ys x k ss ts is count spans whole a b =
-    rw is (index-whole g i xs x (places_of_spans ss ++ places_of_spans ts) (sym (places_of_spans-append ss ts) ∙ spans.places) whole
-    (rw count at (gains-more k (places_of_spans ss) (places_of_spans ts) g h i a b)))
-
-pub index-first-part : (g h : Histories) (xs : List Change) (x : Change) (k : ℕ) (ss ts : List Span) → k ≡ length xs + 1 → AreSpansOf (ss ++ ts) x → IsIndexOf g xs
-    → GainsInPart k (places_of_spans ss) g h → MayIndex h xs x
-index-first-part g h xs x k ss ts count spans whole a =
-    index-part g h xs x (places_of_spans ss) (places_of_spans ts) (sym (places_of_spans-append ss ts) ∙ spans.places) whole (rw count at a)
-
-pub index-second-part : (g h i : Histories) (xs : List Change) (x : Change) (k : ℕ) (ss ts : List Span) → k ≡ length xs + 1 → AreSpansOf (ss ++ ts) x → IsIndexOf g xs
-    → Gains k (places_of_spans ss) g h → GainsInPart k (places_of_spans ts) h i → MayIndex i xs x
-index-second-part g h i xs x k ss ts count spans whole a b =
-    index-part g i xs x (places_of_spans ss ++ places_of_spans ts) [] (append-nil (places_of_spans ss ++ places_of_spans ts) ∙ sym (places_of_spans-append ss ts) ∙ spans.places) whole
-    (rw count at (gains-then-part k (places_of_spans ss) (places_of_spans ts) g h i a b))
 
 pub unindex-within : (g h i : Histories) (xs : List Change) (x : Change) (k : ℕ) (ss ts : List Span) → k ≡ length xs + 1 → AreSpansOf (ss ++ ts) x → MayIndex g xs x
     → Loses k (places_of_spans ss) g h → Loses k (places_of_spans ts) h i → IsIndexOf i xs

@@ -1,5 +1,5 @@
 -- A run of calls leaves the start and the limit, and the events that stand by its calls and answers.
-use Rattle.std.proofs.Common.{◌≡◌, ◌-◌, ◌++◌, ℕ, List, [], ◌∷◌, refl, ap, sym, ◌∙◌, length, take, arith, Ok, Err, Option, Some, None, Result}
+use Rattle.std.proofs.Common.{◌≡◌, ◌-◌, ℕ, List, [], ◌∷◌, refl, ap, sym, ◌∙◌, length, take, arith, Ok, Err, Option, Some, None, Result}
 use Rattle.std.proofs.Math.Seq.{take-length}
 use Rattle.std.proofs.lemmas.List.{length-append, length-take, take_min}
 use Rattle.std.specs.declared.alloc.AllocError.{AllocError}
@@ -17,7 +17,7 @@ use Rattle.s360_journal.specs.declared.running.RunEnd.{RunEnd}
 use Rattle.s360_journal.specs.Offers.{with_events}
 use Rattle.s360_journal.specs.Running.{run_of}
 use Rattle.s360_journal.specs.Standing.{IsAfter, Standing, alteration, refusal_in}
-use Rattle.s360_journal.specs.Calls.{events_after, standing_events, IsAnswer, IsRefusal, IsRun}
+use Rattle.s360_journal.specs.Calls.{events_after, standing_events, IsAnswer, IsRun}
 use Rattle.s360_journal.proofs.StackLemmas.{take-push}
 
 -- a call leaves start and limit, and the events by its answer

@@ -171,16 +171,6 @@ some-appended xs ys x is = omega (arith, ap length is, length-append xs (x ∷ [
 pub if-appended : (xs ys : List Change) (x : Change) (P : Change → Type 0) → ys ≡ xs ++ x ∷ [] → P x → IfSome (slice_get ys (length ys - 1)) P
 if-appended xs ys x P is p = rw (found-last xs ys x (length ys) is refl) p
 
--- a change that was made, and then recorded, is the last one, made
-pub made-before : (w v : Whole) (xs zs : List Change) (x : Change) → IsSwapOf w x v → zs ≡ xs ++ change_after_swap w x ∷ [] → IsMade w v (xs ++ x ∷ []) zs
-made-before w v xs zs x swap new =
-    let last : length (xs ++ x ∷ []) - 1 ≡ length xs = omega (arith, length-append xs (x ∷ []))
-    in record {
-      machine = if-appended xs (xs ++ x ∷ []) x (λ y. IsSwapOf w y v) refl swap;
-      changes = if-appended xs (xs ++ x ∷ []) x (λ y. zs ≡ set (xs ++ x ∷ []) (length (xs ++ x ∷ []) - 1) (change_after_swap w y)) refl
-          (new ∙ sym (ap (λ k. set (xs ++ x ∷ []) k (change_after_swap w x)) last ∙ set-last xs x (change_after_swap w x)));
-    }
-
 -- a session after an event that was accepted
 advanced : (w u v : Whole) (es : List Event) (xs ys zs : List Change) (e : Event) (x : Change) → AreHistory w es xs → refusal_of (storage_size (seen w)) e ≡ None
     → IsChangeTo w x (after (seen w) e) → u ≡ w → ys ≡ xs ++ x ∷ [] → IsMade u v ys zs

@@ -1,5 +1,5 @@
 -- The places of a change that can be exchanged with a machine are places that some machine has.
-use Rattle.std.proofs.Common.{◌≡◌, ◌<◌, ◌≤◌, ◌+◌, ◌++◌, ℕ, zero, suc, Option, Some, None, List, [], ◌∷◌, length, map, arith}
+use Rattle.std.proofs.Common.{◌<◌, ◌≤◌, ◌+◌, ◌++◌, ℕ, zero, suc, Option, Some, None, List, [], ◌∷◌, length, map, arith}
 use Rattle.s360_model.specs.Core.{Core}
 use Rattle.s360_store.specs.declared.place.Cell.{Cell}
 use Rattle.s360_store.specs.declared.place.Place.{Place}

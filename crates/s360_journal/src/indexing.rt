@@ -1,15 +1,12 @@
 //! The number of the last change, in the index at the places that the change alters.
 ghost use Rattle.std.specs.Prelude.{◌≡◌, ◌<◌, ◌-◌, length, slice_get, take, IfSome, OnErr, OnOk};
 ghost use Rattle.s360_store.specs.Spans.{places_of_spans};
-ghost use Rattle.s360_index.specs.Histories.{Gains, GainsInPart, Loses};
+ghost use Rattle.s360_index.specs.Histories.{Gains, GainsInPart};
 ghost use Rattle.s360_index.specs.Sizes.{AreSpansWithinSize, AreWithinSize};
-ghost use Rattle.s360_fixed.specs.Plain.{IsFit, cells_of_plain};
 ghost use Rattle.s360_machine.specs.Change.{places_of_change};
-ghost use Rattle.s360_machine.specs.Changes.{change_of_core};
 ghost use Rattle.s360_machine.specs.ChangeSpans.{spans_within};
 ghost use Rattle.s360_journal.specs.Indexed.{IsIndexOf, MayIndex};
 
-use s360_fixed::Plain;
 use s360_index::Index;
 use s360_machine::{ChangeSpans, Packed, SpansWithin};
 use s360_store::{Place, Span};
@@ -87,49 +84,6 @@ pub(crate) fn unindex_last(index: &mut Index, changes: &Packed, number: u32)
     }
 }
 
-/// Takes a number that was put at some places from them again.
-#[inline(always)]
-fn all_or_none(
-    put: Result<(), AllocError>,
-    index: &mut Index,
-    changes: &Packed,
-    number: u32,
-) -> Result<(), AllocError>
-    requires some { 0 < number }
-    requires last { number ≡ length changes.now }
-    requires ok { OnOk put (IsIndexOf index.old changes.now) }
-    requires err { OnErr put (IfSome (slice_get changes.now (number - 1)) (λ x. MayIndex index.old (take (number - 1) changes.now) x)) }
-    ensures ok { OnOk result (IsIndexOf index.new changes.now) }
-    ensures err { OnErr result (IsIndexOf index.new (take (number - 1) changes.now)) }
-{
-    if put.is_err() {
-        unindex_last(index, changes, number);
-    }
-    put
-}
-
-/// Puts the number of the last change, which alters the PSW and little beside it, at its places. Want of memory leaves it at
-/// none of them.
-#[inline(always)]
-pub(crate) fn index_plain(
-    index: &mut Index,
-    changes: &Packed,
-    plain: &Plain,
-    number: u32,
-) -> Result<(), AllocError>
-    requires some { 0 < number }
-    requires last { number ≡ length changes.now }
-    requires fit { IsFit plain.now }
-    requires plain { IfSome (slice_get changes.now (number - 1)) (λ x. x ≡ change_of_core (cells_of_plain plain.now)) }
-    requires size { AreWithinSize (places_of_change (change_of_core (cells_of_plain plain.now))) }
-    requires index { IsIndexOf index.old (take (number - 1) changes.now) }
-    ensures ok { OnOk result (IsIndexOf index.new changes.now) }
-    ensures err { OnErr result (IsIndexOf index.new (take (number - 1) changes.now)) }
-{
-    let put = put_within(index, SpansWithin::of(plain), number);
-    all_or_none(put, index, changes, number)
-}
-
 /// Puts the number of the last change at the places that it alters. Want of memory leaves it at none of them.
 #[inline(always)]
 pub(crate) fn index_last(index: &mut Index, changes: &Packed, number: u32) -> Result<(), AllocError>
@@ -141,5 +95,8 @@ pub(crate) fn index_last(index: &mut Index, changes: &Packed, number: u32) -> Re
     ensures err { OnErr result (IsIndexOf index.new (take (number - 1) changes.now)) }
 {
     let put = put_last(index, changes, number);
-    all_or_none(put, index, changes, number)
+    if put.is_err() {
+        unindex_last(index, changes, number);
+    }
+    put
 }

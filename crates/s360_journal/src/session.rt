@@ -2,7 +2,6 @@
 ghost use Rattle.std.specs.Prelude.{◌≡◌, ◌↔◌, ◌-◌, ◌<◌, ◌++◌, ◌∷◌, ◌≤◌, [], length, take, OnOk, OnErr, IfOk, IsTrue, Err};
 ghost use Rattle.std.specs.Prelude.{IsOkUnless, MatchOption, false, min};
 ghost use Rattle.s360_machine.specs.Machine.{seen, storage_size};
-ghost use Rattle.s360_machine.specs.declared.event.Event.TheVariants.{Cpu};
 ghost use Rattle.s360_machine.specs.declared.refusal.Refusal.TheVariants.{Memory};
 ghost use Rattle.s360_journal.specs.Stacks.{Fits, IsAsLarge};
 ghost use Rattle.s360_journal.specs.Reports.{IsReport};
@@ -15,9 +14,9 @@ use crate::breaks::Breaks;
 use crate::event_stack::EventStack;
 use crate::events::Events;
 use crate::report::{Report, is_idle};
-use crate::standing::{stand, stand_plain, unmake_last};
+use crate::standing::{stand, unmake_last};
 use s360_index::Index;
-use s360_machine::{Event, EventKind, Machine, Packed, Refusal};
+use s360_machine::{Changes, Event, EventKind, Machine, Packed, Refusal};
 use s360_store::Place;
 use std::alloc::{AllocError, Global};
 use std::marker::Model;
@@ -40,6 +39,8 @@ pub struct Session {
     changes: Packed,
     /// For each place the numbers of the changes that altered it, counted from 1.
     index: Index,
+    /// What the next event alters, until it stands. It is kept so that its memory is taken once.
+    next: Changes,
     limit: u32,
     alloc: Global,
 }
@@ -69,6 +70,7 @@ impl Session {
             events: Events::new(alloc),
             changes: Packed::new(alloc),
             index: Index::new(alloc),
+            next: Changes::new(alloc),
             limit,
             alloc,
         }
@@ -87,6 +89,7 @@ impl Session {
             events,
             changes,
             index,
+            next: Changes::new(self.alloc),
             limit: self.limit,
             alloc: self.alloc,
         })
@@ -205,49 +208,11 @@ impl Session {
         ensures refused { MatchOption (refusal_in self.old event) (IsOkUnless result Memory) (λ r. result ≡ Err r) }
         ensures size { storage_size (machine_of self.old) ≡ storage_size (seen self.old.start) }
     {
-        match event {
-            Event::Cpu => self.advance_cpu(),
-            other => self.accept(other),
-        }
-    }
-
-    /// What `advance` does with a CPU event. Most alter little, which stands with no plan.
-    fn advance_cpu(&mut self) -> Result<(), Refusal>
-        ensures ok { OnOk result (IsAfter self.new self.old Cpu) }
-        ensures err { OnErr result (self.new ≡ self.old) }
-        ensures refused { MatchOption (refusal_in self.old Cpu) (IsOkUnless result Memory) (λ r. result ≡ Err r) }
-        ensures size { storage_size (machine_of self.old) ≡ storage_size (seen self.old.start) }
-    {
-        if self.standing() >= self.limit {
-            return Err(Refusal::JournalFull);
-        }
-        match self.machine.altered() {
-            Some(plain) => {
-                stand_plain(
-                    &mut self.machine,
-                    &mut self.events,
-                    &mut self.changes,
-                    &mut self.index,
-                    plain,
-                )?;
-                Ok(())
-            }
-            None => self.accept(Event::Cpu),
-        }
-    }
-
-    /// What `advance` does with an event that is planned.
-    #[inline(never)]
-    fn accept(&mut self, event: Event) -> Result<(), Refusal>
-        ensures ok { OnOk result (IsAfter self.new self.old event) }
-        ensures err { OnErr result (self.new ≡ self.old) }
-        ensures refused { MatchOption (refusal_in self.old event) (IsOkUnless result Memory) (λ r. result ≡ Err r) }
-        ensures size { storage_size (machine_of self.old) ≡ storage_size (seen self.old.start) }
-    {
         if let Some(refusal) = self.refusal(&event) {
             return Err(refusal);
         }
-        self.changes.append_event(&mut self.machine, &event)?;
+        self.changes
+            .append_event(&mut self.machine, &event, &mut self.next)?;
         stand(
             &mut self.machine,
             &mut self.events,

@@ -6,7 +6,8 @@ use Rattle.s360_model.specs.Psw.{instruction_address_of, protection_key_of}
 use Rattle.s360_psw.specs.declared.instruction_length.InstructionLength.{InstructionLength}
 use Rattle.s360_psw.specs.declared.instruction_length.InstructionLength.TheVariants.{NotAvailable, OneHalfword, TwoHalfwords, ThreeHalfwords}
 use Rattle.s360_store.specs.declared.place.Cell.{Cell}
-use Rattle.s360_fixed.specs.declared.ended.Ended.TheVariants.{Program, Svc}
+use Rattle.s360_store.specs.declared.place.Place.{Place}
+use Rattle.s360_fixed.specs.declared.ended.Ended.TheVariants.{Program}
 use Rattle.s360_fixed.specs.declared.form.Form.{Form}
 use Rattle.s360_fixed.specs.declared.program_code.ProgramCode.TheVariants.{Operation}
 use Rattle.s360_fixed.specs.Fetching.{fetch_conditions, instruction_bytes, length_at}
@@ -15,10 +16,7 @@ use Rattle.s360_fixed.specs.Plans.{PlansOutcome, PutsOutcome}
 use Rattle.s360_fixed.specs.ProgramCodes.{Conditions, program_code}
 use Rattle.s360_fixed.specs.Table.{form_of}
 use Rattle.s360_fixed.specs.View.{Outcome, View}
-use Rattle.s360_fixed.specs.Plain.{Completes}
 use Rattle.s360_logic.specs.declared.cpu.PlannedInstruction.{PlannedInstruction}
-use Rattle.s360_logic.specs.declared.cpu.Simple.{Simple}
-use Rattle.s360_logic.specs.declared.cpu.Simple.TheVariants.{Completed, Call}
 use Rattle.s360_logic.specs.Logic.{outcome_of}
 
 -- a length of 2, 4 or 6 bytes as an instruction length
@@ -82,8 +80,8 @@ pub record IsFetched (f : Fetched) : Type 0 where
 
 -- an instruction ends as the definition's does, with its next address and its length, and its puts make the
 -- definition's core
-pub record PutsInstruction (m : Core) (made : Core → Core) (may : Core → Type 0) (count : ℕ) (i : Instruction) (planned : PlannedInstruction) : Type 0 where
-  pub puts : PutsOutcome m made may count i.outcome planned.ended
+pub record PutsInstruction (m : Core) (made : Core → Core) (may : Core → Type 0) (past : Place → Type 0) (count : ℕ) (i : Instruction) (planned : PlannedInstruction) : Type 0 where
+  pub puts : PutsOutcome m made may past count i.outcome planned.ended
   pub next : planned.next_address ≡ i.next_address
   pub length : planned.instruction_length ≡ i.instruction_length
 
@@ -92,8 +90,3 @@ pub record PlansInstruction (m : Core) (plan : List Cell) (i : Instruction) (pla
   pub plans : PlansOutcome m plan i.outcome planned.ended
   pub next : planned.next_address ≡ i.next_address
   pub length : planned.instruction_length ≡ i.instruction_length
-
--- what it does that alters the PSW and little beside it: it is completed, or it is a supervisor call
-abbrev pub IsSimple : Core → Simple → Instruction → Type 0
-IsSimple m (Completed x) i = Completes m x i.outcome
-IsSimple m (Call code next) i = (i.outcome ≡ record { ended = Svc code; core = m }) × (i.next_address ≡ next) × (i.instruction_length ≡ OneHalfword)

@@ -1,7 +1,9 @@
 //! What a byte of the first operand becomes, and the condition code of the results. Source:
 //! GA22-6821, "Logical Operations".
-ghost use Rattle.std.specs.Prelude.{◌≡◌, nat_eq};
+ghost use Rattle.std.specs.Prelude.{ℕ, ◌≡◌, nat_eq};
 ghost use Rattle.std.specs.List.{list_all};
+ghost use Rattle.s360_fixed.specs.Settings.{ended_with};
+ghost use Rattle.s360_fixed.specs.declared.ended.Ended.TheVariants.{Done};
 ghost use Rattle.s360_logic.specs.Bytes.{bits_setting, byte_result, combination_setting};
 ghost use Rattle.s360_logic.specs.Immediate.{immediate_access};
 
@@ -19,7 +21,8 @@ fn are_zero(bytes: &[u8]) -> bool
 
 /// The condition code of result bytes: 0 all zero, 1 not all zero.
 fn bits_setting(results: &[u8]) -> Setting
-    ensures { result ≡ bits_setting results.now }
+    ensures setting { result ≡ bits_setting results.now }
+    ensures done { (psw : ℕ) → ended_with psw result ≡ Done }
 {
     if are_zero(results) {
         Setting::Code(Cc::new(0))
@@ -45,7 +48,8 @@ impl ByteCombination {
 
     /// What the condition code becomes, by the result bytes.
     pub(crate) fn setting(self, results: &[u8]) -> Setting
-        ensures { result ≡ combination_setting self results.now }
+        ensures setting { result ≡ combination_setting self results.now }
+        ensures done { (psw : ℕ) → ended_with psw result ≡ Done }
     {
         match self {
             ByteCombination::Second | ByteCombination::LowHalf | ByteCombination::HighHalf => {

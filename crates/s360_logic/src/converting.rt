@@ -1,6 +1,6 @@
 //! Conversions between a word in a register and a packed decimal number in storage. Source:
 //! GA22-6821, "Fixed-Point Arithmetic", CONVERT TO BINARY and CONVERT TO DECIMAL.
-ghost use Rattle.std.specs.Prelude.{◌≡◌, IfOk};
+ghost use Rattle.std.specs.Prelude.{IfOk};
 ghost use Rattle.s360_model.specs.Packed.{packed_value};
 ghost use Rattle.s360_store.specs.Puts.{HasNoPuts};
 ghost use Rattle.s360_fixed.specs.Plans.{PutsOutcome};
@@ -23,7 +23,7 @@ fn put_converted<P: Puts>(
     puts: &mut P,
 ) -> Result<Ended, AllocError>
     requires none { HasNoPuts view.now.core (P.made puts.old) (P.may puts.old) (P.past puts.old) (P.count puts.old) }
-    ensures { IfOk result (PutsOutcome view.now.core (P.made puts.new) (P.may puts.new) (P.count puts.new) (converted_outcome (packed_value doubleword) view.now r1)) }
+    ensures { IfOk result (PutsOutcome view.now.core (P.made puts.new) (P.may puts.new) (P.past puts.new) (P.count puts.new) (converted_outcome (packed_value doubleword) view.now r1)) }
 {
     match from_packed(doubleword) {
         Ok(word) => Effect::single(word, Setting::Kept).put_alone(
@@ -34,7 +34,8 @@ fn put_converted<P: Puts>(
         ),
         Err(PackedFault::BadDigit) => Ok(Ended::Program(ProgramCode::Data)),
         Err(PackedFault::TooLarge(low)) => {
-            Effect::single(low, Setting::Kept).put_alone(view, r1, view.next_address(), puts)?;
+            let effect = Effect::single(low, Setting::Kept);
+            effect.put(view.psw(), r1, view.next_address(), view.core(), puts)?;
             Ok(Ended::Program(ProgramCode::FixedPointDivide))
         }
     }
@@ -49,7 +50,7 @@ pub(crate) fn put_conversion<P: Puts>(
     puts: &mut P,
 ) -> Result<Ended, AllocError>
     requires none { HasNoPuts view.now.core (P.made puts.old) (P.may puts.old) (P.past puts.old) (P.count puts.old) }
-    ensures { IfOk result (PutsOutcome view.now.core (P.made puts.new) (P.may puts.new) (P.count puts.new) (conversion_outcome conversion view.now r1 address)) }
+    ensures { IfOk result (PutsOutcome view.now.core (P.made puts.new) (P.may puts.new) (P.past puts.new) (P.count puts.new) (conversion_outcome conversion view.now r1 address)) }
 {
     match conversion {
         Conversion::ToBinary => {

@@ -1,31 +1,25 @@
 //! The instruction at the instruction address: fetched, what it makes, its puts, and its plan. Source:
 //! GA22-6821, "System Structure", program execution.
-ghost use Rattle.std.specs.Prelude.{◌≡◌, ◌≤◌, [], IfErr, IfOk, IfSome, Some, length, slice_index};
+ghost use Rattle.std.specs.Prelude.{◌≡◌, ◌<◌, [], IfErr, IfOk, Some, length, slice_index};
 ghost use Rattle.s360_model.specs.Psw.{instruction_address_of};
-ghost use Rattle.s360_fixed.specs.Plain.{Completes, CompletesIfAny};
-ghost use Rattle.s360_fixed.specs.Table.{form_of};
-ghost use Rattle.s360_logic.specs.Logic.{outcome_of};
-ghost use Rattle.std.specs.Option.{option_map};
 ghost use Rattle.s360_fixed.specs.Plans.{PutsOutcome};
 ghost use Rattle.s360_fixed.specs.ProgramCodes.{program_code};
+ghost use Rattle.s360_fixed.specs.Table.{form_of, instruction_length};
 ghost use Rattle.s360_store.specs.Puts.{HasNoPuts};
 ghost use Rattle.s360_psw.specs.declared.instruction_length.InstructionLength.TheVariants.{NotAvailable};
 ghost use Rattle.s360_fixed.specs.declared.ended.Ended.TheVariants.{Program};
-ghost use Rattle.s360_logic.specs.Instruction.{IsSimple, PlansInstruction, PutsInstruction, conditions_at, fetched_outcome, instruction, length_of_bytes};
+ghost use Rattle.s360_logic.specs.Instruction.{PlansInstruction, PutsInstruction, conditions_at, fetched_outcome, instruction, length_of_bytes};
 
 use crate::logic::put_logic;
-use crate::status::loaded_psw;
 use s360_fixed::{
-    Ended, Form, Plain, ProgramCode, View, altered, altered_register, base_and_displacement,
-    decode_bytes, fetch_instruction, made, operand_address,
+    Ended, Form, Operation, ProgramCode, View, decode_bytes, fetch_instruction, put_rr, put_rx,
 };
 use s360_psw::{InstructionLength, Psw};
 use s360_store::{Core, Plan, Puts};
-use s360_word::RegisterNumber;
 use std::alloc::AllocError;
 use std::marker::Model;
 
-/// An instruction as it was planned: how it ends, and what an interruption that follows stores of
+/// An instruction as it was put: how it ends, and what an interruption that follows stores of
 /// it. Where it could not be fetched, or its address is odd, the length is not available and the
 /// address is its own.
 #[derive(Clone, Copy)]
@@ -43,33 +37,20 @@ pub struct PlannedInstruction {
 #[derive(Drop)]
 pub struct Fetched<'a> {
     view: View<'a>,
-    form: Option<Form>,
+    bytes: &'a [u8],
 }
 
 impl<'a> Model for Fetched<'a> {
+    ghost use Rattle.std.specs.Prelude.{◌≡◌, ◌<◌, length, slice_index};
+    ghost use Rattle.s360_fixed.specs.Table.{form_of, instruction_length};
     ghost use Rattle.s360_logic.specs.Instruction.{Fetched as Seen, IsFetched};
 
     ghost Value = { Seen };
 
-    ghost view = { λ f. record { view = f.view; form = f.form } };
+    ghost view = { λ f. record { view = f.view; form = form_of f.bytes.now } };
 
-    ghost invariant = { λ f. IsFetched (record { view = f.view; form = f.form }) };
+    ghost invariant = { λ f. (0 < length f.bytes.now) × (length f.bytes.now ≡ instruction_length (slice_index f.bytes.now 0)) × IsFetched (record { view = f.view; form = form_of f.bytes.now }) };
 }
-
-/// What an instruction does that alters the PSW and little beside it.
-#[derive(Drop)]
-pub enum Simple {
-    /// It is completed with no interruption, and alters this.
-    Completed(Plain),
-    /// It is a supervisor call with this code, after which the instruction at an address comes.
-    Call { code: u8, next_address: u32 },
-}
-
-/// The operation code of SVC.
-const SUPERVISOR_CALL: u8 = 0x0A;
-
-/// The operation code of LPSW.
-const LOAD_PSW: u8 = 0x82;
 
 /// The length of an instruction of 2, 4 or 6 bytes.
 fn length_of_bytes(bytes: usize) -> InstructionLength
@@ -96,45 +77,55 @@ pub fn fetch(core: &Core) -> Result<Fetched<'_>, ProgramCode>
     let length = length_of_bytes(bytes.len());
     Ok(Fetched {
         view: View::new(core, next_address, length),
-        form: decode_bytes(bytes),
+        bytes,
     })
 }
 
-/// What the PSW that the doubleword at an address is alters, if it can be loaded.
-#[inline(always)]
-fn altered_by_load(bytes: &[u8], view: &View) -> Option<Plain>
-    requires four { 4 ≤ length bytes.now }
-    requires code { slice_index bytes.now 0 ≡ 0x82 }
-    ensures { IfSome result (λ x. CompletesIfAny view.now.core x (option_map (λ form. outcome_of view.now form) (form_of bytes.now))) }
+/// Puts the instruction that bytes are by its form, if it has one.
+#[inline(never)]
+fn put_decoded<P: Puts>(bytes: &[u8], view: &View, puts: &mut P) -> Result<Ended, AllocError>
+    requires begun { 0 < length bytes.now }
+    requires whole { length bytes.now ≡ instruction_length (slice_index bytes.now 0) }
+    requires none { HasNoPuts view.now.core (P.made puts.old) (P.may puts.old) (P.past puts.old) (P.count puts.old) }
+    ensures { IfOk result (PutsOutcome view.now.core (P.made puts.new) (P.may puts.new) (P.past puts.new) (P.count puts.new) (fetched_outcome view.now (form_of bytes.now))) }
 {
-    let (b1, d1) = base_and_displacement(bytes, 2);
-    let psw = loaded_psw(view, operand_address(view, RegisterNumber::new(0), b1, d1)).ok()?;
-    altered_register(view, psw, RegisterNumber::new(0), None)
+    match decode_bytes(bytes) {
+        Some(form) => put_logic(&form, view, puts),
+        None => Ok(Ended::Program(ProgramCode::Operation)),
+    }
 }
 
-/// What the instruction at the instruction address does, if it is a frequent one that alters the PSW and little beside it.
+/// Puts the instruction that bytes are. The most frequent have an arm of their own, which the compiler has for it alone.
 #[inline(always)]
-pub fn frequent_instruction(core: &Core) -> Option<Simple>
-    ensures { IfSome result (λ x. IsSimple core.now x (instruction core.now)) }
+fn put_bytes<P: Puts>(bytes: &[u8], view: &View, puts: &mut P) -> Result<Ended, AllocError>
+    requires begun { 0 < length bytes.now }
+    requires whole { length bytes.now ≡ instruction_length (slice_index bytes.now 0) }
+    requires none { HasNoPuts view.now.core (P.made puts.old) (P.may puts.old) (P.past puts.old) (P.count puts.old) }
+    ensures { IfOk result (PutsOutcome view.now.core (P.made puts.new) (P.may puts.new) (P.past puts.new) (P.count puts.new) (fetched_outcome view.now (form_of bytes.now))) }
 {
-    let psw = core.psw();
-    let address = psw.instruction_address();
-    let bytes = fetch_instruction(core.storage(), address, psw.protection_key()).ok()?;
-    let next_address = address + bytes.len() as u32;
-    if bytes[0] == SUPERVISOR_CALL {
-        return Some(Simple::Call {
-            code: bytes[1],
-            next_address,
-        });
+    match bytes[0] {
+        0x05 => put_rr(Operation::BranchAndLink, bytes, view, puts),
+        0x06 => put_rr(Operation::BranchOnCount, bytes, view, puts),
+        0x07 => put_rr(Operation::BranchOnCondition, bytes, view, puts),
+        0x12 => put_rr(Operation::LoadAndTest, bytes, view, puts),
+        0x18 => put_rr(Operation::Load, bytes, view, puts),
+        0x19 => put_rr(Operation::Compare, bytes, view, puts),
+        0x1A => put_rr(Operation::Add, bytes, view, puts),
+        0x1B => put_rr(Operation::Subtract, bytes, view, puts),
+        0x41 => put_rx(Operation::LoadAddress, bytes, view, puts),
+        0x42 => put_rx(Operation::StoreCharacter, bytes, view, puts),
+        0x43 => put_rx(Operation::InsertCharacter, bytes, view, puts),
+        0x45 => put_rx(Operation::BranchAndLink, bytes, view, puts),
+        0x46 => put_rx(Operation::BranchOnCount, bytes, view, puts),
+        0x47 => put_rx(Operation::BranchOnCondition, bytes, view, puts),
+        0x48 => put_rx(Operation::LoadHalfword, bytes, view, puts),
+        0x50 => put_rx(Operation::Store, bytes, view, puts),
+        0x58 => put_rx(Operation::Load, bytes, view, puts),
+        0x59 => put_rx(Operation::Compare, bytes, view, puts),
+        0x5A => put_rx(Operation::Add, bytes, view, puts),
+        0x5B => put_rx(Operation::Subtract, bytes, view, puts),
+        _ => put_decoded(bytes, view, puts),
     }
-    let length = length_of_bytes(bytes.len());
-    let view = View::new(core, next_address, length);
-    let altered = if bytes[0] == LOAD_PSW {
-        altered_by_load(bytes, &view)
-    } else {
-        altered(bytes, &view)
-    };
-    Some(Simple::Completed(altered?))
 }
 
 /// An instruction that could not be fetched, which ends with this code.
@@ -160,38 +151,16 @@ impl<'a> Fetched<'a> {
     pub fn form(&self) -> Option<Form>
         ensures { result ≡ self.now.form }
     {
-        self.form
-    }
-
-    /// What it alters, if it is a fixed-point, branch or shift instruction and is completed with no interruption. None is
-    /// also where that is not the PSW and little beside it.
-    pub fn altered(&self) -> Option<Plain>
-        ensures { IfSome result (λ x. Completes self.now.view.core x (instruction self.now.view.core).outcome) }
-    {
-        let form = self.form.as_ref()?;
-        let made = made(form, &self.view)?;
-        made.altered(&self.view)
-    }
-
-    /// Puts what it does by its form, if it has one.
-    #[inline(always)]
-    fn put_form<P: Puts>(&self, puts: &mut P) -> Result<Ended, AllocError>
-        requires none { HasNoPuts self.now.view.core (P.made puts.old) (P.may puts.old) (P.past puts.old) (P.count puts.old) }
-        ensures { IfOk result (PutsOutcome self.now.view.core (P.made puts.new) (P.may puts.new) (P.count puts.new) (fetched_outcome self.now.view self.now.form)) }
-    {
-        match &self.form {
-            Some(form) => put_logic(form, &self.view, puts),
-            None => Ok(Ended::Program(ProgramCode::Operation)),
-        }
+        decode_bytes(self.bytes)
     }
 
     /// Puts it, and says how it ends.
     #[inline(always)]
     pub fn put<P: Puts>(&self, puts: &mut P) -> Result<PlannedInstruction, AllocError>
         requires none { HasNoPuts self.now.view.core (P.made puts.old) (P.may puts.old) (P.past puts.old) (P.count puts.old) }
-        ensures { IfOk result (PutsInstruction self.now.view.core (P.made puts.new) (P.may puts.new) (P.count puts.new) (instruction self.now.view.core)) }
+        ensures { IfOk result (PutsInstruction self.now.view.core (P.made puts.new) (P.may puts.new) (P.past puts.new) (P.count puts.new) (instruction self.now.view.core)) }
     {
-        let ended = self.put_form(puts)?;
+        let ended = put_bytes(self.bytes, &self.view, puts)?;
         Ok(PlannedInstruction {
             ended,
             next_address: self.view.next_address(),
@@ -213,7 +182,7 @@ impl<'a> Fetched<'a> {
 #[tactic(auto, unfolding(crate::specs::Instruction::instruction))]
 pub fn put_instruction<P: Puts>(core: &Core, puts: &mut P) -> Result<PlannedInstruction, AllocError>
     requires none { HasNoPuts core.now (P.made puts.old) (P.may puts.old) (P.past puts.old) (P.count puts.old) }
-    ensures { IfOk result (PutsInstruction core.now (P.made puts.new) (P.may puts.new) (P.count puts.new) (instruction core.now)) }
+    ensures { IfOk result (PutsInstruction core.now (P.made puts.new) (P.may puts.new) (P.past puts.new) (P.count puts.new) (instruction core.now)) }
 {
     match fetch(core) {
         Ok(fetched) => fetched.put(puts),

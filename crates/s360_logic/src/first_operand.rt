@@ -2,12 +2,14 @@
 ghost use Rattle.std.specs.Prelude.{◌≡◌, ◌<◌, ◌≤◌, ◌+◌, ◌^◌, IfOk, IfSome, OnSome, length, slice_set};
 ghost use Rattle.s360_store.specs.Puts.{HasNoPuts};
 ghost use Rattle.s360_fixed.specs.Plans.{PutsOutcome};
+ghost use Rattle.s360_fixed.specs.Settings.{ended_with};
+ghost use Rattle.s360_fixed.specs.declared.ended.Ended.TheVariants.{Done};
 ghost use Rattle.s360_logic.specs.Bytes.{byte_at, completed_with, operand_bytes};
 ghost use Rattle.s360_logic.specs.Operands.{IsApart, IsBeside, first_operand, stored_in};
 
 use crate::field::Field;
 use arrayvec::ArrayVec;
-use s360_fixed::{Effect, Ended, Setting, View};
+use s360_fixed::{Ended, Setting, View};
 use s360_store::{GREATEST_SIZE, Puts, Storage};
 use std::alloc::AllocError;
 use std::marker::Model;
@@ -142,18 +144,16 @@ impl<'a> FirstOperand<'a> {
         puts: &mut P,
     ) -> Result<Ended, AllocError>
         requires storage { self.now.storage ≡ view.now.core.storage }
+        requires done { ended_with view.now.core.psw setting ≡ Done }
         requires none { HasNoPuts view.now.core (P.made puts.old) (P.may puts.old) (P.past puts.old) (P.count puts.old) }
-        ensures { IfOk result (PutsOutcome view.now.core (P.made puts.new) (P.may puts.new) (P.count puts.new) (completed_with view.now setting (stored_in self.now))) }
+        ensures { IfOk result (PutsOutcome view.now.core (P.made puts.new) (P.may puts.new) (P.past puts.new) (P.count puts.new) (completed_with view.now setting (stored_in self.now))) }
     {
         prove!(self.address() + self.len() <= self.storage.size());
-        let effect = Effect::condition(setting);
-        let ended = effect.setting.ended(view.psw());
-        let psw = effect
-            .setting
+        let psw = setting
             .psw(view.psw())
             .with_instruction_address(view.next_address());
         puts.put_psw(view.core(), psw)?;
         puts.put_bytes(view.core(), self.address(), self.bytes())?;
-        Ok(ended)
+        Ok(Ended::Done)
     }
 }

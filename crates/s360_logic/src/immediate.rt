@@ -3,6 +3,8 @@
 ghost use Rattle.std.specs.Prelude.{◌≡◌, ◌<◌, IfOk, length};
 ghost use Rattle.s360_store.specs.Puts.{HasNoPuts};
 ghost use Rattle.s360_fixed.specs.Plans.{PutsOutcome};
+ghost use Rattle.s360_fixed.specs.Settings.{ended_with};
+ghost use Rattle.s360_fixed.specs.declared.ended.Ended.TheVariants.{Done};
 ghost use Rattle.s360_logic.specs.Bytes.{completed_with, with_byte};
 ghost use Rattle.s360_logic.specs.Immediate.{immediate_outcome, mask_code};
 
@@ -38,8 +40,9 @@ fn put_byte<P: Puts>(
     puts: &mut P,
 ) -> Result<Ended, AllocError>
     requires inside { address < length view.now.core.storage.bytes }
+    requires done { ended_with view.now.core.psw setting ≡ Done }
     requires none { HasNoPuts view.now.core (P.made puts.old) (P.may puts.old) (P.past puts.old) (P.count puts.old) }
-    ensures { IfOk result (PutsOutcome view.now.core (P.made puts.new) (P.may puts.new) (P.count puts.new) (completed_with view.now setting (with_byte address byte view.now.core.storage))) }
+    ensures { IfOk result (PutsOutcome view.now.core (P.made puts.new) (P.may puts.new) (P.past puts.new) (P.count puts.new) (completed_with view.now setting (with_byte address byte view.now.core.storage))) }
 {
     let mut operand = FirstOperand::new(view.storage(), Field { address, count: 1 });
     operand.set(0, byte);
@@ -55,7 +58,7 @@ pub(crate) fn put_immediate<P: Puts>(
     puts: &mut P,
 ) -> Result<Ended, AllocError>
     requires none { HasNoPuts view.now.core (P.made puts.old) (P.may puts.old) (P.past puts.old) (P.count puts.old) }
-    ensures { IfOk result (PutsOutcome view.now.core (P.made puts.new) (P.may puts.new) (P.count puts.new) (immediate_outcome row view.now i2 address)) }
+    ensures { IfOk result (PutsOutcome view.now.core (P.made puts.new) (P.may puts.new) (P.past puts.new) (P.count puts.new) (immediate_outcome row view.now i2 address)) }
 {
     if let Some(code) = operand_exception(view, address, 1, 1, row.access()) {
         return Ok(Ended::Program(code));

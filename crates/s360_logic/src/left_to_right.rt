@@ -98,7 +98,7 @@ pub(crate) fn put_combine<P: Puts>(
 ) -> Result<Ended, AllocError>
     requires few { count ≤ 256 }
     requires none { HasNoPuts view.now.core (P.made puts.old) (P.may puts.old) (P.past puts.old) (P.count puts.old) }
-    ensures { IfOk result (PutsOutcome view.now.core (P.made puts.new) (P.may puts.new) (P.count puts.new) (combine_outcome combination view.now first second count)) }
+    ensures { IfOk result (PutsOutcome view.now.core (P.made puts.new) (P.may puts.new) (P.past puts.new) (P.count puts.new) (combine_outcome combination view.now first second count)) }
 {
     let field = Field {
         address: first,
@@ -142,7 +142,7 @@ pub(crate) fn put_compare<P: Puts>(
     puts: &mut P,
 ) -> Result<Ended, AllocError>
     requires none { HasNoPuts view.now.core (P.made puts.old) (P.may puts.old) (P.past puts.old) (P.count puts.old) }
-    ensures { IfOk result (PutsOutcome view.now.core (P.made puts.new) (P.may puts.new) (P.count puts.new) (compare_outcome view.now first second count)) }
+    ensures { IfOk result (PutsOutcome view.now.core (P.made puts.new) (P.may puts.new) (P.past puts.new) (P.count puts.new) (compare_outcome view.now first second count)) }
 {
     let field = Field {
         address: first,
@@ -276,7 +276,7 @@ pub(crate) fn put_translate<P: Puts>(
     requires few { count ≤ 256 }
     requires table { table < 2 ^ 24 }
     requires none { HasNoPuts view.now.core (P.made puts.old) (P.may puts.old) (P.past puts.old) (P.count puts.old) }
-    ensures { IfOk result (PutsOutcome view.now.core (P.made puts.new) (P.may puts.new) (P.count puts.new) (translate_outcome view.now first table count)) }
+    ensures { IfOk result (PutsOutcome view.now.core (P.made puts.new) (P.may puts.new) (P.past puts.new) (P.count puts.new) (translate_outcome view.now first table count)) }
 {
     let field = Field {
         address: first,
@@ -365,7 +365,7 @@ fn put_found<P: Puts>(
     requires inside { field.address + field.count ≤ length view.now.core.storage.bytes }
     requires number { found.number < field.count }
     requires none { HasNoPuts view.now.core (P.made puts.old) (P.may puts.old) (P.past puts.old) (P.count puts.old) }
-    ensures { IfOk result (PutsOutcome view.now.core (P.made puts.new) (P.may puts.new) (P.count puts.new) (found_outcome found.number found.function_byte view.now field.address field.count)) }
+    ensures { IfOk result (PutsOutcome view.now.core (P.made puts.new) (P.may puts.new) (P.past puts.new) (P.count puts.new) (found_outcome found.number found.function_byte view.now field.address field.count)) }
 {
     // So no address of the operand passes 24 bits.
     prove!(view.storage().size() <= GREATEST_SIZE);
@@ -389,7 +389,7 @@ pub(crate) fn put_translate_and_test<P: Puts>(
 ) -> Result<Ended, AllocError>
     requires table { table < 2 ^ 24 }
     requires none { HasNoPuts view.now.core (P.made puts.old) (P.may puts.old) (P.past puts.old) (P.count puts.old) }
-    ensures { IfOk result (PutsOutcome view.now.core (P.made puts.new) (P.may puts.new) (P.count puts.new) (translate_and_test_outcome view.now first table count)) }
+    ensures { IfOk result (PutsOutcome view.now.core (P.made puts.new) (P.may puts.new) (P.past puts.new) (P.count puts.new) (translate_and_test_outcome view.now first table count)) }
 {
     let field = Field {
         address: first,

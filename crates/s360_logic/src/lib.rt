@@ -1,5 +1,5 @@
 //! Logical and storage-to-storage instructions, decimal conversion, status switching and execute; and
-//! one instruction: fetched, decoded and planned by its row. Rows of other chapters come here.
+//! one instruction: fetched, decoded and put by its row. Rows of other chapters come here.
 //!
 //! Source: GA22-6821, "System Structure", "Logical Operations", "Fixed-Point Arithmetic", "Decimal
 //! Arithmetic", "Branching", "Status Switching" and "Interruptions".
@@ -19,9 +19,6 @@ mod right_to_left;
 mod row;
 mod status;
 
-pub use cpu::{
-    Fetched, PlannedInstruction, Simple, fetch, frequent_instruction, plan_instruction,
-    put_instruction,
-};
+pub use cpu::{Fetched, PlannedInstruction, fetch, plan_instruction, put_instruction};
 pub use laws::digits_of_apart_operands;
 pub use logic::{plan_logic, put_logic, subject_of, with_ored_byte};

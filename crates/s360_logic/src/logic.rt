@@ -49,7 +49,7 @@ fn put_storage<P: Puts>(
 ) -> Result<Ended, AllocError>
     requires second { second < 2 ^ 24 }
     requires none { HasNoPuts view.now.core (P.made puts.old) (P.may puts.old) (P.past puts.old) (P.count puts.old) }
-    ensures { IfOk result (PutsOutcome view.now.core (P.made puts.new) (P.may puts.new) (P.count puts.new) (storage_outcome row view.now l first second)) }
+    ensures { IfOk result (PutsOutcome view.now.core (P.made puts.new) (P.may puts.new) (P.past puts.new) (P.count puts.new) (storage_outcome row view.now l first second)) }
 {
     let count = u32::from(l) + 1;
     match row {
@@ -74,9 +74,10 @@ fn put_storage<P: Puts>(
 }
 
 /// Puts an instruction by its row in these chapters, if it has one.
+#[inline(never)]
 fn put_own<P: Puts>(form: &Form, view: &View, puts: &mut P) -> Result<Ended, AllocError>
     requires none { HasNoPuts view.now.core (P.made puts.old) (P.may puts.old) (P.past puts.old) (P.count puts.old) }
-    ensures { IfOk result (PutsOutcome view.now.core (P.made puts.new) (P.may puts.new) (P.count puts.new) (by_row None (logic_outcome form.now) (status_outcome form.now) view.now)) }
+    ensures { IfOk result (PutsOutcome view.now.core (P.made puts.new) (P.may puts.new) (P.past puts.new) (P.count puts.new) (by_row None (logic_outcome form.now) (status_outcome form.now) view.now)) }
 {
     match *form {
         Form::Rx {
@@ -126,7 +127,7 @@ fn put_own<P: Puts>(form: &Form, view: &View, puts: &mut P) -> Result<Ended, All
 /// Puts an instruction by its row.
 fn put_row<P: Puts>(form: &Form, view: &View, puts: &mut P) -> Result<Ended, AllocError>
     requires none { HasNoPuts view.now.core (P.made puts.old) (P.may puts.old) (P.past puts.old) (P.count puts.old) }
-    ensures { IfOk result (PutsOutcome view.now.core (P.made puts.new) (P.may puts.new) (P.count puts.new) (row_outcome view.now form.now)) }
+    ensures { IfOk result (PutsOutcome view.now.core (P.made puts.new) (P.may puts.new) (P.past puts.new) (P.count puts.new) (row_outcome view.now form.now)) }
 {
     match made(form, view) {
         Some(made) => made.put(view, puts),
@@ -166,6 +167,7 @@ pub fn with_ored_byte(view: &View, r1: RegisterNumber, bytes: &[u8]) -> ArrayVec
 }
 
 /// Puts an execute: what its subject does, with the next address and the length of the execute.
+#[inline(never)]
 fn put_execute<P: Puts>(
     view: &View,
     r1: RegisterNumber,
@@ -173,7 +175,7 @@ fn put_execute<P: Puts>(
     puts: &mut P,
 ) -> Result<Ended, AllocError>
     requires none { HasNoPuts view.now.core (P.made puts.old) (P.may puts.old) (P.past puts.old) (P.count puts.old) }
-    ensures { IfOk result (PutsOutcome view.now.core (P.made puts.new) (P.may puts.new) (P.count puts.new) (execute_outcome view.now r1 address)) }
+    ensures { IfOk result (PutsOutcome view.now.core (P.made puts.new) (P.may puts.new) (P.past puts.new) (P.count puts.new) (execute_outcome view.now r1 address)) }
 {
     let bytes = match fetch_instruction(view.storage(), address, view.psw().protection_key()) {
         Ok(bytes) => with_ored_byte(view, r1, bytes),
@@ -191,7 +193,7 @@ fn put_execute<P: Puts>(
 /// Puts what an instruction does that was decoded, and says how it ends.
 pub fn put_logic<P: Puts>(form: &Form, view: &View, puts: &mut P) -> Result<Ended, AllocError>
     requires none { HasNoPuts view.now.core (P.made puts.old) (P.may puts.old) (P.past puts.old) (P.count puts.old) }
-    ensures { IfOk result (PutsOutcome view.now.core (P.made puts.new) (P.may puts.new) (P.count puts.new) (outcome_of view.now form.now)) }
+    ensures { IfOk result (PutsOutcome view.now.core (P.made puts.new) (P.may puts.new) (P.past puts.new) (P.count puts.new) (outcome_of view.now form.now)) }
 {
     match subject_of(form, view) {
         Some((r1, address)) => put_execute(view, r1, address, puts),

@@ -129,7 +129,7 @@ pub(crate) fn put_digits<P: Puts>(
     requires some { 0 < first.count }
     requires few { first.count ≤ 16 }
     requires none { HasNoPuts view.now.core (P.made puts.old) (P.may puts.old) (P.past puts.old) (P.count puts.old) }
-    ensures { IfOk result (PutsOutcome view.now.core (P.made puts.new) (P.may puts.new) (P.count puts.new) (digits_outcome row view.now first second)) }
+    ensures { IfOk result (PutsOutcome view.now.core (P.made puts.new) (P.may puts.new) (P.past puts.new) (P.count puts.new) (digits_outcome row view.now first second)) }
 {
     if let Some(code) = fields_exception(view, Access::Store, first, second) {
         return Ok(Ended::Program(code));

@@ -1,5 +1,5 @@
 //! The rows of the instruction table: what the operations of these chapters do. A row has what its
-//! kind needs and no more, so that each kind is planned by a call that knows no other. Source:
+//! kind needs and no more, so that each kind is put by a call that knows no other. Source:
 //! GA22-6821, "Logical Operations", "Fixed-Point Arithmetic", "Decimal Arithmetic", "Status
 //! Switching" and "Input/Output Operations".
 ghost use Rattle.std.specs.Prelude.{◌≡◌};

@@ -49,7 +49,7 @@ fn next_psw(view: &View) -> Psw
 /// Puts a PSW alone.
 fn put_psw<P: Puts>(view: &View, psw: Psw, puts: &mut P) -> Result<Ended, AllocError>
     requires none { HasNoPuts view.now.core (P.made puts.old) (P.may puts.old) (P.past puts.old) (P.count puts.old) }
-    ensures { IfOk result (PutsOutcome view.now.core (P.made puts.new) (P.may puts.new) (P.count puts.new) (with_psw view.now psw)) }
+    ensures { IfOk result (PutsOutcome view.now.core (P.made puts.new) (P.may puts.new) (P.past puts.new) (P.count puts.new) (with_psw view.now psw)) }
 {
     puts.put_psw(view.core(), psw)?;
     Ok(Ended::Done)
@@ -106,7 +106,7 @@ fn put_key<P: Puts>(
 ) -> Result<Ended, AllocError>
     requires inside { HasBlock block view.now.core }
     requires none { HasNoPuts view.now.core (P.made puts.old) (P.may puts.old) (P.past puts.old) (P.count puts.old) }
-    ensures { IfOk result (PutsOutcome view.now.core (P.made puts.new) (P.may puts.new) (P.count puts.new) (key_outcome row view.now r1 block)) }
+    ensures { IfOk result (PutsOutcome view.now.core (P.made puts.new) (P.may puts.new) (P.past puts.new) (P.count puts.new) (key_outcome row view.now r1 block)) }
 {
     let word = view.register(r1);
     put_next_psw(view, puts)?;
@@ -132,7 +132,7 @@ pub(crate) fn put_register_status<P: Puts>(
     puts: &mut P,
 ) -> Result<Ended, AllocError>
     requires none { HasNoPuts view.now.core (P.made puts.old) (P.may puts.old) (P.past puts.old) (P.count puts.old) }
-    ensures { IfOk result (PutsOutcome view.now.core (P.made puts.new) (P.may puts.new) (P.count puts.new) (register_status_outcome row view.now r1 r2)) }
+    ensures { IfOk result (PutsOutcome view.now.core (P.made puts.new) (P.may puts.new) (P.past puts.new) (P.count puts.new) (register_status_outcome row view.now r1 r2)) }
 {
     match row {
         RegisterStatus::SetProgramMask => {
@@ -168,7 +168,7 @@ fn fetch_exception(view: &View, address: u32, count: u32) -> Option<ProgramCode>
 /// Puts the system mask that is the byte at an address.
 fn put_system_mask<P: Puts>(view: &View, address: u32, puts: &mut P) -> Result<Ended, AllocError>
     requires none { HasNoPuts view.now.core (P.made puts.old) (P.may puts.old) (P.past puts.old) (P.count puts.old) }
-    ensures { IfOk result (PutsOutcome view.now.core (P.made puts.new) (P.may puts.new) (P.count puts.new) (storage_status_outcome SetSystemMask view.now address)) }
+    ensures { IfOk result (PutsOutcome view.now.core (P.made puts.new) (P.may puts.new) (P.past puts.new) (P.count puts.new) (storage_status_outcome SetSystemMask view.now address)) }
 {
     match fetch_exception(view, address, 1) {
         Some(code) => Ok(Ended::Program(code)),
@@ -194,7 +194,7 @@ pub(crate) fn loaded_psw(view: &View, address: u32) -> Result<Psw, ProgramCode>
 /// Puts the PSW that is the doubleword at an address.
 fn put_load_psw<P: Puts>(view: &View, address: u32, puts: &mut P) -> Result<Ended, AllocError>
     requires none { HasNoPuts view.now.core (P.made puts.old) (P.may puts.old) (P.past puts.old) (P.count puts.old) }
-    ensures { IfOk result (PutsOutcome view.now.core (P.made puts.new) (P.may puts.new) (P.count puts.new) (storage_status_outcome LoadPsw view.now address)) }
+    ensures { IfOk result (PutsOutcome view.now.core (P.made puts.new) (P.may puts.new) (P.past puts.new) (P.count puts.new) (storage_status_outcome LoadPsw view.now address)) }
 {
     match loaded_psw(view, address) {
         Ok(psw) => put_psw(view, psw, puts),
@@ -210,7 +210,7 @@ pub(crate) fn put_storage_status<P: Puts>(
     puts: &mut P,
 ) -> Result<Ended, AllocError>
     requires none { HasNoPuts view.now.core (P.made puts.old) (P.may puts.old) (P.past puts.old) (P.count puts.old) }
-    ensures { IfOk result (PutsOutcome view.now.core (P.made puts.new) (P.may puts.new) (P.count puts.new) (storage_status_outcome row view.now address)) }
+    ensures { IfOk result (PutsOutcome view.now.core (P.made puts.new) (P.may puts.new) (P.past puts.new) (P.count puts.new) (storage_status_outcome row view.now address)) }
 {
     match row {
         StorageStatus::SetSystemMask => put_system_mask(view, address, puts),

@@ -1,19 +1,22 @@
 -- What stands in a core as a plan leaves it, and the puts of an interruption.
-use Rattle.std.proofs.Common.{◌≡◌, ◌<◌, ◌≤◌, ◌+◌, ℕ, List, refl, ap, sym, ◌∙◌, length, Some, None, unwrap_or, slice_index}
+use Rattle.std.proofs.Common.{◌≡◌, ◌<◌, ◌≤◌, ◌+◌, ◌-◌, ◌++◌, ℕ, zero, suc, List, refl, ap, arith, sym, ◌∙◌, drop, length, take, Some, None, unwrap_or, slice_index}
+use Rattle.std.proofs.lemmas.List.{append_assoc, drop-drop, drop_at, get_or-drop, length-append, length-take-le, take-take, take_at}
 use Rattle.std.specs.Int.{bytes_high_first}
 use Rattle.s360_model.specs.Core.{Core, core_with_bytes, core_with_psw}
 use Rattle.s360_model.specs.Psw.{current_psw, stored_psw}
-use Rattle.s360_model.specs.Storage.{doubleword_at}
+use Rattle.s360_model.specs.Storage.{Storage, doubleword_at, number_at, with_run}
 use Rattle.s360_psw.specs.declared.class.Class.{Class}
+use Rattle.s360_psw.specs.declared.class.Class.TheVariants.{InputOutput}
 use Rattle.s360_psw.specs.declared.instruction_length.InstructionLength.{InstructionLength}
+use Rattle.s360_psw.specs.declared.instruction_length.InstructionLength.TheVariants.{NotAvailable}
 use Rattle.s360_psw.specs.Class.{new_location_of, old_location_of}
 use Rattle.s360_psw.specs.InstructionLength.{length_code_of}
 use Rattle.s360_store.specs.declared.place.Place.{Place}
-use Rattle.s360_store.specs.declared.place.Place.TheVariants.{Psw, Byte}
+use Rattle.s360_store.specs.declared.place.Place.TheVariants.{Byte}
 use Rattle.s360_store.specs.declared.place.Cell.{Cell}
 use Rattle.s360_store.specs.Cells.{AreCellsOf, after_exchange}
 use Rattle.s360_store.specs.Places.{IsPlaceOf, value_at}
-use Rattle.s360_store.specs.Plans.{AddsToPlan, HasBytes, HasPsw, IsPlanOf, planned_value}
+use Rattle.s360_store.specs.Plans.{planned_value}
 use Rattle.s360_store.proofs.PlannedLemmas.{planned_value-fits, value_at-plan}
 use Rattle.s360_machine.specs.Interruptions.{after_interruption}
 
@@ -23,12 +26,6 @@ planned-some m plan p v h i e = sym (value_at-plan m plan p h i ∙ ap (λ o. un
 
 planned-none : (m : Core) (plan : List Cell) (p : Place) → AreCellsOf m plan → IsPlaceOf m p → planned_value plan p ≡ None → value_at m p ≡ value_at (after_exchange m plan) p
 planned-none m plan p h i e = sym (value_at-plan m plan p h i ∙ ap (λ o. unwrap_or o (value_at m p)) e)
-
-pub planned_psw-some : (m : Core) (plan : List Cell) (v : ℕ) → AreCellsOf m plan → planned_value plan Psw ≡ Some v → current_psw v ≡ (after_exchange m plan).psw
-planned_psw-some m plan v h e = (planned_value-fits m plan Psw v h e).1 ∙ planned-some m plan Psw v h tt e
-
-pub planned_psw-none : (m : Core) (plan : List Cell) → AreCellsOf m plan → planned_value plan Psw ≡ None → m.psw ≡ (after_exchange m plan).psw
-planned_psw-none m plan h e = planned-none m plan Psw h tt e
 
 pub planned_byte-fits : (m : Core) (plan : List Cell) (a v : ℕ) → AreCellsOf m plan → planned_value plan (Byte a) ≡ Some v → v < 256
 planned_byte-fits m plan a v h e = planned_value-fits m plan (Byte a) v h e
@@ -41,24 +38,67 @@ pub planned_byte-none : (m : Core) (plan : List Cell) (a : ℕ) → AreCellsOf m
     → slice_index m.storage.bytes a ≡ slice_index (after_exchange m plan).storage.bytes a
 planned_byte-none m plan a h i e = planned-none m plan (Byte a) h i e
 
--- the puts of an interruption: the new PSW, and the bytes of the old one
-pub IsPlanOf-interruption : (m : Core) (p q r : List Cell) (class : Class) (psw code : ℕ) (il : InstructionLength) (new at-old : ℕ) (bytes : List ℕ)
-    → AreCellsOf m p → at-old + 8 ≤ length m.storage.bytes → at-old ≡ old_location_of class
-    → new ≡ current_psw (doubleword_at (after_exchange m p).storage.bytes (new_location_of class))
-    → bytes ≡ bytes_high_first 8 (stored_psw psw code (length_code_of il))
-    → AddsToPlan p q 1 HasPsw (core_with_psw new) → AddsToPlan q r (length bytes) (HasBytes at-old (length bytes)) (core_with_bytes at-old bytes)
-    → IsPlanOf m r (after_interruption class code il (core_with_psw psw (after_exchange m p)))
-unfolding after_interruption
-IsPlanOf-interruption m p q r class psw code il new at-old bytes h i eo en eb u w =
-    let n : Core = after_exchange m p
-    in let inside : HasBytes at-old (length bytes) m = rw eb i
-    in let all : IsPlanOf m r (core_with_bytes at-old bytes (core_with_psw new n))
-    = w.makes m (core_with_psw new n) inside (u.makes m n tt (record { cells = h; makes = refl }))
-    in rw (eo, en, eb) at all
-
 -- the core after an interruption, by what it stores and what it loads
 pub interrupted-core : (m : Core) (class : Class) (psw code : ℕ) (il : InstructionLength) (next at-old : ℕ) (bytes : List ℕ) → at-old ≡ old_location_of class
     → next ≡ current_psw (doubleword_at m.storage.bytes (new_location_of class)) → bytes ≡ bytes_high_first 8 (stored_psw psw code (length_code_of il))
     → core_with_bytes at-old bytes (core_with_psw next m) ≡ after_interruption class code il (core_with_psw psw m)
 unfolding after_interruption
 interrupted-core m class psw code il next at-old bytes eo en eb = rw (eo, en, eb) refl
+
+-- and by puts that leave storage before it
+pub interruption-made : (m a b c : Core) (class : Class) (psw code : ℕ) (il : InstructionLength) (next at-old : ℕ) (bytes : List ℕ) → a.storage ≡ m.storage → b ≡ core_with_psw next a → c ≡ core_with_bytes at-old bytes b
+    → at-old ≡ old_location_of class → next ≡ current_psw (doubleword_at m.storage.bytes (new_location_of class)) → bytes ≡ bytes_high_first 8 (stored_psw psw code (length_code_of il))
+    → c ≡ after_interruption class code il (core_with_psw psw a)
+interruption-made m a b c class psw code il next at-old bytes same first then eo en eb =
+    let loaded : next ≡ current_psw (doubleword_at a.storage.bytes (new_location_of class)) = en ∙ ap (λ (s : Storage). current_psw (doubleword_at s.bytes (new_location_of class))) (sym same)
+    in then ∙ ap (λ (k : Core). core_with_bytes at-old bytes k) first ∙ interrupted-core a class psw code il next at-old bytes eo loaded eb
+
+-- a run that begins where another ends may be put before it
+runs-joined : (xs bs cs : List ℕ) (a n : ℕ) → n ≡ a + length bs → n ≤ length xs → with_run (with_run xs a bs) n cs ≡ with_run (with_run xs n cs) a bs
+runs-joined xs bs cs a n e l =
+    let past : List ℕ = drop (n + length cs) xs
+    in let front : length (take a xs ++ bs) ≡ n = omega (arith, e, length-append (take a xs) bs, length-take-le a xs (omega (arith, e, l)))
+    in let first : with_run xs a bs ≡ (take a xs ++ bs) ++ drop n xs = ap (λ k. (take a xs ++ bs) ++ drop k xs) (sym e)
+    in let behind : drop (n + length cs) ((take a xs ++ bs) ++ drop n xs) ≡ past
+    = sym (drop-drop (length cs) n ((take a xs ++ bs) ++ drop n xs)) ∙ ap (λ l. drop (length cs) l) (drop_at (take a xs ++ bs) (drop n xs) n front) ∙ drop-drop (length cs) n xs
+    in let left : with_run (with_run xs a bs) n cs ≡ ((take a xs ++ bs) ++ cs) ++ past
+    = ap (λ ys. with_run ys n cs) first ∙ ap (λ l. (take n ((take a xs ++ bs) ++ drop n xs) ++ cs) ++ l) behind
+    ∙ ap (λ l. (l ++ cs) ++ past) (take_at (take a xs ++ bs) (drop n xs) n front)
+    in let before : length (take n xs) ≡ n = length-take-le n xs l
+    in let second : with_run xs n cs ≡ take n xs ++ (cs ++ past) = append_assoc (take n xs) cs past
+    in let kept : take a (with_run xs n cs) ≡ take a xs
+    = sym (take-take a n (with_run xs n cs) (omega (arith, e))) ∙ ap (λ ys. take a (take n ys)) second ∙ ap (λ l. take a l) (take_at (take n xs) (cs ++ past) n before)
+    ∙ take-take a n xs (omega (arith, e))
+    in let rest : drop (a + length bs) (with_run xs n cs) ≡ cs ++ past
+    = ap (λ k. drop k (with_run xs n cs)) (sym e) ∙ ap (λ ys. drop n ys) second ∙ drop_at (take n xs) (cs ++ past) n before
+    in left ∙ append_assoc (take a xs ++ bs) cs past
+    ∙ sym (ap (λ l. (l ++ bs) ++ drop (a + length bs) (with_run xs n cs)) kept ∙ ap (λ l. (take a xs ++ bs) ++ l) rest)
+
+-- a number behind a run is as it was
+number-behind : (xs ys : List ℕ) (n at count : ℕ) → n ≤ at → drop n xs ≡ drop n ys → number_at xs at count ≡ number_at ys at count
+number-behind xs ys n at zero l h = refl
+number-behind xs ys n at (suc count) l h =
+    let on : n + (at - n) ≡ at = omega (arith, l)
+    in let byte : slice_index xs at ≡ slice_index ys at
+    = ap (λ k. slice_index xs k) (sym on) ∙ sym (get_or-drop n xs (at - n) 0) ∙ ap (λ l. slice_index l (at - n)) h ∙ get_or-drop n ys (at - n) 0 ∙ ap (λ k. slice_index ys k) on
+    in rw (byte, number-behind xs ys n (suc at) count (omega (arith, l)) h) refl
+
+behind-run : (xs bs : List ℕ) (a at count : ℕ) → a + length bs ≤ at → a ≤ length xs → number_at (with_run xs a bs) at count ≡ number_at xs at count
+behind-run xs bs a at count l within =
+    let front : length (take a xs ++ bs) ≡ a + length bs = omega (arith, length-append (take a xs) bs, length-take-le a xs within)
+    in number-behind (with_run xs a bs) xs (a + length bs) at count l
+    (drop_at (take a xs ++ bs) (drop (a + length bs) xs) (a + length bs) front)
+
+-- the puts of an input/output interruption: PSW, old PSW, channel status word
+pub taken-made : (m a b c : Core) (code next : ℕ) (old csw : List ℕ) → 128 ≤ length m.storage.bytes → length csw ≡ 8 → a ≡ core_with_psw next m → b ≡ core_with_bytes 56 old a → c ≡ core_with_bytes 64 csw b
+    → next ≡ current_psw (doubleword_at m.storage.bytes 120) → old ≡ bytes_high_first 8 (stored_psw m.psw code (length_code_of NotAvailable))
+    → c ≡ after_interruption InputOutput code NotAvailable (core_with_bytes 64 csw m)
+taken-made m a b c code next old csw size eight first then last en eo =
+    let many : length old ≡ 8 = ap length eo
+    in let bytes : with_run (with_run m.storage.bytes 56 old) 64 csw ≡ with_run (with_run m.storage.bytes 64 csw) 56 old
+    = runs-joined m.storage.bytes old csw 56 64 (omega (arith, many)) (omega (arith, size))
+    in let loaded : next ≡ current_psw (doubleword_at (with_run m.storage.bytes 64 csw) 120)
+    = en ∙ ap current_psw (sym (behind-run m.storage.bytes csw 64 120 8 (omega (arith, eight)) (omega (arith, size))))
+    in last ∙ ap (λ (k : Core). core_with_bytes 64 csw k) (then ∙ ap (λ (k : Core). core_with_bytes 56 old k) first)
+    ∙ ap (λ bs. core_with_psw next (record m { storage = record m.storage { bytes = bs } })) bytes
+    ∙ interrupted-core (core_with_bytes 64 csw m) InputOutput m.psw code NotAvailable next 56 old refl loaded eo

@@ -2,11 +2,7 @@
 use Rattle.std.proofs.Common.{subst, ◌≡◌, ◌<◌, ◌≤◌, ◌+◌, ◌-◌, ◌^◌, ◌++◌, ◌∙◌, ℕ, zero, suc, List, [], ◌∷◌, refl, ap, sym, take, drop, set, get_or, length, reverse, arith, Some, None, append-nil, Option, Bool, true, false}
 use Rattle.std.proofs.lemmas.List.{append_assoc, drop-append-le, drop-drop, drop-take, drop_all, drop_at, length-append, length-drop, length-reverse, length-take-le, reverse-append, take-append-drop, take-take, take_all, take_at, take_more}
 use Rattle.std.specs.List.{slice_get}
-use Rattle.std.specs.Prelude.{Err, IfOk, IfSome, Ok, Result}
-use Rattle.std.specs.declared.alloc.AllocError.{AllocError}
-use Rattle.s360_fixed.specs.declared.plain.Plain.{Plain}
-use Rattle.s360_fixed.specs.declared.plain.Plain.TheVariants.{Nothing as nothing, Psw as psw_alone, Register as with_register, Bytes as with_bytes}
-use Rattle.s360_fixed.specs.Plain.{IsFit, bytes_of_plain, cells_of_plain, psw_cell}
+use Rattle.std.specs.Prelude.{IfSome}
 use Rattle.s360_machine.specs.declared.packed.End.{End}
 use Rattle.s360_machine.specs.declared.row.Row.{Row}
 use Rattle.s360_machine.specs.declared.row.Row.TheVariants.{Nothing, Psw, Register, Bytes, More}
@@ -16,6 +12,7 @@ use Rattle.s360_store.specs.declared.place.Cell.{Cell}
 use Rattle.s360_store.specs.declared.place.Place.{Place}
 use Rattle.s360_store.specs.declared.place.Place.TheVariants.{Byte}
 use Rattle.s360_store.specs.Cells.{AllFit, byte_cells}
+use Rattle.s360_store.specs.CoreChanges.{CoreChange, cells_of_change, psw_cell}
 use Rattle.s360_store.specs.Items.{Appended, AreItems, bytes_of_items, cells_of_items}
 use Rattle.s360_store.proofs.ByteCellLemmas.{length-byte_cells}
 use Rattle.s360_machine.specs.declared.beside.Beside.{Beside}
@@ -24,9 +21,7 @@ use Rattle.s360_machine.specs.Change.{CanSwap, Change, after_swap, change_after_
 use Rattle.s360_machine.specs.Machine.{Whole}
 use Rattle.s360_machine.specs.Changes.{change_of, change_of_core, change_with}
 use Rattle.s360_machine.specs.Packed.{ArePacked, HasBefore, HasOwn, IsAppended, IsSwapOf, byte_values, bytes_of_changes, value_if_byte, changes_of_rows, lists, IsEnd, IsWithin, Lists, change_of_row, end_before, joined, lists_from, lists_to, newest, older, others, own, unpacked}
-use Rattle.s360_machine.specs.Rows.{HasNoMore, HasSameCounts, IsOver, beside_of_row, bytes_of_row, cells_of_row, items_of_row, row_of_plain}
-use Rattle.s360_machine.specs.ChangeSpans.{AreSpansOf, spans_of_row}
-use Rattle.s360_machine.proofs.SpanLemmas.{within-own}
+use Rattle.s360_machine.specs.Rows.{HasNoMore, HasSameCounts, IsOver, IsRowOf, beside_of_row, bytes_of_row, cells_of_row, items_of_row}
 use Rattle.s360_machine.proofs.SwapLemmas.{IsSwap, IsSwap-from, same-change}
 
 -- the end of a list that had more put to it
@@ -301,77 +296,40 @@ bytes-few (Run a n ∷ is) bs e =
     let front : length (take n bs) ≡ n = length-take-le n bs (omega (arith, e))
     in omega (arith, e, bytes-few is (drop n bs) (omega (arith, e, length-drop n bs)), length-append (byte_cells a (take n bs)) (cells_of_items is (drop n bs)), length-byte_cells a (take n bs), front, length-drop n bs)
 
--- a change of the PSW and little beside it, as its row has it
-pub over-plain : (x : Plain) → IsFit x → IsOver (row_of_plain x) [] (bytes_of_plain x)
-over-plain nothing h = (refl, refl)
-over-plain (psw_alone psw) h = (refl, refl)
-over-plain (with_register r word psw) h = (refl, refl)
-over-plain (with_bytes address psw run) h = (refl, refl, h.0, h.1)
+-- a row that has all but its bytes within itself
+within-items : (r : Row) → HasNoMore r → items_of_row r ≡ 0
+within-items Nothing h = refl
+within-items (Psw psw) h = refl
+within-items (Register n word psw) h = refl
+within-items (Bytes count address psw) h = refl
+within-items (More beside items bytes count) h = absurd h
 
-pub cells-plain : (x : Plain) → cells_of_row (row_of_plain x) [] (bytes_of_plain x) ≡ cells_of_plain x
-cells-plain nothing = refl
-cells-plain (psw_alone psw) = refl
-cells-plain (with_register r word psw) = refl
-cells-plain (with_bytes address psw run) = refl
+pub within-beside : (r : Row) → HasNoMore r → beside_of_row r ≡ 0
+within-beside Nothing h = refl
+within-beside (Psw psw) h = refl
+within-beside (Register n word psw) h = refl
+within-beside (Bytes count address psw) h = refl
+within-beside (More beside items bytes count) h = absurd h
 
-plain-items : (x : Plain) → items_of_row (row_of_plain x) ≡ 0
-plain-items nothing = refl
-plain-items (psw_alone psw) = refl
-plain-items (with_register r word psw) = refl
-plain-items (with_bytes address psw run) = refl
+-- a change that has all but its bytes within its row is one change more
+within-bytes : (row : Row) (bs : List ℕ) → HasNoMore row → IsOver row [] bs → length bs ≡ bytes_of_row row
+within-bytes Nothing bs h o = ap length o.1
+within-bytes (Psw psw) bs h o = ap length o.1
+within-bytes (Register r word psw) bs h o = ap length o.1
+within-bytes (Bytes count address psw) bs h o = o.1
+within-bytes (More beside items bytes count) bs h o = absurd h
 
-plain-bytes : (x : Plain) → bytes_of_row (row_of_plain x) ≡ length (bytes_of_plain x)
-plain-bytes nothing = refl
-plain-bytes (psw_alone psw) = refl
-plain-bytes (with_register r word psw) = refl
-plain-bytes (with_bytes address psw run) = refl
-
-plain-beside : (x : Plain) → beside_of_row (row_of_plain x) ≡ 0
-plain-beside nothing = refl
-plain-beside (psw_alone psw) = refl
-plain-beside (with_register r word psw) = refl
-plain-beside (with_bytes address psw run) = refl
-
-plain-alone : (x : Plain) → HasNoMore (row_of_plain x)
-plain-alone nothing = tt
-plain-alone (psw_alone psw) = tt
-plain-alone (with_register r word psw) = tt
-plain-alone (with_bytes address psw run) = tt
-
--- its places
-pub plain-spans : (x : Plain) → IsFit x → AreSpansOf (spans_of_row (row_of_plain x)) (change_of_core (cells_of_plain x))
-plain-spans x fit =
-    within-own (row_of_plain x) [] (bytes_of_plain x) [] (change_of_core (cells_of_plain x)) (plain-alone x) (over-plain x fit) (sym (plain-beside x)) (ap (λ (cs : List Cell). change_of_core cs) (cells-plain x))
-
-pub appended-plain : (old : Lists) (new : List ℕ) (x : Plain) → IsFit x → new ≡ old.bytes ++ bytes_of_plain x
-    → IsAppended old (lists old.items new old.beside) (row_of_plain x) (change_of_core (cells_of_plain x))
-appended-plain old new x h e = record {
-  own_lists = lists [] (bytes_of_plain x) [];
-  lists_are = same-lists (lists old.items new old.beside) (joined old (lists [] (bytes_of_plain x) [])) (sym (append-nil old.items)) e (sym (append-nil old.beside));
-  items = sym (plain-items x);
-  bytes = sym (plain-bytes x);
-  beside = sym (plain-beside x);
-  over = over-plain x h;
-  change = ap change_of_core (cells-plain x);
+pub appended-row : (old : Lists) (new : List ℕ) (cells : List Cell) (b : Beside) (row : Row) (bytes : List ℕ) → IsRowOf cells row bytes → IsNothing b → new ≡ old.bytes ++ bytes
+    → IsAppended old (lists old.items new old.beside) row (change_of cells b)
+appended-row old new cells b row bytes h nothing e = record {
+  own_lists = lists [] bytes [];
+  lists_are = same-lists (lists old.items new old.beside) (joined old (lists [] bytes [])) (sym (append-nil old.items)) e (sym (append-nil old.beside));
+  items = sym (within-items row h.within);
+  bytes = within-bytes row bytes h.within h.over;
+  beside = sym (within-beside row h.within);
+  over = h.over;
+  change = ap change_of_core h.cells_are ∙ same-change (change_of_core cells) (change_of cells b) refl (sym nothing.control) (sym nothing.units) (sym nothing.media);
 }
-
--- and one of the PSW and a run
-pub appended-run : (old : Lists) (new : List ℕ) (address psw : ℕ) (bs : List ℕ) → 0 < length bs → address + length bs ≤ 2 ^ 32 → new ≡ old.bytes ++ bs
-    → IsAppended old (lists old.items new old.beside) (Bytes (length bs) address psw) (change_of_core (psw_cell psw ∷ byte_cells address bs))
-appended-run old new address psw bs some inside e = record {
-  own_lists = lists [] bs [];
-  lists_are = same-lists (lists old.items new old.beside) (joined old (lists [] bs [])) (sym (append-nil old.items)) e (sym (append-nil old.beside));
-  items = refl;
-  bytes = refl;
-  beside = refl;
-  over = (refl, refl, some, inside);
-  change = refl;
-}
-
-pub appended-bytes : (old : Lists) (new : List ℕ) (x : Plain) (o : Result Row AllocError) → IsFit x → IfOk o (λ row. row ≡ row_of_plain x) → IfOk o (λ row. new ≡ old.bytes ++ bytes_of_plain x)
-    → IfOk o (λ row. IsAppended old (lists old.items new old.beside) row (change_of_core (cells_of_plain x)))
-appended-bytes old new x (Ok row) h e b = rw e (appended-plain old new x h b)
-appended-bytes old new x (Err failed) h e b = tt
 
 -- and one of more
 pub appended-full : (oi ni : List Item) (ob nb : List ℕ) (ol nl : List Beside) (cells : List Cell) (b : Beside) (done : Bool) (items bytes count : ℕ)
@@ -390,7 +348,7 @@ appended-full oi ni ob nb ol nl cells b true items bytes count a fit some none e
         sym (ei ∙ omega (arith, ap length a.items_are, length-append oi a.items)),
         sym (eb ∙ omega (arith, ap length a.bytes_are, length-append ob a.bytes)),
         ap length a.cells_are ∙ sym ec,
-        record { whole = a.whole; all = a.all; fit = subst (AllFit true) (sym a.cells_are) fit; few = subst (λ cs. length cs ≤ 1000000) (sym a.cells_are) a.few },
+        record { whole = a.whole; all = a.all; fit = subst (AllFit true) (sym a.cells_are) fit; few = subst (λ cs. length cs ≤ 1000001) (sym a.cells_are) a.few },
       );
       change = ap (λ cs. change_of cs b) a.cells_are;
     }
@@ -407,7 +365,7 @@ appended-full oi ni ob nb ol nl cells b false items bytes count a fit some none 
         sym (ei ∙ omega (arith, ap length a.items_are, length-append oi a.items)),
         sym (eb ∙ omega (arith, ap length a.bytes_are, length-append ob a.bytes)),
         ap length a.cells_are ∙ sym ec,
-        record { whole = a.whole; all = a.all; fit = subst (AllFit true) (sym a.cells_are) fit; few = subst (λ cs. length cs ≤ 1000000) (sym a.cells_are) a.few },
+        record { whole = a.whole; all = a.all; fit = subst (AllFit true) (sym a.cells_are) fit; few = subst (λ cs. length cs ≤ 1000001) (sym a.cells_are) a.few },
       );
       change = ap change_of_core a.cells_are ∙ same-change (change_of_core cells) (change_of cells b) refl (sym nothing.control) (sym nothing.units) (sym nothing.media);
     }
@@ -595,21 +553,6 @@ IsEnd-all rows ls h =
           subst (λ (l : List Row). ArePacked (reverse l ++ rs) (joined ms (lists_from e ls))) (sym (none-behind rows)) (subst (λ j. ArePacked rs (joined ms j)) (sym from) (subst (λ j. ArePacked rs j) (sym (alone ms)) k));
     }
 
--- a row that has all but its bytes within itself
-within-items : (r : Row) → HasNoMore r → items_of_row r ≡ 0
-within-items Nothing h = refl
-within-items (Psw psw) h = refl
-within-items (Register n word psw) h = refl
-within-items (Bytes count address psw) h = refl
-within-items (More beside items bytes count) h = absurd h
-
-pub within-beside : (r : Row) → HasNoMore r → beside_of_row r ≡ 0
-within-beside Nothing h = refl
-within-beside (Psw psw) h = refl
-within-beside (Register n word psw) h = refl
-within-beside (Bytes count address psw) h = refl
-within-beside (More beside items bytes count) h = absurd h
-
 newest-none : {X : Type 0} (n : ℕ) (xs : List X) → n ≡ 0 → newest n (take (length xs) xs) ≡ []
 newest-none n xs e = rw (e, all-before xs) (drop_all (length xs - 0) xs (omega arith))
 
@@ -759,3 +702,16 @@ bytes-unpacked (r ∷ rs) ls h =
 
 pub bytes-of-rows : (rows : List Row) (ls : Lists) → ArePacked (reverse rows) ls → bytes_of_changes (changes_of_rows rows ls) ≡ ls.bytes
 bytes-of-rows rows ls h = bytes-unpacked (reverse rows) ls h
+
+-- a change of the PSW and of one run has the row of a run
+pub row-of-bytes : (x : CoreChange) (psw address count n : ℕ) (bs : List ℕ) → x.psw ≡ Some psw → x.cells ≡ byte_cells address bs ++ drop n x.cells → length (byte_cells address bs) ≤ n
+    → 0 < length (byte_cells address bs) → address + length bs ≤ 2 ^ 32 → length bs ≡ length x.cells → length bs ≡ count → IsRowOf (cells_of_change x) (Bytes count address psw) bs
+row-of-bytes x psw address count n bs p is past some fit all many =
+    let few : length (byte_cells address bs) ≡ length bs = length-byte_cells address bs
+    in let none : drop n x.cells ≡ [] = drop_all n x.cells (omega (arith, few, past, all))
+    in let cells : byte_cells address bs ≡ x.cells = sym (is ∙ ap (λ (l : List Cell). byte_cells address bs ++ l) none ∙ append-nil (byte_cells address bs))
+    in record {
+      within = tt;
+      over = (refl, many, omega (arith, few, some, many), omega (arith, many, fit));
+      cells_are = rw p (ap (λ (l : List Cell). psw_cell psw ∷ l) cells);
+    }

@@ -1,5 +1,5 @@
--- A channel event of a unit, and what was planned of the machine beside the core.
-use Rattle.std.proofs.Common.{◌≡◌, ℕ, Bool, true, false, List, [], refl, ap, subst, sym, arith, if◌then◌else◌}
+-- A channel event of a unit.
+use Rattle.std.proofs.Common.{◌≡◌, ◌∙◌, ℕ, Bool, true, false, List, refl, ap, subst, sym, if◌then◌else◌}
 use Rattle.std.specs.Option.{option_map}
 use Rattle.std.specs.Prelude.{Option, Some, None}
 use Rattle.s360_model.specs.Core.{Core}
@@ -11,29 +11,27 @@ use Rattle.s360_device.specs.DeviceChanges.{CanSwapDevice, bare, device_after_sw
 use Rattle.s360_device.specs.Differences.{DecidesEquality}
 use Rattle.s360_device.specs.Kinds.{Kind, MediaWithRoom}
 use Rattle.s360_device.specs.Rows.{Table, after_command}
-use Rattle.s360_store.specs.declared.place.Cell.{Cell}
-use Rattle.s360_store.specs.Plans.{IsPlanOf}
-use Rattle.s360_channel.specs.declared.engine.ChannelStep.{ChannelStep}
 use Rattle.s360_channel.specs.declared.engine.ChannelStep.TheVariants.{NotYet}
+use Rattle.s360_channel.specs.declared.engine.Executed.{Executed}
 use Rattle.s360_channel.specs.declared.program.Program.{Program}
 use Rattle.s360_channel.specs.declared.unit_control.UnitControl.{UnitControl}
 use Rattle.s360_channel.specs.declared.unit_state.UnitState.{UnitState}
 use Rattle.s360_channel.specs.declared.unit_state.UnitState.TheVariants.{Idle, Active, Waiting}
 use Rattle.s360_channel.specs.Differences.{same_unit}
 use Rattle.s360_channel.specs.Execution.{DeviceView, Ending, Execution, channel_execution}
-use Rattle.s360_channel.specs.Steps.{AltersDevice, IsDeviceChange, KeepsDevice, PlansExecution, change_of_step}
+use Rattle.s360_channel.specs.Steps.{AltersDevice, Executes, IsDeviceChange, KeepsDevice, change_of_step}
 use Rattle.s360_channel.proofs.DifferenceLemmas.{same_unit-Decides}
 use Rattle.s360_machine.specs.declared.channel_event.UnitStep.{UnitStep}
-use Rattle.s360_machine.specs.declared.machine.PlannedEvent.{PlannedEvent}
+use Rattle.s360_machine.specs.declared.beside.Beside.{Beside}
+use Rattle.s360_machine.specs.ControlCells.{control_cells}
 use Rattle.s360_machine.specs.declared.media.MediaChange.{MediaChange}
-use Rattle.s360_channel.specs.declared.unit_change.UnitChange.{UnitChange}
 use Rattle.s360_channel.specs.declared.unit_change.UnitChange.TheVariants.{One}
 use Rattle.s360_channel.specs.UnitChanges.{IsUnitsChangeTo}
 use Rattle.s360_channel.specs.ConfiguredUnits.{HasEachUnit, Units}
-use Rattle.s360_machine.specs.ChannelEvents.{ExecutesProgram, IsAlterationOf, StepsTo, after_channel, after_ending, after_execution, execution_at, execution_of, execution_with, media_after, view_of}
+use Rattle.s360_machine.specs.ChannelEvents.{ExecutesProgram, IsAlterationOf, StepsTo, after_ending, execution_at, execution_of, execution_with, media_after, view_of}
 use Rattle.s360_channel.specs.declared.configured_unit.ConfiguredUnit.{ConfiguredUnit}
-use Rattle.s360_machine.specs.Machine.{Control, Machine, Spare, Whole, WholeMedia, WithRoom, seen, seen_media}
-use Rattle.s360_machine.specs.Planned.{IsMediaChangeTo, IsPlanOfMachine, PlansIo}
+use Rattle.s360_machine.specs.Machine.{Control, Spare, Whole, WholeMedia, WithRoom, seen, seen_media}
+use Rattle.s360_machine.specs.Planned.{ExecutesAt, IsControlChangeTo, IsMediaChangeTo}
 use Rattle.s360_channel.specs.ConfiguredUnits.{control_of, with_control_of}
 use Rattle.s360_channel.proofs.UnitChangeLemmas.{IsUnitsChangeTo-one}
 use Rattle.s360_machine.proofs.IoLemmas.{IsDeviceStep, device-becomes, device-stays}
@@ -41,16 +39,6 @@ use Rattle.s360_machine.proofs.IoLemmas.{IsDeviceStep, device-becomes, device-st
 -- a whole of its parts
 abbrev pub whole_with : Core → Control → Units → WholeMedia → Whole
 whole_with core control us media = record { core = core; control = control; units = us; media = media }
-
-pub IsPlanOfMachine-from : (w : Whole) (n : Machine) (plan : List Cell) (planned : PlannedEvent) (us : Option UnitChange) (ms : Option MediaChange)
-    → IsPlanOf w.core plan n.core → PlansIo planned n.control us ms → IsUnitsChangeTo w.units us n.units → IsMediaChangeTo w.media ms n.media
-    → IsPlanOfMachine w plan planned n
-IsPlanOfMachine-from w n plan planned us ms core io u x = record {
-  core = core;
-  control = io.control;
-  units = rw io.units u;
-  media = rw io.media x;
-}
 
 -- a unit that becomes what it is
 pub unaltered : (u v : UnitControl) → u ≡ v → IsAlterationOf u v None
@@ -68,27 +56,27 @@ execution-of-none d s (Waiting c) h = refl
 execution-of-none d s (Active p) h = absurd (h p refl)
 
 pub ExecutesProgram-none : {C : Type 0} (s : Storage) (u : UnitControl) (d : DeviceView) (Becomes : Ending → C → Type 0) (Stays : Ending → Type 0)
-    → ((p : Program) → u.state ≡ Active p → ⊥) → ExecutesProgram s u [] d Becomes Stays (record { control = None; change = None })
+    → ((p : Program) → u.state ≡ Active p → ⊥) → ExecutesProgram s u d Becomes Stays (record { control = None; change = None; stores = None })
 ExecutesProgram-none s u d Becomes Stays h =
     let e : execution_with d s u.state ≡ record { stores = None; state = u.state; ending = None } = execution-of-none d s u.state h
     in record {
-      stores = rw e (λ m k. record { cells = tt; makes = refl });
-      few = omega arith;
+      stores = rw e refl;
+      inside = tt;
       control = rw e (unaltered u u refl);
       change = rw e tt;
     }
 
--- a step of its program
-pub ExecutesProgram-step : {C : Type 0} (s : Storage) (u : UnitControl) (p : Program) (plan : List Cell) (d : DeviceView) (Becomes : Ending → C → Type 0) (Stays : Ending → Type 0)
-    (step : ChannelStep C) (unit_step : UnitStep C) → u.state ≡ Active p → PlansExecution s p plan (channel_execution d s p) Becomes Stays step
-    → StepsTo u step unit_step.control → unit_step.change ≡ change_of_step step → ExecutesProgram s u plan d Becomes Stays unit_step
-ExecutesProgram-step s u p plan d Becomes Stays step unit_step a h k e =
-    let x : execution_with d s u.state ≡ channel_execution d s p = ap (λ state. execution_with d s state) a
+-- a word of its program
+pub ExecutesProgram-step : {C : Type 0} (s : Storage) (u : UnitControl) (p : Program) (d : DeviceView) (Becomes : Ending → C → Type 0) (Stays : Ending → Type 0)
+    (x : Executed C) (unit_step : UnitStep C) → u.state ≡ Active p → Executes s p (channel_execution d s p) Becomes Stays x
+    → StepsTo u x.step unit_step.control → unit_step.change ≡ change_of_step x.step → unit_step.stores ≡ x.stores → ExecutesProgram s u d Becomes Stays unit_step
+ExecutesProgram-step s u p d Becomes Stays x unit_step a h k change stores =
+    let e : execution_with d s u.state ≡ channel_execution d s p = ap (λ state. execution_with d s state) a
     in record {
-      stores = rw x h.stores;
-      few = h.few;
-      control = rw x (rw h.state at (k p a));
-      change = rw (x, e) h.change;
+      stores = rw e (stores ∙ h.stores);
+      inside = rw stores h.inside;
+      control = rw e (rw h.state at (k p a));
+      change = rw (e, change) h.change;
     }
 
 -- what a device becomes: what is so of it as it is, where no command ends or one leaves it as it was, and else of what a
@@ -112,10 +100,10 @@ abbrev Alters : {S M C : Type 0} → Kind S M C → DeviceWith (MediaWithRoom S)
 Alters k d = AltersDevice (λ e x. CanSwapDevice k (bare e) x) (λ e x. with_part (λ s. record { media = s; room = e.media.room }) (device_after_swap k (bare e) x)) (λ e x. device_change_after_swap k (bare e) x)
     (λ x. device_needs k x) (λ e. with_part (λ m. record { media = m.media; room = 0 }) e) (Ends k) d
 
-pub device-step : {S M C : Type 0} (k : Kind S M C) (same : DeviceWith M → DeviceWith M → Bool) → DecidesEquality same → (d : DeviceWith (MediaWithRoom S)) (s : Storage) (u : UnitControl) (plan : List Cell) (step : UnitStep (DeviceChange C))
-    → ExecutesProgram s u plan (view_of k.table (seen_device k (bare d))) (Alters k d) (KeepsDevice (Ends k) d) step
+pub device-step : {S M C : Type 0} (k : Kind S M C) (same : DeviceWith M → DeviceWith M → Bool) → DecidesEquality same → (d : DeviceWith (MediaWithRoom S)) (s : Storage) (u : UnitControl) (step : UnitStep (DeviceChange C))
+    → ExecutesProgram s u (view_of k.table (seen_device k (bare d))) (Alters k d) (KeepsDevice (Ends k) d) step
     → IsDeviceStep k same (bare d) (after_ending k.table (seen_device k (bare d)) (execution_of k.table (seen_device k (bare d)) s u.state).ending) step.change
-device-step k same decides d s u plan step run =
+device-step k same decides d s u step run =
     device-change k.table (seen_device k (bare d)) (λ e x. IsDeviceStep k same (bare d) e x) (Alters k d) (KeepsDevice (Ends k) d) (execution_of k.table (seen_device k (bare d)) s u.state).ending step.change
     (device-stays k same decides (bare d)) (λ e h. h) (λ e x a. device-becomes k same decides (bare d) (after_command k.table (seen_device k (bare d)) (command_of e.command) e.output) x a.can a.row a.back a.alters) run.change
 
@@ -129,27 +117,27 @@ one-altered : (us : Units) (u : ConfiguredUnit) (v : UnitControl) (x : Option Un
     → IsUnitsChangeTo us (option_map (λ c. One u c) x) (with_control_of us u v)
 one-altered us u v x each h = one-altered-by us u v x (same_unit (control_of us u) v) h (IsUnitsChangeTo-one us u v each)
 
--- a channel event of a unit: what was planned of it makes the machine after what it executes, with the media that the
--- changes make
-pub channel-event : {C : Type 0} (k : WithRoom) (w : Whole) (spare : Spare) (unit : ConfiguredUnit) (plan : List Cell) (d : DeviceView) (Becomes : Ending → C → Type 0) (Stays : Ending → Type 0) (step : UnitStep C)
-    (ms : Option MediaChange) (planned : PlannedEvent)
+-- a channel event of a unit: what stands beside the core makes the machine after what it executes, with the media that
+-- the changes make
+pub channel-event : {C : Type 0} (k : WithRoom) (w : Whole) (spare : Spare) (unit : ConfiguredUnit) (d : DeviceView) (Becomes : Ending → C → Type 0) (Stays : Ending → Type 0) (step : UnitStep C)
+    (ms : Option MediaChange) (b : Beside)
     → record { whole = w; spare = spare } ≡ k → HasEachUnit w.units
-    → ExecutesProgram w.core.storage (control_of w.units unit) plan d Becomes Stays step
-    → PlansIo planned k.whole.control (option_map (λ c. One unit c) step.control) ms
+    → ExecutesProgram w.core.storage (control_of w.units unit) d Becomes Stays step
+    → IsControlChangeTo k.whole.control (control_cells b.control) k.whole.control → b.units ≡ option_map (λ c. One unit c) step.control → b.media ≡ ms
     → execution_with d w.core.storage (control_of w.units unit).state ≡ execution_at unit (seen w)
     → IsMediaChangeTo w.media ms (media_after unit (execution_at unit (seen w)).ending (seen_media w.media))
-    → IsPlanOfMachine k.whole plan planned (after_channel unit (seen k.whole))
-channel-event k w spare unit plan d Becomes Stays step ms planned view each run io is media =
-    let e : Execution = execution_with d w.core.storage (control_of w.units unit).state
-    in let u : UnitControl = control_of w.units unit
-    in let v : UnitControl = record u { state = e.state }
-    in let mine : PlansIo planned w.control (option_map (λ c. One unit c) step.control) ms
-    = subst (λ (m : WithRoom). PlansIo planned m.whole.control (option_map (λ c. One unit c) step.control) ms) (sym view) io
-    in let units : IsUnitsChangeTo w.units (option_map (λ c. One unit c) step.control) (with_control_of w.units unit v)
-    = one-altered w.units unit v step.control each run.control
-    in let devices : IsMediaChangeTo w.media ms (media_after unit e.ending (seen_media w.media))
-    = subst (λ (x : Execution). IsMediaChangeTo w.media ms (media_after unit x.ending (seen_media w.media))) (sym is) media
-    in let plans : IsPlanOfMachine w plan planned (after_execution e unit (seen w))
-    = IsPlanOfMachine-from w (after_execution e unit (seen w)) plan planned _ _ (run.stores w.core refl) mine units devices
-    in subst (λ (m : WithRoom). IsPlanOfMachine m.whole plan planned (after_channel unit (seen m.whole))) view
-    (subst (λ (x : Execution). IsPlanOfMachine w plan planned (after_execution x unit (seen w))) is plans)
+    → ExecutesAt k.whole unit b step.stores
+channel-event k w spare unit d Becomes Stays step ms b view each run control eu em is media =
+    let u : UnitControl = control_of w.units unit
+    in let one : IsUnitsChangeTo w.units b.units (with_control_of w.units unit (record u { state = (execution_with d w.core.storage u.state).state }))
+    = rw eu (one-altered w.units unit (record u { state = (execution_with d w.core.storage u.state).state }) step.control each run.control)
+    in let units : IsUnitsChangeTo w.units b.units (with_control_of w.units unit (record u { state = (execution_at unit (seen w)).state }))
+    = subst (λ (x : Execution). IsUnitsChangeTo w.units b.units (with_control_of w.units unit (record u { state = x.state }))) is one
+    in let stays : IsControlChangeTo w.control (control_cells b.control) w.control
+    = subst (λ (m : WithRoom). IsControlChangeTo m.whole.control (control_cells b.control) m.whole.control) (sym view) control
+    in let all : ExecutesAt w unit b step.stores = record {
+      stores = run.stores ∙ ap (λ (x : Execution). x.stores) is;
+      inside = run.inside;
+      others = record { control = stays; units = units; media = rw em media };
+    }
+    in subst (λ (m : WithRoom). ExecutesAt m.whole unit b step.stores) view all

@@ -102,7 +102,7 @@ stretching-more is bs k count more next after d (Single c) l g m a s =
 stretching-more is bs k count more next after d (Run address n) l g m a s =
     subst (λ o. Stretching is bs (k + 1) (count + more) o) (sym a) (stretching-run is bs k count more next d address n l g m s)
 
-pub items-below : (is : List Item) (bs : List ℕ) → ArePartsOf is bs → length is ≤ 1000000
+pub items-below : (is : List Item) (bs : List ℕ) → ArePartsOf is bs → length is ≤ 1000001
 items-below is bs h = omega (arith, items-few is bs h.whole h.all, h.few)
 
 pub stretching-all : (is : List Item) (bs : List ℕ) (k count : ℕ) (next : Option ℕ) → length is ≤ k → Stretching is bs k count next → count ≡ stretches None (places_of_cells (cells_of_items is bs))

@@ -1,5 +1,5 @@
 -- An exchange of a change done twice restores the whole machine and the change.
-use Rattle.std.proofs.Common.{◌≡◌, ap, ◌∙◌, refl, [], ◌∷◌}
+use Rattle.std.proofs.Common.{◌≡◌, ap, ◌∙◌, refl, subst, sym, List, [], ◌∷◌}
 use Rattle.std.specs.Prelude.{Option, Some, None}
 use Rattle.s360_model.specs.Exchanges.{back_if_any}
 use Rattle.s360_model.specs.ExchangeLaws.{CanIfAny-again, after_if_any-twice, back_if_any-twice}
@@ -14,13 +14,17 @@ use Rattle.s360_print.specs.PrinterChanges.{printer_kind}
 use Rattle.s360_print.specs.PrinterLaws.{printer_change_restores_both}
 use Rattle.s360_tape.specs.TapeLaws.{tape_change_restores_both}
 use Rattle.s360_tape.specs.WholeTape.{tape_kind}
-use Rattle.s360_store.specs.Cells.{cells_after_exchange, AllFit}
+use Rattle.s360_model.specs.Core.{Core}
+use Rattle.s360_store.specs.declared.place.Cell.{Cell}
+use Rattle.s360_store.specs.Cells.{after_exchange, cells_after_exchange, AllFit}
 use Rattle.s360_store.proofs.ExchangeLemmas.{after_exchange-twice, cells_after_exchange-twice, AreCellsOf-again, places_of_cells-cells_after_exchange}
 use Rattle.s360_channel.specs.UnitChanges.{CanSwapUnits, unit_change_after_swap, units_after_swap}
 use Rattle.s360_channel.proofs.UnitChangeLemmas.{CanSwapUnits-again, places_of_units-back, unit_change_after_swap-twice, units_after_swap-twice}
 use Rattle.s360_machine.specs.declared.media.MediaChange.{MediaChange}
 use Rattle.s360_machine.specs.declared.media.MediaChange.TheVariants.{Reader, Punch, Printer, Console, Tape0, Tape1}
 use Rattle.s360_machine.specs.IoChanges.{CanSwapMedia, media_after_swap, media_change_after_swap, media_place, places_of_media, unit_of_change}
+use Rattle.s360_machine.specs.declared.beside.Beside.{Beside}
+use Rattle.s360_machine.specs.Changes.{change_of}
 use Rattle.s360_machine.specs.Machine.{Whole, WholeMedia}
 use Rattle.s360_machine.specs.Change.{Change, CanSwap, after_swap, change_after_swap, places_of_change}
 use Rattle.s360_machine.proofs.ControlLemmas.{control_after_exchange-twice, control_cells_after_exchange-twice, HasEachControlOnce-after, places_of_control-after}
@@ -106,6 +110,16 @@ IsSwap-from w x v y h ev ey f = record {
   whole = rw (ev, ey) (after_swap-twice w x h);
   change = rw (ev, ey) (change_after_swap-twice w x h);
 }
+
+-- the core and what is beside it may be exchanged one after the other
+pub IsSwap-parts : (w v : Whole) (cs ds : List Cell) (b d : Beside) (core : Core) → core ≡ after_exchange w.core cs → v ≡ after_swap (record w { core = core }) (change_of [] b) → ds ≡ cells_after_exchange w.core cs
+    → change_of [] d ≡ change_after_swap (record w { core = core }) (change_of [] b) → CanSwap w (change_of cs b) → AllFit core.storage.fetch_protection ds → IsSwap w (change_of cs b) v (change_of ds d)
+IsSwap-parts w v cs ds b d core ec ev es ed can fit =
+    let machine : v ≡ after_swap w (change_of cs b) = ev ∙ ap (λ (k : Core). after_swap (record w { core = k }) (change_of [] b)) ec
+    in let change : change_of ds d ≡ change_after_swap w (change_of cs b)
+    = ap (λ (x : Change). record x { cells = ds }) ed ∙ ap (λ (l : List Cell). record (change_after_swap w (change_of cs b)) { cells = l }) es
+    in let same : v.core ≡ core = ap (λ (x : Whole). x.core) ev
+    in IsSwap-from w (change_of cs b) v (change_of ds d) can machine change (subst (λ (k : Core). AllFit k.storage.fetch_protection ds) (sym same) fit)
 
 -- an exchange keeps the places
 pub places_of_change-after_swap : (w : Whole) (x : Change) → places_of_change (change_after_swap w x) ≡ places_of_change x

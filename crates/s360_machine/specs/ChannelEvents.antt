@@ -1,6 +1,6 @@
 -- A channel event of a unit: one channel command word of the program that it executes (GA22-6821,
 -- "Input/Output Operations", execution of input/output operations).
-use Rattle.std.specs.Prelude.{◌≡◌, ◌≤◌, Option, Some, None, List, length, if◌then◌else◌}
+use Rattle.std.specs.Prelude.{◌≡◌, IfSome, Option, Some, None, List, if◌then◌else◌}
 use Rattle.std.specs.Option.{option_map_or}
 use Rattle.s360_model.specs.Storage.{Storage}
 use Rattle.s360_word.specs.declared.unit.Unit.{Unit}
@@ -13,12 +13,11 @@ use Rattle.s360_device.specs.Rows.{Table, after_command, begin_of, exception_of,
 use Rattle.s360_print.specs.Console.{ConsoleMedia, console_table}
 use Rattle.s360_print.specs.Printer.{PrinterMedia, printer_table}
 use Rattle.s360_tape.specs.Tape.{TapeMedia, tape_table}
-use Rattle.s360_store.specs.declared.place.Cell.{Cell}
 use Rattle.s360_channel.specs.declared.unit_control.UnitControl.{UnitControl}
 use Rattle.s360_channel.specs.declared.unit_state.UnitState.{UnitState}
 use Rattle.s360_channel.specs.declared.unit_state.UnitState.TheVariants.{Active}
 use Rattle.s360_channel.specs.Execution.{DeviceView, Ending, Execution, channel_execution, core_with_run}
-use Rattle.s360_channel.specs.Steps.{IsDeviceChange, StoresRun, state_after_step}
+use Rattle.s360_channel.specs.Steps.{IsDeviceChange, LiesIn, state_after_step}
 use Rattle.s360_channel.specs.declared.engine.ChannelStep.{ChannelStep}
 use Rattle.s360_channel.specs.declared.program.Program.{Program}
 use Rattle.s360_channel.specs.Differences.{same_unit}
@@ -90,10 +89,10 @@ IsAlterationOf u v x = x ≡ (if same_unit u v then None else Some v)
 abbrev pub StepsTo : {C : Type 0} → UnitControl → ChannelStep C → Option UnitControl → Type 0
 StepsTo u step x = (p : Program) → u.state ≡ Active p → IsAlterationOf u (record u { state = state_after_step p step }) x
 
--- a step executes what the state of the unit asks for: its plan stores that, in few cells, and it
--- has the other state of the unit and the change of the device, where they do not stay as they are
-pub record ExecutesProgram {C : Type 0} (s : Storage) (u : UnitControl) (plan : List Cell) (d : DeviceView) (Becomes : Ending → C → Type 0) (Stays : Ending → Type 0) (step : UnitStep C) : Type 0 where
-  pub stores : StoresRun s plan (execution_with d s u.state).stores
-  pub few : length plan ≤ 65535
+-- a step executes what the state of the unit asks for: it has what that stores, the other state of the unit and the
+-- change of the device, where they do not stay as they are
+pub record ExecutesProgram {C : Type 0} (s : Storage) (u : UnitControl) (d : DeviceView) (Becomes : Ending → C → Type 0) (Stays : Ending → Type 0) (step : UnitStep C) : Type 0 where
+  pub stores : step.stores ≡ (execution_with d s u.state).stores
+  pub inside : IfSome step.stores (λ r. LiesIn s r)
   pub control : IsAlterationOf u (record u { state = (execution_with d s u.state).state }) step.control
   pub change : IsDeviceChange Becomes Stays (execution_with d s u.state).ending step.change

@@ -1,13 +1,11 @@
 -- What the CPU does with the channels: the input/output instructions, and the input/output
 -- interruption (GA22-6821, "Input/Output Operations").
-use Rattle.std.specs.Prelude.{ℕ, ◌/◌, List}
+use Rattle.std.specs.Prelude.{ℕ, ◌/◌}
 use Rattle.std.specs.Int.{bytes_high_first}
 use Rattle.std.specs.Option.{option_map_or}
 use Rattle.s360_model.specs.Core.{Core, core_with_bytes, core_with_psw}
 use Rattle.s360_model.specs.Psw.{with_condition_code, with_instruction_address}
 use Rattle.s360_word.specs.declared.unit.Unit.{Unit}
-use Rattle.s360_store.specs.declared.place.Cell.{Cell}
-use Rattle.s360_store.specs.Plans.{IsPlanOf}
 use Rattle.s360_psw.specs.declared.class.Class.TheVariants.{InputOutput}
 use Rattle.s360_psw.specs.declared.instruction_length.InstructionLength.TheVariants.{NotAvailable}
 use Rattle.s360_fixed.specs.declared.ended.IoOperation.{IoOperation}
@@ -64,8 +62,3 @@ after_interrupting m u = option_map_or (λ c. after_taking u c m) (condition_of 
 
 abbrev pub after_input_output : Machine → Machine
 after_input_output m = option_map_or (after_interrupting m) (interrupting_unit m.core.psw m.units) m
-
--- a plan that makes a core makes, with what is put into it, the core with what is stored of the
--- channel status word
-abbrev pub PlansCsw : Core → List Cell → List Cell → CswStore → Type 0
-PlansCsw m old new stores = (n : Core) → IsPlanOf m old n → IsPlanOf m new (core_with_csw stores n)

@@ -16,11 +16,9 @@ pub mod IoChanges
 pub mod Beside
 pub mod Change
 pub mod Rows
-pub mod AlteredRuns
 pub mod ChangeSpans
 pub mod Stretches
 pub mod Changes
 pub mod Differences
 pub mod Planned
 pub mod Packed
-pub mod Appending

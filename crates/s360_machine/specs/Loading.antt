@@ -1,5 +1,5 @@
 -- Initial program loading (GA22-6821, "System Control Panel", initial program loading).
-use Rattle.std.specs.Prelude.{ℕ, Bool, false, ◌&&◌, nat_eq, if◌then◌else◌, Option, Some, None}
+use Rattle.std.specs.Prelude.{ℕ, Bool, false, ◌-◌, ◌&&◌, nat_eq, nat_lt, if◌then◌else◌, Option, Some, None, drop, take}
 use Rattle.std.specs.Int.{bytes_high_first}
 use Rattle.s360_model.specs.Core.{Core, core_with_bytes, core_with_psw}
 use Rattle.s360_model.specs.Psw.{current_psw}
@@ -7,6 +7,7 @@ use Rattle.s360_model.specs.Storage.{doubleword_at}
 use Rattle.s360_channel.specs.declared.unit_control.UnitControl.{UnitControl}
 use Rattle.s360_channel.specs.declared.unit_state.UnitState.{UnitState}
 use Rattle.s360_channel.specs.declared.unit_state.UnitState.TheVariants.{Idle, Active, Waiting}
+use Rattle.s360_channel.specs.Execution.{Run}
 use Rattle.s360_channel.specs.Programs.{loading_program}
 use Rattle.s360_channel.specs.Words.{status_halfword}
 use Rattle.s360_channel.specs.declared.configured_unit.ConfiguredUnit.{ConfiguredUnit}
@@ -39,6 +40,15 @@ with_initial_psw m = core_with_psw (current_psw (doubleword_at m.storage.bytes 0
 -- the address of the unit is stored in bits 16 to 31 of the word at 0, and then the PSW is loaded
 unfoldable pub core_after_loading : ℕ → Core → Core
 core_after_loading address m = with_initial_psw (core_with_bytes 2 (bytes_high_first 2 address) m)
+
+-- of a run that is stored besides, what lies below the address of the unit, and what lies behind it
+abbrev pub with_below : Option Run → Core → Core
+with_below None m = m
+with_below (Some r) m = if nat_lt r.at 2 then core_with_bytes r.at (take (2 - r.at) r.bytes) m else m
+
+abbrev pub with_behind : Option Run → Core → Core
+with_behind None m = m
+with_behind (Some r) m = core_with_bytes (if nat_lt r.at 4 then 4 else r.at) (drop (4 - r.at) r.bytes) m
 
 -- loading has ended: besides, the unit is idle, and the machine operates
 abbrev pub after_load : ConfiguredUnit → Machine → Machine

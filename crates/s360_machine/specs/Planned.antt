@@ -1,17 +1,15 @@
--- What a plan and a change make of a machine.
-use Rattle.std.specs.Prelude.{◌≡◌, ◌++◌, ◌∷◌, [], Option, List}
+-- What puts and a change make of a machine.
+use Rattle.std.specs.Prelude.{◌≡◌, ◌++◌, ◌∷◌, [], IfSome, Option, List}
 use Rattle.s360_model.specs.Exchanges.{CanIfAny, after_if_any, back_if_any, need_if_any}
-use Rattle.s360_store.specs.declared.place.Cell.{Cell}
-use Rattle.s360_store.specs.Plans.{IsPlanOf}
 use Rattle.s360_machine.specs.declared.beside.Beside.{Beside}
 use Rattle.s360_machine.specs.ControlCells.{ControlCell, control_cells}
-use Rattle.s360_fixed.specs.declared.plain.Plain.{Plain}
-use Rattle.s360_fixed.specs.Plain.{IsFit, cells_of_plain}
-use Rattle.s360_machine.specs.Changes.{change_of_core}
-use Rattle.s360_machine.specs.declared.machine.PlannedEvent.{PlannedEvent}
+use Rattle.s360_model.specs.Core.{Core}
 use Rattle.s360_machine.specs.declared.media.MediaChange.{MediaChange}
-use Rattle.s360_channel.specs.declared.unit_change.UnitChange.{UnitChange}
 use Rattle.s360_channel.specs.UnitChanges.{IsUnitsChangeTo}
+use Rattle.s360_channel.specs.declared.configured_unit.ConfiguredUnit.{ConfiguredUnit}
+use Rattle.s360_channel.specs.Execution.{Run}
+use Rattle.s360_channel.specs.Steps.{LiesIn}
+use Rattle.s360_machine.specs.ChannelEvents.{after_channel, execution_at}
 use Rattle.s360_machine.specs.Differences.{control_differences, differences, media_differences}
 use Rattle.s360_machine.specs.Machine.{Machine, Media, Spare, Whole, WholeMedia, Control, seen, seen_media}
 use Rattle.s360_machine.specs.ControlCells.{HasEachControlOnce, control_after_exchange, places_of_control}
@@ -34,31 +32,28 @@ pub record IsMediaChangeTo (m : WholeMedia) (x : Option MediaChange) (n : Media)
   pub lists : places_of_media x ≡ media_differences (seen_media m) n
   pub back : need_if_any media_needs (back_if_any media_change_after_swap m x) ≡ 0
 
--- a plan makes the core of a machine out of that of a whole, and what was planned beside it the
--- other parts
-pub record IsPlanOfMachine (w : Whole) (plan : List Cell) (planned : PlannedEvent) (n : Machine) : Type 0 where
-  pub core : IsPlanOf w.core plan n.core
-  pub control : planned.control ≡ n.control
-  pub units : IsUnitsChangeTo w.units planned.units n.units
-  pub media : IsMediaChangeTo w.media planned.media n.media
+-- what stands beside the core makes the other parts of a machine out of those of a whole
+pub record MakesOthers (w : Whole) (b : Beside) (n : Machine) : Type 0 where
+  pub control : IsControlChangeTo w.control (control_cells b.control) n.control
+  pub units : IsUnitsChangeTo w.units b.units n.units
+  pub media : IsMediaChangeTo w.media b.media n.media
 
--- what was planned has this control part, and alters this of the units
-pub record PlansIo (planned : PlannedEvent) (c : Control) (us : Option UnitChange) (ms : Option MediaChange) : Type 0 where
-  pub control : planned.control ≡ c
-  pub units : planned.units ≡ us
-  pub media : planned.media ≡ ms
+-- it leaves them
+abbrev pub LeavesOthers : Whole → Beside → Type 0
+LeavesOthers w b = MakesOthers w b (seen w)
 
--- what a control part alters and what was planned of the units and of their devices stands beside the core
-pub record IsBesideOf (c : Control) (planned : PlannedEvent) (b : Beside) : Type 0 where
-  pub control : IsControlChangeTo c (control_cells b.control) planned.control
-  pub units : b.units ≡ planned.units
-  pub media : b.media ≡ planned.media
+-- puts make the core of a machine out of that of a whole, and may be made in it, and what stands beside makes the rest
+pub record PutsMachine (w : Whole) (made : Core → Core) (may : Core → Type 0) (b : Beside) (n : Machine) : Type 0 where
+  pub core : made w.core ≡ n.core
+  pub allowed : may w.core
+  pub others : MakesOthers w b n
 
--- what was planned has this control part, and leaves the units and their devices alone
-pub record LeavesUnits (w : Whole) (c : Control) (planned : PlannedEvent) : Type 0 where
-  pub control : planned.control ≡ c
-  pub units : IsUnitsChangeTo w.units planned.units w.units
-  pub media : IsMediaChangeTo w.media planned.media (seen_media w.media)
+-- a run that a channel event of a unit stores, and what stands beside the core, make the machine after what the unit
+-- executes
+pub record ExecutesAt (w : Whole) (u : ConfiguredUnit) (b : Beside) (run : Option Run) : Type 0 where
+  pub stores : run ≡ (execution_at u (seen w)).stores
+  pub inside : IfSome run (λ r. LiesIn w.core.storage r)
+  pub others : MakesOthers w b (after_channel u (seen w))
 
 -- the change makes a whole of which the machine is seen, lists the places at which the machines
 -- differ, and wants no room to be taken back
@@ -67,11 +62,6 @@ pub record IsChangeTo (w : Whole) (x : Change) (n : Machine) : Type 0 where
   pub makes : seen (after_swap w x) ≡ n
   pub lists : places_of_change x ≡ differences (seen w) n
   pub back : NeedsNoRoom (change_after_swap w x)
-
--- so does one of the PSW and little beside it
-pub record IsPlainChangeTo (w : Whole) (x : Plain) (n : Machine) : Type 0 where
-  pub fit : IsFit x
-  pub change : IsChangeTo w (change_of_core (cells_of_plain x)) n
 
 -- a list has one change more, which makes a machine of which the second is seen, and has room for it
 pub record AppendsChangeTo (w : Whole) (s : Spare) (xs ys : List Change) (n : Machine) : Type 0 where

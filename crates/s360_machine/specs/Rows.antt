@@ -5,11 +5,14 @@ use Rattle.s360_store.specs.declared.place.Cell.{Cell}
 use Rattle.s360_store.specs.declared.items.Item.{Item}
 use Rattle.s360_store.specs.Cells.{AllFit, byte_cells}
 use Rattle.s360_store.specs.Items.{AreItems, bytes_of_items, cells_of_items}
-use Rattle.s360_fixed.specs.declared.plain.Plain.{Plain}
-use Rattle.s360_fixed.specs.declared.plain.Plain.TheVariants.{Nothing as nothing, Psw as psw_alone, Register as with_register, Bytes as with_bytes}
-use Rattle.s360_fixed.specs.Plain.{psw_cell, register_cell}
+use Rattle.s360_store.specs.declared.place.Place.TheVariants.{Register as register_place}
+use Rattle.s360_store.specs.CoreChanges.{psw_cell}
 use Rattle.s360_machine.specs.declared.row.Row.{Row}
 use Rattle.s360_machine.specs.declared.row.Row.TheVariants.{Nothing, Psw, Register, Bytes, More}
+
+-- the cell of a general register
+abbrev pub register_cell : ℕ → ℕ → Cell
+register_cell r word = record { place = register_place r; value = word }
 
 -- how many single cells and runs, how many bytes, and how many changes beside the core stand apart
 abbrev pub items_of_row : Row → ℕ
@@ -38,19 +41,12 @@ pub record ArePartsOf (is : List Item) (bs : List ℕ) : Type 0 where
   pub whole : AreItems is
   pub all : bytes_of_items is ≡ length bs
   pub fit : AllFit true (cells_of_items is bs)
-  pub few : length (cells_of_items is bs) ≤ 1000000
+  pub few : length (cells_of_items is bs) ≤ 1000001
 
 -- all its parts but its bytes stand within it
 abbrev pub HasNoMore : Row → Type 0
 HasNoMore (More beside items bytes count) = ⊥
 HasNoMore r = Unit {0}
-
--- the row of a change of the PSW and little beside it
-abbrev pub row_of_plain : Plain → Row
-row_of_plain nothing = Nothing
-row_of_plain (psw_alone psw) = Psw psw
-row_of_plain (with_register r word psw) = Register r word psw
-row_of_plain (with_bytes address psw run) = Bytes (length run) address psw
 
 -- as much of two rows stands apart
 pub record HasSameCounts (r s : Row) : Type 0 where
@@ -63,3 +59,9 @@ abbrev pub IsOver : Row → List Item → List ℕ → Type 0
 IsOver (Bytes count address psw) is bs = (is ≡ []) × (length bs ≡ count) × (0 < count) × (address + count ≤ 2 ^ 32)
 IsOver (More beside items bytes count) is bs = (length is ≡ items) × (length bs ≡ bytes) × (length (cells_of_items is bs) ≡ count) × ArePartsOf is bs
 IsOver r is bs = (is ≡ []) × (bs ≡ [])
+
+-- a row that has all but its bytes within it has just these cells
+pub record IsRowOf (cells : List Cell) (row : Row) (bytes : List ℕ) : Type 0 where
+  pub within : HasNoMore row
+  pub over : IsOver row [] bytes
+  pub cells_are : cells_of_row row [] bytes ≡ cells

@@ -6,8 +6,9 @@ ghost use Rattle.s360_machine.specs.Beside.{IsNothing, places_of_beside};
 ghost use Rattle.s360_machine.specs.ControlCells.{control_after_exchange, control_cells, control_cells_after_exchange};
 ghost use Rattle.s360_machine.specs.IoChanges.{CanSwapMedia, media_after_swap};
 ghost use Rattle.s360_machine.specs.IoChanges.{media_change_after_swap, media_needs, unit_of_change};
-ghost use Rattle.s360_machine.specs.Machine.{room_for};
+ghost use Rattle.s360_machine.specs.Machine.{Whole, room_for};
 ghost use Rattle.s360_machine.specs.Media.{media_of, room_of};
+ghost use Rattle.s360_machine.specs.Planned.{LeavesOthers};
 
 use crate::control::Control;
 use crate::control_change::ControlChange;
@@ -61,7 +62,31 @@ fn push_states(places: &mut ArrayVec<Place, BESIDE>, units: &[ConfiguredUnit])
 }
 
 impl Beside {
+    /// Nothing is altered.
+    pub(crate) fn nothing() -> Beside
+        ensures nothing { IsNothing result }
+        ensures leaves { (w : Whole) → LeavesOthers w result }
+    {
+        Beside {
+            control: ControlChange::Neither,
+            units: None,
+            media: None,
+        }
+    }
+
+    /// Drops what is altered.
+    #[inline(always)]
+    pub(crate) fn clear(&mut self)
+        ensures { (w : Whole) → LeavesOthers w self.new }
+    {
+        if self.is_empty() {
+            return;
+        }
+        *self = Beside::nothing();
+    }
+
     /// Whether nothing is altered.
+    #[inline(always)]
     pub(crate) fn is_empty(&self) -> bool
         ensures { IsTrue result → IsNothing self.now }
     {

@@ -2,13 +2,9 @@
 ghost use Rattle.std.specs.Prelude.{◌≡◌, ◌++◌, map};
 ghost use Rattle.std.specs.Option.{option_copied};
 ghost use Rattle.s360_store.specs.Spans.{span_of_item};
-ghost use Rattle.s360_fixed.specs.Plain.{IsFit, cells_of_plain};
-ghost use Rattle.s360_machine.specs.Changes.{change_of_core};
-ghost use Rattle.s360_machine.specs.ChangeSpans.{AreSpansOf, spans_apart, spans_beside, spans_within};
+ghost use Rattle.s360_machine.specs.ChangeSpans.{spans_apart, spans_beside};
 
 use crate::beside::Beside;
-use crate::row::Row;
-use s360_fixed::Plain;
 use s360_store::{Item, Span};
 
 /// The places of a change that stands within its row.
@@ -22,17 +18,6 @@ pub enum SpansWithin {
     Register(u8),
     /// The PSW and so many bytes from an address on, at least one.
     Bytes { address: u32, count: u32 },
-}
-
-impl SpansWithin {
-    /// Those of a change of the PSW and little beside it.
-    #[inline(always)]
-    pub fn of(plain: &Plain) -> SpansWithin
-        requires { IsFit plain.now }
-        ensures { AreSpansOf (spans_within result) (change_of_core (cells_of_plain plain.now)) }
-    {
-        Row::of(plain).spans()
-    }
 }
 
 /// The places of a change as spans, in their order.

@@ -1,22 +1,24 @@
 //! One CPU event: an interruption, or one instruction with the interruption that it causes. Source:
 //! GA22-6821, "Interruptions", "Status Switching" and "System Structure", program execution.
-ghost use Rattle.std.specs.Prelude.{◌≡◌, [], IfErr, IfOk, IfSome, Some};
+ghost use Rattle.std.specs.Prelude.{◌≡◌, IfErr, IfOk, OnOk, Some};
 ghost use Rattle.s360_model.specs.Psw.{instruction_address_of};
 ghost use Rattle.s360_fixed.specs.ProgramCodes.{program_code};
-ghost use Rattle.s360_logic.specs.Instruction.{PlansInstruction, conditions_at, instruction};
+ghost use Rattle.s360_logic.specs.Instruction.{PutsInstruction, conditions_at, instruction};
 ghost use Rattle.s360_psw.specs.Pending.{next_interruption_of};
 ghost use Rattle.s360_machine.specs.Cpu.{after_case, after_cpu, after_external, after_instruction};
 ghost use Rattle.s360_machine.specs.Cpu.{cpu_case, pending_of};
 ghost use Rattle.s360_machine.specs.Machine.{seen};
-ghost use Rattle.s360_machine.specs.Planned.{IsChangeTo, IsPlainChangeTo, IsPlanOfMachine};
+ghost use Rattle.s360_machine.specs.Planned.{LeavesOthers, PutsMachine};
+ghost use Rattle.s360_store.specs.Puts.{HasNoPuts};
 ghost use Rattle.s360_machine.specs.declared.cpu.CpuCase.TheVariants.{Interrupted};
 
-use crate::changes::Changes;
-use crate::machine::{Machine, PlannedEvent};
-use s360_fixed::{Ended, Plain, ProgramCode};
+use crate::beside::Beside;
+use crate::interruption::put_interruption;
+use crate::machine::Machine;
+use s360_fixed::{Ended, ProgramCode};
 use s360_logic::{Fetched, PlannedInstruction};
 use s360_psw::{Class, InstructionLength, Pending, next_interruption};
-use s360_store::Plan;
+use s360_store::Puts;
 use std::alloc::AllocError;
 
 /// What a CPU event is: the first of these that holds.
@@ -79,140 +81,104 @@ impl Machine {
         ensures ok { IfOk result (λ f. f.view.core ≡ self.now.whole.core) }
         ensures err { IfErr result (λ code. program_code (conditions_at self.now.whole.core (instruction_address_of self.now.whole.core.psw)) ≡ Some code) }
     {
-        self.core.fetch()
+        s360_logic::fetch(&self.core)
     }
 
-    /// An empty plan. It takes no memory.
-    pub(crate) fn new_plan(&self) -> Plan
-        ensures { result ≡ [] }
-    {
-        Plan::new(self.alloc)
-    }
-
-    /// What a CPU event alters, if that is a frequent instruction that is completed with no interruption. None is also
-    /// where that is not the PSW and little beside it. It takes no memory.
+    /// Puts a CPU event.
     #[inline(always)]
-    pub fn altered(&self) -> Option<Plain>
-        ensures { IfSome result (λ x. IsPlainChangeTo self.now.whole x (after_cpu (seen self.now.whole))) }
+    pub(crate) fn put_cpu<P: Puts>(
+        &self,
+        puts: &mut P,
+        beside: &mut Beside,
+    ) -> Result<(), AllocError>
+        requires none { HasNoPuts self.now.whole.core (P.made puts.old) (P.may puts.old) (P.past puts.old) (P.count puts.old) }
+        requires leaves { LeavesOthers self.now.whole beside.old }
+        ensures { OnOk result (PutsMachine self.now.whole (P.made puts.new) (P.may puts.new) beside.new (after_cpu (seen self.now.whole))) }
     {
         match self.cpu_case() {
-            CpuCase::Executing => self.core.altered(),
-            CpuCase::Halted | CpuCase::Interrupted(_) | CpuCase::Waiting => None,
+            CpuCase::Executing => self.put_instruction(puts, beside),
+            CpuCase::Interrupted(class) => self.put_pending(class, puts, beside),
+            CpuCase::Halted | CpuCase::Waiting => Ok(()),
         }
     }
 
-    /// What a CPU event alters.
-    #[inline(always)]
-    pub(crate) fn changes_of_cpu(&self) -> Result<Changes, AllocError>
-        ensures { IfOk result (λ changes. IsChangeTo self.now.whole changes (after_cpu (seen self.now.whole))) }
-    {
-        match self.cpu_case() {
-            CpuCase::Executing => self.changes_of_instruction(),
-            // Put together anew, as below.
-            CpuCase::Interrupted(class) => Ok(self.changes_of_interruption(class)?),
-            CpuCase::Halted | CpuCase::Waiting => Ok(Changes::of_core(Plain::Nothing)),
-        }
-    }
-
-    /// What an interruption alters.
+    /// Puts a pending interruption. No other class waits for its mask.
     #[inline(never)]
-    fn changes_of_interruption(&self, class: Class) -> Result<Changes, AllocError>
-        ensures { IfOk result (λ changes. IsChangeTo self.now.whole changes (after_case (Interrupted class) (seen self.now.whole))) }
-    {
-        let mut plan = Plan::new(self.alloc);
-        let planned = self.plan_interruption(class, &mut plan)?;
-        self.changes_planned(&plan, planned)
-    }
-
-    /// Plans an interruption. No other class waits for its mask.
-    fn plan_interruption(&self, class: Class, plan: &mut Plan) -> Result<PlannedEvent, AllocError>
-        requires empty { plan.old ≡ [] }
-        ensures { IfOk result (λ planned. IsPlanOfMachine self.now.whole plan.new planned (after_case (Interrupted class) (seen self.now.whole))) }
+    fn put_pending<P: Puts>(
+        &self,
+        class: Class,
+        puts: &mut P,
+        beside: &mut Beside,
+    ) -> Result<(), AllocError>
+        requires none { HasNoPuts self.now.whole.core (P.made puts.old) (P.may puts.old) (P.past puts.old) (P.count puts.old) }
+        requires leaves { LeavesOthers self.now.whole beside.old }
+        ensures { OnOk result (PutsMachine self.now.whole (P.made puts.new) (P.may puts.new) beside.new (after_case (Interrupted class) (seen self.now.whole))) }
     {
         match class {
-            Class::External => self.plan_external(plan),
-            Class::InputOutput => self.plan_input_output(plan),
-            Class::Supervisor | Class::Program | Class::MachineCheck => {
-                Ok(self.planned(self.control))
-            }
+            Class::External => self.put_external(puts, beside),
+            Class::InputOutput => self.put_input_output(puts, beside),
+            Class::Supervisor | Class::Program | Class::MachineCheck => Ok(()),
         }
     }
 
-    /// Plans an external interruption, in which all pending conditions go.
-    fn plan_external(&self, plan: &mut Plan) -> Result<PlannedEvent, AllocError>
-        requires empty { plan.old ≡ [] }
-        ensures { IfOk result (λ planned. IsPlanOfMachine self.now.whole plan.new planned (after_external (seen self.now.whole))) }
+    /// Puts an external interruption, in which all pending conditions go.
+    fn put_external<P: Puts>(&self, puts: &mut P, beside: &mut Beside) -> Result<(), AllocError>
+        requires none { HasNoPuts self.now.whole.core (P.made puts.old) (P.may puts.old) (P.past puts.old) (P.count puts.old) }
+        requires leaves { LeavesOthers self.now.whole beside.old }
+        ensures { OnOk result (PutsMachine self.now.whole (P.made puts.new) (P.may puts.new) beside.new (after_external (seen self.now.whole))) }
     {
         let code = self.control.external().code();
-        let length = InstructionLength::NotAvailable;
-        self.core
-            .plan_interruption(Class::External, self.core.psw(), code, length, plan)?;
-        Ok(self.planned(self.control.without_external()))
+        let (core, length) = (&self.core, InstructionLength::NotAvailable);
+        put_interruption(core, Class::External, core.psw(), code, length, puts)?;
+        beside.control = self.control.changes_to(&self.control.without_external());
+        Ok(())
     }
 
-    /// What an instruction alters, with the program or the supervisor call interruption that it causes.
-    fn changes_of_instruction(&self) -> Result<Changes, AllocError>
-        ensures { IfOk result (λ changes. IsChangeTo self.now.whole changes (after_instruction (seen self.now.whole))) }
+    /// Puts an instruction, with the program or the supervisor call interruption that it causes.
+    #[inline(always)]
+    fn put_instruction<P: Puts>(&self, puts: &mut P, beside: &mut Beside) -> Result<(), AllocError>
+        requires none { HasNoPuts self.now.whole.core (P.made puts.old) (P.may puts.old) (P.past puts.old) (P.count puts.old) }
+        requires leaves { LeavesOthers self.now.whole beside.old }
+        ensures { OnOk result (PutsMachine self.now.whole (P.made puts.new) (P.may puts.new) beside.new (after_instruction (seen self.now.whole))) }
     {
-        let fetched = self.core.fetch();
-        if let Some(plain) = self.altered_by(&fetched) {
-            return Ok(Changes::of_core(plain));
+        let planned = s360_logic::put_instruction(&self.core, puts)?;
+        match planned.ended {
+            Ended::Done => Ok(()),
+            _ => self.put_ended(planned, puts, beside),
         }
-        let mut plan = Plan::new(self.alloc);
-        let planned = self.plan_fetched(&fetched, &mut plan)?;
-        self.changes_planned(&plan, planned)
     }
 
-    /// The plan of an instruction, if it was fetched or not, and of the program or the supervisor call interruption that it
+    /// Puts the end of an instruction that was put, with the program or the supervisor call interruption that it
     /// causes.
-    pub(crate) fn plan_fetched(
-        &self,
-        fetched: &Result<Fetched<'_>, ProgramCode>,
-        plan: &mut Plan,
-    ) -> Result<PlannedEvent, AllocError>
-        requires fetched { IfOk fetched.now (λ f. f.view.core ≡ self.now.whole.core) }
-        requires empty { plan.old ≡ [] }
-        ensures { IfOk result (λ planned. IsPlanOfMachine self.now.whole plan.new planned (after_instruction (seen self.now.whole))) }
-    {
-        let planned = self.core.plan_fetched(fetched, plan)?;
-        self.plan_ended(planned, plan)
-    }
-
-    /// What an instruction alters, where it is completed with no interruption and its change has that within itself.
-    pub(crate) fn altered_by(&self, fetched: &Result<Fetched<'_>, ProgramCode>) -> Option<Plain>
-        requires fetched { IfOk fetched.now (λ f. f.view.core ≡ self.now.whole.core) }
-        ensures { IfSome result (λ x. IsPlainChangeTo self.now.whole x (after_instruction (seen self.now.whole))) }
-    {
-        let Ok(fetched) = fetched else {
-            return None;
-        };
-        fetched.altered()
-    }
-
-    /// Plans the end of an instruction that was planned, with the program or the supervisor call interruption that it
-    /// causes.
-    fn plan_ended(
+    #[inline(never)]
+    fn put_ended<P: Puts>(
         &self,
         planned: PlannedInstruction,
-        plan: &mut Plan,
-    ) -> Result<PlannedEvent, AllocError>
-        requires planned { PlansInstruction self.now.whole.core plan.old (instruction self.now.whole.core) planned }
-        ensures { IfOk result (λ planned. IsPlanOfMachine self.now.whole plan.new planned (after_instruction (seen self.now.whole))) }
+        puts: &mut P,
+        beside: &mut Beside,
+    ) -> Result<(), AllocError>
+        requires planned { PutsInstruction self.now.whole.core (P.made puts.old) (P.may puts.old) (P.past puts.old) (P.count puts.old) (instruction self.now.whole.core) planned }
+        requires leaves { LeavesOthers self.now.whole beside.old }
+        ensures { OnOk result (PutsMachine self.now.whole (P.made puts.new) (P.may puts.new) beside.new (after_instruction (seen self.now.whole))) }
     {
         let (class, code) = match planned.ended {
-            Ended::Done => return Ok(self.planned(self.control)),
+            Ended::Done => return Ok(()),
             Ended::Program(code) => (Class::Program, code.number()),
             Ended::Svc(code) => (Class::Supervisor, u16::from(code)),
             Ended::Io(operation, unit) => {
-                // The instruction itself has put nothing.
-                *plan = Plan::new(self.alloc);
-                return self.plan_io(operation, unit, planned.next_address, plan);
+                return self.put_io(operation, unit, planned.next_address, puts, beside);
             }
         };
-        let psw = self.core.planned_psw(plan);
-        let psw = psw.with_instruction_address(planned.next_address);
-        self.core
-            .plan_interruption(class, psw, code, planned.instruction_length, plan)?;
-        Ok(self.planned(self.control))
+        let psw = puts
+            .psw(&self.core)
+            .with_instruction_address(planned.next_address);
+        put_interruption(
+            &self.core,
+            class,
+            psw,
+            code,
+            planned.instruction_length,
+            puts,
+        )
     }
 }

@@ -1,18 +1,16 @@
 //! The events of the machine, each of which is taken back as one change.
-ghost use Rattle.std.specs.Prelude.{◌≡◌, ◌<◌, ◌/◌, [], None, OnOk, length};
-ghost use Rattle.s360_model.specs.Core.{core_with_fetch_bit, core_with_psw, core_with_storage_key, core_with_word};
-ghost use Rattle.s360_model.specs.Psw.{current_psw};
+ghost use Rattle.std.specs.Prelude.{◌≡◌, ◌<◌, ◌/◌, None, OnOk, length};
+ghost use Rattle.s360_model.specs.Core.{core_with_fetch_bit, core_with_storage_key};
 ghost use Rattle.s360_model.specs.Storage.{block_size};
-ghost use Rattle.s360_store.specs.Plans.{IsPlanOf};
+ghost use Rattle.s360_store.specs.Puts.{HasNoPuts};
 ghost use Rattle.s360_machine.specs.Machine.{seen, storage_size};
 ghost use Rattle.s360_machine.specs.Refusals.{refusal_of_patch};
 ghost use Rattle.s360_machine.specs.Step.{after_patch};
 
-use crate::core_state::Core;
 use crate::machine::Machine;
 use crate::operator::Key;
 use s360_psw::Psw;
-use s360_store::{BLOCK_SIZE, BlockKey, Bytes, Plan};
+use s360_store::{BLOCK_SIZE, BlockKey, Bytes, Core, Puts};
 use s360_word::{ProtectionKey, RegisterNumber, Unit, Word};
 use std::alloc::AllocError;
 
@@ -60,75 +58,58 @@ pub enum Event {
     Patch(Patch),
 }
 
-impl Core {
-    /// Plans the PSW that a doubleword loads.
-    fn plan_psw(&self, doubleword: u64, plan: &mut Plan) -> Result<(), AllocError>
-        requires empty { plan.old ≡ [] }
-        ensures { OnOk result (IsPlanOf self.now plan.new (core_with_psw (current_psw doubleword) self.now)) }
-    {
-        plan.put_psw(Psw::from_u64(doubleword))?;
-        Ok(())
-    }
+/// Puts a storage key of the block that an address lies in.
+fn put_storage_key<P: Puts>(
+    core: &Core,
+    at: u32,
+    key: ProtectionKey,
+    puts: &mut P,
+) -> Result<(), AllocError>
+    requires none { HasNoPuts core.now (P.made puts.old) (P.may puts.old) (P.past puts.old) (P.count puts.old) }
+    requires inside { at < length core.now.storage.bytes }
+    ensures made { OnOk result (P.made puts.new core.now ≡ core_with_storage_key (at / block_size) key core.now) }
+    ensures may { OnOk result (P.may puts.new core.now) }
+{
+    // So each byte of storage is in a block.
+    prove!(core.storage().size() % BLOCK_SIZE == 0);
+    let block = at / BLOCK_SIZE;
+    puts.put_key(core, block, core.storage().with_key(block, key))?;
+    Ok(())
+}
 
-    /// Plans a word for a general register.
-    fn plan_register(
-        &self,
-        register: RegisterNumber,
-        word: Word,
-        plan: &mut Plan,
-    ) -> Result<(), AllocError>
-        requires empty { plan.old ≡ [] }
-        ensures { OnOk result (IsPlanOf self.now plan.new (core_with_word register word self.now)) }
-    {
-        // Looked at, since its clauses have that there are sixteen registers.
-        let _ = self.register(register);
-        plan.put_register(register, word)?;
-        Ok(())
+/// Puts a fetch bit of the block that an address lies in, if fetches are protected.
+fn put_fetch_bit<P: Puts>(core: &Core, at: u32, on: bool, puts: &mut P) -> Result<(), AllocError>
+    requires none { HasNoPuts core.now (P.made puts.old) (P.may puts.old) (P.past puts.old) (P.count puts.old) }
+    requires inside { at < length core.now.storage.bytes }
+    ensures made { OnOk result (P.made puts.new core.now ≡ core_with_fetch_bit (at / block_size) on core.now) }
+    ensures may { OnOk result (P.may puts.new core.now) }
+{
+    if !core.storage().fetch_protection() {
+        return Ok(());
     }
-
-    /// Plans a storage key of the block that an address lies in.
-    fn plan_key(&self, at: u32, key: ProtectionKey, plan: &mut Plan) -> Result<(), AllocError>
-        requires empty { plan.old ≡ [] }
-        requires inside { at < length self.now.storage.bytes }
-        ensures { OnOk result (IsPlanOf self.now plan.new (core_with_storage_key (at / block_size) key self.now)) }
-    {
-        // So each byte of storage is in a block.
-        prove!(self.storage().size() % BLOCK_SIZE == 0);
-        let block = at / BLOCK_SIZE;
-        plan.put_key(block, self.storage().with_key(block, key))?;
-        Ok(())
-    }
-
-    /// Plans a fetch bit of the block that an address lies in, if fetches are protected.
-    fn plan_fetch_bit(&self, at: u32, on: bool, plan: &mut Plan) -> Result<(), AllocError>
-        requires empty { plan.old ≡ [] }
-        requires inside { at < length self.now.storage.bytes }
-        ensures { OnOk result (IsPlanOf self.now plan.new (core_with_fetch_bit (at / block_size) on self.now)) }
-    {
-        if !self.storage().fetch_protection() {
-            return Ok(());
-        }
-        // So each byte of storage is in a block.
-        prove!(self.storage().size() % BLOCK_SIZE == 0);
-        let block = at / BLOCK_SIZE;
-        plan.put_key(block, BlockKey::new(self.storage().key(block), on))?;
-        Ok(())
-    }
+    // So each byte of storage is in a block.
+    prove!(core.storage().size() % BLOCK_SIZE == 0);
+    let block = at / BLOCK_SIZE;
+    puts.put_key(core, block, BlockKey::new(core.storage().key(block), on))?;
+    Ok(())
 }
 
 impl Machine {
-    /// Plans a patch.
-    pub(crate) fn plan_patch(&self, patch: &Patch, plan: &mut Plan) -> Result<(), AllocError>
-        requires empty { plan.old ≡ [] }
+    /// Puts a patch, which leaves all beside the core.
+    #[inline(never)]
+    pub(crate) fn put_patch<P: Puts>(&self, patch: &Patch, puts: &mut P) -> Result<(), AllocError>
+        requires none { HasNoPuts self.now.whole.core (P.made puts.old) (P.may puts.old) (P.past puts.old) (P.count puts.old) }
         requires accepted { refusal_of_patch (storage_size (seen self.now.whole)) patch.now ≡ None }
-        ensures { OnOk result (IsPlanOf self.now.whole.core plan.new (after_patch (seen self.now.whole) patch.now).core) }
+        ensures made { OnOk result (P.made puts.new self.now.whole.core ≡ (after_patch (seen self.now.whole) patch.now).core) }
+        ensures may { OnOk result (P.may puts.new self.now.whole.core) }
     {
+        let core = &self.core;
         match patch {
-            Patch::Bytes { at, bytes } => self.core.plan_bytes(*at, bytes.as_slice(), plan),
-            Patch::Register(register, word) => self.core.plan_register(*register, *word, plan),
-            Patch::StorageKey { at, key } => self.core.plan_key(*at, *key, plan),
-            Patch::FetchBit { at, on } => self.core.plan_fetch_bit(*at, *on, plan),
-            Patch::Psw(doubleword) => self.core.plan_psw(*doubleword, plan),
+            Patch::Bytes { at, bytes } => puts.put_bytes(core, *at, bytes.as_slice()),
+            Patch::Register(register, word) => puts.put_register(core, *register, *word),
+            Patch::StorageKey { at, key } => put_storage_key(core, *at, *key, puts),
+            Patch::FetchBit { at, on } => put_fetch_bit(core, *at, *on, puts),
+            Patch::Psw(doubleword) => puts.put_psw(core, Psw::from_u64(*doubleword)),
         }
     }
 }

@@ -1,25 +1,29 @@
 //! What the CPU does with the channels: the input/output instructions, and the input/output
 //! interruption. Source: GA22-6821, "Input/Output Operations".
-ghost use Rattle.std.specs.Prelude.{◌≡◌, ◌≤◌, ◌+◌, [], IfOk, OnOk, length};
-ghost use Rattle.s360_store.specs.Plans.{IsPlanOf};
+ghost use Rattle.std.specs.Prelude.{ℕ, ◌≡◌, ◌≤◌, OnOk};
+ghost use Rattle.s360_store.specs.Puts.{HasNoPuts};
+ghost use Rattle.s360_store.specs.declared.place.Place.TheVariants.{Byte};
+ghost use Rattle.s360_psw.specs.declared.class.Class.TheVariants.{InputOutput};
+ghost use Rattle.s360_psw.specs.declared.instruction_length.InstructionLength.TheVariants.{NotAvailable};
+ghost use Rattle.s360_channel.specs.declared.io_instructions.CswStore.TheVariants.{Csw as WholeCsw};
 ghost use Rattle.s360_channel.specs.ConfiguredUnits.{interrupting_unit};
 ghost use Rattle.s360_channel.specs.IoInstructions.{units_after_io};
 ghost use Rattle.s360_channel.specs.UnitChanges.{IsUnitsChangeTo};
 ghost use Rattle.s360_machine.specs.InputOutput.{after_input_output, after_io, after_taking};
-ghost use Rattle.s360_machine.specs.InputOutput.{core_after_io, io_result};
+ghost use Rattle.s360_machine.specs.InputOutput.{core_after_io, core_with_csw, io_result};
+ghost use Rattle.s360_machine.specs.Interruptions.{after_interruption};
 ghost use Rattle.s360_machine.specs.Machine.{seen};
-ghost use Rattle.s360_machine.specs.Planned.{IsPlanOfMachine};
-ghost use Rattle.s360_machine.specs.InputOutput.{PlansCsw};
+ghost use Rattle.s360_machine.specs.Planned.{LeavesOthers, PutsMachine};
 
-use crate::core_state::Core;
-use crate::machine::{Machine, PlannedEvent};
+use crate::beside::Beside;
+use crate::machine::Machine;
 use s360_channel::{
-    Condition, ConfiguredUnit, CswStore, IoResult, UnitAfter, UnitChange, halt, start,
+    Condition, ConfiguredUnit, Csw, CswStore, IoResult, UnitAfter, UnitChange, halt, start,
     status_halfword, test, test_channel,
 };
 use s360_fixed::IoOperation;
-use s360_psw::{Class, InstructionLength};
-use s360_store::{LEAST_SIZE, Plan};
+use s360_psw::{Class, InstructionLength, Psw};
+use s360_store::{Core, LEAST_SIZE, Puts};
 use s360_word::Unit;
 use std::alloc::AllocError;
 
@@ -29,34 +33,57 @@ const CSW: u32 = 64;
 /// The address of its bits 32 to 47.
 const STATUS: u32 = 68;
 
-impl Core {
-    /// Plans what is stored of the channel status word.
-    fn plan_csw(&self, stores: &CswStore, plan: &mut Plan) -> Result<(), AllocError>
-        requires few { length plan.old ≤ 1 }
-        ensures plans { OnOk result (PlansCsw self.now plan.old plan.new stores.now) }
-        ensures few { OnOk result (length plan.new ≤ length plan.old + 8) }
-    {
-        // So the permanent locations are inside storage.
-        prove!(self.storage().size() >= LEAST_SIZE);
-        match stores {
-            CswStore::Nothing => Ok(()),
-            CswStore::Status(unit, channel) => {
-                plan.put_bytes(STATUS, &status_halfword(unit, channel).to_be_bytes())
-            }
-            CswStore::Csw(csw) => plan.put_bytes(CSW, &csw.to_u64().to_be_bytes()),
+/// Puts what is stored of the channel status word.
+fn put_csw<P: Puts>(core: &Core, stores: &CswStore, puts: &mut P) -> Result<(), AllocError>
+    requires may { P.may puts.old core.now }
+    requires few { P.count puts.old ≤ 259 }
+    requires past { (a : ℕ) → P.past puts.old (Byte a) }
+    ensures made { OnOk result (P.made puts.new core.now ≡ core_with_csw stores.now (P.made puts.old core.now)) }
+    ensures may { OnOk result (P.may puts.new core.now) }
+{
+    // So the permanent locations are inside storage.
+    prove!(core.storage().size() >= LEAST_SIZE);
+    match stores {
+        CswStore::Nothing => Ok(()),
+        CswStore::Status(unit, channel) => {
+            puts.put_bytes(core, STATUS, &status_halfword(unit, channel).to_be_bytes())
         }
+        CswStore::Csw(csw) => puts.put_bytes(core, CSW, &csw.to_u64().to_be_bytes()),
     }
+}
 
-    /// Plans the PSW after an input/output instruction, and what it stores.
-    fn plan_io(&self, done: &IoResult, next_address: u32, plan: &mut Plan) -> Result<(), AllocError>
-        requires empty { plan.old ≡ [] }
-        ensures { OnOk result (IsPlanOf self.now plan.new (core_after_io done.now next_address self.now)) }
-    {
-        let psw = self.psw().with_instruction_address(next_address);
-        plan.put_psw(psw.with_condition_code(done.condition))?;
-        self.plan_csw(&done.stores, plan)?;
-        Ok(())
-    }
+/// Puts the PSW after an input/output instruction, and what it stores.
+fn put_io_result<P: Puts>(
+    core: &Core,
+    done: &IoResult,
+    next_address: u32,
+    puts: &mut P,
+) -> Result<(), AllocError>
+    requires none { HasNoPuts core.now (P.made puts.old) (P.may puts.old) (P.past puts.old) (P.count puts.old) }
+    ensures made { OnOk result (P.made puts.new core.now ≡ core_after_io done.now next_address core.now) }
+    ensures may { OnOk result (P.may puts.new core.now) }
+{
+    let psw = core.psw().with_instruction_address(next_address);
+    puts.put_psw(core, psw.with_condition_code(done.condition))?;
+    put_csw(core, &done.stores, puts)
+}
+
+/// Puts the interruption of a unit at an address whose condition is taken. The old PSW and the channel status word are
+/// put in the order of their addresses, next to each other.
+fn put_taken<P: Puts>(core: &Core, address: u16, csw: Csw, puts: &mut P) -> Result<(), AllocError>
+    requires none { HasNoPuts core.now (P.made puts.old) (P.may puts.old) (P.past puts.old) (P.count puts.old) }
+    ensures made { OnOk result (P.made puts.new core.now ≡ after_interruption InputOutput address NotAvailable (core_with_csw (WholeCsw csw) core.now)) }
+    ensures may { OnOk result (P.may puts.new core.now) }
+{
+    // So the permanent locations are inside storage.
+    prove!(core.storage().size() >= LEAST_SIZE);
+    let class = Class::InputOutput;
+    let next = Psw::from_u64(core.storage().double(class.new_location()));
+    let stored = core.psw().stored(address, InstructionLength::NotAvailable);
+    puts.put_psw(core, next)?;
+    puts.put_bytes(core, class.old_location(), &stored.to_be_bytes())?;
+    puts.put_bytes(core, CSW, &csw.to_u64().to_be_bytes())?;
+    Ok(())
 }
 
 impl Machine {
@@ -87,61 +114,60 @@ impl Machine {
         self.units.change_of(unit, control)
     }
 
-    /// Plans an input/output instruction.
-    pub(crate) fn plan_io(
+    /// Puts an input/output instruction.
+    pub(crate) fn put_io<P: Puts>(
         &self,
         operation: IoOperation,
         unit: Unit,
         next_address: u32,
-        plan: &mut Plan,
-    ) -> Result<PlannedEvent, AllocError>
-        requires empty { plan.old ≡ [] }
-        ensures { IfOk result (λ planned. IsPlanOfMachine self.now.whole plan.new planned (after_io operation unit next_address (seen self.now.whole))) }
+        puts: &mut P,
+        beside: &mut Beside,
+    ) -> Result<(), AllocError>
+        requires none { HasNoPuts self.now.whole.core (P.made puts.old) (P.may puts.old) (P.past puts.old) (P.count puts.old) }
+        requires leaves { LeavesOthers self.now.whole beside.old }
+        ensures { OnOk result (PutsMachine self.now.whole (P.made puts.new) (P.may puts.new) beside.new (after_io operation unit next_address (seen self.now.whole))) }
     {
         let done = self.io_result(operation, unit);
-        self.core.plan_io(&done, next_address, plan)?;
-        Ok(PlannedEvent {
-            control: self.control,
-            units: self.change_after_io(done.unit),
-            media: None,
-        })
+        put_io_result(&self.core, &done, next_address, puts)?;
+        beside.units = self.change_after_io(done.unit);
+        Ok(())
     }
 
-    /// Plans an input/output interruption: the condition of the lowest unit whose channel the PSW
+    /// Puts an input/output interruption: the condition of the lowest unit whose channel the PSW
     /// lets interrupt is taken.
-    pub(crate) fn plan_input_output(&self, plan: &mut Plan) -> Result<PlannedEvent, AllocError>
-        requires empty { plan.old ≡ [] }
-        ensures { IfOk result (λ planned. IsPlanOfMachine self.now.whole plan.new planned (after_input_output (seen self.now.whole))) }
+    pub(crate) fn put_input_output<P: Puts>(
+        &self,
+        puts: &mut P,
+        beside: &mut Beside,
+    ) -> Result<(), AllocError>
+        requires none { HasNoPuts self.now.whole.core (P.made puts.old) (P.may puts.old) (P.past puts.old) (P.count puts.old) }
+        requires leaves { LeavesOthers self.now.whole beside.old }
+        ensures { OnOk result (PutsMachine self.now.whole (P.made puts.new) (P.may puts.new) beside.new (after_input_output (seen self.now.whole))) }
     {
         let Some(unit) = self.interrupting_unit() else {
-            return Ok(self.planned(self.control));
+            return Ok(());
         };
         match self.units.control(unit).condition() {
-            Some(condition) => self.plan_taking(unit, condition, plan),
-            None => Ok(self.planned(self.control)),
+            Some(condition) => self.put_taking(unit, condition, puts, beside),
+            None => Ok(()),
         }
     }
 
-    /// Plans the interruption in which a unit's condition is taken.
-    fn plan_taking(
+    /// Puts the interruption in which a unit's condition is taken.
+    fn put_taking<P: Puts>(
         &self,
         unit: ConfiguredUnit,
         condition: Condition,
-        plan: &mut Plan,
-    ) -> Result<PlannedEvent, AllocError>
-        requires empty { plan.old ≡ [] }
-        ensures { IfOk result (λ planned. IsPlanOfMachine self.now.whole plan.new planned (after_taking unit condition (seen self.now.whole))) }
+        puts: &mut P,
+        beside: &mut Beside,
+    ) -> Result<(), AllocError>
+        requires none { HasNoPuts self.now.whole.core (P.made puts.old) (P.may puts.old) (P.past puts.old) (P.count puts.old) }
+        requires leaves { LeavesOthers self.now.whole beside.old }
+        ensures { OnOk result (PutsMachine self.now.whole (P.made puts.new) (P.may puts.new) beside.new (after_taking unit condition (seen self.now.whole))) }
     {
         let Condition { csw, unit: next } = condition;
-        self.core.plan_csw(&CswStore::Csw(csw), plan)?;
-        let code = unit.unit().address();
-        let length = InstructionLength::NotAvailable;
-        self.core
-            .plan_interruption(Class::InputOutput, self.core.psw(), code, length, plan)?;
-        Ok(PlannedEvent {
-            control: self.control,
-            units: self.units.change_of(unit, next),
-            media: None,
-        })
+        put_taken(&self.core, unit.unit().address(), csw, puts)?;
+        beside.units = self.units.change_of(unit, next);
+        Ok(())
     }
 }

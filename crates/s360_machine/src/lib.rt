@@ -1,11 +1,10 @@
-//! The machine and its events: what an event alters is planned first, room is made for it, and then
+//! The machine and its events: what an event alters is put together first, room is made for it, and then
 //! it is exchanged with the machine, which the same exchange takes back.
 //!
 //! Source: GA22-6821, "System Structure", "Interruptions", "Status Switching", "Input/Output
 //! Operations" and "System Control Panel".
 #![tactic(auto)]
 
-mod altered_run;
 mod appending;
 mod beside;
 mod change_spans;
@@ -13,7 +12,6 @@ mod changes;
 mod channel_event;
 mod control;
 mod control_change;
-mod core_state;
 mod cpu;
 mod event;
 mod event_kind;

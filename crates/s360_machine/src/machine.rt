@@ -7,34 +7,31 @@ ghost use Rattle.s360_model.specs.Storage.{is_storage_size};
 ghost use Rattle.s360_store.specs.declared.fault.StoreFault.TheVariants.{Size, Memory as no_memory};
 ghost use Rattle.s360_machine.specs.Machine.{Machine as SeenMachine, machine_with, new_machine, room_for, seen};
 ghost use Rattle.s360_store.specs.Cells.{AllFit};
-ghost use Rattle.s360_fixed.specs.Plain.{IsFit, cells_of_plain};
 ghost use Rattle.s360_machine.specs.Change.{CanSwap, after_swap, change_after_swap};
 ghost use Rattle.s360_machine.specs.Change.{HasRoom, NeedsNoRoom, NeedsRoom};
-ghost use Rattle.s360_machine.specs.Changes.{AreFit, change_of, change_of_core, change_of_parts};
+ghost use Rattle.s360_machine.specs.Changes.{change_of, change_of_core};
 ghost use Rattle.s360_machine.specs.IoChanges.{CanSwapMedia, media_needs, unit_of_change};
-ghost use Rattle.s360_machine.specs.Packed.{IsSwapOf, change_of_row, lists};
+ghost use Rattle.s360_machine.specs.Packed.{change_of_row, lists};
 ghost use Rattle.s360_machine.specs.Rows.{HasSameCounts, IsOver, cells_of_row};
 ghost use Rattle.s360_model.specs.Exchanges.{CanIfAny};
 ghost use Rattle.s360_device.specs.DeviceChanges.{bare};
 ghost use Rattle.s360_tape.specs.WholeTape.{seen as seen_tape};
 ghost use Rattle.s360_machine.specs.Media.{tape_of};
 ghost use Rattle.s360_channel.specs.ConfiguredUnits.{attention_at, state_at, unit_at};
-ghost use Rattle.s360_machine.specs.Planned.{IsBesideOf, IsChangeTo};
+ghost use Rattle.s360_machine.specs.Planned.{IsChangeTo};
 
 use crate::beside::{Beside, exchange_beside};
-use crate::changes::{Changes, Parts};
+use crate::changes::Changes;
 use crate::control::Control;
-use crate::core_state::Core;
 use crate::external::ExternalConditions;
 use crate::media::{Devices, MediaChange};
 use crate::row::Row;
 use crate::run_state::RunState;
 use s360_channel::{ConfiguredUnit, UnitChange, UnitState, Units};
 use s360_device::{Deck, Punch, Reader};
-use s360_fixed::Plain;
 use s360_print::{Console, ConsoleMedia, Printer, PrinterMedia};
 use s360_psw::Psw;
-use s360_store::{Item, Storage, StoreFault};
+use s360_store::{Core, Item, Storage, StoreFault};
 use s360_tape::Tape;
 use s360_word::{RegisterNumber, Unit, Word};
 use std::alloc::{AllocError, Global};
@@ -59,45 +56,6 @@ impl Drop for Machine {
             devices: _,
             alloc: _,
         } = self;
-    }
-}
-
-/// What an event makes of the machine beside the core.
-pub(crate) struct PlannedEvent {
-    /// The control part after it.
-    pub(crate) control: Control,
-    /// What becomes of the units.
-    pub(crate) units: Option<UnitChange>,
-    /// What becomes of a device.
-    pub(crate) media: Option<MediaChange>,
-}
-
-impl Drop for PlannedEvent {
-    fn drop(self) {
-        let PlannedEvent {
-            control: _,
-            units: _,
-            media: _,
-        } = self;
-    }
-}
-
-impl PlannedEvent {
-    /// What it alters beside the core, where the control part stands so.
-    pub(crate) fn into_beside(self, control: &Control) -> Beside
-        ensures { IsBesideOf control.now self result }
-    {
-        let altered = control.changes_to(&self.control);
-        let PlannedEvent {
-            control: _,
-            units,
-            media,
-        } = self;
-        Beside {
-            control: altered,
-            units,
-            media,
-        }
     }
 }
 
@@ -296,7 +254,7 @@ impl Machine {
     }
 
     /// Exchanges the values at the change's places with its own. It takes no memory, and done
-    /// again it restores the whole and the change. A planned change that was made wants no room to
+    /// again it restores the whole and the change. The change of an event, once made, wants no room to
     /// be taken back.
     pub fn swap_all(&mut self, changes: &mut Changes)
         requires can { CanSwap self.old.whole changes.old }
@@ -308,26 +266,8 @@ impl Machine {
         ensures restores_machine { after_swap self.new.whole changes.new ≡ self.old.whole }
         ensures restores_changes { change_after_swap self.new.whole changes.new ≡ changes.old }
     {
-        self.exchange_parts(&mut changes.parts);
-    }
-
-    /// Exchanges the values at the places of a change with its own.
-    fn exchange_parts(&mut self, parts: &mut Parts)
-        requires parts { AreFit parts.old }
-        requires can { CanSwap self.old.whole (change_of_parts parts.old) }
-        requires room { HasRoom self.old.spare (change_of_parts parts.old) }
-        ensures machine { self.new.whole ≡ after_swap self.old.whole (change_of_parts parts.old) }
-        ensures change { change_of_parts parts.new ≡ change_after_swap self.old.whole (change_of_parts parts.old) }
-        ensures fit { AllFit self.new.whole.core.storage.fetch_protection (change_of_parts parts.new).cells }
-        ensures parts { AreFit parts.new }
-    {
-        match parts {
-            Parts::Plain(plain) => self.core.exchange_plain(plain),
-            Parts::Full(full) => {
-                self.core.exchange_cells(&mut full.cells);
-                self.exchange_beside(&mut full.beside);
-            }
-        }
+        changes.core.exchange(&mut self.core);
+        self.exchange_beside(&mut changes.beside);
     }
 
     /// Exchanges what stands beside the core with what an event alters of it, for which there is room.
@@ -365,23 +305,10 @@ impl Machine {
         ensures as_many { length beside.new ≡ length beside.old }
         ensures fit { AllFit self.new.whole.core.storage.fetch_protection (change_of_row row.new (lists items.new bytes.new beside.new)).cells }
     {
-        self.core.exchange_row(row, items, bytes);
+        row.exchange(&mut self.core, items, bytes);
         if !beside.is_empty() {
             self.exchange_beside(&mut beside[0]);
         }
-    }
-
-    /// Exchanges the values at the places of a change of the PSW and little beside it with its own. It takes no memory.
-    #[inline(always)]
-    pub fn swap_plain(&mut self, plain: &mut Plain)
-        requires fit { IsFit plain.old }
-        requires can { CanSwap self.old.whole (change_of_core (cells_of_plain plain.old)) }
-        ensures machine { IsSwapOf self.old.whole (change_of_core (cells_of_plain plain.old)) self.new.whole }
-        ensures change { change_of_core (cells_of_plain plain.new) ≡ change_after_swap self.old.whole (change_of_core (cells_of_plain plain.old)) }
-        ensures fit { IsFit plain.new }
-        ensures spare { self.new.spare ≡ self.old.spare }
-    {
-        self.core.exchange_plain(plain);
     }
 
     /// Exchanges the values at the places of a row that has all but its bytes within itself with its own.
@@ -396,6 +323,6 @@ impl Machine {
         ensures count { length bytes.new ≡ length bytes.old }
         ensures fit { AllFit self.new.whole.core.storage.fetch_protection (cells_of_row row.new [] bytes.new) }
     {
-        self.core.exchange_row(row, &mut [], bytes);
+        row.exchange(&mut self.core, &mut [], bytes);
     }
 }

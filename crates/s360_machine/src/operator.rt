@@ -1,14 +1,15 @@
 //! The keys of the operator. Source: GA22-6821, "System Control Panel", and the component
 //! description of the 1052.
-ghost use Rattle.std.specs.Prelude.{◌≡◌, [], None, IfOk};
+ghost use Rattle.std.specs.Prelude.{◌≡◌, None, IfOk, OnOk};
 ghost use Rattle.s360_channel.specs.UnitChanges.{IsUnitsChangeTo};
 ghost use Rattle.s360_machine.specs.Loading.{units_after_reset};
 ghost use Rattle.s360_machine.specs.Machine.{seen};
 ghost use Rattle.s360_machine.specs.Operator.{after_key, units_after_key};
-ghost use Rattle.s360_machine.specs.Planned.{IsPlanOfMachine};
+ghost use Rattle.s360_machine.specs.Planned.{MakesOthers};
 ghost use Rattle.s360_machine.specs.Refusals.{refusal_of_key};
 
-use crate::machine::{Machine, PlannedEvent};
+use crate::beside::Beside;
+use crate::machine::Machine;
 use s360_channel::{ConfiguredUnit, Program, UnitChange, UnitControl, UnitState, Units};
 use s360_store::Bytes;
 use s360_word::Unit;
@@ -83,19 +84,15 @@ impl Machine {
         }
     }
 
-    /// Plans that a key is pressed.
+    /// Puts beside the core that a key is pressed, which leaves the core.
     #[inline(never)]
-    pub(crate) fn plan_key(&self, key: &Key) -> Result<PlannedEvent, AllocError>
+    pub(crate) fn put_key(&self, key: &Key, beside: &mut Beside) -> Result<(), AllocError>
         requires accepted { refusal_of_key key.now ≡ None }
-        ensures { IfOk result (λ planned. IsPlanOfMachine self.now.whole [] planned (after_key (seen self.now.whole) key.now)) }
+        ensures { OnOk result (MakesOthers self.now.whole beside.new (after_key (seen self.now.whole) key.now)) }
     {
-        let control = self.control.after_key(key);
-        let units = self.change_of_key(key)?;
-        let media = self.devices.change_of_key(key)?;
-        Ok(PlannedEvent {
-            control,
-            units,
-            media,
-        })
+        beside.control = self.control.changes_to(&self.control.after_key(key));
+        beside.units = self.change_of_key(key)?;
+        beside.media = self.devices.change_of_key(key)?;
+        Ok(())
     }
 }

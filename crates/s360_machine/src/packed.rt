@@ -3,20 +3,15 @@
 ghost use Rattle.std.specs.Prelude.{◌≡◌, ◌<◌, ◌≤◌, ◌-◌, ◌++◌, ◌∷◌, [], length, reverse, slice_get, slice_set, take, IfOk, IfSome, OnErr, OnOk};
 ghost use Rattle.s360_machine.specs.Change.{CanSwap, Change, HasRoom, change_after_swap, places_of_change};
 ghost use Rattle.s360_machine.specs.ChangeSpans.{AreSpansOf, spans_of};
-ghost use Rattle.s360_fixed.specs.Plain.{IsFit, cells_of_plain};
-ghost use Rattle.s360_machine.specs.Changes.{change_of_core};
 ghost use Rattle.s360_machine.specs.Packed.{ArePacked, HasBefore, IsEnd, IsOwnOf, IsSwapOf, bytes_of_changes, change_of_own, end_before, last_stretches, lists};
 ghost use Rattle.s360_machine.specs.Rows.{IsOver};
-ghost use Rattle.s360_machine.specs.AlteredRuns.{IsRunFit, cells_of_run};
 
-use crate::altered_run::AlteredRun;
-use crate::appending::{append_bytes, append_parts};
+use crate::appending::append_parts;
 use crate::beside::Beside;
 use crate::change_spans::{ChangeSpans, SpansApart};
 use crate::changes::Changes;
 use crate::machine::Machine;
 use crate::row::Row;
-use s360_fixed::Plain;
 use s360_store::{Item, Place};
 use std::alloc::{AllocError, Global};
 use std::marker::Model;
@@ -184,52 +179,30 @@ impl Packed {
     }
 
     /// Adds a change at the end. Want of memory leaves the list as it was, and the change is dropped.
-    #[inline(always)]
-    pub fn append(&mut self, changes: Changes) -> Result<(), AllocError>
+    pub fn append(&mut self, mut changes: Changes) -> Result<(), AllocError>
         requires { length self.old < 10000000 }
         ensures ok { OnOk result (self.new ≡ self.old ++ changes ∷ []) }
         ensures err { OnErr result (self.new ≡ self.old) }
     {
+        self.append_from(&mut changes)
+    }
+
+    /// Adds a change at the end, of which the parts are taken. Want of memory leaves the list as it was.
+    #[inline(always)]
+    pub(crate) fn append_from(&mut self, changes: &mut Changes) -> Result<(), AllocError>
+        requires { length self.old < 10000000 }
+        ensures ok { OnOk result (self.new ≡ self.old ++ changes.old ∷ []) }
+        ensures err { OnErr result (self.new ≡ self.old) }
+    {
         self.rows.reserve(1)?;
         let row = append_parts(
-            changes.into_parts(),
+            &changes.core,
+            &mut changes.beside,
             &mut self.items,
             &mut self.bytes,
             &mut self.beside,
         )?;
         self.rows.push_reserved(row);
-        Ok(())
-    }
-
-    /// Adds a change of the PSW and little beside it at the end. Want of memory leaves the list as it was.
-    #[inline(always)]
-    pub fn append_plain(&mut self, plain: &Plain) -> Result<(), AllocError>
-        requires few { length self.old < 10000000 }
-        requires fit { IsFit plain.now }
-        ensures ok { OnOk result (self.new ≡ self.old ++ change_of_core (cells_of_plain plain.now) ∷ []) }
-        ensures err { OnErr result (self.new ≡ self.old) }
-    {
-        self.rows.reserve(1)?;
-        let row = append_bytes(plain, &mut self.bytes)?;
-        self.rows.push_reserved(row);
-        Ok(())
-    }
-
-    /// Adds a change of the PSW and one run of bytes at the end. Want of memory leaves the list as it was.
-    #[inline(always)]
-    pub(crate) fn append_run(&mut self, run: AlteredRun<'_>) -> Result<(), AllocError>
-        requires few { length self.old < 10000000 }
-        requires fit { IsRunFit run }
-        ensures ok { OnOk result (self.new ≡ self.old ++ change_of_core (cells_of_run run.entry) ∷ []) }
-        ensures err { OnErr result (self.new ≡ self.old) }
-    {
-        self.rows.reserve(1)?;
-        self.bytes.extend_from_slice(run.bytes)?;
-        self.rows.push_reserved(Row::Bytes {
-            count: run.bytes.len() as u16,
-            address: run.address,
-            psw: run.psw,
-        });
         Ok(())
     }
 

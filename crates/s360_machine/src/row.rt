@@ -1,18 +1,18 @@
 //! Rows of 16 bytes: what an event alters of the core where that is the PSW and little beside it, and
 //! else how much of it stands in lists apart.
-ghost use Rattle.std.specs.Prelude.{None, ◌≡◌, ◌<◌, ◌≤◌, ℕ, [], IsTrue, List, length, slice_get, Some};
-ghost use Rattle.s360_store.specs.Cells.{places_of_cells};
+ghost use Rattle.std.specs.Prelude.{None, ◌≡◌, ◌<◌, ◌≤◌, ◌∷◌, ℕ, [], IfSome, IsTrue, List, length, slice_get, Some, true};
+ghost use Rattle.s360_store.specs.Cells.{AllFit, AreCellsOf, after_exchange, cells_after_exchange, places_of_cells};
+ghost use Rattle.s360_store.specs.CoreChanges.{cells_of_change, psw_cell};
+ghost use Rattle.s360_store.specs.Places.{Fits};
 ghost use Rattle.s360_store.specs.declared.items.Item.{Item as AnItem};
-ghost use Rattle.s360_fixed.specs.Plain.{IsFit, bytes_of_plain};
 ghost use Rattle.s360_machine.specs.ChangeSpans.{spans_of_row, spans_within};
-ghost use Rattle.s360_machine.specs.Rows.{ArePartsOf, HasNoMore, IsOver, row_of_plain, beside_of_row, bytes_of_row, cells_of_row, items_of_row};
+ghost use Rattle.s360_machine.specs.Rows.{ArePartsOf, HasNoMore, HasSameCounts, IsOver, IsRowOf, beside_of_row, bytes_of_row, cells_of_row, items_of_row};
 ghost use Rattle.s360_store.specs.Items.{cells_of_items};
 ghost use Rattle.s360_machine.specs.Stretches.{begun_by, next_after, stretches};
 
 use crate::change_spans::SpansWithin;
-use s360_fixed::Plain;
 use s360_psw::Psw;
-use s360_store::{Item, Place, part_at};
+use s360_store::{Cell, Core, CoreChange, Item, Part, Place, part_at};
 use s360_word::{RegisterNumber, Word};
 
 /// What an event alters. Each variant has its smallest fields first, so that none takes more than 16 bytes.
@@ -44,31 +44,50 @@ pub(crate) enum Row {
     },
 }
 
+/// The row of a PSW and a cell, if that is of a general register.
+#[inline(always)]
+fn with_register(psw: Psw, cell: Cell) -> Option<Row>
+    requires { Fits true cell.place cell.value }
+    ensures within { IfSome result (λ row. HasNoMore row) }
+    ensures over { IfSome result (λ row. IsOver row [] []) }
+    ensures cells { IfSome result (λ row. cells_of_row row [] [] ≡ psw_cell psw ∷ (cell ∷ [])) }
+{
+    match cell.place {
+        Place::Register(number) if number < 16 => Some(Row::Register {
+            register: RegisterNumber::new(number),
+            word: cell.value as u32,
+            psw,
+        }),
+        _ => None,
+    }
+}
+
 impl Row {
-    /// The row of a change of the PSW and little beside it.
+    /// The row of a change of the core that has all but its bytes within it, and these bytes.
     #[inline(always)]
-    pub(crate) fn of(plain: &Plain) -> Row
-        requires { IsFit plain.now }
-        ensures row { result ≡ row_of_plain plain.now }
-        ensures over { IsOver result [] (bytes_of_plain plain.now) }
+    pub(crate) fn within(core: &CoreChange) -> Option<(Row, &[u8])>
+        requires { AllFit true (cells_of_change core.now) }
+        ensures { IfSome result (λ r. IsRowOf (cells_of_change core.now) r.0 r.1.now) }
     {
-        match plain {
-            Plain::Nothing => Row::Nothing,
-            Plain::Psw(psw) => Row::Psw(*psw),
-            Plain::Register {
-                register,
-                word,
-                psw,
-            } => Row::Register {
-                register: *register,
-                word: *word,
-                psw: *psw,
-            },
-            Plain::Bytes { address, psw, run } => Row::Bytes {
-                count: run.len() as u16,
-                address: *address,
-                psw: *psw,
-            },
+        let (psw, cells) = (core.altered_psw(), core.cells());
+        if cells.is_empty() {
+            return Some((psw.map_or(Row::Nothing, Row::Psw), &[]));
+        }
+        let psw = psw?;
+        match cells.part_at(0) {
+            Part::Cell(cell) if cells.len() == 1 => Some((with_register(psw, cell)?, &[])),
+            Part::Bytes(address, bytes) if bytes.len() == cells.len() as usize => {
+                let count = u16::try_from(bytes.len()).ok()?;
+                Some((
+                    Row::Bytes {
+                        count,
+                        address,
+                        psw,
+                    },
+                    bytes,
+                ))
+            }
+            _ => None,
         }
     }
 
@@ -95,6 +114,36 @@ impl Row {
                 count: u32::from(*count),
             },
             Row::More { .. } => unreachable!(),
+        }
+    }
+
+    /// Exchanges what stands at its places with its values. The single cells and the runs are its own, and the bytes.
+    #[inline(always)]
+    pub(crate) fn exchange(&mut self, core: &mut Core, items: &mut [Item], bytes: &mut [u8])
+        requires over { IsOver self.old items.old bytes.old }
+        requires can { AreCellsOf core.old (cells_of_row self.old items.old bytes.old) }
+        ensures core { core.new ≡ after_exchange core.old (cells_of_row self.old items.old bytes.old) }
+        ensures cells { cells_of_row self.new items.new bytes.new ≡ cells_after_exchange core.old (cells_of_row self.old items.old bytes.old) }
+        ensures over { IsOver self.new items.new bytes.new }
+        ensures same { HasSameCounts self.old self.new }
+        ensures fit { AllFit core.new.storage.fetch_protection (cells_of_row self.new items.new bytes.new) }
+    {
+        match self {
+            Row::Nothing => {}
+            Row::Psw(psw) => core.exchange_psw(psw),
+            Row::Register {
+                register,
+                word,
+                psw,
+            } => {
+                core.exchange_psw(psw);
+                core.exchange_register(*register, word);
+            }
+            Row::Bytes { address, psw, .. } => {
+                core.exchange_psw(psw);
+                core.exchange_run(bytes, *address);
+            }
+            Row::More { .. } => core.exchange_items(items, bytes),
         }
     }
 

@@ -1,15 +1,16 @@
 //! The timer: a signed word in storage, which counts down. Source: GA22-6821, "System Structure",
 //! interval timer.
-ghost use Rattle.std.specs.Prelude.{◌≡◌, [], IfOk, OnOk};
-ghost use Rattle.s360_store.specs.Plans.{HasBytes, IsPlanOf};
+ghost use Rattle.std.specs.Prelude.{◌≡◌, OnOk};
+ghost use Rattle.s360_store.specs.Plans.{HasBytes};
+ghost use Rattle.s360_store.specs.Puts.{HasNoPuts};
 ghost use Rattle.s360_machine.specs.Machine.{seen};
-ghost use Rattle.s360_machine.specs.Planned.{IsPlanOfMachine};
-ghost use Rattle.s360_machine.specs.Timer.{after_tick, core_after_tick, is_negative, runs_out, timer_after_tick};
+ghost use Rattle.s360_machine.specs.Planned.{LeavesOthers, PutsMachine};
+ghost use Rattle.s360_machine.specs.Timer.{after_tick, is_negative, runs_out, timer_after_tick};
 ghost use Rattle.s360_machine.specs.Timer.{timer_location, timer_of};
 
-use crate::core_state::Core;
-use crate::machine::{Machine, PlannedEvent};
-use s360_store::{LEAST_SIZE, Plan};
+use crate::beside::Beside;
+use crate::machine::Machine;
+use s360_store::{Core, LEAST_SIZE, Puts};
 use s360_word::{Word, sub_signed};
 use std::alloc::AllocError;
 
@@ -40,37 +41,34 @@ pub(crate) fn runs_out(word: Word) -> bool
     !is_negative(word) && is_negative(timer_after_tick(word))
 }
 
-impl Core {
-    /// The timer's word.
-    pub(crate) fn timer(&self) -> Word
-        ensures word { result ≡ timer_of self.now }
-        ensures inside { HasBytes timer_location 4 self.now }
-    {
-        // So the timer is inside storage.
-        prove!(self.storage().size() >= LEAST_SIZE);
-        self.storage().word(TIMER)
-    }
-
-    /// Plans the timer after a tick.
-    pub(crate) fn plan_tick(&self, plan: &mut Plan) -> Result<(), AllocError>
-        requires empty { plan.old ≡ [] }
-        ensures { OnOk result (IsPlanOf self.now plan.new (core_after_tick self.now)) }
-    {
-        let word = timer_after_tick(self.timer());
-        self.plan_bytes(TIMER, &word.to_be_bytes(), plan)
-    }
+/// The timer's word.
+fn timer_of(core: &Core) -> Word
+    ensures word { result ≡ timer_of core.now }
+    ensures inside { HasBytes timer_location 4 core.now }
+{
+    // So the timer is inside storage.
+    prove!(core.storage().size() >= LEAST_SIZE);
+    core.storage().word(TIMER)
 }
 
 impl Machine {
-    /// Plans a tick of the timer.
-    pub(crate) fn plan_tick(&self, plan: &mut Plan) -> Result<PlannedEvent, AllocError>
-        requires empty { plan.old ≡ [] }
-        ensures { IfOk result (λ planned. IsPlanOfMachine self.now.whole plan.new planned (after_tick (seen self.now.whole))) }
+    /// Puts a tick of the timer.
+    #[inline(never)]
+    pub(crate) fn put_tick<P: Puts>(
+        &self,
+        puts: &mut P,
+        beside: &mut Beside,
+    ) -> Result<(), AllocError>
+        requires none { HasNoPuts self.now.whole.core (P.made puts.old) (P.may puts.old) (P.past puts.old) (P.count puts.old) }
+        requires leaves { LeavesOthers self.now.whole beside.old }
+        ensures { OnOk result (PutsMachine self.now.whole (P.made puts.new) (P.may puts.new) beside.new (after_tick (seen self.now.whole))) }
     {
         if !self.control.run_state().is_operating() {
-            return Ok(self.planned(self.control));
+            return Ok(());
         }
-        self.core.plan_tick(plan)?;
-        Ok(self.planned(self.control.after_tick(self.core.timer())))
+        let word = timer_of(&self.core);
+        puts.put_bytes(&self.core, TIMER, &timer_after_tick(word).to_be_bytes())?;
+        beside.control = self.control.changes_to(&self.control.after_tick(word));
+        Ok(())
     }
 }

@@ -1,10 +1,10 @@
 -- What follows where two cores have the same at some places.
-use Rattle.std.proofs.Common.{◌≡◌, ◌<◌, ◌≤◌, ◌+◌, ◌-◌, ◌++◌, ◌∙◌, ℕ, zero, suc, Bool, true, false, List, [], ◌∷◌, refl, ap, sym, arith, length, take, drop, get_or, inl, inr}
+use Rattle.std.proofs.Common.{◌≡◌, ◌<◌, ◌≤◌, ◌+◌, ◌-◌, ◌++◌, ◌∙◌, ℕ, zero, suc, Bool, true, false, List, [], ◌∷◌, refl, sym, arith, length, get_or, inl, inr}
 use Rattle.std.specs.Prelude.{if◌then◌else◌, slice_index}
 use Rattle.std.proofs.lemmas.Bool.{cases_lt}
-use Rattle.std.proofs.lemmas.List.{append_assoc, get_or-append_right, get_or-drop, get_or-take, get_or_append_left, length-append, length-take-le}
 use Rattle.s360_model.specs.Core.{Core}
 use Rattle.s360_model.specs.Storage.{number_at, with_run}
+use Rattle.s360_store.proofs.StoredRunLemmas.{run-after, run-before, run-inside}
 use Rattle.s360_store.specs.declared.place.Place.{Place}
 use Rattle.s360_store.specs.Spans.{byte_places}
 use Rattle.s360_source.specs.Agreement.{AreAlike, HaveAllSame, KeepsSizes}
@@ -35,27 +35,6 @@ byte-same m n (suc count) address zero l h = let here : address + 0 ≡ address 
 byte-same m n (suc count) address (suc i) l h =
     let there : address + suc i ≡ address + 1 + i = omega arith
     in rw there (byte-same m n count (address + 1) i (omega arith) h.1)
-
--- a byte of a run that is stored, and one beside it
-run-inside : (xs run : List ℕ) (at a : ℕ) → at + length run ≤ length xs → at ≤ a → a < at + length run → get_or (with_run xs at run) a 0 ≡ get_or run (a - at) 0
-run-inside xs run at a h l u =
-    let front : length (take at xs) ≡ at = length-take-le at xs (omega arith)
-    in rw (append_assoc (take at xs) run (drop (at + length run) xs), get_or-append_right (take at xs) (run ++ drop (at + length run) xs) at a 0 front l)
-    (get_or_append_left run (drop (at + length run) xs) 0 (a - at) (omega arith))
-
-run-before : (xs run : List ℕ) (at a : ℕ) → at + length run ≤ length xs → a < at → get_or (with_run xs at run) a 0 ≡ get_or xs a 0
-run-before xs run at a h l =
-    let front : length (take at xs) ≡ at = length-take-le at xs (omega arith)
-    in rw (append_assoc (take at xs) run (drop (at + length run) xs), get_or_append_left (take at xs) (run ++ drop (at + length run) xs) 0 a (omega (arith, front)))
-    (get_or-take at xs a 0 l)
-
-run-after : (xs run : List ℕ) (at a : ℕ) → at + length run ≤ length xs → at + length run ≤ a → get_or (with_run xs at run) a 0 ≡ get_or xs a 0
-run-after xs run at a h l =
-    let front : length (take at xs) ≡ at = length-take-le at xs (omega arith)
-    in let both : length (take at xs ++ run) ≡ at + length run = omega (arith, length-append (take at xs) run, front)
-    in let there : at + length run + (a - (at + length run)) ≡ a = omega arith
-    in get_or-append_right (take at xs ++ run) (drop (at + length run) xs) (at + length run) a 0 both l
-    ∙ get_or-drop (at + length run) xs (a - (at + length run)) 0 ∙ ap (λ i. get_or xs i 0) there
 
 -- two runs stored at one address: a byte of them is the same where they have the same there, and one beside them where it was
 pub run-same : (xs ys runx runy : List ℕ) (at a : ℕ) → at + length runx ≤ length xs → length xs ≡ length ys → length runx ≡ length runy

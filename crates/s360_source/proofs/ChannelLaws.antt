@@ -45,7 +45,8 @@ use Rattle.s360_source.proofs.ChannelLemmas.{WordsSame, execution-inside, execut
 use Rattle.s360_source.proofs.EventLaws.{bytes-law, there-cores}
 use Rattle.s360_source.proofs.ExecutionLemmas.{StoresInside}
 use Rattle.s360_source.proofs.InterruptionLaws.{followed-law}
-use Rattle.s360_source.proofs.StoreLemmas.{beside-run, in-run, length-with_run}
+use Rattle.s360_source.proofs.StoreLemmas.{beside-run, in-run}
+use Rattle.s360_store.proofs.StoredRunLemmas.{length-with_run}
 
 -- what is stored
 run-keeps : (o : Option Run) (m : Core) → StoresInside m.storage o → KeepsSizes m (core_with_run o m)

@@ -57,7 +57,8 @@ use Rattle.s360_source.proofs.AgreementLemmas.{alike-kept, run-same, same-else}
 use Rattle.s360_source.proofs.EventLaws.{external-law, there-cores}
 use Rattle.s360_source.proofs.InstructionLaws.{instruction-law}
 use Rattle.s360_source.proofs.InterruptionLaws.{followed-law, interruption-law}
-use Rattle.s360_source.proofs.StoreLemmas.{beside-run, length-with_run}
+use Rattle.s360_source.proofs.StoreLemmas.{beside-run}
+use Rattle.s360_store.proofs.StoredRunLemmas.{length-with_run}
 
 -- the PSW with the next address
 next-same : (x y : Core) (next : ℕ) (q : Place) → HaveSame x y q → HaveSame (with_next_address next x) (with_next_address next y) q

@@ -23,7 +23,8 @@ use Rattle.s360_source.proofs.AgreementLemmas.{run-same, same-else, same-if}
 use Rattle.s360_source.proofs.BranchLemmas.{seen}
 use Rattle.s360_source.proofs.CombinationLemmas.{word-same}
 use Rattle.s360_source.proofs.EffectLemmas.{set-same}
-use Rattle.s360_source.proofs.StoreLemmas.{access-inside, beside-run, in-run, length-with_run}
+use Rattle.s360_source.proofs.StoreLemmas.{access-inside, beside-run, in-run}
+use Rattle.s360_store.proofs.StoredRunLemmas.{length-with_run}
 use Rattle.s360_source.proofs.SuppressionLemmas.{suppression-law}
 
 -- what several loads leave alone

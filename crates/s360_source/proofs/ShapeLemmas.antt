@@ -68,7 +68,7 @@ shape-of-planned m plan planned performed p e =
 pub shape-of-refused : (m : Core) (code : ProgramCode) → program_code (conditions_at m (instruction_address_of m.psw)) ≡ Some code
     → record { performed = None; next_address = instruction_address_of m.psw; length = NotAvailable; ended = Program code } ≡ instruction_shape m
 shape-of-refused m code met =
-    let puts = PutsInstruction-refused m (λ n. n) (λ n. Unit {0}) 0 code refl tt refl met
+    let puts = PutsInstruction-refused m (λ n. n) (λ n. Unit {0}) (λ q. Unit {0}) 0 code (record { same = refl; allowed = tt; any = λ q. tt; none = refl }) met
     in let plans : PlansInstruction m [] (instruction m) (record { ended = Program code; next_address = instruction_address_of m.psw; instruction_length = NotAvailable }) = record {
       plans = record { ends = puts.puts.ends; makes = record { cells = tt; makes = puts.puts.makes }; few = omega arith };
       next = puts.next;

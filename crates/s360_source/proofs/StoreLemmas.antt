@@ -1,8 +1,7 @@
 -- Bytes that are stored follow their sources.
-use Rattle.std.proofs.Common.{◌≡◌, ◌<◌, ◌≤◌, ◌+◌, ◌-◌, ◌∙◌, ◌++◌, ℕ, Bool, true, false, ◌&&◌, List, [], ◌∷◌, refl, ap, sym, arith, length, take, drop, get_or, None, not, inl, inr}
+use Rattle.std.proofs.Common.{◌≡◌, ◌<◌, ◌≤◌, ◌+◌, ◌-◌, ◌∙◌, ℕ, Bool, true, false, ◌&&◌, List, [], ◌∷◌, refl, ap, sym, arith, length, get_or, None, not, inl, inr}
 use Rattle.std.specs.Prelude.{if◌then◌else◌, nat_le, nat_lt}
 use Rattle.std.proofs.lemmas.Bool.{and_from, and_left, and_right, cases_lt, le-leb, le-ltb, leb-true, lt-leb, lt-ltb}
-use Rattle.std.proofs.lemmas.List.{length-append, length-drop, length-take-le}
 use Rattle.s360_model.specs.Core.{Core, core_with_bytes}
 use Rattle.s360_model.specs.Psw.{with_instruction_address}
 use Rattle.s360_model.specs.Storage.{with_run}
@@ -24,6 +23,7 @@ use Rattle.s360_source.specs.Sources.{bytes_made_of, itself}
 use Rattle.s360_source.proofs.AgreementLemmas.{run-same, same-else, same-if}
 use Rattle.s360_source.proofs.BranchLemmas.{seen}
 use Rattle.s360_source.proofs.SuppressionLemmas.{suppression-law}
+use Rattle.s360_store.proofs.StoredRunLemmas.{length-with_run}
 
 -- an access that meets no condition is inside storage
 addressing-not : (s a p : Bool) → program_code (record no_conditions { specification = s; addressing = a; protection = p }) ≡ None → a ≡ false
@@ -65,12 +65,6 @@ store-law m n next a count run other of_bytes (Byte k) alike inside c d h same =
     (λ l u. ap (λ x. get_or x (k - a) 0) (same (same-if (nat_le a k && nat_lt k (a + count)) m n of_bytes (Byte k ∷ []) h (in-run a count k l (omega (arith, c, u))))))
     (λ out. (same-else (nat_le a k && nat_lt k (a + count)) m n of_bytes (Byte k ∷ []) h (beside-run a count k (λ u l. out (omega (arith, c, u)) l))).0)
 store-law m n next a count run other of_bytes p alike inside c d h same = refl
-
-pub length-with_run : (xs run : List ℕ) (at : ℕ) → at + length run ≤ length xs → length (with_run xs at run) ≡ length xs
-length-with_run xs run at h =
-    length-append (take at xs ++ run) (drop (at + length run) xs)
-    ∙ (let front : length (take at xs) ≡ at = length-take-le at xs (omega arith)
-    in omega (arith, length-append (take at xs) run, front, length-drop (at + length run) xs, h))
 
 stored-keeps : (m : Core) (next a : ℕ) (run : List ℕ) → a + length run ≤ length m.storage.bytes → KeepsSizes m (with_stored m next a run)
 stored-keeps m next a run inside = record { registers = refl; bytes = length-with_run m.storage.bytes run a inside; keys = refl; option = refl }

@@ -1,6 +1,7 @@
 -- What puts make of the change of a core.
-use Rattle.std.proofs.Common.{◌≡◌, ◌≢◌, ◌<◌, ◌≤◌, ◌+◌, ◌++◌, ◌∙◌, ◌⊎◌, ℕ, Bool, true, false, cond, nat_eq, List, [], ◌∷◌, Option, Some, None, IfSome, refl, ap, sym, subst, get_or, length, arith, inl, inr}
+use Rattle.std.proofs.Common.{◌≡◌, ◌≢◌, ◌<◌, ◌≤◌, ◌+◌, ◌++◌, ◌∙◌, ℕ, Bool, true, false, cond, nat_eq, List, [], ◌∷◌, Option, Some, None, IfSome, refl, ap, sym, subst, get_or, length, arith, inl, inr}
 use Rattle.std.proofs.lemmas.Bool.{cases_lt, eq-eqb, eqb-true}
+use Rattle.std.proofs.lemmas.List.{append_assoc}
 use Rattle.s360_model.specs.Core.{Core, core_with_bytes, core_with_psw}
 use Rattle.s360_model.specs.Psw.{IsCurrentPsw}
 use Rattle.s360_store.specs.declared.place.Place.{Place}
@@ -9,11 +10,14 @@ use Rattle.s360_store.specs.declared.place.Cell.{Cell}
 use Rattle.s360_store.specs.Cells.{AllDiffer, AreCellsOf, IsFresh, after_exchange, byte_cells, places_of_cells}
 use Rattle.s360_store.specs.CoreChanges.{AllBefore, CoreChange, IsCoreChange, after_core_change, cells_of_change, core_with_psw_if, other_psw, psw_cell}
 use Rattle.s360_store.specs.Differences.{AreKept, IsCoreChangeTo, KeepsAltering, core_differences}
+use Rattle.s360_store.specs.declared.items.Item.{Item}
+use Rattle.s360_store.specs.declared.items.Item.TheVariants.{Single}
+use Rattle.s360_store.specs.Items.{Appended}
 use Rattle.s360_store.specs.Order.{IsAscending, IsBefore, IsBeforeAll}
 use Rattle.s360_store.specs.Places.{Fits, IsPlaceOf, value_at, with_value}
 use Rattle.s360_store.specs.Plans.{HasBytes, IsPlanOf, after_put_bytes}
 use Rattle.s360_store.proofs.AscendingLemmas.{IsBefore-trans}
-use Rattle.s360_store.proofs.ByteCellLemmas.{AddsToPlan-bytes, EndsBefore-all, IsAscending-bytes, after_put_bytes-new, byte_cells-parts}
+use Rattle.s360_store.proofs.ByteCellLemmas.{AddsToPlan-bytes, EndsBefore-all, IsAscending-bytes, after_put_bytes-new}
 use Rattle.s360_store.proofs.DifferenceLemmas.{places_of_cells-differences}
 use Rattle.s360_store.proofs.ExchangeLemmas.{value_at-after_exchange}
 use Rattle.s360_store.proofs.KeptLemmas.{AllDiffer-push, AreCellsOf-push, after_exchange-push}
@@ -72,7 +76,7 @@ psw-apart : (m : Core) (cs : List Cell) (q : ℕ) → IsBeforeAll Psw (places_of
 psw-apart m [] q h = refl
 psw-apart m (c ∷ cs) q h = ap (λ n. after_exchange n cs) (psw-beside m c.place c.value q h.0) ∙ psw-apart (with_value m c.place c.value) cs q h.1
 
-psw-left : (m : Core) (cs : List Cell) → IsBeforeAll Psw (places_of_cells cs) → (after_exchange m cs).psw ≡ m.psw
+pub psw-left : (m : Core) (cs : List Cell) → IsBeforeAll Psw (places_of_cells cs) → (after_exchange m cs).psw ≡ m.psw
 psw-left m cs h = ap (λ (n : Core). n.psw) (psw-apart m cs m.psw h)
 
 -- a PSW is put, in place of the one that was
@@ -170,3 +174,24 @@ change-to m (Some psw) cs h =
 
 pub IsCoreChangeTo-made : (m : Core) (x : CoreChange) → IsCoreChange m x → IsCoreChangeTo m (cells_of_change x) (after_core_change m x)
 IsCoreChangeTo-made m x h = change-to m x.psw x.cells h
+
+-- items of cells, behind that of a PSW
+pub Appended-psw : (old middle new : List Item) (old_bytes new_bytes : List ℕ) (x : CoreChange) (psw : ℕ) → x.psw ≡ Some psw → middle ≡ old ++ Single (psw_cell psw) ∷ [] → Appended middle new old_bytes new_bytes x.cells → length x.cells ≤ 1000000
+    → Appended old new old_bytes new_bytes (cells_of_change x)
+Appended-psw old middle new old_bytes new_bytes x psw e first a few = rw e (record {
+  items = Single (psw_cell psw) ∷ a.items;
+  bytes = a.bytes;
+  items_are = a.items_are ∙ ap (λ (is : List Item). is ++ a.items) first ∙ append_assoc old (Single (psw_cell psw) ∷ []) a.items;
+  bytes_are = a.bytes_are;
+  whole = ((λ b e. absurd (cc)), a.whole);
+  all = omega (arith, a.all);
+  cells_are = ap (λ (cs : List Cell). psw_cell psw ∷ cs) a.cells_are;
+  few = omega (arith, few);
+})
+
+-- the PSW that a change leaves
+pub psw-none : (m : Core) (x : CoreChange) → IsCoreChange m x → x.psw ≡ None → m.psw ≡ (after_core_change m x).psw
+psw-none m x h e = rw e (sym (psw-left m x.cells h.ascending.0))
+
+pub psw-some : (m : Core) (x : CoreChange) (psw : ℕ) → x.psw ≡ Some psw → psw ≡ (after_core_change m x).psw
+psw-some m x psw e = rw e refl

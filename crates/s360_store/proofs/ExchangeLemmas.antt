@@ -104,3 +104,8 @@ pub ruleset exchanges = (after_exchange-twice, cells_after_exchange-twice, AreCe
 pub places_of_cells-cells_after_exchange : (m : Core) (cs : List Cell) → places_of_cells (cells_after_exchange m cs) ≡ places_of_cells cs
 places_of_cells-cells_after_exchange m [] = refl
 places_of_cells-cells_after_exchange m (c ∷ cs) = ap (λ ps. c.place ∷ ps) (places_of_cells-cells_after_exchange (with_value m c.place c.value) cs)
+
+-- cells of a core fit
+pub AllFit-from : (m : Core) (cs : List Cell) → AreCellsOf m cs → AllFit m.storage.fetch_protection cs
+AllFit-from m [] h = tt
+AllFit-from m (c ∷ cs) h = (h.1, AllFit-from m cs h.3)

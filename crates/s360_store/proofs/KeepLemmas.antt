@@ -1,17 +1,15 @@
 -- Which bytes of a run that is planned are kept, run by run.
 use Rattle.std.proofs.Common.{◌≡◌, ◌≢◌, ◌<◌, ◌≤◌, ◌+◌, ◌-◌, ◌++◌, ◌∙◌, ℕ, zero, suc, List, [], ◌∷◌, refl, ap, sym, take, drop, get_or, length, append-nil, arith, subst}
-use Rattle.std.proofs.lemmas.List.{append_assoc, append_cancel_right, drop-append-le, drop-take, drop_all, drop_more, length-append, length-drop, length-take-le, take-append-drop, take_all, take_more, get_or-take, get_or-drop}
+use Rattle.std.proofs.lemmas.List.{append_assoc, drop-append-le, drop-take, drop_all, drop_more, length-append, length-drop, length-take-le, take-append-drop, take_all, take_more, get_or-take, get_or-drop}
 use Rattle.s360_model.specs.Core.{Core}
 use Rattle.s360_store.specs.declared.place.Place.{Place}
 use Rattle.s360_store.specs.declared.place.Place.TheVariants.{Byte}
 use Rattle.s360_store.specs.declared.place.Cell.{Cell}
 use Rattle.s360_store.specs.Cells.{AreCellsOf, IsFresh, byte_cells}
-use Rattle.s360_store.specs.Places.{value_at}
 use Rattle.s360_store.specs.Differences.{AreKept, KeepsAltering}
 use Rattle.s360_store.specs.Differing.{IsNextRun}
 use Rattle.s360_store.proofs.ByteCellLemmas.{byte_cells-more, byte_cells-parts, length-byte_cells}
 use Rattle.s360_store.proofs.KeptLemmas.{AreKept-other, AreKept-same, IsCellOf}
-use Rattle.s360_store.proofs.ItemExchangeLemmas.{AreCellsOf-left, AreCellsOf-right}
 
 fresh-middle : (p : Place) (cs ds : List Cell) (c : Cell) → IsFresh p (cs ++ c ∷ ds) → p ≢ c.place
 fresh-middle p [] ds c h = h.0
@@ -167,40 +165,6 @@ pub keeps-all : (m : Core) (old now : List Cell) (a : ℕ) (new : List ℕ) (at 
 keeps-all m old now a new at l k =
     let none : now ≡ now ++ byte_cells (a + at) (drop at new) = sym (ap (λ bs. now ++ byte_cells (a + at) bs) (drop_all at new l) ∙ append-nil now)
     in keeps-bytes m old now now a new at at l k none
-
--- a single cell of a plan
-pub keeps-altering : (m : Core) (old : List Cell) (c : Cell) → (value_at m c.place ≢ c.value) → KeepsAltering m (c ∷ []) old (old ++ c ∷ [])
-keeps-altering m old c v = λ plan h p. AreKept-other m plan old c p (IsCellOf-behind m plan [] c h) v
-
-pub keeps-same : (m : Core) (old : List Cell) (c : Cell) → value_at m c.place ≡ c.value → KeepsAltering m (c ∷ []) old old
-keeps-same m old c v = λ plan h p. AreKept-same m plan old c p (IsCellOf-behind m plan [] c h).fresh v
-
--- a part more of a plan
-take-part-by : (plan part : List Cell) (i n : ℕ) → length part ≡ n → drop i plan ≡ part ++ drop (i + n) plan → take (i + n) plan ≡ take i plan ++ part
-take-part-by plan part i n c e =
-    let whole : plan ≡ (take i plan ++ part) ++ drop (i + n) plan
-    = sym (take-append-drop i plan) ∙ ap (λ (ds : List Cell). take i plan ++ ds) e ∙ sym (append_assoc (take i plan) part (drop (i + n) plan))
-    in append_cancel_right (take (i + n) plan) (take i plan ++ part) (drop (i + n) plan) (take-append-drop (i + n) plan ∙ whole)
-
-pub take-part : (plan part : List Cell) (i : ℕ) → i < length plan → drop i plan ≡ part ++ drop (i + length part) plan → take (i + length part) plan ≡ take i plan ++ part
-take-part plan part i l e = take-part-by plan part i (length part) refl e
-
-pub part-few : (plan part : List Cell) (i : ℕ) → i < length plan → drop i plan ≡ part ++ drop (i + length part) plan → i + length part ≤ length plan
-part-few plan part i l e =
-    let sum : length plan - i ≡ length part + length (drop (i + length part) plan) = sym (length-drop i plan) ∙ ap length e ∙ length-append part (drop (i + length part) plan)
-    in omega (arith, sum, l)
-
--- the cells of a part, and of all up to its end
-pub AreCellsOf-part : (m : Core) (plan part : List Cell) (i : ℕ) → AreCellsOf m plan → drop i plan ≡ part ++ drop (i + length part) plan → AreCellsOf m part
-AreCellsOf-part m plan part i h e =
-    let whole : plan ≡ take i plan ++ (part ++ drop (i + length part) plan) = sym (take-append-drop i plan) ∙ ap (λ (ds : List Cell). take i plan ++ ds) e
-    in AreCellsOf-left m part (drop (i + length part) plan) (AreCellsOf-right m (take i plan) (part ++ drop (i + length part) plan) (subst (AreCellsOf m) whole h))
-
-pub AreCellsOf-through : (m : Core) (plan part : List Cell) (i : ℕ) → i < length plan → AreCellsOf m plan → drop i plan ≡ part ++ drop (i + length part) plan → AreCellsOf m (take i plan ++ part)
-AreCellsOf-through m plan part i l h e =
-    let whole : plan ≡ (take i plan ++ part) ++ drop (i + length part) plan
-    = sym (take-append-drop i plan) ∙ ap (λ (ds : List Cell). take i plan ++ ds) e ∙ sym (append_assoc (take i plan) part (drop (i + length part) plan))
-    in AreCellsOf-left m (take i plan ++ part) (drop (i + length part) plan) (subst (AreCellsOf m) whole h)
 
 -- what stood at an address of bytes that are lent
 pub stored-at : (bs : List ℕ) (a n at : ℕ) → at < n → get_or (take (a + n - a) (drop a bs)) at 0 ≡ get_or bs (a + at) 0

@@ -8,10 +8,10 @@ pub mod AscendingLemmas
 pub mod DifferenceLemmas
 pub mod PlannedLemmas
 pub mod KeptLemmas
-pub mod SortLemmas
 pub mod PutLemmas
 pub mod ByteCellLemmas
 pub mod RunLemmas
+pub mod StoredRunLemmas
 pub mod ItemLemmas
 pub mod ItemExchangeLemmas
 pub mod SpanLemmas

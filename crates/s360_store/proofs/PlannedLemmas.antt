@@ -1,7 +1,9 @@
 -- What a plan makes of a core, one put after another.
 use Rattle.std.proofs.Common.{◌≡◌, ℕ, List, [], ◌∷◌, refl, ap, sym, ◌∙◌, Bool, true, false, cond, Some, None, unwrap_or}
 use Rattle.s360_model.specs.Core.{Core}
+use Rattle.s360_model.specs.Psw.{current_psw}
 use Rattle.s360_store.specs.declared.place.Place.{Place}
+use Rattle.s360_store.specs.declared.place.Place.TheVariants.{Psw}
 use Rattle.s360_store.specs.declared.place.Cell.{Cell}
 use Rattle.s360_store.specs.Places.{same_place, with_value, value_at, IsPlaceOf, Fits}
 use Rattle.s360_store.specs.Cells.{after_exchange, HasEachOnce, AreCellsOf}
@@ -58,3 +60,10 @@ IsPlanOf-put m cs n p v h i f = record {
   cells = AreCellsOf-after_put m cs p v h.cells i f;
   makes = after_exchange-after_put m cs p v (HasEachOnce-from m cs h.cells) ∙ ap (λ k. with_value k p v) h.makes;
 }
+
+-- the PSW that a plan leaves
+pub planned_psw-some : (m : Core) (cs : List Cell) (v : ℕ) → AreCellsOf m cs → planned_value cs Psw ≡ Some v → current_psw v ≡ (after_exchange m cs).psw
+planned_psw-some m cs v h e = (planned_value-fits m cs Psw v h e).1 ∙ sym (value_at-plan m cs Psw h tt ∙ ap (λ o. unwrap_or o (value_at m Psw)) e)
+
+pub planned_psw-none : (m : Core) (cs : List Cell) → AreCellsOf m cs → planned_value cs Psw ≡ None → m.psw ≡ (after_exchange m cs).psw
+planned_psw-none m cs h e = sym (value_at-plan m cs Psw h tt ∙ ap (λ o. unwrap_or o (value_at m Psw)) e)

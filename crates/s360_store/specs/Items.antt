@@ -134,7 +134,7 @@ pub record Appended (old_items new_items : List Item) (old_bytes new_bytes : Lis
   pub whole : AreItems items
   pub all : bytes_of_items items ≡ length bytes
   pub cells_are : cells_of_items items bytes ≡ cells
-  pub few : length cells ≤ 1000000
+  pub few : length cells ≤ 1000001
 
 -- a core of its parts
 abbrev pub core_of : ℕ → List ℕ → Storage → Core

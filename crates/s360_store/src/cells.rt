@@ -3,20 +3,17 @@
 ghost use Rattle.std.specs.Prelude.{◌≡◌, ◌<◌, ◌≤◌, ◌+◌, ◌^◌, ◌++◌, ◌↔◌, [], ◌∷◌, length, slice_get};
 ghost use Rattle.std.specs.Prelude.{if◌then◌else◌, ◌⊎◌, IfOk, OnOk, OnErr, Some, IsSome, IsTrue};
 ghost use Rattle.std.specs.List.{list_any};
-ghost use Rattle.std.specs.List.Sorted.{IsPermutation};
-ghost use Rattle.s360_store.specs.Cells.{AllFit, AreCellsOf, HasEachOnce, after_exchange, byte_cells};
+ghost use Rattle.s360_store.specs.Cells.{AllFit, AreCellsOf, after_exchange, byte_cells};
 ghost use Rattle.s360_store.specs.Cells.{cells_after_exchange, places_of_cells};
 ghost use Rattle.s360_store.specs.Items.{AddsRun, Appended, AreItems, IsPartAt};
 ghost use Rattle.s360_store.specs.Items.{bytes_of_items};
 ghost use Rattle.s360_store.specs.Items.{core_of};
-ghost use Rattle.s360_store.specs.Order.{IsAscending};
 ghost use Rattle.s360_store.specs.Places.{same_place};
 ghost use Rattle.s360_store.specs.Plans.{after_put, after_put_bytes, planned_value};
 
 use crate::exchange::exchange_items;
 use crate::items::{
-    Item, Part, all_miss, are_ascending, byte_cell, find, joined, list_cells, one_has, part_at,
-    replace, value_at,
+    Item, Part, all_miss, byte_cell, find, joined, one_has, part_at, replace, value_at,
 };
 use crate::place::{Cell, Place};
 use crate::storage::Storage;
@@ -65,18 +62,6 @@ impl Model for Cells {
     ghost invariant = { λ c. AreItemsOver c.items.items c.bytes.items c.count };
 }
 
-/// These cells.
-fn of_cells(alloc: Global, cells: &[Cell]) -> Result<Cells, AllocError>
-    requires few { length cells.now ≤ 1000000 }
-    ensures { IfOk result (λ c. c ≡ cells.now) }
-{
-    let mut same = Cells::new(alloc);
-    for cell in cells {
-        same.push(*cell)?;
-    }
-    Ok(same)
-}
-
 /// Adds a run to items: to the last of them if it follows that. Want of memory leaves them as they were.
 fn push_run(items: &mut SmallVec<Item, ITEMS>, address: u32, count: u32) -> Result<(), AllocError>
     requires items { AreItems items.old.items }
@@ -108,6 +93,15 @@ impl Cells {
         }
     }
 
+    /// Drops all cells, and keeps their memory.
+    pub fn clear(&mut self)
+        ensures { self.new ≡ [] }
+    {
+        self.items.clear();
+        self.bytes.clear();
+        self.count = 0;
+    }
+
     /// The number of cells.
     pub fn len(&self) -> u32
         ensures len { result ≡ length self.now }
@@ -124,6 +118,7 @@ impl Cells {
     }
 
     /// Adds a cell. Want of memory leaves the cells as they were.
+    #[inline(always)]
     pub fn push(&mut self, cell: Cell) -> Result<(), AllocError>
         requires room { length self.old < 1000000 }
         ensures ok { OnOk result (self.new ≡ self.old ++ cell ∷ []) }
@@ -190,25 +185,6 @@ impl Cells {
         ensures { result ≡ list_any (λ q. same_place q place) (places_of_cells self.now) }
     {
         one_has(&self.items, place)
-    }
-
-    /// Whether the places of the cells ascend.
-    pub fn are_ascending(&self) -> bool
-        ensures { IsTrue result → IsAscending (places_of_cells self.now) }
-    {
-        are_ascending(&self.items)
-    }
-
-    /// The cells in the order of their places.
-    pub fn sorted(&self, alloc: Global) -> Result<Cells, AllocError>
-        ensures permutation { IfOk result (λ cells. IsPermutation self.now cells) }
-        ensures ascending { IfOk result (λ cells. HasEachOnce self.now → IsAscending (places_of_cells cells)) }
-    {
-        let mut cells = Vec::with_capacity(alloc, self.len() as usize)?;
-        list_cells(&mut cells, &self.items, &self.bytes)?;
-        cells.sort_unstable_by_key(|cell| cell.place);
-        let sorted = of_cells(alloc, cells.as_slice())?;
-        Ok(sorted)
     }
 
     /// Puts a value at a place, in its cell if it has one, and else in one at the end, and says whether it did. It

@@ -1,9 +1,10 @@
 //! The change of a core that an event makes. It takes what the event puts, and keeps those values that differ from what
 //! stands there.
-ghost use Rattle.std.specs.Prelude.{◌≡◌, ◌≤◌, ◌+◌, ◌∷◌, [], None, OnOk, length};
+ghost use Rattle.std.specs.Prelude.{◌≡◌, ◌<◌, ◌≤◌, ◌+◌, ◌∷◌, [], None, Some, OnErr, OnOk, length, slice_get, true};
 ghost use Rattle.s360_model.specs.Psw.{IsCurrentPsw};
-ghost use Rattle.s360_store.specs.Cells.{byte_cells, places_of_cells};
-ghost use Rattle.s360_store.specs.CoreChanges.{AllBefore, other_psw};
+ghost use Rattle.s360_store.specs.Cells.{AllFit, AreCellsOf, after_exchange, byte_cells, cells_after_exchange, places_of_cells};
+ghost use Rattle.s360_store.specs.CoreChanges.{AllBefore, cells_of_change, other_psw, psw_cell};
+ghost use Rattle.s360_store.specs.Items.{Appended};
 ghost use Rattle.s360_store.specs.Differences.{KeepsAltering};
 ghost use Rattle.s360_store.specs.Order.{IsAscending};
 ghost use Rattle.s360_store.specs.Plans.{HasBytes};
@@ -13,6 +14,7 @@ use crate::block_key::BlockKey;
 use crate::cells::Cells;
 use crate::core_state::Core;
 use crate::differing::next_run;
+use crate::items::Item;
 use crate::place::{Cell, Place};
 use crate::puts::Puts;
 use s360_psw::{InstructionLength, Psw};
@@ -46,6 +48,100 @@ impl CoreChange {
             psw: None,
             cells: Cells::new(alloc),
         }
+    }
+
+    /// Drops what it has, and keeps its memory.
+    #[inline(always)]
+    pub fn clear(&mut self)
+        ensures { self.new ≡ record { psw = None; cells = [] } }
+    {
+        self.psw = None;
+        self.cells.clear();
+    }
+
+    /// The PSW, if it is another.
+    #[inline(always)]
+    pub fn altered_psw(&self) -> Option<Psw>
+        ensures { result ≡ self.now.psw }
+    {
+        self.psw
+    }
+
+    /// The other places.
+    #[inline(always)]
+    pub fn cells(&self) -> &Cells
+        ensures { result.now ≡ self.now.cells }
+    {
+        &self.cells
+    }
+
+    /// The number of places.
+    pub fn len(&self) -> u32
+        ensures len { result ≡ length (cells_of_change self.now) }
+        ensures few { result ≤ 1000001 }
+    {
+        u32::from(self.psw.is_some()) + self.cells.len()
+    }
+
+    /// The place at `i`, counted from 0.
+    pub fn place(&self, i: u32) -> Place
+        requires { i < length (cells_of_change self.now) }
+        ensures { slice_get (places_of_cells (cells_of_change self.now)) i ≡ Some result }
+    {
+        match self.psw {
+            None => self.cells.cell(i).place,
+            Some(_) if i == 0 => Place::Psw,
+            Some(_) => self.cells.cell(i - 1).place,
+        }
+    }
+
+    /// Adds the single cells and the runs to a list, that of the PSW first, and the bytes of the runs to another. Want of
+    /// memory leaves both as they were.
+    pub fn append_to(&self, items: &mut Vec<Item>, bytes: &mut Vec<u8>) -> Result<(), AllocError>
+        ensures ok { OnOk result (Appended items.old.items items.new.items bytes.old.items bytes.new.items (cells_of_change self.now)) }
+        ensures err_items { OnErr result (items.new.items ≡ items.old.items) }
+        ensures err_bytes { OnErr result (bytes.new.items ≡ bytes.old.items) }
+    {
+        let Some(psw) = self.psw else {
+            return self.cells.append_to(items, bytes);
+        };
+        // Looked at, since its clauses have that the cells are few.
+        let _ = self.cells.len();
+        items.push(Item::Single(psw_cell(psw)))?;
+        if let Err(error) = self.cells.append_to(items, bytes) {
+            let _ = items.pop();
+            return Err(error);
+        }
+        Ok(())
+    }
+
+    /// Exchanges what stands at its places with its values. Done again, it restores both.
+    #[inline(always)]
+    pub fn exchange(&mut self, core: &mut Core)
+        requires can { AreCellsOf core.old (cells_of_change self.old) }
+        ensures core { core.new ≡ after_exchange core.old (cells_of_change self.old) }
+        ensures change { cells_of_change self.new ≡ cells_after_exchange core.old (cells_of_change self.old) }
+        ensures fit { AllFit core.new.storage.fetch_protection (cells_of_change self.new) }
+        ensures values { AllFit true (cells_of_change self.new) }
+    {
+        match &mut self.psw {
+            None => core.exchange_cells(&mut self.cells),
+            Some(psw) => {
+                core.exchange_psw(psw);
+                core.exchange_cells(&mut self.cells);
+            }
+        }
+    }
+}
+
+/// The cell of a PSW.
+#[inline(always)]
+fn psw_cell(psw: Psw) -> Cell
+    ensures { result ≡ psw_cell psw }
+{
+    Cell {
+        place: Place::Psw,
+        value: psw.stored(0, InstructionLength::NotAvailable),
     }
 }
 
@@ -93,6 +189,14 @@ impl Puts for CoreChange {
     ghost past = { λ x p. AllBefore x.cells p };
 
     ghost count = { λ x. length x.cells };
+
+    #[inline(always)]
+    fn psw(&self, core: &Core) -> Psw {
+        match self.psw {
+            Some(psw) => psw,
+            None => core.psw(),
+        }
+    }
 
     #[inline(always)]
     fn put_psw(&mut self, core: &Core, psw: Psw) -> Result<(), AllocError> {

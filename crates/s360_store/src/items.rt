@@ -1,12 +1,11 @@
 //! Single cells, and runs of successive bytes of storage, whose bytes stand in one list.
-ghost use Rattle.std.specs.Prelude.{◌≡◌, ◌<◌, ◌≤◌, ◌+◌, ◌++◌, length, slice_get, position};
-ghost use Rattle.std.specs.Prelude.{ℕ, List, drop, IfSome, OnOk, Some, IsTrue};
+ghost use Rattle.std.specs.Prelude.{◌≡◌, ◌<◌, ◌≤◌, ◌+◌, length, slice_get, position};
+ghost use Rattle.std.specs.Prelude.{drop, IfSome, Some, IsTrue};
 ghost use Rattle.std.specs.List.{list_any};
 ghost use Rattle.s360_store.specs.Cells.{places_of_cells};
 ghost use Rattle.s360_store.specs.Items.{AllMiss, AreItems, HasAddresses, IsItem, IsJoined, IsPartAt, IsReplaced, MissesBytes};
 ghost use Rattle.s360_store.specs.Items.{bytes_of_item, bytes_of_items, cells_of_item, cells_of_items};
 ghost use Rattle.s360_store.specs.Items.{cells_of_part, count_of_item, first_place, has_place, is_in_run, last_place};
-ghost use Rattle.s360_store.specs.Order.{IsAscending};
 ghost use Rattle.s360_store.specs.Plans.{planned_value};
 ghost use Rattle.s360_store.specs.Spans.{span_of_item};
 ghost use Rattle.s360_store.specs.declared.place.Place.TheVariants.{Byte};
@@ -224,19 +223,6 @@ pub(crate) fn value_at(items: &[Item], bytes: &[u8], place: Place) -> Option<u64
     None
 }
 
-/// Whether the places of items ascend.
-pub(crate) fn are_ascending(items: &[Item]) -> bool
-    requires items { AreItems items.now }
-    ensures { IsTrue result → (bytes : List ℕ) → IsAscending (places_of_cells (cells_of_items items.now bytes)) }
-{
-    for i in 1..items.len() {
-        if !items[i - 1].last().cmp(&items[i].first()).is_lt() {
-            return false;
-        }
-    }
-    true
-}
-
 /// The index of the item that has a place, if one has it.
 pub(crate) fn find(items: &[Item], place: Place) -> Option<usize>
     ensures { result ≡ position (λ i. has_place i place) items.now }
@@ -293,39 +279,4 @@ pub(crate) fn joined(items: &[Item], address: u32, count: u32) -> Option<Item>
         }),
         _ => None,
     }
-}
-
-/// Adds the cells of an item to a list. The bytes are those from its own on.
-fn list_item(cells: &mut Vec<Cell>, item: Item, bytes: &[u8]) -> Result<(), AllocError>
-    requires item { IsItem item }
-    requires all { bytes_of_item item ≤ length bytes.now }
-    ensures { OnOk result (cells.new.items ≡ cells.old.items ++ cells_of_item item bytes.now) }
-{
-    match item {
-        Item::Single(cell) => cells.push(cell)?,
-        Item::Run { address, count } => {
-            for i in 0..count {
-                cells.push(byte_cell(address + i, bytes[i as usize]))?;
-            }
-        }
-    }
-    Ok(())
-}
-
-/// Adds the cells of items to a list.
-pub(crate) fn list_cells(
-    cells: &mut Vec<Cell>,
-    items: &[Item],
-    bytes: &[u8],
-) -> Result<(), AllocError>
-    requires items { AreItems items.now }
-    requires all { bytes_of_items items.now ≤ length bytes.now }
-    ensures { OnOk result (cells.new.items ≡ cells.old.items ++ cells_of_items items.now bytes.now) }
-{
-    let mut rest = bytes;
-    for item in items {
-        list_item(cells, *item, rest)?;
-        rest = rest.split_at(item.bytes() as usize).1;
-    }
-    Ok(())
 }

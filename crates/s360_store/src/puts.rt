@@ -9,6 +9,7 @@ ghost use Rattle.s360_store.specs.declared.place.Place.TheVariants.{Byte, Key, R
 
 use crate::block_key::BlockKey;
 use crate::core_state::Core;
+use crate::place::Place;
 use crate::plan::Plan;
 use s360_psw::Psw;
 use s360_word::{RegisterNumber, Word};
@@ -28,6 +29,11 @@ pub trait Puts {
 
     /// How many places there are so far, at most.
     ghost count: { Self → ℕ };
+
+    /// The PSW as the puts so far leave it.
+    fn psw(&self, core: &Core) -> Psw
+        requires may { may self.now core.now }
+        ensures { result ≡ (made self.now core.now).psw };
 
     /// Puts a PSW, in place of the one that was put.
     fn put_psw(&mut self, core: &Core, psw: Psw) -> Result<(), AllocError>
@@ -89,6 +95,13 @@ impl Puts for Plan {
     ghost past = { λ plan p. Unit {0} };
 
     ghost count = { λ plan. length plan };
+
+    fn psw(&self, core: &Core) -> Psw {
+        match self.value(Place::Psw) {
+            Some(doubleword) => Psw::from_u64(doubleword),
+            None => core.psw(),
+        }
+    }
 
     fn put_psw(&mut self, _: &Core, psw: Psw) -> Result<(), AllocError> {
         Plan::put_psw(self, psw)?;

@@ -15,4 +15,5 @@ returns g c = record {
       ∙ with_registers_loaded-psw c.args.view.now.core.storage.bytes c.args.words.now.r1 c.args.words.now.address c.args.words.now.count (next_psw c.args.view.now) c.args.view.now.core;
   allowed = c.in_ok-put_registers.ensures.may;
   few = omega (arith, c.in_ok-put_registers.ensures.few, c.in_ok-put_next_psw.ensures.few, c.requires.none.none, c.requires.count);
+  follow = tt;
 }

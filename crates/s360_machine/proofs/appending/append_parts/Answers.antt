@@ -1,8 +1,9 @@
+use Rattle.s360_store.specs.CoreChanges.{cells_of_change}
 use Rattle.s360_machine.specs.Packed.{lists}
-use Rattle.s360_machine.proofs.PackedLemmas.{appended-bytes}
+use Rattle.s360_machine.proofs.PackedLemmas.{appended-row}
 use Rattle.s360_machine.proofs.appending.append_parts.Goals as goal
 
-pub returns-in-Plain-clause-ok : goal.returns-in-Plain-clause-ok
-returns-in-Plain-clause-ok c =
-    rw c.in-Plain.is (appended-bytes (lists c.args.items.now.items c.args.bytes.now.items c.args.list.now.items) c.append_bytes.new.bytes.items c.in-Plain.plain c.append_bytes.result (rw c.in-Plain.is at c.requires)
-    c.append_bytes.ensures.ok c.append_bytes.ensures.bytes)
+pub returns-in-Some-clause-ok : goal.returns-in-Some-clause-ok
+returns-in-Some-clause-ok c =
+    appended-row (lists c.args.items.now.items c.args.bytes.now.items c.args.list.now.items) c.push_run.new.list.items (cells_of_change c.args.core.now) c.args.beside.now c.in-Some.row c.in-Some.run'.now
+    c.in-Some.ensures (c.is_empty.ensures c.if-is_empty.true) c.in_ok-push_run.ensures.ok

@@ -1,23 +1,20 @@
-use Rattle.std.proofs.Common.{◌≡◌, ap, ◌∙◌}
-use Rattle.s360_machine.specs.Changes.{change_of_parts}
-use Rattle.s360_machine.specs.Change.{Change, after_swap, change_after_swap}
-use Rattle.s360_machine.proofs.SwapLemmas.{IsSwap, IsSwap-from}
+use Rattle.s360_store.specs.CoreChanges.{cells_of_change}
+use Rattle.s360_machine.specs.Changes.{change_of}
+use Rattle.s360_machine.proofs.SwapLemmas.{IsSwap, IsSwap-parts}
 use Rattle.s360_machine.proofs.machine.Machine.swap_all.Goals as goal
-use Rattle.s360_machine.proofs.machine.Machine.swap_all.Goals.{After-exchange_parts}
+use Rattle.s360_machine.proofs.machine.Machine.swap_all.Goals.{After-exchange_beside}
 
-exchanged : (c : After-exchange_parts) → IsSwap c.args.self.now.whole c.args.changes.now c.exchange_parts.new.self.whole (change_of_parts c.exchange_parts.new.parts)
+exchanged : (c : After-exchange_beside) → IsSwap c.args.self.now.whole c.args.changes.now c.exchange_beside.new.self.whole (change_of (cells_of_change c.exchange.new.self) c.exchange_beside.new.beside)
 exchanged c =
-    let machine : c.exchange_parts.new.self.whole ≡ after_swap c.args.self.now.whole c.args.changes.now
-    = c.exchange_parts.ensures.machine ∙ ap (λ (y : Change). after_swap c.args.self.now.whole y) c.changes.view_is
-    in let change : change_of_parts c.exchange_parts.new.parts ≡ change_after_swap c.args.self.now.whole c.args.changes.now
-    = c.exchange_parts.ensures.change ∙ ap (λ (y : Change). change_after_swap c.args.self.now.whole y) c.changes.view_is
-    in IsSwap-from c.args.self.now.whole c.args.changes.now _ _ c.requires.can machine change c.exchange_parts.ensures.fit
+    rw (← c.self.view_is, ← c.changes.view_is)
+    (IsSwap-parts _ c.exchange_beside.new.self.whole (cells_of_change c.changes.inside.core) (cells_of_change c.exchange.new.self) c.changes.inside.beside c.exchange_beside.new.beside c.exchange.new.core
+    c.exchange.ensures.core c.exchange_beside.ensures.machine c.exchange.ensures.change c.exchange_beside.ensures.beside (rw (← c.self.view_is, ← c.changes.view_is) at c.requires.can) c.exchange.ensures.fit)
 
 pub returns-clause-again : goal.returns-clause-again
-returns-clause-again c = (exchanged (goal.at.returns-clause-again c).After-exchange_parts).again
+returns-clause-again c = (exchanged (goal.at.returns-clause-again c).After-exchange_beside).again
 
 pub returns-clause-restores_machine : goal.returns-clause-restores_machine
-returns-clause-restores_machine c = (exchanged (goal.at.returns-clause-restores_machine c).After-exchange_parts).whole
+returns-clause-restores_machine c = (exchanged (goal.at.returns-clause-restores_machine c).After-exchange_beside).whole
 
 pub returns-clause-restores_changes : goal.returns-clause-restores_changes
-returns-clause-restores_changes c = (exchanged (goal.at.returns-clause-restores_changes c).After-exchange_parts).change
+returns-clause-restores_changes c = (exchanged (goal.at.returns-clause-restores_changes c).After-exchange_beside).change

@@ -1,8 +1,0 @@
-use Rattle.s360_machine.proofs.StepLemmas.{ExecutesProgram-none, ExecutesProgram-step}
-use Rattle.s360_machine.proofs.channel_event.plan_step.Goals as goal
-
-pub returns-in_default : goal.returns-in_default
-returns-in_default g c = rw c.requires.empty (ExecutesProgram-none _ _ _ _ _ c.in_default.not-Active)
-
-pub returns : goal.returns
-returns g c = ExecutesProgram-step _ _ c.in-Active.program _ _ _ _ _ _ c.in-Active.is c.in_ok-step.ensures.executes c.unit_step-step.ensures.control c.unit_step-step.ensures.change
