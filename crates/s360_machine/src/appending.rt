@@ -78,9 +78,10 @@ pub(crate) fn append_parts(
 {
     if beside.is_empty() {
         if let Some((row, run)) = Row::within(core) {
-            if !run.is_empty() {
-                append_bytes(bytes, run)?;
+            if run.is_empty() {
+                return Ok(row);
             }
+            append_bytes(bytes, run)?;
             return Ok(row);
         }
     }

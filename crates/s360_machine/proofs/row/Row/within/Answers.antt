@@ -12,4 +12,7 @@ number-held (Ok x) P v n h e = let same : x ≡ v = h.1 in cc
 number-held (Err x) P v n h e = absurd cc
 
 pub returns-in_ok-count-in-Bytes : goal.returns-in_ok-count-in-Bytes
-returns-in_ok-count-in-Bytes c = ?
+returns-in_ok-count-in-Bytes c =
+    let part : IsAllOf c.args.core.now.cells (OfBytes c.in-Bytes.address c.in-Bytes.bytes) = rw (c.cells-cells.ensures, c.in-Bytes.is) at c.in_ok-cell.ensures
+    in row-of-bytes c.args.core.now c.in_ok-psw.psw c.in-Bytes.address c.in_ok-count-in-Bytes.count c.in-Bytes.bytes.now (sym c.altered_psw-psw.ensures ∙ c.in_ok-psw.was) part.is part.some part.small
+    (number-held _ _ _ _ c.try_from.ensures (sym c.ok.ensures.value ∙ c.in_ok-count-in-Bytes.was))
