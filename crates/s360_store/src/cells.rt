@@ -254,6 +254,12 @@ impl Cells {
         ensures cells { self.new ≡ cells_after_exchange (core_of psw.old registers.old storage.old) self.old }
         ensures fit { AllFit storage.new.fetch_protection self.new }
     {
-        exchange_items(psw, registers, storage, self.items.as_mut_slice(), self.bytes.as_mut_slice());
+        exchange_items(
+            psw,
+            registers,
+            storage,
+            self.items.as_mut_slice(),
+            self.bytes.as_mut_slice(),
+        );
     }
 }

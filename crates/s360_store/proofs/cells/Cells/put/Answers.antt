@@ -16,8 +16,8 @@ replaced c =
 
 written : (c : goal.After-self-1) → refill c.self.inside.items.len c.self.inside.items.items c.replace.new.items ≡ c.replace.new.items
 written c = refill-same c.self.inside.items.len c.self.inside.items.items c.replace.new.items (
-  (replaced c).long ∙ sym (ap length c.as_mut_slice.ensures.value) ∙ c.as_mut_slice.ensures.len
-)
+    (replaced c).long ∙ sym (ap length c.as_mut_slice.ensures.value) ∙ c.as_mut_slice.ensures.len
+    )
 
 pub invariant_of-self : goal.invariant_of-self
 invariant_of-self c = rw (written c) (record {
