@@ -25,7 +25,7 @@ pub use bytes::{Bytes, append_bytes};
 pub use cells::Cells;
 pub use core_change::CoreChange;
 pub use core_state::Core;
-pub use differing::next_run;
+pub use differing::{first_other, next_run};
 pub use fault::StoreFault;
 pub use items::{Item, Part, part_at};
 pub use place::{Cell, Place};
