@@ -384,14 +384,6 @@ changes-appended rows old new r x a =
     ∙ unpacked-joined r (reverse rows) old a.own_lists (record { items = a.items; bytes = a.bytes; beside = a.beside }) ∙ ap (λ y. y ∷ unpacked (reverse rows) old) a.change
     in ap (λ xs. reverse xs) newest_first ∙ reverse-cons x (unpacked (reverse rows) old)
 
--- so both stand where a row is pushed
-pub after-append : (rows more : List Row) (old new : Lists) (r : Row) (x : Change) → ArePacked (reverse rows) old → IsAppended old new r x → more ≡ rows ++ r ∷ []
-    → ArePacked (reverse more) new × (changes_of_rows more new ≡ changes_of_rows rows old ++ x ∷ [])
-after-append rows more old new r x h a e = (
-  subst (λ (l : List Row). ArePacked (reverse l) new) (sym e) (packed-appended rows old new r x h a),
-  ap (λ (l : List Row). changes_of_rows l new) e ∙ changes-appended rows old new r x a,
-)
-
 -- what the lists have of the last of the first changes, as slices
 slice-own : {X : Type 0} (n e : ℕ) (xs : List X) → n ≤ e → e ≤ length xs → take (e - (e - n)) (drop (e - n) xs) ≡ newest n (take e xs)
 slice-own n e xs m l =
