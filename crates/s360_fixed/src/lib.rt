@@ -28,7 +28,7 @@ mod shifts;
 mod view;
 
 pub use address::{ADDRESSES, operand_address};
-pub use decoder::{decode, decode_bytes, form_with, length_of};
+pub use decoder::{decode, decode_bytes, length_of};
 pub use effect::Effect;
 pub use ended::{Ended, IoOperation};
 pub use fetch::fetch_instruction;
@@ -37,7 +37,7 @@ pub use load_store::put_store;
 pub use making::{Made, RegisterWords};
 pub use operand::operand_exception;
 pub use operation::Operation;
-pub use planner::{made, plan_fixed, put_fixed};
+pub use planner::{made, plan_fixed, put_fixed, put_rr, put_rx};
 pub use program_code::ProgramCode;
 pub use puts::put_next_psw;
 pub use setting::Setting;

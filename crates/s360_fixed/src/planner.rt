@@ -1,6 +1,6 @@
 //! What a fixed-point, branch or shift instruction makes, its puts, and its plan. Source: GA22-6821,
 //! "Fixed-Point Arithmetic", "Logical Operations" and "Branching".
-ghost use Rattle.std.specs.Prelude.{◌≡◌, [], IfOk, IfSome, IsSome};
+ghost use Rattle.std.specs.Prelude.{◌≡◌, ◌≤◌, [], IfOk, IfSome, IsSome, length};
 ghost use Rattle.std.specs.Option.{option_map};
 ghost use Rattle.s360_fixed.specs.Fixed.{fixed_outcome, rr_outcome, rs_outcome, rx_outcome};
 ghost use Rattle.s360_fixed.specs.Made.{IsWithin, outcome_of_made};
@@ -9,12 +9,16 @@ ghost use Rattle.s360_fixed.specs.Outcomes.{combination_outcome, pair_outcome};
 ghost use Rattle.s360_fixed.specs.Plans.{PlansOutcome, PutsOutcome};
 ghost use Rattle.s360_store.specs.Puts.{HasNoPuts};
 ghost use Rattle.s360_fixed.specs.Storing.{store_outcome};
+ghost use Rattle.s360_fixed.specs.Table.{form_with};
+ghost use Rattle.s360_fixed.specs.declared.form.Form.TheVariants.{Rr as rr, Rx as rx};
+ghost use Rattle.s360_fixed.specs.declared.form.Format.TheVariants.{Rr, Rx};
 ghost use Rattle.s360_fixed.specs.declared.second_operand.SecondOperand.TheVariants.{InStorage};
 ghost use Rattle.s360_fixed.specs.declared.second_operand.Width.TheVariants.{Word};
 
 use crate::address::operand_address;
 use crate::arithmetic::{combined, pair_combined};
 use crate::branching::{branched, branched_on_index, register_target};
+use crate::decoder::{base_and_displacement, high_register, low_register};
 use crate::ended::Ended;
 use crate::form::Form;
 use crate::load_store::{fetch, registers_loaded, registers_stored, stored};
@@ -129,26 +133,55 @@ fn made_rs(
     }
 }
 
-/// What an instruction makes, if it is a fixed-point, branch or shift instruction.
+/// What an instruction of the format RR makes, if it is a fixed-point or branch instruction.
 #[inline(always)]
+fn made_in_rr(
+    view: &View,
+    operation: Operation,
+    r1: RegisterNumber,
+    r2: RegisterNumber,
+) -> Option<Made>
+    ensures outcome { option_map (λ m. outcome_of_made view.now m) result ≡ option_map (λ outcome. outcome view.now) (fixed_outcome (rr operation r1 r2)) }
+    ensures within { IfSome result (λ m. IsWithin view.now.core m) }
+{
+    made_rr(view, operation.row()?, r1, r2)
+}
+
+/// What one of the format RX makes, likewise, with a base and a displacement.
+#[inline(always)]
+fn made_in_rx(
+    view: &View,
+    operation: Operation,
+    r1: RegisterNumber,
+    x2: RegisterNumber,
+    b2: RegisterNumber,
+    d2: u16,
+) -> Option<Made>
+    ensures outcome { option_map (λ m. outcome_of_made view.now m) result ≡ option_map (λ outcome. outcome view.now) (fixed_outcome (rx operation r1 x2 b2 d2)) }
+    ensures within { IfSome result (λ m. IsWithin view.now.core m) }
+{
+    made_rx(
+        view,
+        operation.row()?,
+        r1,
+        operand_address(view, x2, b2, d2),
+    )
+}
+
+/// What an instruction makes, if it is a fixed-point, branch or shift instruction.
 pub fn made(form: &Form, view: &View) -> Option<Made>
     ensures outcome { option_map (λ m. outcome_of_made view.now m) result ≡ option_map (λ outcome. outcome view.now) (fixed_outcome form.now) }
     ensures within { IfSome result (λ m. IsWithin view.now.core m) }
 {
     match *form {
-        Form::Rr { operation, r1, r2 } => made_rr(view, operation.row()?, r1, r2),
+        Form::Rr { operation, r1, r2 } => made_in_rr(view, operation, r1, r2),
         Form::Rx {
             operation,
             r1,
             x2,
             b2,
             d2,
-        } => made_rx(
-            view,
-            operation.row()?,
-            r1,
-            operand_address(view, x2, b2, d2),
-        ),
+        } => made_in_rx(view, operation, r1, x2, b2, d2),
         Form::Rs {
             operation,
             r1,
@@ -161,6 +194,43 @@ pub fn made(form: &Form, view: &View) -> Option<Made>
         }
         Form::Si { .. } | Form::Ss { .. } => None,
     }
+}
+
+/// Puts what the instruction of the format RR makes that these bytes are, which has this operation.
+#[inline(always)]
+pub fn put_rr<P: Puts>(
+    operation: Operation,
+    bytes: &[u8],
+    view: &View,
+    puts: &mut P,
+) -> Result<Ended, AllocError>
+    requires whole { 2 ≤ length bytes.now }
+    requires fixed { IsSome (fixed_outcome (form_with Rr operation bytes.now)) }
+    requires none { HasNoPuts view.now.core (P.made puts.old) (P.may puts.old) (P.past puts.old) (P.count puts.old) }
+    ensures { IfSome (fixed_outcome (form_with Rr operation bytes.now)) (λ outcome. IfOk result (PutsOutcome view.now.core (P.made puts.new) (P.may puts.new) (P.past puts.new) (P.count puts.new) (outcome view.now))) }
+{
+    let (r1, r2) = (high_register(bytes, 1), low_register(bytes, 1));
+    made_in_rr(view, operation, r1, r2).unwrap().put(view, puts)
+}
+
+/// Puts what one of the format RX makes, likewise.
+#[inline(always)]
+pub fn put_rx<P: Puts>(
+    operation: Operation,
+    bytes: &[u8],
+    view: &View,
+    puts: &mut P,
+) -> Result<Ended, AllocError>
+    requires whole { 4 ≤ length bytes.now }
+    requires fixed { IsSome (fixed_outcome (form_with Rx operation bytes.now)) }
+    requires none { HasNoPuts view.now.core (P.made puts.old) (P.may puts.old) (P.past puts.old) (P.count puts.old) }
+    ensures { IfSome (fixed_outcome (form_with Rx operation bytes.now)) (λ outcome. IfOk result (PutsOutcome view.now.core (P.made puts.new) (P.may puts.new) (P.past puts.new) (P.count puts.new) (outcome view.now))) }
+{
+    let (r1, x2) = (high_register(bytes, 1), low_register(bytes, 1));
+    let (b2, d2) = base_and_displacement(bytes, 2);
+    made_in_rx(view, operation, r1, x2, b2, d2)
+        .unwrap()
+        .put(view, puts)
 }
 
 /// Puts what a fixed-point, branch or shift instruction makes, and says how it ends.

@@ -208,21 +208,6 @@ impl Session {
         ensures refused { MatchOption (refusal_in self.old event) (IsOkUnless result Memory) (λ r. result ≡ Err r) }
         ensures size { storage_size (machine_of self.old) ≡ storage_size (seen self.old.start) }
     {
-        // Most events are the CPU's: the compiler puts them apart, where it need not ask what they are.
-        match event {
-            Event::Cpu => self.offer(Event::Cpu),
-            event => self.offer(event),
-        }
-    }
-
-    /// The same, where it is called.
-    #[inline(always)]
-    fn offer(&mut self, event: Event) -> Result<(), Refusal>
-        ensures ok { OnOk result (IsAfter self.new self.old event) }
-        ensures err { OnErr result (self.new ≡ self.old) }
-        ensures refused { MatchOption (refusal_in self.old event) (IsOkUnless result Memory) (λ r. result ≡ Err r) }
-        ensures size { storage_size (machine_of self.old) ≡ storage_size (seen self.old.start) }
-    {
         if let Some(refusal) = self.refusal(&event) {
             return Err(refusal);
         }

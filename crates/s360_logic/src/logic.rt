@@ -74,7 +74,7 @@ fn put_storage<P: Puts>(
 }
 
 /// Puts an instruction by its row in these chapters, if it has one.
-#[inline(always)]
+#[inline(never)]
 fn put_own<P: Puts>(form: &Form, view: &View, puts: &mut P) -> Result<Ended, AllocError>
     requires none { HasNoPuts view.now.core (P.made puts.old) (P.may puts.old) (P.past puts.old) (P.count puts.old) }
     ensures { IfOk result (PutsOutcome view.now.core (P.made puts.new) (P.may puts.new) (P.past puts.new) (P.count puts.new) (by_row None (logic_outcome form.now) (status_outcome form.now) view.now)) }
@@ -125,7 +125,6 @@ fn put_own<P: Puts>(form: &Form, view: &View, puts: &mut P) -> Result<Ended, All
 }
 
 /// Puts an instruction by its row.
-#[inline(always)]
 fn put_row<P: Puts>(form: &Form, view: &View, puts: &mut P) -> Result<Ended, AllocError>
     requires none { HasNoPuts view.now.core (P.made puts.old) (P.may puts.old) (P.past puts.old) (P.count puts.old) }
     ensures { IfOk result (PutsOutcome view.now.core (P.made puts.new) (P.may puts.new) (P.past puts.new) (P.count puts.new) (row_outcome view.now form.now)) }
@@ -192,7 +191,6 @@ fn put_execute<P: Puts>(
 }
 
 /// Puts what an instruction does that was decoded, and says how it ends.
-#[inline(always)]
 pub fn put_logic<P: Puts>(form: &Form, view: &View, puts: &mut P) -> Result<Ended, AllocError>
     requires none { HasNoPuts view.now.core (P.made puts.old) (P.may puts.old) (P.past puts.old) (P.count puts.old) }
     ensures { IfOk result (PutsOutcome view.now.core (P.made puts.new) (P.may puts.new) (P.past puts.new) (P.count puts.new) (outcome_of view.now form.now)) }

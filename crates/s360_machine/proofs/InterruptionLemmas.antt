@@ -17,7 +17,6 @@ use Rattle.s360_store.specs.declared.place.Cell.{Cell}
 use Rattle.s360_store.specs.Cells.{AreCellsOf, after_exchange}
 use Rattle.s360_store.specs.Places.{IsPlaceOf, value_at}
 use Rattle.s360_store.specs.Plans.{planned_value}
-use Rattle.s360_store.proofs.PlannedLemmas.{planned_value-fits, value_at-plan}
 use Rattle.s360_machine.specs.Interruptions.{after_interruption}
 
 -- the core after an interruption, by what it stores and what it loads
