@@ -180,6 +180,7 @@ impl<'a> Fetched<'a> {
 
 /// Puts the instruction at the instruction address, and says how it ends.
 #[tactic(auto, unfolding(crate::specs::Instruction::instruction))]
+#[inline(always)]
 pub fn put_instruction<P: Puts>(core: &Core, puts: &mut P) -> Result<PlannedInstruction, AllocError>
     requires none { HasNoPuts core.now (P.made puts.old) (P.may puts.old) (P.past puts.old) (P.count puts.old) }
     ensures { IfOk result (PutsInstruction core.now (P.made puts.new) (P.may puts.new) (P.past puts.new) (P.count puts.new) (instruction core.now)) }
