@@ -51,6 +51,7 @@ WHOLE = [
     ("fuzzed commands of gdb", ["tests/gdb_fuzz.py", "--commands", COMMANDS]),
     ("chains by experiment", ["tests/why_by_experiment.py", "--sessions", SESSIONS]),
     ("media", ["tests/media.py"]),
+    ("costs", ["tests/costs.py"]),
     ("documents", ["tests/documents.py"]),
 ]
 QUICK = [

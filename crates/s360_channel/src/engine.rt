@@ -1,17 +1,19 @@
 //! One channel event: a channel command word executed over a device. Source: GA22-6821,
 //! "Input/Output Operations", execution of input/output operations.
 ghost use Rattle.std.specs.Prelude.{◌≡◌, ◌≤◌, ◌<◌, ◌+◌, ◌-◌, ◌^◌, ◌++◌};
-ghost use Rattle.std.specs.Prelude.{Some, None, [], IfOk, IsSome, OnErr, length};
+ghost use Rattle.std.specs.Prelude.{ℕ, Some, None, [], IfNone, IfOk, IfSome, IsSome, OnErr, length};
 ghost use Rattle.s360_device.specs.Transfers.{CanEndWith, IsOutput, MovesBytes};
 ghost use Rattle.s360_device.specs.declared.device.Begin.TheVariants.{Input, Output};
 ghost use Rattle.s360_channel.specs.Execution.{channel_execution, execute_begun};
 ghost use Rattle.s360_channel.specs.Execution.{execute_input, execute_output, input_with};
 ghost use Rattle.s360_channel.specs.Execution.{after_conclusion, after_transfer, gathered_within, moved_before};
-ghost use Rattle.s360_channel.specs.Execution.{stored_bytes};
+ghost use Rattle.s360_channel.specs.Execution.{Execution, after_check, stored_bytes, unless_checked};
 ghost use Rattle.s360_channel.specs.Execution.{execute_without_bytes, ended_unit, refused_unit};
 ghost use Rattle.s360_channel.specs.Steps.{AltersDevice, IsDeviceChange, KeepsDevice};
 ghost use Rattle.s360_channel.specs.Programs.{next_ccw};
 ghost use Rattle.s360_channel.specs.Steps.{Executes, PlansExecution, WordMovesBytes, change_of_step, state_after_step};
+ghost use Rattle.s360_store.specs.declared.protection.Checked.TheVariants.{Clear};
+ghost use Rattle.s360_channel.specs.declared.program.Program.{Program};
 ghost use Rattle.s360_channel.specs.declared.program.Progress.TheVariants.{InputChained, OutputChained};
 
 use crate::ccw::{Ccw, reads_backward};
@@ -207,6 +209,18 @@ fn after_input<D: Device>(
     Ok(step)
 }
 
+/// The channel status of the check that an access meets, if it meets one: then nothing else is executed.
+fn status_of_check(met: Checked) -> Option<ChannelStatus>
+    ensures clear { IfNone result (met ≡ Clear) }
+    ensures check { IfSome result (λ status. (p : Program) (at : ℕ) (e : Execution) → unless_checked p at met e ≡ after_check p at status) }
+{
+    match met {
+        Checked::Clear => None,
+        Checked::Addressing => Some(ChannelStatus::program_check()),
+        Checked::Protection => Some(protection_check()),
+    }
+}
+
 /// A word of an input that moves so much and stores these bytes.
 fn execute_stored_input<D: Device>(
     storage: &Storage,
@@ -224,16 +238,10 @@ fn execute_stored_input<D: Device>(
     let backward = reads_backward(word.command);
     let count = bytes.as_slice().len() as u16;
     let lowest = lowest_address(backward, word.ccw.address, count);
-    match access_of(storage, program.key, Access::Store, count, lowest) {
-        Checked::Clear => {}
-        Checked::Addressing => {
-            let step = program.checked(word.at, ChannelStatus::program_check());
-            return Ok(without_stores(step));
-        }
-        Checked::Protection => {
-            let step = program.checked(word.at, protection_check());
-            return Ok(without_stores(step));
-        }
+    let met = access_of(storage, program.key, Access::Store, count, lowest);
+    if let Some(status) = status_of_check(met) {
+        let step = program.checked(word.at, status);
+        return Ok(without_stores(step));
     }
     let step = after_input(program, device, word, transfer)?;
     let stores = run_of(storage, program.key, lowest, bytes);
@@ -307,22 +315,11 @@ fn execute_output<D: Device>(
     let address = word.ccw.address;
     let before = program.progress.count_within(limit);
     let transfer = output_transfer(&word.ccw, limit - before);
-    match access_of(
-        storage,
-        program.key,
-        Access::Fetch,
-        transfer.count,
-        Some(address),
-    ) {
-        Checked::Clear => {}
-        Checked::Addressing => {
-            let step = program.checked(word.at, ChannelStatus::program_check());
-            return Ok(without_stores(step));
-        }
-        Checked::Protection => {
-            let step = program.checked(word.at, protection_check());
-            return Ok(without_stores(step));
-        }
+    let lowest = Some(address);
+    let met = access_of(storage, program.key, Access::Fetch, transfer.count, lowest);
+    if let Some(status) = status_of_check(met) {
+        let step = program.checked(word.at, status);
+        return Ok(without_stores(step));
     }
     let bytes = fetched(storage, address, transfer.count);
     let step = after_output(alloc, program, device, word, limit, &transfer, bytes)?;

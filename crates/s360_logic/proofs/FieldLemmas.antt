@@ -1,9 +1,12 @@
 -- Storage while bytes of an operand are stored, and what is planned of it.
-use Rattle.std.proofs.Common.{◌^◌, ◌≡◌, ◌≢◌, ◌⊎◌, inl, inr, get_or, ◌<◌, ◌≤◌, ◌+◌, ◌-◌, ◌++◌, ℕ, suc, List, length, take, drop, set, arith, refl, ap, sym, slice_set, nat_eq, ◌∙◌, true, rules}
+use Rattle.std.proofs.Common.{◌^◌, ◌≡◌, ◌≢◌, ◌⊎◌, inl, inr, get_or, ◌<◌, ◌≤◌, ◌+◌, ◌-◌, ◌++◌, ℕ, zero, suc, List, length, take, drop, set, arith, refl, ap, sym, slice_set, nat_eq, ◌∙◌, pos, true, rules}
 use Rattle.std.proofs.lemmas.List.{get_or-drop, get_or-set_other, get_or-take, places, same_lists, length-append, length-set, length-take-le, set-append_left, set-append_right}
+use Rattle.std.proofs.lemmas.Bool.{ne_eqb}
+use Rattle.s360_model.specs.ConditionCodes.{order_code}
 use Rattle.s360_model.specs.Storage.{Storage, with_run}
 use Rattle.s360_model.specs.Core.{Core, core_with_bytes, core_with_psw}
 use Rattle.s360_model.specs.Psw.{with_instruction_address}
+use Rattle.s360_store.specs.Differing.{IsFirstOther}
 use Rattle.s360_fixed.specs.declared.setting.Setting.{Setting}
 use Rattle.s360_fixed.specs.Settings.{psw_with}
 use Rattle.s360_fixed.specs.View.{View}
@@ -46,6 +49,12 @@ left_to_right-set f a i n b o h len here inside e =
     let there : with_byte (o.address + i) b (stored_in o) ≡ with_byte (a + i) (f i (stored_in o)) (stored_in o) = ap (λ x. with_byte (x + i) b (stored_in o)) here ∙ ap (λ x. with_byte (a + i) x (stored_in o)) e
     in rw (stored_in-set o i b (omega (arith, len, h)) (omega (arith, len, here, inside)), there) (sym (left_to_right-step f a i n (stored_in o) h))
 
+-- a byte of an operand of which nothing is stored
+pub operand_bytes-at : (s : Storage) (a n i : ℕ) → i < n → get_or (operand_bytes s a n) i 0 ≡ byte_at s (a + i)
+operand_bytes-at s a n i l =
+    let same : a + n - a ≡ n = omega arith
+    in rw same (get_or-take n (drop a s.bytes) i 0 l ∙ get_or-drop a s.bytes i 0)
+
 -- one pair of equal bytes more
 pub comparison_code-step : (s : Storage) (first second i n : ℕ) → i < n → byte_at s (first + i) ≡ byte_at s (second + i)
     → comparison_code s (first + (i + 1)) (second + (i + 1)) (n - (i + 1)) ≡ comparison_code s (first + i) (second + i) (n - i)
@@ -55,17 +64,34 @@ comparison_code-step s first second i n h e =
     in let more : n - i ≡ suc (n - (i + 1)) = omega arith
     in rw (one, other, more) (sym (rw (e, nat_eq-same (byte_at s (second + i))) refl))
 
+-- as many as there are
+pub comparison_code-from : (s : Storage) (first second n k : ℕ) → k ≤ n → ((i : ℕ) → i < k → byte_at s (first + i) ≡ byte_at s (second + i)) → comparison_code s (first + k) (second + k) (n - k) ≡ comparison_code s first second n
+comparison_code-from s first second n zero l h =
+    let one : first + 0 ≡ first = omega arith
+    in let other : second + 0 ≡ second = omega arith
+    in let all : n - 0 ≡ n = omega arith
+    in rw (one, other, all) refl
+comparison_code-from s first second n (suc k) l h =
+    let more : suc k ≡ k + 1 = omega arith
+    in rw more (comparison_code-step s first second k n (omega (arith, l)) (h k (omega arith))) ∙ comparison_code-from s first second n k (omega (arith, l)) (λ i m. h i (omega (arith, m)))
+
+pub comparison_code-other : (s : Storage) (a b n : ℕ) → byte_at s a ≢ byte_at s b → comparison_code s a b (suc n) ≡ order_code (pos (byte_at s a)) (pos (byte_at s b))
+comparison_code-other s a b n h = rw (ne_eqb (byte_at s a) (byte_at s b) h) refl
+
+-- the first bytes that differ decide
+pub comparison_code-first : (s : Storage) (first second n k : ℕ) (bytes others : List ℕ) → bytes ≡ operand_bytes s first n → others ≡ operand_bytes s second n → length bytes ≡ n → IsFirstOther others bytes 0 k
+    → comparison_code s (first + k) (second + k) (n - k) ≡ comparison_code s first second n
+comparison_code-first s first second n k bytes others own its count h =
+    comparison_code-from s first second n k (omega (arith, h.within, count))
+    (λ i l.
+    let inside : i < n = omega (arith, l, h.within, count)
+    in sym (operand_bytes-at s first n i inside) ∙ ap (λ xs. get_or xs i 0) (sym own) ∙ sym (h.before i (omega arith) l) ∙ ap (λ xs. get_or xs i 0) its ∙ operand_bytes-at s second n i inside)
+
 -- the PSW with a condition code, and then the bytes of an operand
 pub stored-made : (v : View) (o : FirstOperand) (setting : Setting) (psw : ℕ) (a b c : Core) → a ≡ v.core → b ≡ core_with_psw psw a → c ≡ core_with_bytes o.address o.bytes b
     → psw ≡ with_instruction_address (psw_with v.core.psw setting) v.next_address → o.storage ≡ v.core.storage
     → c ≡ (completed_with v setting (stored_in o)).core
 stored-made v o setting psw a b c none first then is same = rw (then, first, none, is, same) refl
-
--- a byte of an operand of which nothing is stored
-pub operand_bytes-at : (s : Storage) (a n i : ℕ) → i < n → get_or (operand_bytes s a n) i 0 ≡ byte_at s (a + i)
-operand_bytes-at s a n i l =
-    let same : a + n - a ≡ n = omega arith
-    in rw same (get_or-take n (drop a s.bytes) i 0 l ∙ get_or-drop a s.bytes i 0)
 
 -- each other byte stays
 pub stored_in-other : (o : FirstOperand) (i b x : ℕ) → i < length o.bytes → o.address + length o.bytes ≤ length o.storage.bytes → x ≢ o.address + i

@@ -25,7 +25,7 @@ use crate::field::{Field, check, fields_exception};
 use crate::first_operand::FirstOperand;
 use crate::row::ByteCombination;
 use s360_fixed::{ADDRESSES, Effect, Ended, ProgramCode, Setting, View};
-use s360_store::{Access, Checked, GREATEST_SIZE, Puts, Storage};
+use s360_store::{Access, Checked, GREATEST_SIZE, Puts, Storage, first_other};
 use s360_word::{Cc, ProtectionKey, RegisterNumber, Word, compare_logical};
 use std::alloc::AllocError;
 
@@ -124,13 +124,12 @@ fn compared(storage: &Storage, first: u32, second: u32, count: u32) -> Cc
     requires small { length storage.now.bytes ≤ 1048576 }
     ensures { result ≡ comparison_code storage.now first second count }
 {
-    for i in 0..count {
-        let (a, b) = (storage.byte(first + i), storage.byte(second + i));
-        if a != b {
-            return compare_logical(Word::from(a), Word::from(b));
-        }
+    let (bytes, others) = (storage.bytes(first, count), storage.bytes(second, count));
+    let at = first_other(bytes, others, 0);
+    if at == bytes.len() {
+        return Cc::new(0);
     }
-    Cc::new(0)
+    compare_logical(Word::from(bytes[at]), Word::from(others[at]))
 }
 
 /// Puts a comparison.

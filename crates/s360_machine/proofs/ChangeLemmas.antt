@@ -66,8 +66,3 @@ PutsMachine-patch w made may b (Register n word) c a l = record { core = c; allo
 PutsMachine-patch w made may b (StorageKey at k) c a l = record { core = c; allowed = a; others = record { control = l.control; units = l.units; media = l.media } }
 PutsMachine-patch w made may b (FetchBit at bit) c a l = record { core = c; allowed = a; others = record { control = l.control; units = l.units; media = l.media } }
 PutsMachine-patch w made may b (Psw psw) c a l = record { core = c; allowed = a; others = record { control = l.control; units = l.units; media = l.media } }
-
--- what follows of what is so where memory is not wanting
-pub on-ok : {T E : Type 0} (r : Result T E) {P Q : Type 0} → (P → Q) → OnOk r P → OnOk r Q
-on-ok (Ok x) f h = f h
-on-ok (Err e) f h = tt

@@ -1,4 +1,4 @@
--- What stands in a core as a plan leaves it, and the puts of an interruption.
+-- The puts of an interruption.
 use Rattle.std.proofs.Common.{◌≡◌, ◌<◌, ◌≤◌, ◌+◌, ◌-◌, ◌++◌, ℕ, zero, suc, List, refl, ap, arith, sym, ◌∙◌, drop, length, take, Some, None, unwrap_or, slice_index}
 use Rattle.std.proofs.lemmas.List.{append_assoc, drop-drop, drop_at, get_or-drop, length-append, length-take-le, take-take, take_at}
 use Rattle.std.specs.Int.{bytes_high_first}
@@ -17,26 +17,7 @@ use Rattle.s360_store.specs.declared.place.Cell.{Cell}
 use Rattle.s360_store.specs.Cells.{AreCellsOf, after_exchange}
 use Rattle.s360_store.specs.Places.{IsPlaceOf, value_at}
 use Rattle.s360_store.specs.Plans.{planned_value}
-use Rattle.s360_store.proofs.PlannedLemmas.{planned_value-fits, value_at-plan}
 use Rattle.s360_machine.specs.Interruptions.{after_interruption}
-
--- a value of the plan, or else what the core has
-planned-some : (m : Core) (plan : List Cell) (p : Place) (v : ℕ) → AreCellsOf m plan → IsPlaceOf m p → planned_value plan p ≡ Some v → v ≡ value_at (after_exchange m plan) p
-planned-some m plan p v h i e = sym (value_at-plan m plan p h i ∙ ap (λ o. unwrap_or o (value_at m p)) e)
-
-planned-none : (m : Core) (plan : List Cell) (p : Place) → AreCellsOf m plan → IsPlaceOf m p → planned_value plan p ≡ None → value_at m p ≡ value_at (after_exchange m plan) p
-planned-none m plan p h i e = sym (value_at-plan m plan p h i ∙ ap (λ o. unwrap_or o (value_at m p)) e)
-
-pub planned_byte-fits : (m : Core) (plan : List Cell) (a v : ℕ) → AreCellsOf m plan → planned_value plan (Byte a) ≡ Some v → v < 256
-planned_byte-fits m plan a v h e = planned_value-fits m plan (Byte a) v h e
-
-pub planned_byte-some : (m : Core) (plan : List Cell) (a v : ℕ) → AreCellsOf m plan → a < length m.storage.bytes → planned_value plan (Byte a) ≡ Some v
-    → v ≡ slice_index (after_exchange m plan).storage.bytes a
-planned_byte-some m plan a v h i e = planned-some m plan (Byte a) v h i e
-
-pub planned_byte-none : (m : Core) (plan : List Cell) (a : ℕ) → AreCellsOf m plan → a < length m.storage.bytes → planned_value plan (Byte a) ≡ None
-    → slice_index m.storage.bytes a ≡ slice_index (after_exchange m plan).storage.bytes a
-planned_byte-none m plan a h i e = planned-none m plan (Byte a) h i e
 
 -- the core after an interruption, by what it stores and what it loads
 pub interrupted-core : (m : Core) (class : Class) (psw code : ℕ) (il : InstructionLength) (next at-old : ℕ) (bytes : List ℕ) → at-old ≡ old_location_of class

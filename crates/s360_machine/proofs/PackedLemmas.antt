@@ -384,14 +384,6 @@ changes-appended rows old new r x a =
     ∙ unpacked-joined r (reverse rows) old a.own_lists (record { items = a.items; bytes = a.bytes; beside = a.beside }) ∙ ap (λ y. y ∷ unpacked (reverse rows) old) a.change
     in ap (λ xs. reverse xs) newest_first ∙ reverse-cons x (unpacked (reverse rows) old)
 
--- so both stand where a row is pushed
-pub after-append : (rows more : List Row) (old new : Lists) (r : Row) (x : Change) → ArePacked (reverse rows) old → IsAppended old new r x → more ≡ rows ++ r ∷ []
-    → ArePacked (reverse more) new × (changes_of_rows more new ≡ changes_of_rows rows old ++ x ∷ [])
-after-append rows more old new r x h a e = (
-  subst (λ (l : List Row). ArePacked (reverse l) new) (sym e) (packed-appended rows old new r x h a),
-  ap (λ (l : List Row). changes_of_rows l new) e ∙ changes-appended rows old new r x a,
-)
-
 -- what the lists have of the last of the first changes, as slices
 slice-own : {X : Type 0} (n e : ℕ) (xs : List X) → n ≤ e → e ≤ length xs → take (e - (e - n)) (drop (e - n) xs) ≡ newest n (take e xs)
 slice-own n e xs m l =
@@ -704,14 +696,10 @@ pub bytes-of-rows : (rows : List Row) (ls : Lists) → ArePacked (reverse rows) 
 bytes-of-rows rows ls h = bytes-unpacked (reverse rows) ls h
 
 -- a change of the PSW and of one run has the row of a run
-pub row-of-bytes : (x : CoreChange) (psw address count n : ℕ) (bs : List ℕ) → x.psw ≡ Some psw → x.cells ≡ byte_cells address bs ++ drop n x.cells → length (byte_cells address bs) ≤ n
-    → 0 < length (byte_cells address bs) → address + length bs ≤ 2 ^ 32 → length bs ≡ length x.cells → length bs ≡ count → IsRowOf (cells_of_change x) (Bytes count address psw) bs
-row-of-bytes x psw address count n bs p is past some fit all many =
-    let few : length (byte_cells address bs) ≡ length bs = length-byte_cells address bs
-    in let none : drop n x.cells ≡ [] = drop_all n x.cells (omega (arith, few, past, all))
-    in let cells : byte_cells address bs ≡ x.cells = sym (is ∙ ap (λ (l : List Cell). byte_cells address bs ++ l) none ∙ append-nil (byte_cells address bs))
-    in record {
-      within = tt;
-      over = (refl, many, omega (arith, few, some, many), omega (arith, many, fit));
-      cells_are = rw p (ap (λ (l : List Cell). psw_cell psw ∷ l) cells);
-    }
+pub row-of-bytes : (x : CoreChange) (psw address count : ℕ) (bs : List ℕ) → x.psw ≡ Some psw → byte_cells address bs ≡ x.cells → 0 < length x.cells → address + length bs ≤ 2 ^ 32 → length bs ≡ count
+    → IsRowOf (cells_of_change x) (Bytes count address psw) bs
+row-of-bytes x psw address count bs p cells some fit many = record {
+  within = tt;
+  over = (refl, many, omega (arith, ap length cells, length-byte_cells address bs, some, many), omega (arith, many, fit));
+  cells_are = rw p (ap (λ (l : List Cell). psw_cell psw ∷ l) cells);
+}

@@ -36,10 +36,6 @@ use Rattle.s360_channel.specs.ConfiguredUnits.{control_of, with_control_of}
 use Rattle.s360_channel.proofs.UnitChangeLemmas.{IsUnitsChangeTo-one}
 use Rattle.s360_machine.proofs.IoLemmas.{IsDeviceStep, device-becomes, device-stays}
 
--- a whole of its parts
-abbrev pub whole_with : Core → Control → Units → WholeMedia → Whole
-whole_with core control us media = record { core = core; control = control; units = us; media = media }
-
 -- a unit that becomes what it is
 pub unaltered : (u v : UnitControl) → u ≡ v → IsAlterationOf u v None
 unaltered u v h = let e : same_unit u v ≡ true = (same_unit-Decides u v).1 h in rw e refl

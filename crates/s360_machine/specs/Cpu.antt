@@ -66,11 +66,6 @@ core_after_ended (Program code) i = after_interruption program (number_of_code c
 core_after_ended (Svc code) i = after_interruption Supervisor code i.instruction_length (with_next_address i.next_address i.outcome.core)
 core_after_ended (Io operation unit) i = i.outcome.core
 
--- an instruction alters the core alone, with the interruption that it causes
-abbrev pub IsOfCore : Ended → Type 0
-IsOfCore (Io operation unit) = ⊥
-IsOfCore ended = Unit {0}
-
 -- an input/output instruction is the channels' to execute
 abbrev pub after_ended : Ended → Instruction → Machine → Machine
 after_ended (Io operation unit) i m = after_io operation unit i.next_address m

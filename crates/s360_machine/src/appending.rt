@@ -1,5 +1,5 @@
 //! How a change comes to the end of the journal's list.
-ghost use Rattle.std.specs.Prelude.{◌≡◌, ◌<◌, ◌++◌, ◌∷◌, [], false, true, vec_capacity, vec_len, Err, IfOk, IsOkUnless, IsTrue, MatchOption, OnErr, OnOk, length};
+ghost use Rattle.std.specs.Prelude.{◌≡◌, ◌<◌, ◌++◌, ◌∷◌, [], false, true, vec_capacity, vec_len, IfOk, IsTrue, None, OnErr, OnOk, length};
 ghost use Rattle.s360_store.specs.Cells.{AllFit};
 ghost use Rattle.s360_store.specs.CoreChanges.{cells_of_change};
 ghost use Rattle.s360_machine.specs.Beside.{IsNothing};
@@ -9,21 +9,16 @@ ghost use Rattle.s360_machine.specs.Packed.{IsAppended, lists};
 ghost use Rattle.s360_machine.specs.Planned.{AppendsChangeTo};
 ghost use Rattle.s360_machine.specs.Refusals.{refusal_of};
 ghost use Rattle.s360_machine.specs.Step.{after};
-ghost use Rattle.s360_machine.specs.declared.refusal.Refusal.TheVariants.{Memory};
 
 use crate::beside::Beside;
 use crate::changes::Changes;
 use crate::event::Event;
 use crate::machine::Machine;
 use crate::packed::Packed;
-use crate::refusal::Refusal;
 use crate::row::Row;
-use s360_store::{CoreChange, Item};
+use s360_store::{CoreChange, Item, append_bytes};
 use std::alloc::AllocError;
 use std::mem;
-
-/// So few bytes are copied one by one: to copy them at once would be a call.
-const FEW: usize = 8;
 
 /// Moves what is beside the core to a list that has room for it, if there is anything, and says whether there is.
 fn push_if_any(list: &mut Vec<Beside>, beside: &mut Beside) -> bool
@@ -66,22 +61,6 @@ fn append_full(
     })
 }
 
-/// Adds a run at the end of a list. Want of memory leaves the list as it was.
-#[inline(always)]
-fn push_run(list: &mut Vec<u8>, run: &[u8]) -> Result<(), AllocError>
-    ensures ok { OnOk result (list.new.items ≡ list.old.items ++ run.now) }
-    ensures err { OnErr result (list.new.items ≡ list.old.items) }
-{
-    if run.len() > FEW {
-        return list.extend_from_slice(run);
-    }
-    list.reserve(run.len())?;
-    for byte in run {
-        list.push_reserved(*byte);
-    }
-    Ok(())
-}
-
 /// Adds what a change has beside its row to the lists, and answers its row. Want of memory leaves the lists as they were.
 #[inline(always)]
 pub(crate) fn append_parts(
@@ -99,7 +78,10 @@ pub(crate) fn append_parts(
 {
     if beside.is_empty() {
         if let Some((row, run)) = Row::within(core) {
-            push_run(bytes, run)?;
+            if run.is_empty() {
+                return Ok(row);
+            }
+            append_bytes(bytes, run)?;
             return Ok(row);
         }
     }
@@ -107,27 +89,24 @@ pub(crate) fn append_parts(
 }
 
 impl Packed {
-    /// Adds what an event alters at the end, for which it makes room in the machine, or says why it is refused. The change
-    /// is put together in `next`, of which the memory is used again. Want of memory leaves the list as it was.
+    /// Adds what an event alters at the end, for which it makes room in the machine. The event is not refused for its own
+    /// sake (refusals 2 to 5). The change is put together in `next`, of which the memory is used again. Want of memory
+    /// leaves the list as it was.
     #[inline(always)]
     pub fn append_event(
         &mut self,
         machine: &mut Machine,
         event: &Event,
         next: &mut Changes,
-    ) -> Result<(), Refusal>
+    ) -> Result<(), AllocError>
         requires few { length self.old < 10000000 }
+        requires accepted { refusal_of (storage_size (seen machine.old.whole)) event.now ≡ None }
         ensures ok { OnOk result (AppendsChangeTo machine.old.whole machine.new.spare self.old self.new (after (seen machine.old.whole) event.now)) }
-        ensures refused { MatchOption (refusal_of (storage_size (seen machine.old.whole)) event.now) (IsOkUnless result Memory) (λ r. result ≡ Err r) }
         ensures err { OnErr result (self.new ≡ self.old) }
         ensures whole { machine.new.whole ≡ machine.old.whole }
     {
-        if let Some(refusal) = machine.refusal(event) {
-            return Err(refusal);
-        }
         machine.put_changes(event, next)?;
         machine.room(next)?;
-        self.append_from(next)?;
-        Ok(())
+        self.append_from(next)
     }
 }

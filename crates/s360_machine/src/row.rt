@@ -74,9 +74,9 @@ impl Row {
             return Some((psw.map_or(Row::Nothing, Row::Psw), &[]));
         }
         let psw = psw?;
-        match cells.part_at(0) {
-            Part::Cell(cell) if cells.len() == 1 => Some((with_register(psw, cell)?, &[])),
-            Part::Bytes(address, bytes) if bytes.len() == cells.len() as usize => {
+        match cells.only()? {
+            Part::Cell(cell) => Some((with_register(psw, cell)?, &[])),
+            Part::Bytes(address, bytes) => {
                 let count = u16::try_from(bytes.len()).ok()?;
                 Some((
                     Row::Bytes {
@@ -87,7 +87,6 @@ impl Row {
                     bytes,
                 ))
             }
-            _ => None,
         }
     }
 

@@ -11,12 +11,17 @@ pub record SameFrom (stored new : List ℕ) (from start : ℕ) : Type 0 where
 pub same-none : (stored new : List ℕ) (from : ℕ) → from ≤ length new → SameFrom stored new from from
 same-none stored new from l = record { order = omega arith; within = l; same = λ i m n. absurd (omega (arith, m, n)) }
 
-same-at : (stored new : List ℕ) (from start i : ℕ) → SameFrom stored new from start → get_or stored start 0 ≡ get_or new start 0 → from ≤ i → i < start + 1 → (i < start) ⊎ (start ≤ i) → get_or stored i 0 ≡ get_or new i 0
-same-at stored new from start i h e f l (inl m) = h.same i f m
-same-at stored new from start i h e f l (inr m) = let here : start ≡ i = omega (arith, l, m) in subst (λ k. get_or stored k 0 ≡ get_or new k 0) here e
+same-at : (stored new : List ℕ) (from start n i : ℕ) → SameFrom stored new from start → ((j : ℕ) → start ≤ j → j < start + n → get_or stored j 0 ≡ get_or new j 0) → from ≤ i → i < start + n → (i < start) ⊎ (start ≤ i)
+    → get_or stored i 0 ≡ get_or new i 0
+same-at stored new from start n i h more f l (inl m) = h.same i f m
+same-at stored new from start n i h more f l (inr m) = more i m l
+
+pub same-most : (stored new : List ℕ) (from start n : ℕ) → start + n ≤ length new → SameFrom stored new from start → ((j : ℕ) → start ≤ j → j < start + n → get_or stored j 0 ≡ get_or new j 0) → SameFrom stored new from (start + n)
+same-most stored new from start n l h more = record { order = omega (arith, h.order); within = l; same = λ i f m. same-at stored new from start n i h more f m (cases_lt i start) }
 
 pub same-more : (stored new : List ℕ) (from start : ℕ) → start < length new → SameFrom stored new from start → get_or stored start 0 ≡ get_or new start 0 → SameFrom stored new from (start + 1)
-same-more stored new from start l h e = record { order = omega (arith, h.order); within = omega (arith, l); same = λ i f m. same-at stored new from start i h e f m (cases_lt i start) }
+same-more stored new from start l h e =
+    same-most stored new from start 1 (omega (arith, l)) h (λ j a b. let here : start ≡ j = omega (arith, a, b) in subst (λ k. get_or stored k 0 ≡ get_or new k 0) here e)
 
 -- those from one place up to another do not
 pub record DifferWithin (stored new : List ℕ) (start end : ℕ) : Type 0 where

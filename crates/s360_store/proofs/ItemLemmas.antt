@@ -32,6 +32,26 @@ cells_of_item-behind : (i : Item) (bs cs : List ℕ) → bytes_of_item i ≤ len
 cells_of_item-behind (Single c) bs cs l = refl
 cells_of_item-behind (Run a n) bs cs l = rw (take-append-le n bs cs l) refl
 
+-- a run alone has all cells
+pub record IsOnlyRun (is : List Item) (bs : List ℕ) (a : ℕ) : Type 0 where
+  pub is_all : byte_cells a bs ≡ cells_of_items is bs
+  pub some : 0 < length (cells_of_items is bs)
+  pub small : a + length bs ≤ 2 ^ 32
+
+pub only-run : (is : List Item) (bs : List ℕ) (a n : ℕ) (d : Item) → AreItems is → bytes_of_items is ≡ length bs → length is ≡ 1 → get_or is 0 d ≡ Run a n → IsOnlyRun is bs a
+only-run [] bs a n d whole all one e = absurd cc
+only-run (i ∷ j ∷ js) bs a n d whole all one e = absurd cc
+only-run (i ∷ []) bs a n d whole all one e =
+    let item : IsItem (Run a n) = rw e at whole.0
+    in let many : n + 0 ≡ length bs = rw e at all
+    in let same : take n bs ≡ bs = take_all n bs (omega (arith, many))
+    in let cells : cells_of_items (i ∷ []) bs ≡ byte_cells a bs = rw (e, same, append-nil) refl
+    in record {
+      is_all = sym cells;
+      some = rw cells (omega (arith, length-byte_cells a bs, many, item.0));
+      small = omega (arith, many, item.1);
+    }
+
 -- a single cell more, and a run more
 pub cells_of_items-single : (is : List Item) (bs : List ℕ) (c : Cell) → cells_of_items (is ++ Single c ∷ []) bs ≡ cells_of_items is bs ++ c ∷ []
 cells_of_items-single [] bs c = refl
@@ -472,8 +492,8 @@ IsPartAt-cell cs i c h =
     }
 
 -- what is written over all of a list
-pub refill-same : {X : Type 0} (xs ws : List X) → length ws ≡ length xs → refill (length xs) xs ws ≡ ws
-refill-same xs ws e = take_at ws (drop (length ws) xs) (length xs) e
+pub refill-same : {X : Type 0} (n : ℕ) (xs ws : List X) → length ws ≡ n → refill n xs ws ≡ ws
+refill-same n xs ws e = take_at ws (drop (length ws) xs) n e
 
 position-None : {X : Type 0} (f : X → Bool) (xs : List X) → position f xs ≡ None → (k : ℕ) (d : X) → k < length xs → f (get_or xs k d) ≡ false
 position-None f xs e k d l =

@@ -1,8 +1,11 @@
 //! Bytes in their order, as patches, texts and channel programs have them.
-ghost use Rattle.std.specs.Prelude.{◌≡◌};
+ghost use Rattle.std.specs.Prelude.{◌≡◌, ◌≤◌, ◌+◌, ◌++◌, IsOk, OnErr, OnOk, length, vec_capacity, vec_len};
 
 use std::alloc::AllocError;
 use std::marker::Model;
+
+/// So few bytes are copied one by one: to copy them at once would be a call.
+const FEW: usize = 8;
 
 /// Bytes in their order, which a contract sees as a list.
 #[derive(Debug, Drop)]
@@ -71,4 +74,21 @@ impl Eq for Bytes {
     ghost use Rattle.std.proofs.Common.{rules};
 
     ghost laws = { Prim.search (comparing, rules) };
+}
+
+/// Adds bytes at the end of a list. Want of memory leaves the list as it was.
+#[inline(always)]
+pub fn append_bytes(list: &mut Vec<u8>, bytes: &[u8]) -> Result<(), AllocError>
+    ensures ok { OnOk result (list.new.items ≡ list.old.items ++ bytes.now) }
+    ensures err { OnErr result (list.new.items ≡ list.old.items) }
+    ensures room { vec_len list.old + length bytes.now ≤ vec_capacity list.old → IsOk result }
+{
+    if bytes.len() > FEW {
+        return list.extend_from_slice(bytes);
+    }
+    list.reserve(bytes.len())?;
+    for byte in bytes {
+        list.push_reserved(*byte);
+    }
+    Ok(())
 }

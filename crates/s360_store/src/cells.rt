@@ -1,16 +1,17 @@
 //! Cells as they stand in memory: single ones and runs. So a run takes memory for its bytes alone, and is copied, compared
 //! and exchanged as a whole. A contract sees the list of the cells.
 ghost use Rattle.std.specs.Prelude.{◌≡◌, ◌<◌, ◌≤◌, ◌+◌, ◌^◌, ◌++◌, ◌↔◌, [], ◌∷◌, length, slice_get};
-ghost use Rattle.std.specs.Prelude.{if◌then◌else◌, ◌⊎◌, IfOk, OnOk, OnErr, Some, IsSome, IsTrue};
+ghost use Rattle.std.specs.Prelude.{if◌then◌else◌, ◌⊎◌, IfOk, IfSome, OnOk, OnErr, Some, IsSome, IsTrue};
 ghost use Rattle.std.specs.List.{list_any};
 ghost use Rattle.s360_store.specs.Cells.{AllFit, AreCellsOf, after_exchange, byte_cells};
 ghost use Rattle.s360_store.specs.Cells.{cells_after_exchange, places_of_cells};
-ghost use Rattle.s360_store.specs.Items.{AddsRun, Appended, AreItems, IsPartAt};
+ghost use Rattle.s360_store.specs.Items.{AddsRun, Appended, AreItems, IsAllOf, IsPartAt};
 ghost use Rattle.s360_store.specs.Items.{bytes_of_items};
 ghost use Rattle.s360_store.specs.Items.{core_of};
 ghost use Rattle.s360_store.specs.Places.{same_place};
 ghost use Rattle.s360_store.specs.Plans.{after_put, after_put_bytes, planned_value};
 
+use crate::bytes::append_bytes;
 use crate::exchange::exchange_items;
 use crate::items::{
     Item, Part, all_miss, byte_cell, find, joined, one_has, part_at, replace, value_at,
@@ -19,23 +20,17 @@ use crate::place::{Cell, Place};
 use crate::storage::Storage;
 use s360_psw::Psw;
 use s360_word::Word;
-use smallvec::SmallVec;
 use std::alloc::{AllocError, Global};
 use std::marker::Model;
-
-/// So many single cells and runs stand within cells, and so many bytes of runs, which takes no memory.
-const ITEMS: usize = 4;
-
-const BYTES: usize = 16;
 
 /// So many single cells and runs there are at most where each is looked at.
 const MOST: usize = 16;
 
 /// Cells, in their order.
 pub struct Cells {
-    items: SmallVec<Item, ITEMS>,
+    items: Vec<Item>,
     /// The bytes of the runs, run after run.
-    bytes: SmallVec<u8, BYTES>,
+    bytes: Vec<u8>,
     /// The number of cells.
     count: u32,
 }
@@ -63,7 +58,8 @@ impl Model for Cells {
 }
 
 /// Adds a run to items: to the last of them if it follows that. Want of memory leaves them as they were.
-fn push_run(items: &mut SmallVec<Item, ITEMS>, address: u32, count: u32) -> Result<(), AllocError>
+#[inline(always)]
+fn push_run(items: &mut Vec<Item>, address: u32, count: u32) -> Result<(), AllocError>
     requires items { AreItems items.old.items }
     requires some { 0 < count }
     requires inside { address + count ≤ 2 ^ 32 }
@@ -87,13 +83,14 @@ impl Cells {
         ensures { result ≡ [] }
     {
         Cells {
-            items: SmallVec::new(alloc),
-            bytes: SmallVec::new(alloc),
+            items: Vec::new(alloc),
+            bytes: Vec::new(alloc),
             count: 0,
         }
     }
 
     /// Drops all cells, and keeps their memory.
+    #[inline(always)]
     pub fn clear(&mut self)
         ensures { self.new ≡ [] }
     {
@@ -129,7 +126,8 @@ impl Cells {
                 self.push_bytes(address, &[cell.value as u8])
             }
             _ => {
-                self.items.push(Item::Single(cell))?;
+                self.items.reserve(1)?;
+                self.items.push_reserved(Item::Single(cell));
                 self.count += 1;
                 Ok(())
             }
@@ -149,7 +147,7 @@ impl Cells {
         let count = bytes.len() as u32;
         self.bytes.reserve(bytes.len())?;
         push_run(&mut self.items, address, count)?;
-        self.bytes.extend_from_slice(bytes)?;
+        append_bytes(&mut self.bytes, bytes)?;
         self.count += count;
         Ok(())
     }
@@ -159,7 +157,22 @@ impl Cells {
         requires { i < length self.now }
         ensures { IsPartAt self.now i result }
     {
-        part_at(&self.items, &self.bytes, i)
+        part_at(self.items.as_slice(), self.bytes.as_slice(), i)
+    }
+
+    /// All cells as one part, if they are one cell or one run.
+    #[inline(always)]
+    pub fn only(&self) -> Option<Part<'_>>
+        ensures { IfSome result (λ part. IsAllOf self.now part) }
+    {
+        let items = self.items.as_slice();
+        if items.len() != 1 {
+            return None;
+        }
+        match items[0] {
+            Item::Single(cell) => Some(Part::Cell(cell)),
+            Item::Run { address, .. } => Some(Part::Bytes(address, self.bytes.as_slice())),
+        }
     }
 
     /// The cell at `i`, counted from 0.
@@ -177,14 +190,14 @@ impl Cells {
     pub fn value(&self, place: Place) -> Option<u64>
         ensures { result ≡ planned_value self.now place }
     {
-        value_at(&self.items, &self.bytes, place)
+        value_at(self.items.as_slice(), self.bytes.as_slice(), place)
     }
 
     /// Whether a cell has a place.
     pub fn has(&self, place: Place) -> bool
         ensures { result ≡ list_any (λ q. same_place q place) (places_of_cells self.now) }
     {
-        one_has(&self.items, place)
+        one_has(self.items.as_slice(), place)
     }
 
     /// Puts a value at a place, in its cell if it has one, and else in one at the end, and says whether it did. It
@@ -195,8 +208,8 @@ impl Cells {
         ensures ok { IfOk result (λ done. self.new ≡ (if done then after_put self.old place value else self.old)) }
         ensures err { OnErr result (self.new ≡ self.old) }
     {
-        match find(&self.items, place) {
-            Some(at) => Ok(replace(&mut self.items, at, Cell { place, value })),
+        match find(self.items.as_slice(), place) {
+            Some(at) => Ok(replace(self.items.as_mut_slice(), at, Cell { place, value })),
             None if self.items.len() < MOST => {
                 self.push(Cell { place, value })?;
                 Ok(true)
@@ -214,7 +227,7 @@ impl Cells {
         ensures err { OnErr result (self.new ≡ self.old) }
     {
         let count = bytes.len() as u32;
-        if self.items.len() >= MOST || !all_miss(&self.items, address, count) {
+        if self.items.len() >= MOST || !all_miss(self.items.as_slice(), address, count) {
             return Ok(false);
         }
         self.push_bytes(address, bytes)?;
@@ -229,8 +242,8 @@ impl Cells {
         ensures err_bytes { OnErr result (bytes.new.items ≡ bytes.old.items) }
     {
         items.reserve(self.items.len())?;
-        bytes.extend_from_slice(&self.bytes)?;
-        items.extend_from_slice(&self.items)
+        bytes.extend_from_slice(self.bytes.as_slice())?;
+        items.extend_from_slice(self.items.as_slice())
     }
 
     /// Exchanges what stands at the places of the cells in a PSW, registers and storage with their values. Done again,
@@ -241,6 +254,12 @@ impl Cells {
         ensures cells { self.new ≡ cells_after_exchange (core_of psw.old registers.old storage.old) self.old }
         ensures fit { AllFit storage.new.fetch_protection self.new }
     {
-        exchange_items(psw, registers, storage, &mut self.items, &mut self.bytes);
+        exchange_items(
+            psw,
+            registers,
+            storage,
+            self.items.as_mut_slice(),
+            self.bytes.as_mut_slice(),
+        );
     }
 }

@@ -21,11 +21,11 @@ mod span;
 mod storage;
 
 pub use block_key::BlockKey;
-pub use bytes::Bytes;
+pub use bytes::{Bytes, append_bytes};
 pub use cells::Cells;
 pub use core_change::CoreChange;
 pub use core_state::Core;
-pub use differing::next_run;
+pub use differing::{first_other, next_run};
 pub use fault::StoreFault;
 pub use items::{Item, Part, part_at};
 pub use place::{Cell, Place};

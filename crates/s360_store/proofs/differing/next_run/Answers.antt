@@ -8,7 +8,7 @@ loop-end-preserved c =
     let new = c.args.new.now
     in let stored = c.args.stored.now
     in let end = c.loop-end.end
-    in differ-more stored new c.loop-start.start end 16 c.loop-end-test.true c.loop-end.invariant
+    in differ-more stored new c.first_other-start.result end 16 c.loop-end-test.true c.loop-end.invariant
     (λ j a b e.
     let within : j - end < 16 = omega (arith, a, b)
     in let sum : end + (j - end) ≡ j = omega (arith, a)

@@ -1,12 +1,6 @@
 use Rattle.std.proofs.Common.{◌+◌, ◌-◌, length}
-use Rattle.s360_store.proofs.DifferingLemmas.{DifferWithin, SameFrom}
+use Rattle.s360_store.proofs.DifferingLemmas.{DifferWithin}
 use Rattle.s360_store.proofs.differing.next_run.Given as goal
-
-abbrev pub invariant-loop-start : goal.invariant-loop-start
-invariant-loop-start l = SameFrom l.stored l.new l.from l.start
-
-abbrev pub decreases-loop-start : goal.decreases-loop-start
-decreases-loop-start l = length l.new - l.start
 
 abbrev pub invariant-loop-end : goal.invariant-loop-end
 invariant-loop-end l = DifferWithin l.stored l.new l.start l.end

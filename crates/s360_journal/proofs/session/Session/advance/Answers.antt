@@ -1,33 +1,29 @@
 use Rattle.std.proofs.Common.{◌≡◌, ◌<◌, ◌∙◌, None, sym, ap, subst, length, arith}
 use Rattle.s360_machine.specs.Machine.{Machine, Whole, seen, storage_size}
 use Rattle.s360_machine.specs.Refusals.{refusal_of}
-use Rattle.s360_machine.specs.declared.refusal.Refusal.TheVariants.{Memory}
 use Rattle.s360_machine.specs.Change.{CanSwap, HasRoom}
 use Rattle.s360_journal.specs.Standing.{Standing, machine_of, refusal_in}
-use Rattle.s360_journal.proofs.ForwardLemmas.{or_full-None, or_full-room, unless-there}
+use Rattle.s360_journal.proofs.ForwardLemmas.{or_full-None, or_full-room}
 use Rattle.s360_journal.proofs.IndexLemmas.{index-appended}
 use Rattle.s360_journal.proofs.SessionLemmas.{HasAdvanced, if-appended, machine_of-session, session-advanced, some-appended}
 use Rattle.s360_journal.proofs.WithdrawalLemmas.{size-session}
 use Rattle.s360_journal.proofs.session.Session.advance.Goals as goal
 use Rattle.s360_journal.proofs.session.Session.advance.Goals.{In_ok-stand}
 
-pub returns-in_err-append_event-clause-refused : goal.returns-in_err-append_event-clause-refused
-returns-in_err-append_event-clause-refused c =
-    let s = c.args.self.now
-    in let e = c.args.event
-    in let same : seen c.self.inside.machine.whole ≡ machine_of s = machine_of-session c.self.inside.machine.whole c.self.inside.events c.self.inside.changes c.self.inside.limit s c.self.invariant.0 c.self.view_is
-    in let none : refusal_in s e ≡ None = sym c.in_default.ensures
-    in let accepted : refusal_of (storage_size (seen c.self.inside.machine.whole)) e ≡ None
-    = subst (λ (k : Machine). refusal_of (storage_size k) e ≡ None) (sym same) (or_full-None _ (length s.events) s.limit none)
-    in let answer = rw accepted at c.in_err-append_event.ensures.refused
-    in rw none (unless-there c.from_residual.result _ Memory c.from_residual.ensures.1 (λ x e. e ∙ answer))
-
-pub append_event-requires : goal.append_event-requires
-append_event-requires c =
+pub append_event-requires-clause-few : goal.append_event-requires-clause-few
+append_event-requires-clause-few c =
     let s = c.args.self.now
     in let none : refusal_in s c.args.event ≡ None = sym c.in_default.ensures
     in let few : length s.events < s.limit = or_full-room _ (length s.events) s.limit none
     in omega (arith, few, ap (λ (t : Standing). length t.events) c.self.view_is, ap (λ (t : Standing). t.limit) c.self.view_is, c.self.invariant.0.1, c.self.invariant.3)
+
+pub append_event-requires-clause-accepted : goal.append_event-requires-clause-accepted
+append_event-requires-clause-accepted c =
+    let s = c.args.self.now
+    in let e = c.args.event
+    in let same : seen c.self.inside.machine.whole ≡ machine_of s = machine_of-session c.self.inside.machine.whole c.self.inside.events c.self.inside.changes c.self.inside.limit s c.self.invariant.0 c.self.view_is
+    in let none : refusal_in s e ≡ None = sym c.in_default.ensures
+    in subst (λ (k : Machine). refusal_of (storage_size k) e ≡ None) (sym same) (or_full-None _ (length s.events) s.limit none)
 
 pub stand-requires-clause-some : goal.stand-requires-clause-some
 stand-requires-clause-some c = some-appended c.self.inside.changes c.append_event.new.self c.in_ok-append_event.ensures.ok.change c.in_ok-append_event.ensures.ok.appended

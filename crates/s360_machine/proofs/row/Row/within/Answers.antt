@@ -1,7 +1,7 @@
-use Rattle.std.proofs.Common.{◌≡◌, ◌∙◌, ℕ, Some, sym, arith, length}
+use Rattle.std.proofs.Common.{◌≡◌, ◌∙◌, ℕ, Some, sym}
 use Rattle.std.specs.Prelude.{Ok, Err, OkIff, Result}
 use Rattle.std.specs.Result.{result_ok}
-use Rattle.s360_store.specs.Items.{IsPartAt}
+use Rattle.s360_store.specs.Items.{IsAllOf}
 use Rattle.s360_store.specs.declared.items.Part.TheVariants.{Bytes as OfBytes}
 use Rattle.s360_machine.proofs.PackedLemmas.{row-of-bytes}
 use Rattle.s360_machine.proofs.row.Row.within.Goals as goal
@@ -13,7 +13,6 @@ number-held (Err x) P v n h e = absurd cc
 
 pub returns-in_ok-count-in-Bytes : goal.returns-in_ok-count-in-Bytes
 returns-in_ok-count-in-Bytes c =
-    let part : IsPartAt c.args.core.now.cells 0 (OfBytes c.in-Bytes.address c.in-Bytes.bytes) = rw (c.cells-cells.ensures, c.in-Bytes.is) at c.part_at.ensures
-    in let all : length c.in-Bytes.bytes.now ≡ length c.args.core.now.cells = cc
-    in row-of-bytes c.args.core.now c.in_ok-psw.psw c.in-Bytes.address c.in_ok-count-in-Bytes.count _ c.in-Bytes.bytes.now (sym c.altered_psw-psw.ensures ∙ c.in_ok-psw.was) part.is (omega arith) part.some part.small all
+    let part : IsAllOf c.args.core.now.cells (OfBytes c.in-Bytes.address c.in-Bytes.bytes) = rw (c.cells-cells.ensures, c.in-Bytes.is) at c.in_ok-cell.ensures
+    in row-of-bytes c.args.core.now c.in_ok-psw.psw c.in-Bytes.address c.in_ok-count-in-Bytes.count c.in-Bytes.bytes.now (sym c.altered_psw-psw.ensures ∙ c.in_ok-psw.was) part.is part.some part.small
     (number-held _ _ _ _ c.try_from.ensures (sym c.ok.ensures.value ∙ c.in_ok-count-in-Bytes.was))

@@ -17,8 +17,8 @@ push_run-requires-clause-few c =
 more : (c : goal.After-self-1) → cells_of_items c.push_run.new.items.items (c.self.inside.bytes.items ++ c.args.bytes.now) ≡ cells_of_items c.self.inside.items.items c.self.inside.bytes.items ++ byte_cells c.args.address c.args.bytes.now
 more c = c.in_ok-push_run.ensures.ok.cells c.self.inside.bytes.items c.args.bytes.now c.self.invariant.all refl
 
-stored : (c : goal.After-self-1) → c.extend_from_slice.new.self.items ≡ c.self.inside.bytes.items ++ c.args.bytes.now
-stored c = c.in_ok-extend_from_slice.ensures.ok ∙ ap (λ xs. xs ++ c.args.bytes.now) c.in_ok-reserve.ensures.items
+stored : (c : goal.After-self-1) → c.append_bytes.new.list.items ≡ c.self.inside.bytes.items ++ c.args.bytes.now
+stored c = c.in_ok-append_bytes.ensures.ok ∙ ap (λ xs. xs ++ c.args.bytes.now) c.in_ok-reserve.ensures.items
 
 pub invariant_of-self-2 : goal.invariant_of-self-2
 invariant_of-self-2 c =

@@ -1,0 +1,12 @@
+use Rattle.std.proofs.Common.{◌≡◌, ◌∙◌, ap, sym, length}
+use Rattle.s360_store.specs.declared.items.Item.TheVariants.{Run}
+use Rattle.s360_store.specs.declared.items.Item.{Item}
+use Rattle.s360_store.proofs.ItemLemmas.{IsOnlyRun, only-run}
+use Rattle.s360_store.proofs.cells.Cells.only.Goals as goal
+
+pub returns-in-Run : goal.returns-in-Run
+returns-in-Run c =
+    let run : IsOnlyRun c.self.inside.items.items c.self.inside.bytes.items c.in-Run.address
+    = only-run c.self.inside.items.items c.self.inside.bytes.items c.in-Run.address c.in-Run.count _ c.self.invariant.whole c.self.invariant.all
+    (sym (ap length c.as_slice-items.ensures.value) ∙ c.if-items-ne1.false) (rw c.as_slice-items.ensures.value at c.in-Run.is)
+    in rw (← c.self.view_is, c.as_slice.ensures.value) (record { is = run.is_all; some = run.some; small = run.small })
