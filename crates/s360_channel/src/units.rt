@@ -73,7 +73,10 @@ fn lowest_active(controls: &[UnitControl; 6]) -> Option<ConfiguredUnit>
     requires each { HasEachUnit controls.now }
     ensures { result ≡ active_unit controls.now }
 {
-    ConfiguredUnit::ALL.iter().copied().find(|unit| is_active_of(controls, *unit))
+    ConfiguredUnit::ALL
+        .iter()
+        .copied()
+        .find(|unit| is_active_of(controls, *unit))
 }
 
 impl Units {

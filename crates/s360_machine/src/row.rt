@@ -1,9 +1,8 @@
 //! Rows of 16 bytes: what an event alters of the core where that is the PSW and little beside it, and
 //! else how much of it stands in lists apart.
-ghost use Rattle.std.specs.Prelude.{None, ◌≡◌, ◌<◌, ◌≤◌, ◌∷◌, ℕ, [], IfSome, IsTrue, List, length, slice_get, Some, true};
+ghost use Rattle.std.specs.Prelude.{None, ◌≡◌, ◌<◌, ◌≤◌, ℕ, [], IfSome, IsTrue, List, length, slice_get, Some, true};
 ghost use Rattle.s360_store.specs.Cells.{AllFit, AreCellsOf, after_exchange, cells_after_exchange, places_of_cells};
-ghost use Rattle.s360_store.specs.CoreChanges.{cells_of_change, psw_cell};
-ghost use Rattle.s360_store.specs.Places.{Fits};
+ghost use Rattle.s360_store.specs.CoreChanges.{cells_of_change};
 ghost use Rattle.s360_store.specs.declared.items.Item.{Item as AnItem};
 ghost use Rattle.s360_machine.specs.ChangeSpans.{spans_of_row, spans_within};
 ghost use Rattle.s360_machine.specs.Rows.{ArePartsOf, HasNoMore, HasSameCounts, IsOver, IsRowOf, beside_of_row, bytes_of_row, cells_of_row, items_of_row};

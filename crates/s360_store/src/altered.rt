@@ -1,5 +1,5 @@
 //! The values beside the PSW that an event alters. Of most events these are nothing, a register, or one run of bytes.
-ghost use Rattle.std.specs.Prelude.{◌≡◌, ◌<◌, ◌≤◌, ◌+◌, ◌^◌, ◌++◌, ◌↔◌, ◌∷◌, [], IfSome, IsTrue, None, OnErr, OnOk, Some, length, slice_get, true};
+ghost use Rattle.std.specs.Prelude.{◌≡◌, ◌<◌, ◌≤◌, ◌+◌, ◌^◌, ◌++◌, ◌∷◌, [], IfSome, None, OnErr, OnOk, Some, length, slice_get, true};
 ghost use Rattle.s360_store.specs.Altered.{IsBesidePsw, cells_of, register_cell};
 ghost use Rattle.s360_store.specs.Cells.{AllFit, AreCellsOf, after_exchange, byte_cells, cells_after_exchange, places_of_cells};
 ghost use Rattle.s360_store.specs.Items.{Appended};
@@ -141,7 +141,11 @@ impl Altered {
 
     /// Adds that of a register. Want of memory leaves the cells as they were.
     #[inline(always)]
-    pub(crate) fn push_register(&mut self, register: RegisterNumber, word: Word) -> Result<(), AllocError>
+    pub(crate) fn push_register(
+        &mut self,
+        register: RegisterNumber,
+        word: Word,
+    ) -> Result<(), AllocError>
         requires room { length self.old < 1000000 }
         ensures ok { OnOk result (self.new ≡ self.old ++ register_cell (record { register = register; word = word }) ∷ []) }
         ensures err { OnErr result (self.new ≡ self.old) }

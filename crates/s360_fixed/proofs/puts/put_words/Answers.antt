@@ -2,7 +2,7 @@ use Rattle.std.proofs.Common.{◌≡◌, ◌%◌, ◌+◌, ◌++◌, ap, length,
 use Rattle.std.proofs.lemmas.List.{length-append}
 use Rattle.arrayvec.specs.ArrayVec.{array_vec_len}
 use Rattle.std.specs.Int.{bytes_high_first}
-use Rattle.s360_fixed.proofs.PutLemmas.{with_registers_stored-more, with_registers_stored-none}
+use Rattle.s360_fixed.proofs.PutLemmas.{with_registers_stored-more}
 use Rattle.s360_fixed.proofs.puts.put_words.Goals as goal
 
 pub loop-i-preserved : goal.loop-i-preserved

@@ -1,4 +1,4 @@
-use Rattle.std.proofs.Common.{◌≡◌, ◌∙◌, ap, sym, length}
+use Rattle.std.proofs.Common.{◌∙◌, ap, sym, length}
 use Rattle.s360_store.proofs.ItemLemmas.{only-run}
 use Rattle.s360_store.proofs.cells.Cells.run.Goals as goal
 

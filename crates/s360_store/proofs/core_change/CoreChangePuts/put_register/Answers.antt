@@ -1,7 +1,7 @@
-use Rattle.std.proofs.Common.{◌≡◌, ◌≢◌, ◌^◌, ◌<◌, ◌∙◌, inl, inr, sym, refl, arith}
+use Rattle.std.proofs.Common.{inl, arith}
 use Rattle.s360_store.specs.declared.place.Cell.{Cell}
 use Rattle.s360_store.specs.declared.place.Place.TheVariants.{Register}
-use Rattle.s360_store.specs.CoreChanges.{AllBefore, CoreChange, IsCoreChange}
+use Rattle.s360_store.specs.CoreChanges.{AllBefore, CoreChange}
 use Rattle.s360_store.proofs.CoreChangeLemmas.{AllBefore-later, AllBefore-push, other-made, other-may, same-made}
 use Rattle.s360_store.proofs.core_change.CoreChangePuts.put_register.Goals as goal
 use Rattle.s360_store.proofs.core_change.CoreChangePuts.put_register.Goals.{In_ok-push_register}
