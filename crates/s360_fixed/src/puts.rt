@@ -8,7 +8,7 @@ ghost use Rattle.s360_store.specs.declared.place.Place.TheVariants.{Byte, Regist
 ghost use Rattle.s360_fixed.specs.Outcomes.{core_with_register};
 ghost use Rattle.s360_fixed.specs.Storing.{next_psw, register_distance, with_register_loaded, with_registers_loaded, with_registers_stored};
 
-use crate::making::RegisterWords;
+use crate::register_words::RegisterWords;
 use crate::registers::{distance, register_after};
 use crate::view::View;
 use arrayvec::ArrayVec;
