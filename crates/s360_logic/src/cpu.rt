@@ -2,13 +2,12 @@
 //! GA22-6821, "System Structure", program execution.
 ghost use Rattle.std.specs.Prelude.{◌≡◌, ◌<◌, [], IfErr, IfOk, Some, length, slice_index};
 ghost use Rattle.s360_model.specs.Psw.{instruction_address_of};
-ghost use Rattle.s360_fixed.specs.Plans.{PutsOutcome};
 ghost use Rattle.s360_fixed.specs.ProgramCodes.{program_code};
 ghost use Rattle.s360_fixed.specs.Table.{form_of, instruction_length};
 ghost use Rattle.s360_store.specs.Puts.{HasNoPuts};
 ghost use Rattle.s360_psw.specs.declared.instruction_length.InstructionLength.TheVariants.{NotAvailable};
 ghost use Rattle.s360_fixed.specs.declared.ended.Ended.TheVariants.{Program};
-ghost use Rattle.s360_logic.specs.Instruction.{PlansInstruction, PutsInstruction, conditions_at, fetched_outcome, instruction, length_of_bytes};
+ghost use Rattle.s360_logic.specs.Instruction.{PlansInstruction, PutsInstruction, conditions_at, instruction, length_of_bytes};
 
 use crate::dispatch::put_bytes;
 use s360_fixed::{Ended, Form, ProgramCode, View, decode_bytes, fetch_instruction};

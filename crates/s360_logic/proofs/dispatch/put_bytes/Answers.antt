@@ -2,7 +2,7 @@ use Rattle.std.proofs.Common.{◌≡◌, None, ap, arith, refl, rules}
 use borrow.Author.Tests.{tests}
 use Rattle.s360_model.specs.Core.{Core}
 use Rattle.s360_store.specs.declared.place.Place.TheVariants.{Byte}
-use Rattle.s360_fixed.specs.Table.{entry_of, form_of}
+use Rattle.s360_fixed.specs.Table.{form_of}
 use Rattle.s360_logic.proofs.dispatch.put_bytes.Goals as goal
 
 pub returns-in_default : goal.returns-in_default
