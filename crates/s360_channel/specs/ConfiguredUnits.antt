@@ -92,3 +92,7 @@ active_beside us u = None
 -- the channel of a unit executes another program, and one at a time
 abbrev pub is_occupied : Units → ConfiguredUnit → Bool
 is_occupied us u = is_some (active_beside us u)
+
+-- the lowest unit for which a channel executes a program
+abbrev pub active_unit : Units → Option ConfiguredUnit
+active_unit us = find (λ u. is_active (control_of us u).state) configured_units

@@ -3,7 +3,7 @@
 ghost use Rattle.std.specs.Prelude.{◌≡◌, true, IfOk};
 ghost use Rattle.s360_model.specs.Exchanges.{after_if_any};
 ghost use Rattle.s360_channel.specs.Units.{is_active};
-ghost use Rattle.s360_channel.specs.ConfiguredUnits.{HasEachUnit, active_beside, control_of, idle_units};
+ghost use Rattle.s360_channel.specs.ConfiguredUnits.{HasEachUnit, active_beside, active_unit, control_of, idle_units};
 ghost use Rattle.s360_channel.specs.ConfiguredUnits.{interrupting_unit, is_occupied, pending_unit, with_control_of};
 ghost use Rattle.s360_channel.specs.UnitChanges.{IsUnitsChangeTo, altered_units};
 ghost use Rattle.s360_channel.specs.UnitChanges.{unit_change_after_swap, units_after_swap};
@@ -22,22 +22,28 @@ use std::mem;
 /// How each unit stands on its channel. A contract sees them one after another, in the order of their addresses.
 pub struct Units {
     controls: [UnitControl; 6],
+    /// The lowest unit for which a channel executes a program.
+    active: Option<ConfiguredUnit>,
 }
 
 impl Drop for Units {
     fn drop(self) {
-        let Units { controls: _ } = self;
+        let Units {
+            controls: _,
+            active: _,
+        } = self;
     }
 }
 
 impl Model for Units {
-    ghost use Rattle.s360_channel.specs.ConfiguredUnits.{HasEachUnit, Units as Controls};
+    ghost use Rattle.std.specs.Prelude.{◌≡◌};
+    ghost use Rattle.s360_channel.specs.ConfiguredUnits.{HasEachUnit, Units as Controls, active_unit};
 
     ghost Value = { Controls };
 
     ghost view = { λ u. u.controls };
 
-    ghost invariant = { λ u. HasEachUnit u.controls };
+    ghost invariant = { λ u. HasEachUnit u.controls × (u.active ≡ active_unit u.controls) };
 }
 
 impl Clone for Units {
@@ -47,8 +53,30 @@ impl Clone for Units {
 
     fn clone(&self) -> Result<Units, AllocError> {
         let controls = self.controls.clone()?;
-        Ok(Units { controls })
+        Ok(Units {
+            controls,
+            active: self.active,
+        })
     }
+}
+
+/// Whether a channel executes a program for a unit, of units that stand so.
+fn is_active_of(controls: &[UnitControl; 6], unit: ConfiguredUnit) -> bool
+    requires each { HasEachUnit controls.now }
+    ensures { result ≡ is_active (control_of controls.now unit).state }
+{
+    controls[unit.index()].state.is_active()
+}
+
+/// The lowest unit for which a channel executes a program, of units that stand so.
+fn lowest_active(controls: &[UnitControl; 6]) -> Option<ConfiguredUnit>
+    requires each { HasEachUnit controls.now }
+    ensures { result ≡ active_unit controls.now }
+{
+    ConfiguredUnit::ALL
+        .iter()
+        .copied()
+        .find(|unit| is_active_of(controls, *unit))
 }
 
 impl Units {
@@ -65,6 +93,7 @@ impl Units {
                 UnitControl::idle(),
                 UnitControl::idle(),
             ],
+            active: None,
         }
     }
 
@@ -73,7 +102,16 @@ impl Units {
         ensures { result ≡ with_control_of self unit control }
     {
         self.controls[unit.index()] = control;
+        self.active = lowest_active(&self.controls);
         self
+    }
+
+    /// The lowest unit for which a channel executes a program.
+    #[inline(always)]
+    pub fn active(&self) -> Option<ConfiguredUnit>
+        ensures { result ≡ active_unit self.now }
+    {
+        self.active
     }
 
     /// How a unit stands.
@@ -113,7 +151,7 @@ impl Units {
     fn is_active(&self, unit: ConfiguredUnit) -> bool
         ensures { result ≡ is_active (control_of self.now unit).state }
     {
-        self.control(unit).state.is_active()
+        is_active_of(&self.controls, unit)
     }
 
     /// The other tape, where a unit is a tape and the other is active.
@@ -213,6 +251,7 @@ impl Units {
         match change {
             UnitChange::One(unit, control) => {
                 mem::swap(&mut self.controls[unit.index()], control);
+                self.active = lowest_active(&self.controls);
             }
             UnitChange::Attention(unit, asks) => {
                 mem::swap(&mut self.controls[unit.index()].attention, asks);

@@ -1,10 +1,13 @@
 -- What registers that are stored and loaded leave, one after another.
-use Rattle.std.proofs.Common.{◌≡◌, ◌+◌, ◌*◌, ◌%◌, zero, suc, ap, refl, slice_index, ℕ, List, Bool, true, false, cond, nat_eq, arith}
+use Rattle.std.proofs.Common.{◌≡◌, ◌≤◌, ◌<◌, ◌+◌, ◌*◌, ◌%◌, ◌++◌, ◌∙◌, [], zero, suc, ap, append-nil, drop, inl, inr, length, refl, sym, take, slice_index, ℕ, List, Bool, true, false, cond, nat_eq, arith}
+use Rattle.std.proofs.Math.Seq.{drop-append-add}
+use Rattle.std.proofs.lemmas.Bool.{cases_lt}
+use Rattle.std.proofs.lemmas.List.{append_assoc, drop-drop, drop_all, length-append, length-take-le, take-append-drop, take_all, take_at}
 use Rattle.std.specs.Prelude.{◌&&◌}
 use Rattle.std.specs.Int.{bytes_high_first}
 use Rattle.s360_model.specs.Core.{Core, core_with_bytes, core_with_psw, core_with_word}
 use Rattle.s360_model.specs.Psw.{fixed_point_overflow_mask_of}
-use Rattle.s360_model.specs.Storage.{word_at}
+use Rattle.s360_model.specs.Storage.{with_run, word_at}
 use Rattle.s360_store.specs.declared.place.Place.{Place}
 use Rattle.s360_store.specs.declared.place.Place.TheVariants.{Byte}
 use Rattle.s360_fixed.specs.declared.ended.Ended.TheVariants.{Done, Program}
@@ -15,12 +18,48 @@ use Rattle.s360_fixed.specs.Plans.{MayFollow}
 use Rattle.s360_fixed.specs.Settings.{ended_with}
 use Rattle.s360_fixed.specs.Storing.{with_registers_loaded, with_registers_stored}
 
--- one word more
-pub with_registers_stored-more : (m n k : Core) (registers bytes : List ℕ) (r1 at i : ℕ) → bytes ≡ bytes_high_first 4 (slice_index registers ((r1 + i) % 16))
-    → n ≡ with_registers_stored registers r1 at i m → k ≡ core_with_bytes (at + 4 * i) bytes n → k ≡ with_registers_stored registers r1 at (i + 1) m
-with_registers_stored-more m n k registers bytes r1 at i e f g =
+-- a run, and a run after it
+with_run-within : (bytes xs ys : List ℕ) (a : ℕ) → a ≤ length bytes → with_run (with_run bytes a xs) (a + length xs) ys ≡ with_run bytes a (xs ++ ys)
+with_run-within bytes xs ys a l =
+    let rest : List ℕ = drop (a + length xs) bytes
+    in let both : length (take a bytes ++ xs) ≡ a + length xs = omega (arith, length-append (take a bytes) xs, length-take-le a bytes l)
+    in let left : take (a + length xs) (take a bytes ++ xs ++ rest) ≡ take a bytes ++ xs = take_at (take a bytes ++ xs) rest (a + length xs) both
+    in let right : drop (a + length xs + length ys) (take a bytes ++ xs ++ rest) ≡ drop (a + length (xs ++ ys)) bytes
+    = ap (λ n. drop (n + length ys) (take a bytes ++ xs ++ rest)) (sym both) ∙ drop-append-add (take a bytes ++ xs) rest (length ys)
+    ∙ drop-drop (length ys) (a + length xs) bytes ∙ ap (λ n. drop n bytes) (omega (arith, length-append xs ys))
+    in rw (left, right, append_assoc (take a bytes) xs ys) refl
+
+with_run-outside : (bytes xs ys : List ℕ) (a : ℕ) → length bytes < a → with_run (with_run bytes a xs) (a + length xs) ys ≡ with_run bytes a (xs ++ ys)
+with_run-outside bytes xs ys a l =
+    let all : take a bytes ≡ bytes = take_all a bytes (omega (arith, l))
+    in let none : drop (a + length xs) bytes ≡ [] = drop_all (a + length xs) bytes (omega (arith, l))
+    in let past : drop (a + length (xs ++ ys)) bytes ≡ [] = drop_all (a + length (xs ++ ys)) bytes (omega (arith, l))
+    in let whole : take (a + length xs) (bytes ++ xs) ≡ bytes ++ xs = take_all (a + length xs) (bytes ++ xs) (omega (arith, l, length-append bytes xs))
+    in let end : drop (a + length xs + length ys) (bytes ++ xs) ≡ [] = drop_all (a + length xs + length ys) (bytes ++ xs) (omega (arith, l, length-append bytes xs))
+    in rw (all, none, past, append-nil, whole, end, append-nil, append-nil) (append_assoc bytes xs ys)
+
+with_run-append : (bytes xs ys : List ℕ) (a : ℕ) → with_run (with_run bytes a xs) (a + length xs) ys ≡ with_run bytes a (xs ++ ys)
+with_run-append bytes xs ys a = elim (cases_lt (length bytes) a) [
+  | inl less ↦ with_run-outside bytes xs ys a less
+  | inr more ↦ with_run-within bytes xs ys a more
+]
+
+with_run-none : (bytes : List ℕ) (a : ℕ) → with_run bytes a [] ≡ bytes
+with_run-none bytes a = let here : a + 0 ≡ a = omega arith in rw (append-nil, here) (take-append-drop a bytes)
+
+-- no word, and one word more, of a run of words
+abbrev core_with : Core → List ℕ → Core
+core_with m bytes = record m { storage = record m.storage { bytes = bytes } }
+
+pub with_registers_stored-none : (m : Core) (registers : List ℕ) (r1 at : ℕ) → core_with_bytes at [] m ≡ with_registers_stored registers r1 at 0 m
+with_registers_stored-none m registers r1 at = ap (core_with m) (with_run-none m.storage.bytes at)
+
+pub with_registers_stored-more : (m : Core) (registers xs ys : List ℕ) (r1 at i : ℕ) → ys ≡ bytes_high_first 4 (slice_index registers ((r1 + i) % 16)) → length xs ≡ 4 * i
+    → core_with_bytes at xs m ≡ with_registers_stored registers r1 at i m → core_with_bytes at (xs ++ ys) m ≡ with_registers_stored registers r1 at (i + 1) m
+with_registers_stored-more m registers xs ys r1 at i e count before =
     let next : i + 1 ≡ suc i = omega arith
-    in rw (next, g, f, e) refl
+    in ap (core_with m) (sym (with_run-append m.storage.bytes xs ys at)) ∙ ap (λ n. core_with_bytes (at + n) ys (core_with_bytes at xs m)) count
+    ∙ ap (core_with_bytes (at + 4 * i) ys) before ∙ rw (next, e) refl
 
 -- registers that are stored or loaded leave the PSW
 pub with_registers_stored-psw : (registers : List ℕ) (r1 address count p : ℕ) (n : Core) → with_registers_stored registers r1 address count (core_with_psw p n) ≡ core_with_psw p (with_registers_stored registers r1 address count n)

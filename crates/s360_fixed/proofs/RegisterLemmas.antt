@@ -1,5 +1,5 @@
 -- Registers that are loaded in the order of their numbers, not from R1 on.
-use Rattle.std.proofs.Common.{◌≡◌, ◌≢◌, ◌<◌, ◌≤◌, ◌+◌, ◌*◌, ◌%◌, ◌∙◌, ℕ, zero, suc, List, true, false, nat_lt, refl, ap, sym, get_or, set, length, arith, inl, inr, get_or-set_other, get_or-set_same, length-set}
+use Rattle.std.proofs.Common.{◌≡◌, ◌≢◌, ◌<◌, ◌≤◌, ◌+◌, ◌-◌, ◌*◌, ◌%◌, ◌∙◌, ℕ, zero, suc, List, true, false, nat_lt, refl, ap, sym, get_or, set, length, arith, inl, inr, get_or-set_other, get_or-set_same, length-set}
 use Rattle.std.proofs.lemmas.Bool.{cases_lt, le-ltb, lt-ltb}
 use Rattle.std.proofs.lemmas.List.{ext_get_or}
 use Rattle.s360_model.specs.Core.{Core, core_with_word}
@@ -139,6 +139,25 @@ below-rest bytes r1 at count (suc k) m =
 from-rest : (bytes : List ℕ) (r1 at count : ℕ) (m : Core) → with_registers_loaded bytes r1 at count m ≡ record m { registers = (with_registers_loaded bytes r1 at count m).registers }
 from-rest bytes r1 at zero m = refl
 from-rest bytes r1 at (suc n) m = ap (λ (k : Core). core_with_word ((r1 + n) % 16) (word_at bytes (at + 4 * n)) k) (from-rest bytes r1 at n m)
+
+-- registers that are none of them
+below-beside : (bytes : List ℕ) (r1 at count k n : ℕ) (m : Core) → ((r : ℕ) → k ≤ r → r < k + n → count ≤ register_distance r1 r) → loaded_below bytes r1 at count (k + n) m ≡ loaded_below bytes r1 at count k m
+below-beside bytes r1 at count k zero m h = let same : k + zero ≡ k = omega arith in rw same refl
+below-beside bytes r1 at count k (suc n) m h =
+    let next : k + suc n ≡ suc (k + n) = omega arith
+    in rw (next, below-suc bytes r1 at count (k + n) m) (with-beside bytes r1 at count (k + n) (loaded_below bytes r1 at count (k + n) m) (h (k + n) (omega arith) (omega arith))
+    ∙ below-beside bytes r1 at count k n m (λ r l b. h r l (omega (arith, b))))
+
+pub loaded_below-first : (bytes : List ℕ) (r1 at count first : ℕ) (m : Core) → ((r : ℕ) → r < first → count ≤ register_distance r1 r) → m ≡ loaded_below bytes r1 at count first m
+loaded_below-first bytes r1 at count first m h =
+    let whole : 0 + first ≡ first = omega arith
+    in loaded_below-none bytes r1 at count m ∙ sym (rw whole at (below-beside bytes r1 at count 0 first m (λ r l b. h r (omega (arith, b)))))
+
+pub loaded_below-past : (bytes : List ℕ) (r1 at count past : ℕ) (m n : Core) → past ≤ 16 → ((r : ℕ) → past ≤ r → r < 16 → count ≤ register_distance r1 r) → n ≡ loaded_below bytes r1 at count past m
+    → n ≡ loaded_below bytes r1 at count 16 m
+loaded_below-past bytes r1 at count past m n l h e =
+    let whole : past + (16 - past) ≡ 16 = omega (arith, l)
+    in e ∙ sym (rw whole at (below-beside bytes r1 at count past (16 - past) m (λ r k b. h r k (omega (arith, b, l)))))
 
 pub loaded_below-all : (bytes : List ℕ) (r1 at count : ℕ) (m n : Core) → r1 < 16 → count ≤ 16 → HasRegisters m → n ≡ loaded_below bytes r1 at count 16 m
     → n ≡ with_registers_loaded bytes r1 at count m

@@ -8,7 +8,6 @@ pub mod Outcomes
 pub mod Plans
 pub mod Branching
 pub mod Storing
-pub mod Made
 pub mod Shifting
 pub mod Fetching
 pub mod Fixed

@@ -1,11 +1,13 @@
 -- The rows that store registers and load several of them (GA22-6821, "Fixed-Point Arithmetic" and "Logical
 -- Operations").
-use Rattle.std.specs.Prelude.{ℕ, zero, suc, ◌+◌, ◌-◌, ◌*◌, ◌%◌, nat_lt, if◌then◌else◌, List, length, slice_index}
+use Rattle.std.specs.Prelude.{◌≤◌, ℕ, zero, suc, ◌+◌, ◌-◌, ◌*◌, ◌%◌, nat_lt, if◌then◌else◌, List, length, slice_index}
 use Rattle.std.specs.Int.{bytes_high_first}
 use Rattle.s360_model.specs.Core.{Core, core_with_bytes, core_with_psw, core_with_word}
 use Rattle.s360_model.specs.Psw.{with_instruction_address}
 use Rattle.s360_model.specs.Storage.{word_at}
 use Rattle.s360_store.specs.declared.protection.Access.TheVariants.{Fetch, Store}
+use Rattle.s360_store.specs.Plans.{HasBytes}
+use Rattle.s360_fixed.specs.declared.register_words.RegisterWords.{RegisterWords}
 use Rattle.s360_fixed.specs.declared.ended.Ended.TheVariants.{Done}
 use Rattle.s360_fixed.specs.declared.second_operand.Width.{Width}
 use Rattle.s360_fixed.specs.Operands.{access_conditions, bytes_of_width}
@@ -64,3 +66,7 @@ abbrev pub load_multiple_outcome : View → ℕ → ℕ → ℕ → Outcome
 load_multiple_outcome v r1 r3 address =
     unless_met (access_conditions v.core address 4 (4 * register_count r1 r3) Fetch) v.core
     (completed v (with_registers_loaded v.core.storage.bytes r1 address (register_count r1 r3) v.core))
+
+-- the core has the words of so many registers, which are at most all
+abbrev pub HasWords : Core → RegisterWords → Type 0
+HasWords m w = HasBytes w.address (4 * w.count) m × (w.count ≤ 16)

@@ -1,7 +1,9 @@
 //! The addresses of operands. Source: GA22-6821, "System Structure", address generation.
-ghost use Rattle.std.specs.Prelude.{◌≡◌, ◌<◌, ◌^◌};
+ghost use Rattle.std.specs.Prelude.{◌≡◌, ◌<◌, ◌+◌, ◌^◌, length};
 ghost use Rattle.s360_fixed.specs.Operands.{address_part, operand_address};
+ghost use Rattle.s360_fixed.specs.Table.{displacement_at, high_digit, low_digit};
 
+use crate::decoder::{displacement, high_register, low_register};
 use crate::view::View;
 use s360_word::{RegisterNumber, Word};
 
@@ -34,4 +36,26 @@ pub fn operand_address(
         + u64::from(address_part(view, base))
         + u64::from(displacement);
     (sum % u64::from(ADDRESSES)) as u32
+}
+
+/// The address that the base and the displacement of two bytes make, from one on.
+#[inline(always)]
+pub fn based_address(bytes: &[u8], i: usize, view: &View) -> u32
+    requires { i + 1 < length bytes.now }
+    ensures address { result ≡ operand_address view.now.core.registers 0 (high_digit bytes.now i) (displacement_at bytes.now i) }
+    ensures below { result < 2 ^ 24 }
+{
+    let (base, displacement) = (high_register(bytes, i), displacement(bytes, i));
+    operand_address(view, RegisterNumber::new(0), base, displacement)
+}
+
+/// The address of the operand in the format RX.
+#[inline(always)]
+pub fn indexed_address(bytes: &[u8], view: &View) -> u32
+    requires { 3 < length bytes.now }
+    ensures address { result ≡ operand_address view.now.core.registers (low_digit bytes.now 1) (high_digit bytes.now 2) (displacement_at bytes.now 2) }
+    ensures below { result < 2 ^ 24 }
+{
+    let (base, displacement) = (high_register(bytes, 2), displacement(bytes, 2));
+    operand_address(view, low_register(bytes, 1), base, displacement)
 }

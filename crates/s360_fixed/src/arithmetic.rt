@@ -1,7 +1,8 @@
 //! What instructions with a first operand in a register and a second operand make of the two.
 //! Source: GA22-6821, "Fixed-Point Arithmetic" and "Logical Operations".
-ghost use Rattle.std.specs.Prelude.{◌≡◌, IsNone};
-ghost use Rattle.s360_fixed.specs.Made.{IsWithin, outcome_of_made};
+ghost use Rattle.std.specs.Prelude.{◌≡◌, IfOk, IsNone};
+ghost use Rattle.s360_store.specs.Puts.{HasNoPuts};
+ghost use Rattle.s360_fixed.specs.Plans.{PutsOutcome};
 ghost use Rattle.s360_fixed.specs.Outcomes.{combination_outcome, effect_of, pair_outcome, single};
 ghost use Rattle.s360_fixed.specs.Operands.{word_operand};
 ghost use Rattle.s360_model.specs.ConditionCodes.{bits_code};
@@ -10,16 +11,18 @@ ghost use Rattle.s360_fixed.specs.Rows.{meaning_of};
 ghost use Rattle.s360_fixed.specs.declared.row.PairCombination.TheVariants.{Product, Quotient};
 
 use crate::effect::Effect;
-use crate::making::Made;
+use crate::ended::Ended;
 use crate::program_code::ProgramCode;
 use crate::registers::odd_partner;
 use crate::row::{Combination, PairCombination};
 use crate::setting::Setting;
 use crate::view::View;
+use s360_store::Puts;
 use s360_word::{
     Cc, RegisterNumber, Word, absolute, add_logical, add_signed, bits_condition, compare_logical,
     compare_signed, complement, divide, multiply, negative_absolute, sub_logical, sub_signed, test,
 };
+use std::alloc::AllocError;
 
 /// A word, with a condition code of which 3 is an overflow.
 fn signed(outcome: (Word, Cc)) -> Effect
@@ -70,63 +73,73 @@ fn effect_on(combination: Combination, first: Word, second: Word) -> Effect
     }
 }
 
-/// What is made of R1 and a second operand that can be used.
+/// Puts what is made of R1 and a second operand that can be used.
 #[inline(always)]
-pub(crate) fn combined(
+pub fn put_combined<P: Puts>(
     view: &View,
     combination: Combination,
     r1: RegisterNumber,
     second: Word,
-) -> Made
-    ensures outcome { outcome_of_made view.now result ≡ combination_outcome combination view.now r1 (word_operand second) }
-    ensures within { IsWithin view.now.core result }
+    puts: &mut P,
+) -> Result<Ended, AllocError>
+    requires none { HasNoPuts view.now.core (P.made puts.old) (P.may puts.old) (P.past puts.old) (P.count puts.old) }
+    ensures { IfOk result (PutsOutcome view.now.core (P.made puts.new) (P.may puts.new) (P.past puts.new) (P.count puts.new) (combination_outcome combination view.now r1 (word_operand second))) }
 {
-    let effect = effect_on(combination, view.register(r1), second);
-    Made::effect(view, r1, effect)
+    effect_on(combination, view.register(r1), second).put_next(view, r1, puts)
 }
 
-/// The product of the register after R1 and the second operand, for the pair.
-fn product(view: &View, r1: RegisterNumber, second: Word) -> Made
-    ensures outcome { outcome_of_made view.now result ≡ pair_outcome Product view.now r1 (word_operand second) }
-    ensures within { IsWithin view.now.core result }
+/// Puts the product of the register after R1 and the second operand, for the pair.
+fn put_product<P: Puts>(
+    view: &View,
+    r1: RegisterNumber,
+    second: Word,
+    puts: &mut P,
+) -> Result<Ended, AllocError>
+    requires none { HasNoPuts view.now.core (P.made puts.old) (P.may puts.old) (P.past puts.old) (P.count puts.old) }
+    ensures { IfOk result (PutsOutcome view.now.core (P.made puts.new) (P.may puts.new) (P.past puts.new) (P.count puts.new) (pair_outcome Product view.now r1 (word_operand second))) }
 {
     let Some(next) = odd_partner(r1) else {
-        return Made::Refused(ProgramCode::Specification);
+        return Ok(Ended::Program(ProgramCode::Specification));
     };
     let words = multiply(view.register(next), second);
-    Made::effect(view, r1, Effect::double(words, Setting::Kept))
+    Effect::double(words, Setting::Kept).put_next(view, r1, puts)
 }
 
-/// The division of the pair by the second operand: the remainder for R1, the quotient for the
+/// Puts the division of the pair by the second operand: the remainder for R1, the quotient for the
 /// register after it.
-fn quotient(view: &View, r1: RegisterNumber, second: Word) -> Made
-    ensures outcome { outcome_of_made view.now result ≡ pair_outcome Quotient view.now r1 (word_operand second) }
-    ensures within { IsWithin view.now.core result }
+fn put_quotient<P: Puts>(
+    view: &View,
+    r1: RegisterNumber,
+    second: Word,
+    puts: &mut P,
+) -> Result<Ended, AllocError>
+    requires none { HasNoPuts view.now.core (P.made puts.old) (P.may puts.old) (P.past puts.old) (P.count puts.old) }
+    ensures { IfOk result (PutsOutcome view.now.core (P.made puts.new) (P.may puts.new) (P.past puts.new) (P.count puts.new) (pair_outcome Quotient view.now r1 (word_operand second))) }
 {
     let Some(next) = odd_partner(r1) else {
-        return Made::Refused(ProgramCode::Specification);
+        return Ok(Ended::Program(ProgramCode::Specification));
     };
     match divide(view.register(r1), view.register(next), second) {
         Some((quotient, remainder)) => {
-            let effect = Effect::double((remainder, quotient), Setting::Kept);
-            Made::effect(view, r1, effect)
+            Effect::double((remainder, quotient), Setting::Kept).put_next(view, r1, puts)
         }
-        None => Made::Refused(ProgramCode::FixedPointDivide),
+        None => Ok(Ended::Program(ProgramCode::FixedPointDivide)),
     }
 }
 
-/// What is made of the pair and a second operand that can be used.
-pub(crate) fn pair_combined(
+/// Puts what is made of the pair and a second operand that can be used.
+pub fn put_pair<P: Puts>(
     view: &View,
     pair: PairCombination,
     r1: RegisterNumber,
     second: Word,
-) -> Made
-    ensures outcome { outcome_of_made view.now result ≡ pair_outcome pair view.now r1 (word_operand second) }
-    ensures within { IsWithin view.now.core result }
+    puts: &mut P,
+) -> Result<Ended, AllocError>
+    requires none { HasNoPuts view.now.core (P.made puts.old) (P.may puts.old) (P.past puts.old) (P.count puts.old) }
+    ensures { IfOk result (PutsOutcome view.now.core (P.made puts.new) (P.may puts.new) (P.past puts.new) (P.count puts.new) (pair_outcome pair view.now r1 (word_operand second))) }
 {
     match pair {
-        PairCombination::Product => product(view, r1, second),
-        PairCombination::Quotient => quotient(view, r1, second),
+        PairCombination::Product => put_product(view, r1, second, puts),
+        PairCombination::Quotient => put_quotient(view, r1, second, puts),
     }
 }

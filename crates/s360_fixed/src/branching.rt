@@ -1,23 +1,26 @@
 //! Branches. The branch address is taken before the link, the count or the sum is stored. Source:
 //! GA22-6821, "Branching".
-ghost use Rattle.std.specs.Prelude.{◌≡◌};
+ghost use Rattle.std.specs.Prelude.{◌≡◌, IfOk};
 ghost use Rattle.s360_model.specs.Numbers.{signed};
 ghost use Rattle.s360_fixed.specs.Branching.{address_after, branch_outcome, comparand_of};
 ghost use Rattle.s360_fixed.specs.Branching.{index_outcome, is_selected, link_of, register_target};
-ghost use Rattle.s360_fixed.specs.Made.{IsWithin, outcome_of_made};
+ghost use Rattle.s360_store.specs.Puts.{HasNoPuts};
+ghost use Rattle.s360_fixed.specs.Plans.{PutsOutcome};
 ghost use Rattle.s360_fixed.specs.Rows.{is_taken};
 
 use crate::effect::Effect;
-use crate::making::Made;
+use crate::ended::Ended;
 use crate::registers::odd_partner;
 use crate::row::{Branch, IndexBranch};
 use crate::setting::Setting;
 use crate::view::View;
+use s360_store::Puts;
 use s360_word::{Cc, RegisterNumber, Word, add_signed, compare_signed};
+use std::alloc::AllocError;
 
 /// The branch address in a register; none in register 0.
 #[inline(always)]
-pub(crate) fn register_target(view: &View, r2: RegisterNumber) -> Option<u32>
+pub fn register_target(view: &View, r2: RegisterNumber) -> Option<u32>
     ensures { result ≡ register_target view.now r2 }
 {
     if r2.number() == 0 {
@@ -52,11 +55,17 @@ fn link_of(view: &View) -> Word
     (psw.stored(0, view.instruction_length()) % 0x1_0000_0000) as u32
 }
 
-/// A branch on condition, a branch and link or a branch on count.
+/// Puts a branch on condition, a branch and link or a branch on count.
 #[inline(always)]
-pub(crate) fn branched(view: &View, branch: Branch, r1: RegisterNumber, target: Option<u32>) -> Made
-    ensures outcome { outcome_of_made view.now result ≡ branch_outcome branch view.now r1 target }
-    ensures within { IsWithin view.now.core result }
+pub fn put_branch<P: Puts>(
+    view: &View,
+    branch: Branch,
+    r1: RegisterNumber,
+    target: Option<u32>,
+    puts: &mut P,
+) -> Result<Ended, AllocError>
+    requires none { HasNoPuts view.now.core (P.made puts.old) (P.may puts.old) (P.past puts.old) (P.count puts.old) }
+    ensures { IfOk result (PutsOutcome view.now.core (P.made puts.new) (P.may puts.new) (P.past puts.new) (P.count puts.new) (branch_outcome branch view.now r1 target)) }
 {
     let (effect, is_taken) = match branch {
         Branch::OnCondition => (Effect::none(), is_selected(r1, view.psw().condition_code())),
@@ -66,11 +75,7 @@ pub(crate) fn branched(view: &View, branch: Branch, r1: RegisterNumber, target: 
             (Effect::single(count, Setting::Kept), count != 0)
         }
     };
-    Made::Effect {
-        r1,
-        effect,
-        next_address: address_after(view, is_taken, target),
-    }
+    effect.put_alone(view, r1, address_after(view, is_taken, target), puts)
 }
 
 /// The comparand of a branch on index: in R3 where its number is odd, else in the next register.
@@ -94,22 +99,20 @@ fn is_taken(branch: IndexBranch, sum: Word, comparand: Word) -> bool
     }
 }
 
-/// A branch on index high, or low or equal.
-pub(crate) fn branched_on_index(
+/// Puts a branch on index high, or low or equal.
+pub fn put_branch_on_index<P: Puts>(
     view: &View,
     branch: IndexBranch,
     r1: RegisterNumber,
     r3: RegisterNumber,
     address: u32,
-) -> Made
-    ensures outcome { outcome_of_made view.now result ≡ index_outcome branch view.now r1 r3 address }
-    ensures within { IsWithin view.now.core result }
+    puts: &mut P,
+) -> Result<Ended, AllocError>
+    requires none { HasNoPuts view.now.core (P.made puts.old) (P.may puts.old) (P.past puts.old) (P.count puts.old) }
+    ensures { IfOk result (PutsOutcome view.now.core (P.made puts.new) (P.may puts.new) (P.past puts.new) (P.count puts.new) (index_outcome branch view.now r1 r3 address)) }
 {
     let (sum, _) = add_signed(view.register(r1), view.register(r3));
     let is_taken = is_taken(branch, sum, comparand_of(view, r3));
-    Made::Effect {
-        r1,
-        effect: Effect::single(sum, Setting::Kept),
-        next_address: address_after(view, is_taken, Some(address)),
-    }
+    let next_address = address_after(view, is_taken, Some(address));
+    Effect::single(sum, Setting::Kept).put_alone(view, r1, next_address, puts)
 }

@@ -129,7 +129,7 @@ fn entry_at(code: u8) -> Option<Entry>
 
 /// The register that the high digit of a byte names.
 #[inline(always)]
-pub(crate) fn high_register(bytes: &[u8], i: usize) -> RegisterNumber
+pub fn high_register(bytes: &[u8], i: usize) -> RegisterNumber
     requires { i < length bytes.now }
     ensures { result ≡ high_digit bytes.now i }
 {
@@ -138,7 +138,7 @@ pub(crate) fn high_register(bytes: &[u8], i: usize) -> RegisterNumber
 
 /// The register that the low digit of a byte names.
 #[inline(always)]
-pub(crate) fn low_register(bytes: &[u8], i: usize) -> RegisterNumber
+pub fn low_register(bytes: &[u8], i: usize) -> RegisterNumber
     requires { i < length bytes.now }
     ensures { result ≡ low_digit bytes.now i }
 {
@@ -147,21 +147,11 @@ pub(crate) fn low_register(bytes: &[u8], i: usize) -> RegisterNumber
 
 /// The displacement that begins with the low digit of a byte.
 #[inline(always)]
-fn displacement(bytes: &[u8], i: usize) -> u16
+pub(crate) fn displacement(bytes: &[u8], i: usize) -> u16
     requires { i + 1 < length bytes.now }
     ensures { result ≡ displacement_at bytes.now i }
 {
     u16::from(bytes[i] % 16) * 256 + u16::from(bytes[i + 1])
-}
-
-/// The base register and the displacement that two bytes have, from one on.
-#[inline(always)]
-pub(crate) fn base_and_displacement(bytes: &[u8], i: usize) -> (RegisterNumber, u16)
-    requires { i + 1 < length bytes.now }
-    ensures base { result.0 ≡ high_digit bytes.now i }
-    ensures displacement { result.1 ≡ displacement_at bytes.now i }
-{
-    (high_register(bytes, i), displacement(bytes, i))
 }
 
 /// The instruction of a format with these bytes.

@@ -129,4 +129,18 @@ impl Effect {
         self.put(view.psw(), r1, address, view.core(), puts)?;
         Ok(ended)
     }
+    /// Puts the effect alone, after which the next instruction comes.
+    #[inline(always)]
+    pub fn put_next<P: Puts>(
+        self,
+        view: &View,
+        r1: RegisterNumber,
+        puts: &mut P,
+    ) -> Result<Ended, AllocError>
+        requires pair { OnSome self.second (r1 + 1 < 16) }
+        requires none { HasNoPuts view.now.core (P.made puts.old) (P.may puts.old) (P.past puts.old) (P.count puts.old) }
+        ensures { IfOk result (PutsOutcome view.now.core (P.made puts.new) (P.may puts.new) (P.past puts.new) (P.count puts.new) (after_effect view.now.core r1 self view.now.next_address)) }
+    {
+        self.put_alone(view, r1, view.next_address(), puts)
+    }
 }

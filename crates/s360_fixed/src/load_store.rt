@@ -5,20 +5,19 @@ ghost use Rattle.s360_store.specs.Puts.{HasNoPuts};
 ghost use Rattle.s360_store.specs.declared.protection.Access.{Access};
 ghost use Rattle.s360_fixed.specs.Operands.{access_conditions, bytes_of_width, extended_halfword};
 ghost use Rattle.s360_fixed.specs.Operands.{fetched, storage_operand, word_in};
-ghost use Rattle.s360_fixed.specs.Made.{HasWords, IsWithin, outcome_of_made};
 ghost use Rattle.s360_fixed.specs.Plans.{PutsOutcome};
 ghost use Rattle.s360_fixed.specs.ProgramCodes.{program_code};
 ghost use Rattle.s360_fixed.specs.Storing.{bytes_outcome, load_multiple_outcome, register_count};
-ghost use Rattle.s360_fixed.specs.Storing.{store_multiple_outcome};
+ghost use Rattle.s360_fixed.specs.Storing.{HasWords, store_multiple_outcome, store_outcome};
 
 use crate::ended::Ended;
-use crate::making::{Made, RegisterWords};
 use crate::operand::operand_exception;
 use crate::program_code::ProgramCode;
+use crate::puts::put_next_psw;
+use crate::register_words::{RegisterWords, put_loaded, put_stored};
 use crate::registers::distance;
 use crate::second_operand::{SecondOperand, Width};
 use crate::view::View;
-use arrayvec::ArrayVec;
 use s360_store::{Access, Puts};
 use s360_word::{RegisterNumber, Word};
 use std::alloc::AllocError;
@@ -59,24 +58,8 @@ pub(crate) fn fetch(view: &View, operand: SecondOperand, address: u32) -> Result
     }
 }
 
-/// A store of bytes, on the boundary of their number.
-pub(crate) fn stored(view: &View, address: u32, bytes: &[u8]) -> Made
-    requires some { 0 < length bytes.now }
-    requires few { length bytes.now ≤ 8 }
-    ensures outcome { outcome_of_made view.now result ≡ bytes_outcome bytes.now view.now address }
-    ensures within { IsWithin view.now.core result }
-{
-    let count = bytes.len() as u32;
-    match operand_exception(view, address, count, count, Access::Store) {
-        Some(code) => Made::Refused(code),
-        None => Made::Bytes {
-            address,
-            bytes: ArrayVec::try_from(bytes).unwrap(),
-        },
-    }
-}
-
 /// Puts a store of bytes, on the boundary of their number.
+#[inline(always)]
 pub fn put_store<P: Puts>(
     view: &View,
     address: u32,
@@ -88,7 +71,33 @@ pub fn put_store<P: Puts>(
     requires few { length bytes.now ≤ 8 }
     ensures { IfOk result (PutsOutcome view.now.core (P.made puts.new) (P.may puts.new) (P.past puts.new) (P.count puts.new) (bytes_outcome bytes.now view.now address)) }
 {
-    stored(view, address, bytes).put(view, puts)
+    let count = bytes.len() as u32;
+    if let Some(code) = operand_exception(view, address, count, count, Access::Store) {
+        return Ok(Ended::Program(code));
+    }
+    put_next_psw(view, puts)?;
+    puts.put_bytes(view.core(), address, bytes)?;
+    Ok(Ended::Done)
+}
+
+/// Puts a store of so many low bytes of R1.
+#[inline(always)]
+pub fn put_register<P: Puts>(
+    view: &View,
+    width: Width,
+    r1: RegisterNumber,
+    address: u32,
+    puts: &mut P,
+) -> Result<Ended, AllocError>
+    requires none { HasNoPuts view.now.core (P.made puts.old) (P.may puts.old) (P.past puts.old) (P.count puts.old) }
+    ensures { IfOk result (PutsOutcome view.now.core (P.made puts.new) (P.may puts.new) (P.past puts.new) (P.count puts.new) (store_outcome width view.now r1 address)) }
+{
+    let [first, second, third, low] = view.register(r1).to_be_bytes();
+    match width {
+        Width::Byte => put_store(view, address, &[low], puts),
+        Width::Halfword => put_store(view, address, &[third, low], puts),
+        Width::Word => put_store(view, address, &[first, second, third, low], puts),
+    }
 }
 
 /// How many registers there are from R1 up to R3, 15 followed by 0.
@@ -118,34 +127,36 @@ fn register_words(
     }
 }
 
-/// The loads of registers R1 up to R3 from successive words.
-pub(crate) fn registers_loaded(
+/// Puts successive words into registers R1 up to R3.
+pub fn put_loads<P: Puts>(
     view: &View,
     r1: RegisterNumber,
     r3: RegisterNumber,
     address: u32,
-) -> Made
-    ensures outcome { outcome_of_made view.now result ≡ load_multiple_outcome view.now r1 r3 address }
-    ensures within { IsWithin view.now.core result }
+    puts: &mut P,
+) -> Result<Ended, AllocError>
+    requires none { HasNoPuts view.now.core (P.made puts.old) (P.may puts.old) (P.past puts.old) (P.count puts.old) }
+    ensures { IfOk result (PutsOutcome view.now.core (P.made puts.new) (P.may puts.new) (P.past puts.new) (P.count puts.new) (load_multiple_outcome view.now r1 r3 address)) }
 {
     match register_words(view, r1, r3, address, Access::Fetch) {
-        Ok(words) => Made::Loaded(words),
-        Err(code) => Made::Refused(code),
+        Ok(words) => put_loaded(view, &words, puts),
+        Err(code) => Ok(Ended::Program(code)),
     }
 }
 
-/// The stores of registers R1 up to R3 at successive words.
-pub(crate) fn registers_stored(
+/// Puts registers R1 up to R3 at successive words.
+pub fn put_stores<P: Puts>(
     view: &View,
     r1: RegisterNumber,
     r3: RegisterNumber,
     address: u32,
-) -> Made
-    ensures outcome { outcome_of_made view.now result ≡ store_multiple_outcome view.now r1 r3 address }
-    ensures within { IsWithin view.now.core result }
+    puts: &mut P,
+) -> Result<Ended, AllocError>
+    requires none { HasNoPuts view.now.core (P.made puts.old) (P.may puts.old) (P.past puts.old) (P.count puts.old) }
+    ensures { IfOk result (PutsOutcome view.now.core (P.made puts.new) (P.may puts.new) (P.past puts.new) (P.count puts.new) (store_multiple_outcome view.now r1 r3 address)) }
 {
     match register_words(view, r1, r3, address, Access::Store) {
-        Ok(words) => Made::Stored(words),
-        Err(code) => Made::Refused(code),
+        Ok(words) => put_stored(view, &words, puts),
+        Err(code) => Ok(Ended::Program(code)),
     }
 }

@@ -6,12 +6,13 @@ ghost use Rattle.s360_store.specs.Plans.{HasBytes, HasRegisters};
 ghost use Rattle.s360_store.specs.declared.place.Place.{Place};
 ghost use Rattle.s360_store.specs.declared.place.Place.TheVariants.{Byte, Register};
 ghost use Rattle.s360_fixed.specs.Outcomes.{core_with_register};
-ghost use Rattle.s360_fixed.specs.Storing.{next_psw, with_register_loaded, with_registers_loaded, with_registers_stored};
+ghost use Rattle.s360_fixed.specs.Storing.{next_psw, register_distance, with_register_loaded, with_registers_loaded, with_registers_stored};
 
-use crate::making::RegisterWords;
+use crate::register_words::RegisterWords;
 use crate::registers::{distance, register_after};
 use crate::view::View;
-use s360_store::{Core, GREATEST_SIZE, Puts};
+use arrayvec::ArrayVec;
+use s360_store::{Core, Puts};
 use s360_word::{RegisterNumber, Word};
 use std::alloc::AllocError;
 
@@ -101,6 +102,22 @@ fn put_loaded<P: Puts>(
     Ok(())
 }
 
+/// The numbers from which and up to which the registers are that are loaded: of all, where 0 follows 15 among them.
+fn loaded_numbers(words: &RegisterWords) -> (u8, u8)
+    requires count { words.now.count ≤ 16 }
+    ensures order { result.0 ≤ result.1 }
+    ensures most { result.1 ≤ 16 }
+    ensures before { (r : ℕ) → r < result.0 → words.now.count ≤ register_distance words.now.r1 r }
+    ensures behind { (r : ℕ) → result.1 ≤ r → r < 16 → words.now.count ≤ register_distance words.now.r1 r }
+{
+    let first = words.r1.number();
+    if first + words.count <= 16 {
+        (first, first + words.count)
+    } else {
+        (0, 16)
+    }
+}
+
 /// Puts successive words into so many registers, from R1 on, 15 followed by 0: in the order of the registers' numbers.
 pub(crate) fn put_registers<P: Puts>(
     view: &View,
@@ -119,11 +136,15 @@ pub(crate) fn put_registers<P: Puts>(
 {
     // So R1 is the number of a register.
     prove!(words.r1.number() < 16);
-    for number in 0..16u8 {
+    let (first, past) = loaded_numbers(words);
+    for number in first..past {
         put_loaded(view, words, RegisterNumber::new(number), puts)?;
     }
     Ok(())
 }
+
+/// So many bytes all registers have.
+const MOST: usize = 64;
 
 /// Puts so many registers, from R1 on, 15 followed by 0, into successive words.
 pub(crate) fn put_words<P: Puts>(
@@ -140,11 +161,11 @@ pub(crate) fn put_words<P: Puts>(
     ensures may { OnOk result (P.may puts.new view.now.core) }
     ensures few { OnOk result (P.count puts.new ≤ P.count puts.old + 4 * words.now.count) }
 {
-    // So no address of the run passes 32 bits.
-    prove!(view.storage().size() <= GREATEST_SIZE);
+    let mut bytes = ArrayVec::<u8, MOST>::new();
     for i in 0..words.count {
-        let bytes = view.register(register_after(words.r1, i)).to_be_bytes();
-        puts.put_bytes(view.core(), words.address + 4 * u32::from(i), &bytes)?;
+        let word = view.register(register_after(words.r1, i)).to_be_bytes();
+        bytes.try_extend_from_slice(&word).unwrap();
     }
+    puts.put_bytes(view.core(), words.address, bytes.as_slice())?;
     Ok(())
 }

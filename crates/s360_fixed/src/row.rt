@@ -9,7 +9,7 @@ use crate::second_operand::{SecondOperand, Width};
 
 /// What is made of R1 and a second operand.
 #[derive(Clone, Copy, PartialEq, Eq)]
-pub(crate) enum Combination {
+pub enum Combination {
     /// The second operand.
     Second,
     /// The low byte of the second operand in place of that of R1.
@@ -46,7 +46,7 @@ pub(crate) enum Combination {
 
 /// What is made of the pair R1, R1 + 1 and a second operand.
 #[derive(Clone, Copy, PartialEq, Eq)]
-pub(crate) enum PairCombination {
+pub enum PairCombination {
     /// The signed product of R1 + 1 and the second operand.
     Product,
     /// The remainder and the quotient of the pair by the second operand.
@@ -55,7 +55,7 @@ pub(crate) enum PairCombination {
 
 /// A branch to an address.
 #[derive(Clone, Copy, PartialEq, Eq)]
-pub(crate) enum Branch {
+pub enum Branch {
     /// Where the mask R1 has a one for the condition code.
     OnCondition,
     /// With a link in R1.
@@ -66,7 +66,7 @@ pub(crate) enum Branch {
 
 /// A shift of R1 or of the pair R1, R1 + 1.
 #[derive(Clone, Copy, PartialEq, Eq)]
-pub(crate) enum Shift {
+pub enum Shift {
     /// Of all bits to the left.
     LeftLogical,
     /// Of all bits to the right.
@@ -79,7 +79,7 @@ pub(crate) enum Shift {
 
 /// When a branch on index is taken.
 #[derive(Clone, Copy, PartialEq, Eq)]
-pub(crate) enum IndexBranch {
+pub enum IndexBranch {
     /// Where the sum is above the comparand.
     High,
     /// Where it is not.

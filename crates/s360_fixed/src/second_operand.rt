@@ -4,7 +4,7 @@ ghost use Rattle.s360_fixed.specs.Operands.{bytes_of_width};
 
 /// How many bytes of storage an operand has.
 #[derive(Clone, Copy, PartialEq, Eq)]
-pub(crate) enum Width {
+pub enum Width {
     /// One byte.
     Byte,
     /// Two bytes, a number extended by its sign.
@@ -29,7 +29,7 @@ impl Width {
 
 /// Where the second operand of an instruction with the format RX is.
 #[derive(Clone, Copy)]
-pub(crate) enum SecondOperand {
+pub enum SecondOperand {
     /// At the address, with so many bytes.
     InStorage(Width),
     /// It is the address.

@@ -1,28 +1,21 @@
 -- A run: at most so many events, each the one whose turn it is.
 use Rattle.std.specs.Prelude.{ℕ, zero, suc, Bool, true, false, Option, Some, None, List, [], ◌∷◌, ◌++◌}
 use Rattle.std.specs.Option.{option_map_or}
-use Rattle.std.specs.List.{find}
 use Rattle.s360_store.specs.declared.place.Place.{Place}
-use Rattle.s360_channel.specs.Units.{is_active}
-use Rattle.s360_channel.specs.declared.configured_unit.ConfiguredUnit.{ConfiguredUnit}
 use Rattle.s360_machine.specs.declared.event.Event.{Event}
 use Rattle.s360_machine.specs.declared.event.Event.TheVariants.{Cpu, Channel}
 use Rattle.s360_machine.specs.declared.refusal.Refusal.{Refusal}
 use Rattle.s360_machine.specs.Machine.{Machine}
-use Rattle.s360_channel.specs.ConfiguredUnits.{address_of_unit, configured_units, control_of}
+use Rattle.s360_channel.specs.ConfiguredUnits.{active_unit, address_of_unit}
 use Rattle.s360_journal.specs.Breakpoints.{is_at_breakpoint}
 use Rattle.s360_journal.specs.Standing.{Standing, machine_of, refusal_in, alteration}
 use Rattle.s360_journal.specs.declared.running.RunEnd.{RunEnd}
 use Rattle.s360_journal.specs.declared.running.RunEnd.TheVariants.{Refused, Idle, Break, Done}
 use Rattle.s360_journal.specs.Offers.{unless_refused, with_events}
 
--- the lowest unit for which a channel executes a program
-abbrev pub active_unit : Machine → Option ConfiguredUnit
-active_unit m = find (λ u. is_active (control_of m.units u).state) configured_units
-
--- the event whose turn it is: the channel event of that unit, else a CPU event
+-- the event whose turn it is: the channel event of the lowest active unit, else a CPU event
 unfoldable pub next_event : Machine → Event
-next_event m = option_map_or (λ u. Channel (record { 0 = address_of_unit u })) (active_unit m) Cpu
+next_event m = option_map_or (λ u. Channel (record { 0 = address_of_unit u })) (active_unit m.units) Cpu
 
 -- why a run ends with an event, if it does: the event is refused; it alters nothing; the CPU then operates at a
 -- breakpoint

@@ -78,6 +78,9 @@ impl Breaks {
     pub fn stops(&self, machine: &Machine) -> bool
         ensures { result ≡ is_at_breakpoint (seen machine.now.whole) self.now }
     {
+        if self.addresses.is_empty() {
+            return false;
+        }
         let psw = machine.psw();
         machine.run().is_operating() && !psw.wait() && self.has(psw.instruction_address())
     }

@@ -1,8 +1,8 @@
 //! The number of the last change, in the index at the places that the change alters.
 ghost use Rattle.std.specs.Prelude.{◌≡◌, ◌<◌, ◌-◌, length, slice_get, take, IfSome, OnErr, OnOk};
-ghost use Rattle.s360_store.specs.Spans.{places_of_spans};
+ghost use Rattle.s360_store.specs.Spans.{places_of_span, places_of_spans};
 ghost use Rattle.s360_index.specs.Histories.{Gains, GainsInPart};
-ghost use Rattle.s360_index.specs.Sizes.{AreSpansWithinSize, AreWithinSize};
+ghost use Rattle.s360_index.specs.Sizes.{AreSpansWithinSize, AreWithinSize, IsSpanWithinSize};
 ghost use Rattle.s360_machine.specs.Change.{places_of_change};
 ghost use Rattle.s360_machine.specs.ChangeSpans.{spans_within};
 ghost use Rattle.s360_journal.specs.Indexed.{IsIndexOf, MayIndex};
@@ -22,18 +22,29 @@ fn put_within(index: &mut Index, spans: SpansWithin, number: u32) -> Result<(), 
     ensures ok { OnOk result (Gains number (places_of_spans (spans_within spans)) index.old index.new) }
     ensures err { OnErr result (GainsInPart number (places_of_spans (spans_within spans)) index.old index.new) }
 {
+    if let SpansWithin::Nothing = spans {
+        return Ok(());
+    }
+    index.put(PSW, number)?;
     match spans {
-        SpansWithin::Nothing => Ok(()),
-        SpansWithin::Psw => index.put(PSW, number),
+        SpansWithin::Nothing | SpansWithin::Psw => Ok(()),
         SpansWithin::Register(register) => {
-            index.put(PSW, number)?;
             index.put(Span::Place(Place::Register(register)), number)
         }
         SpansWithin::Bytes { address, count } => {
-            index.put(PSW, number)?;
             index.put(Span::Bytes { address, count }, number)
         }
     }
+}
+
+/// Puts a number at the places of a span that stands apart. Want of memory leaves it at some of them.
+#[inline(never)]
+fn put_apart(index: &mut Index, span: Span, number: u32) -> Result<(), AllocError>
+    requires { IsSpanWithinSize span }
+    ensures ok { OnOk result (Gains number (places_of_span span) index.old index.new) }
+    ensures err { OnErr result (GainsInPart number (places_of_span span) index.old index.new) }
+{
+    index.put(span, number)
 }
 
 /// Puts the number of the last change at the places that it alters. Want of memory leaves it at some of them.
@@ -50,7 +61,7 @@ fn put_last(index: &mut Index, changes: &Packed, number: u32) -> Result<(), Allo
         ChangeSpans::Within(spans) => put_within(index, spans, number),
         ChangeSpans::Apart(spans) => {
             for span in spans {
-                index.put(span, number)?;
+                put_apart(index, span, number)?;
             }
             Ok(())
         }
@@ -84,6 +95,17 @@ pub(crate) fn unindex_last(index: &mut Index, changes: &Packed, number: u32)
     }
 }
 
+/// The same, where memory was wanting, which is rare.
+#[inline(never)]
+fn unindex_refused(index: &mut Index, changes: &Packed, number: u32)
+    requires some { 0 < number }
+    requires last { number ≡ length changes.now }
+    requires index { IfSome (slice_get changes.now (number - 1)) (λ x. MayIndex index.old (take (number - 1) changes.now) x) }
+    ensures { IsIndexOf index.new (take (number - 1) changes.now) }
+{
+    unindex_last(index, changes, number);
+}
+
 /// Puts the number of the last change at the places that it alters. Want of memory leaves it at none of them.
 #[inline(always)]
 pub(crate) fn index_last(index: &mut Index, changes: &Packed, number: u32) -> Result<(), AllocError>
@@ -96,7 +118,7 @@ pub(crate) fn index_last(index: &mut Index, changes: &Packed, number: u32) -> Re
 {
     let put = put_last(index, changes, number);
     if put.is_err() {
-        unindex_last(index, changes, number);
+        unindex_refused(index, changes, number);
     }
     put
 }

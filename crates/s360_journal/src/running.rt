@@ -1,18 +1,15 @@
 //! Runs: the events whose turn it is, one after another.
 ghost use Rattle.std.specs.Prelude.{◌≡◌, ℕ, IfOk, OnOk, OnErr, None, List, take};
-ghost use Rattle.s360_channel.specs.Units.{is_active};
 ghost use Rattle.s360_machine.specs.Machine.{seen};
-ghost use Rattle.s360_channel.specs.ConfiguredUnits.{control_of};
 ghost use Rattle.s360_journal.specs.Breakpoints.{is_at_breakpoint};
 ghost use Rattle.s360_journal.specs.Offers.{unless_refused, with_events};
-ghost use Rattle.s360_journal.specs.Running.{active_unit, end_of_turn, end_with, next_event, run_of};
+ghost use Rattle.s360_journal.specs.Running.{end_of_turn, end_with, next_event, run_of};
 ghost use Rattle.s360_journal.specs.Standing.{IsAfter, Standing, alteration, machine_of, refusal_in};
 
 use crate::breaks::Breaks;
 use crate::reversible::Reversible;
 use crate::session::Session;
-use s360_channel::UnitState;
-use s360_machine::{ConfiguredUnit, Event, Machine, Refusal};
+use s360_machine::{Event, Machine, Refusal};
 use std::alloc::AllocError;
 
 /// Why a run ended.
@@ -91,25 +88,8 @@ fn end_after<S: Reversible>(session: &S, breaks: &Breaks) -> Option<RunEnd>
 pub fn next_event(machine: &Machine) -> Event
     ensures { result ≡ next_event (seen machine.now.whole) }
 {
-    match active_unit(machine) {
+    match machine.active_unit() {
         Some(unit) => Event::Channel(unit.unit()),
         None => Event::Cpu,
     }
-}
-
-/// The lowest unit for which a channel executes a program.
-fn active_unit(machine: &Machine) -> Option<ConfiguredUnit>
-    ensures { result ≡ active_unit (seen machine.now.whole) }
-{
-    ConfiguredUnit::ALL
-        .iter()
-        .copied()
-        .find(|unit| is_active(machine, *unit))
-}
-
-/// Whether a channel executes a program for a unit.
-fn is_active(machine: &Machine, unit: ConfiguredUnit) -> bool
-    ensures { result ≡ is_active (control_of machine.now.whole.units unit).state }
-{
-    machine.unit(unit.unit()).is_some_and(UnitState::is_active)
 }

@@ -208,6 +208,21 @@ impl Session {
         ensures refused { MatchOption (refusal_in self.old event) (IsOkUnless result Memory) (λ r. result ≡ Err r) }
         ensures size { storage_size (machine_of self.old) ≡ storage_size (seen self.old.start) }
     {
+        match event {
+            // So the compiler has the most frequent event for itself.
+            Event::Cpu => self.offer(Event::Cpu),
+            event => self.offer(event),
+        }
+    }
+
+    /// Runs an event as `advance` does.
+    #[inline(always)]
+    fn offer(&mut self, event: Event) -> Result<(), Refusal>
+        ensures ok { OnOk result (IsAfter self.new self.old event) }
+        ensures err { OnErr result (self.new ≡ self.old) }
+        ensures refused { MatchOption (refusal_in self.old event) (IsOkUnless result Memory) (λ r. result ≡ Err r) }
+        ensures size { storage_size (machine_of self.old) ≡ storage_size (seen self.old.start) }
+    {
         if let Some(refusal) = self.refusal(&event) {
             return Err(refusal);
         }

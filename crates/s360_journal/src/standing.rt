@@ -30,6 +30,23 @@ pub(crate) fn unmake_last(machine: &mut Machine, changes: &mut Packed, index: &m
     changes.drop_last();
 }
 
+/// Takes the last change out of the list. It stands apart, since that is rare.
+#[inline(never)]
+fn drop_last_change(changes: &mut Packed)
+    requires { 0 < length changes.old }
+    ensures { changes.new ≡ take (length changes.old - 1) changes.old }
+{
+    changes.drop_last();
+}
+
+/// Takes the last event out of those that stand. It stands apart, since that is rare.
+#[inline(never)]
+fn drop_last_event(events: &mut Events)
+    ensures { events.new ≡ take (length events.old - 1) events.old }
+{
+    events.drop_last();
+}
+
 /// Lets an event stand whose change is the last of the changes, for which the machine has room, and makes the change. Want
 /// of memory takes the change out of the list again.
 #[inline(always)]
@@ -55,13 +72,13 @@ pub(crate) fn stand(
     // So the index can have each byte.
     prove!(machine.storage().size() <= GREATEST_SIZE);
     if events.push(event).is_err() {
-        changes.drop_last();
+        drop_last_change(changes);
         return Err(AllocError);
     }
     let count = changes.len();
     if index_last(index, changes, count).is_err() {
-        events.drop_last();
-        changes.drop_last();
+        drop_last_event(events);
+        drop_last_change(changes);
         return Err(AllocError);
     }
     // Nothing can fail from here on.

@@ -2,18 +2,15 @@
 //! GA22-6821, "System Structure", program execution.
 ghost use Rattle.std.specs.Prelude.{◌≡◌, ◌<◌, [], IfErr, IfOk, Some, length, slice_index};
 ghost use Rattle.s360_model.specs.Psw.{instruction_address_of};
-ghost use Rattle.s360_fixed.specs.Plans.{PutsOutcome};
 ghost use Rattle.s360_fixed.specs.ProgramCodes.{program_code};
 ghost use Rattle.s360_fixed.specs.Table.{form_of, instruction_length};
 ghost use Rattle.s360_store.specs.Puts.{HasNoPuts};
 ghost use Rattle.s360_psw.specs.declared.instruction_length.InstructionLength.TheVariants.{NotAvailable};
 ghost use Rattle.s360_fixed.specs.declared.ended.Ended.TheVariants.{Program};
-ghost use Rattle.s360_logic.specs.Instruction.{PlansInstruction, PutsInstruction, conditions_at, fetched_outcome, instruction, length_of_bytes};
+ghost use Rattle.s360_logic.specs.Instruction.{PlansInstruction, PutsInstruction, conditions_at, instruction, length_of_bytes};
 
-use crate::logic::put_logic;
-use s360_fixed::{
-    Ended, Form, Operation, ProgramCode, View, decode_bytes, fetch_instruction, put_rr, put_rx,
-};
+use crate::dispatch::put_bytes;
+use s360_fixed::{Ended, Form, ProgramCode, View, decode_bytes, fetch_instruction};
 use s360_psw::{InstructionLength, Psw};
 use s360_store::{Core, Plan, Puts};
 use std::alloc::AllocError;
@@ -81,53 +78,6 @@ pub fn fetch(core: &Core) -> Result<Fetched<'_>, ProgramCode>
     })
 }
 
-/// Puts the instruction that bytes are by its form, if it has one.
-#[inline(never)]
-fn put_decoded<P: Puts>(bytes: &[u8], view: &View, puts: &mut P) -> Result<Ended, AllocError>
-    requires begun { 0 < length bytes.now }
-    requires whole { length bytes.now ≡ instruction_length (slice_index bytes.now 0) }
-    requires none { HasNoPuts view.now.core (P.made puts.old) (P.may puts.old) (P.past puts.old) (P.count puts.old) }
-    ensures { IfOk result (PutsOutcome view.now.core (P.made puts.new) (P.may puts.new) (P.past puts.new) (P.count puts.new) (fetched_outcome view.now (form_of bytes.now))) }
-{
-    match decode_bytes(bytes) {
-        Some(form) => put_logic(&form, view, puts),
-        None => Ok(Ended::Program(ProgramCode::Operation)),
-    }
-}
-
-/// Puts the instruction that bytes are. The most frequent have an arm of their own, which the compiler has for it alone.
-#[inline(always)]
-fn put_bytes<P: Puts>(bytes: &[u8], view: &View, puts: &mut P) -> Result<Ended, AllocError>
-    requires begun { 0 < length bytes.now }
-    requires whole { length bytes.now ≡ instruction_length (slice_index bytes.now 0) }
-    requires none { HasNoPuts view.now.core (P.made puts.old) (P.may puts.old) (P.past puts.old) (P.count puts.old) }
-    ensures { IfOk result (PutsOutcome view.now.core (P.made puts.new) (P.may puts.new) (P.past puts.new) (P.count puts.new) (fetched_outcome view.now (form_of bytes.now))) }
-{
-    match bytes[0] {
-        0x05 => put_rr(Operation::BranchAndLink, bytes, view, puts),
-        0x06 => put_rr(Operation::BranchOnCount, bytes, view, puts),
-        0x07 => put_rr(Operation::BranchOnCondition, bytes, view, puts),
-        0x12 => put_rr(Operation::LoadAndTest, bytes, view, puts),
-        0x18 => put_rr(Operation::Load, bytes, view, puts),
-        0x19 => put_rr(Operation::Compare, bytes, view, puts),
-        0x1A => put_rr(Operation::Add, bytes, view, puts),
-        0x1B => put_rr(Operation::Subtract, bytes, view, puts),
-        0x41 => put_rx(Operation::LoadAddress, bytes, view, puts),
-        0x42 => put_rx(Operation::StoreCharacter, bytes, view, puts),
-        0x43 => put_rx(Operation::InsertCharacter, bytes, view, puts),
-        0x45 => put_rx(Operation::BranchAndLink, bytes, view, puts),
-        0x46 => put_rx(Operation::BranchOnCount, bytes, view, puts),
-        0x47 => put_rx(Operation::BranchOnCondition, bytes, view, puts),
-        0x48 => put_rx(Operation::LoadHalfword, bytes, view, puts),
-        0x50 => put_rx(Operation::Store, bytes, view, puts),
-        0x58 => put_rx(Operation::Load, bytes, view, puts),
-        0x59 => put_rx(Operation::Compare, bytes, view, puts),
-        0x5A => put_rx(Operation::Add, bytes, view, puts),
-        0x5B => put_rx(Operation::Subtract, bytes, view, puts),
-        _ => put_decoded(bytes, view, puts),
-    }
-}
-
 /// An instruction that could not be fetched, which ends with this code.
 fn not_fetched(psw: Psw, code: ProgramCode) -> PlannedInstruction
     ensures { result ≡ record { ended = Program code; next_address = instruction_address_of psw; instruction_length = NotAvailable } }
@@ -180,6 +130,7 @@ impl<'a> Fetched<'a> {
 
 /// Puts the instruction at the instruction address, and says how it ends.
 #[tactic(auto, unfolding(crate::specs::Instruction::instruction))]
+#[inline(always)]
 pub fn put_instruction<P: Puts>(core: &Core, puts: &mut P) -> Result<PlannedInstruction, AllocError>
     requires none { HasNoPuts core.now (P.made puts.old) (P.may puts.old) (P.past puts.old) (P.count puts.old) }
     ensures { IfOk result (PutsInstruction core.now (P.made puts.new) (P.may puts.new) (P.past puts.new) (P.count puts.new) (instruction core.now)) }

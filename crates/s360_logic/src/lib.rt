@@ -9,6 +9,7 @@ mod bytes;
 mod condition;
 mod converting;
 mod cpu;
+mod dispatch;
 mod field;
 mod first_operand;
 mod immediate;

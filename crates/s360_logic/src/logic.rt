@@ -21,7 +21,8 @@ use crate::row::{
 use crate::status::{put_register_status, put_storage_status};
 use arrayvec::ArrayVec;
 use s360_fixed::{
-    Ended, Form, Operation, ProgramCode, View, decode, fetch_instruction, made, operand_address,
+    Ended, Form, Operation, ProgramCode, View, decode, fetch_instruction, is_fixed,
+    operand_address, put_fixed,
 };
 use s360_store::{Plan, Puts};
 use s360_word::RegisterNumber;
@@ -39,7 +40,7 @@ fn address_of(view: &View, base: RegisterNumber, displacement: u16) -> u32
 }
 
 /// Puts a row of two operands in storage, by the length field and the addresses.
-fn put_storage<P: Puts>(
+pub(crate) fn put_storage<P: Puts>(
     view: &View,
     row: StorageRow,
     l: u8,
@@ -74,7 +75,6 @@ fn put_storage<P: Puts>(
 }
 
 /// Puts an instruction by its row in these chapters, if it has one.
-#[inline(never)]
 fn put_own<P: Puts>(form: &Form, view: &View, puts: &mut P) -> Result<Ended, AllocError>
     requires none { HasNoPuts view.now.core (P.made puts.old) (P.may puts.old) (P.past puts.old) (P.count puts.old) }
     ensures { IfOk result (PutsOutcome view.now.core (P.made puts.new) (P.may puts.new) (P.past puts.new) (P.count puts.new) (by_row None (logic_outcome form.now) (status_outcome form.now) view.now)) }
@@ -129,10 +129,10 @@ fn put_row<P: Puts>(form: &Form, view: &View, puts: &mut P) -> Result<Ended, All
     requires none { HasNoPuts view.now.core (P.made puts.old) (P.may puts.old) (P.past puts.old) (P.count puts.old) }
     ensures { IfOk result (PutsOutcome view.now.core (P.made puts.new) (P.may puts.new) (P.past puts.new) (P.count puts.new) (row_outcome view.now form.now)) }
 {
-    match made(form, view) {
-        Some(made) => made.put(view, puts),
-        None => put_own(form, view, puts),
+    if is_fixed(form) {
+        return put_fixed(form, view, puts);
     }
+    put_own(form, view, puts)
 }
 
 /// The field R1 of an execute, and the address of its subject.
@@ -167,8 +167,7 @@ pub fn with_ored_byte(view: &View, r1: RegisterNumber, bytes: &[u8]) -> ArrayVec
 }
 
 /// Puts an execute: what its subject does, with the next address and the length of the execute.
-#[inline(never)]
-fn put_execute<P: Puts>(
+pub(crate) fn put_execute<P: Puts>(
     view: &View,
     r1: RegisterNumber,
     address: u32,

@@ -8,6 +8,7 @@ use Rattle.s360_machine.specs.declared.operator.Key.{Key as OperatorKey}
 use Rattle.s360_machine.specs.declared.operator.Key.TheVariants.{Enter, Load}
 use Rattle.s360_machine.specs.declared.refusal.Refusal.{Refusal}
 use Rattle.s360_machine.specs.declared.refusal.Refusal.TheVariants.{Memory, OutsideStorage, NoSuchUnit, LineTooLong, PatchTooLong, JournalFull}
+use Rattle.s360_word.specs.declared.unit.Unit.{Unit}
 use Rattle.s360_print.specs.TypedLines.{line_limit}
 use Rattle.s360_channel.specs.ConfiguredUnits.{unit_at}
 
@@ -28,14 +29,18 @@ refusal_of_patch size (StorageKey at storage_key) = if nat_lt at size then None 
 refusal_of_patch size (FetchBit at bit) = if nat_lt at size then None else Some OutsideStorage
 refusal_of_patch size (Psw psw) = None
 
+-- a unit that the machine lacks
+abbrev pub refusal_of_unit : Unit → Option Refusal
+refusal_of_unit unit = if is_none (unit_at unit.0) then Some NoSuchUnit else None
+
 -- a line that is entered has at most 256 bytes, and the machine loads from a unit that it has
 abbrev pub refusal_of_key : OperatorKey → Option Refusal
 refusal_of_key (Enter line) = if nat_lt line_limit (length line) then Some LineTooLong else None
-refusal_of_key (Load unit) = if is_none (unit_at unit.0) then Some NoSuchUnit else None
+refusal_of_key (Load unit) = refusal_of_unit unit
 refusal_of_key other = None
 
 abbrev pub refusal_of : ℕ → Event → Option Refusal
 refusal_of size (patch p) = refusal_of_patch size p
 refusal_of size (Key k) = refusal_of_key k
-refusal_of size (Channel unit) = if is_none (unit_at unit.0) then Some NoSuchUnit else None
+refusal_of size (Channel unit) = refusal_of_unit unit
 refusal_of size event = None

@@ -135,7 +135,7 @@ impl Machine {
     }
 
     /// Puts an instruction, with the program or the supervisor call interruption that it causes.
-    #[inline(always)]
+    #[inline(never)]
     fn put_instruction<P: Puts>(&self, puts: &mut P, beside: &mut Beside) -> Result<(), AllocError>
         requires none { HasNoPuts self.now.whole.core (P.made puts.old) (P.may puts.old) (P.past puts.old) (P.count puts.old) }
         requires leaves { LeavesOthers self.now.whole beside.old }
@@ -144,7 +144,11 @@ impl Machine {
         let planned = s360_logic::put_instruction(&self.core, puts)?;
         match planned.ended {
             Ended::Done => Ok(()),
-            _ => self.put_ended(planned, puts, beside),
+            _ => {
+                // A copy, so that the other needs no place in memory.
+                let ended = planned;
+                self.put_ended(ended, puts, beside)
+            }
         }
     }
 

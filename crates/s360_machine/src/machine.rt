@@ -17,7 +17,7 @@ ghost use Rattle.s360_model.specs.Exchanges.{CanIfAny};
 ghost use Rattle.s360_device.specs.DeviceChanges.{bare};
 ghost use Rattle.s360_tape.specs.WholeTape.{seen as seen_tape};
 ghost use Rattle.s360_machine.specs.Media.{tape_of};
-ghost use Rattle.s360_channel.specs.ConfiguredUnits.{attention_at, state_at, unit_at};
+ghost use Rattle.s360_channel.specs.ConfiguredUnits.{active_unit, attention_at, state_at, unit_at};
 ghost use Rattle.s360_machine.specs.Planned.{IsChangeTo};
 
 use crate::beside::{Beside, exchange_beside};
@@ -178,6 +178,14 @@ impl Machine {
     {
         let unit = ConfiguredUnit::at(unit)?;
         Some(&self.units.control(unit).state)
+    }
+
+    /// The lowest unit for which a channel executes a program.
+    #[inline(always)]
+    pub fn active_unit(&self) -> Option<ConfiguredUnit>
+        ensures { result ≡ active_unit self.now.whole.units }
+    {
+        self.units.active()
     }
 
     /// Whether a unit asks for attention; none does that the machine lacks.

@@ -362,7 +362,6 @@ impl Packed {
     }
 
     /// The places of a change, counted from 1, as spans. It takes no memory.
-    #[inline(always)]
     pub fn spans(&self, number: u32) -> ChangeSpans<'_>
         requires some { 0 < number }
         requires inside { number ≤ length self.now }

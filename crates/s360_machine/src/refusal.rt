@@ -2,13 +2,14 @@
 ghost use Rattle.std.specs.Prelude.{◌≡◌};
 ghost use Rattle.s360_machine.specs.declared.refusal.Refusal.TheVariants.{Memory};
 ghost use Rattle.s360_machine.specs.Machine.{seen, storage_size};
-ghost use Rattle.s360_machine.specs.Refusals.{number_of_refusal, refusal_of};
+ghost use Rattle.s360_machine.specs.Refusals.{number_of_refusal, refusal_of, refusal_of_key, refusal_of_patch, refusal_of_unit};
 
 use crate::event::{Event, Patch};
 use crate::machine::Machine;
 use crate::operator::Key;
 use s360_channel::ConfiguredUnit;
 use s360_print::LINE_LIMIT;
+use s360_word::Unit;
 use std::alloc::AllocError;
 use thiserror::Error;
 
@@ -62,6 +63,49 @@ impl From<AllocError> for Refusal {
     }
 }
 
+/// Why an event of a unit is refused: the machine lacks it.
+fn refusal_of_unit(unit: Unit) -> Option<Refusal>
+    ensures { result ≡ refusal_of_unit unit }
+{
+    match ConfiguredUnit::at(unit) {
+        Some(_) => None,
+        None => Some(Refusal::NoSuchUnit),
+    }
+}
+
+/// Why a key is refused.
+fn refusal_of_key(key: &Key) -> Option<Refusal>
+    ensures { result ≡ refusal_of_key key.now }
+{
+    match key {
+        Key::Load(unit) => refusal_of_unit(*unit),
+        Key::Enter(line) if line.as_slice().len() > LINE_LIMIT => Some(Refusal::LineTooLong),
+        _ => None,
+    }
+}
+
+/// Why a patch is refused, of a machine with so many bytes of storage.
+fn refusal_of_patch(patch: &Patch, size: u32) -> Option<Refusal>
+    ensures { result ≡ refusal_of_patch size patch.now }
+{
+    match patch {
+        Patch::Bytes { at, bytes } => {
+            let count = bytes.as_slice().len();
+            if count > LONGEST_PATCH {
+                Some(Refusal::PatchTooLong)
+            } else if u64::from(*at) + count as u64 > u64::from(size) {
+                Some(Refusal::OutsideStorage)
+            } else {
+                None
+            }
+        }
+        Patch::StorageKey { at, .. } | Patch::FetchBit { at, .. } if *at >= size => Some(
+            Refusal::OutsideStorage,
+        ),
+        _ => None,
+    }
+}
+
 impl Machine {
     /// Why an event is refused whatever the machine's state, by the event and the storage size
     /// alone.
@@ -69,30 +113,11 @@ impl Machine {
     pub fn refusal(&self, event: &Event) -> Option<Refusal>
         ensures { result ≡ refusal_of (storage_size (seen self.now.whole)) event.now }
     {
-        let size = self.core.storage().size();
         match event {
-            Event::Patch(Patch::Bytes { at, bytes }) => {
-                let count = bytes.as_slice().len();
-                if count > LONGEST_PATCH {
-                    Some(Refusal::PatchTooLong)
-                } else if u64::from(*at) + count as u64 > u64::from(size) {
-                    Some(Refusal::OutsideStorage)
-                } else {
-                    None
-                }
-            }
-            Event::Patch(Patch::StorageKey { at, .. } | Patch::FetchBit { at, .. })
-                if *at >= size => { Some(Refusal::OutsideStorage) }
-            Event::Channel(unit) if ConfiguredUnit::at(*unit).is_none() => Some(
-                Refusal::NoSuchUnit,
-            ),
-            Event::Key(Key::Load(unit)) if ConfiguredUnit::at(*unit).is_none() => Some(
-                Refusal::NoSuchUnit,
-            ),
-            Event::Key(Key::Enter(line)) if line.as_slice().len() > LINE_LIMIT => Some(
-                Refusal::LineTooLong,
-            ),
-            _ => None,
+            Event::Cpu | Event::Tick => None,
+            Event::Channel(unit) => refusal_of_unit(*unit),
+            Event::Key(key) => refusal_of_key(key),
+            Event::Patch(patch) => refusal_of_patch(patch, self.core.storage().size()),
         }
     }
 }

@@ -1,9 +1,8 @@
 //! Rows of 16 bytes: what an event alters of the core where that is the PSW and little beside it, and
 //! else how much of it stands in lists apart.
-ghost use Rattle.std.specs.Prelude.{None, ◌≡◌, ◌<◌, ◌≤◌, ◌∷◌, ℕ, [], IfSome, IsTrue, List, length, slice_get, Some, true};
+ghost use Rattle.std.specs.Prelude.{None, ◌≡◌, ◌<◌, ◌≤◌, ℕ, [], IfSome, IsTrue, List, length, slice_get, Some, true};
 ghost use Rattle.s360_store.specs.Cells.{AllFit, AreCellsOf, after_exchange, cells_after_exchange, places_of_cells};
-ghost use Rattle.s360_store.specs.CoreChanges.{cells_of_change, psw_cell};
-ghost use Rattle.s360_store.specs.Places.{Fits};
+ghost use Rattle.s360_store.specs.CoreChanges.{cells_of_change};
 ghost use Rattle.s360_store.specs.declared.items.Item.{Item as AnItem};
 ghost use Rattle.s360_machine.specs.ChangeSpans.{spans_of_row, spans_within};
 ghost use Rattle.s360_machine.specs.Rows.{ArePartsOf, HasNoMore, HasSameCounts, IsOver, IsRowOf, beside_of_row, bytes_of_row, cells_of_row, items_of_row};
@@ -12,7 +11,7 @@ ghost use Rattle.s360_machine.specs.Stretches.{begun_by, next_after, stretches};
 
 use crate::change_spans::SpansWithin;
 use s360_psw::Psw;
-use s360_store::{Cell, Core, CoreChange, Item, Part, Place, part_at};
+use s360_store::{BesidePsw, Core, CoreChange, Item, Place, part_at};
 use s360_word::{RegisterNumber, Word};
 
 /// What an event alters. Each variant has its smallest fields first, so that none takes more than 16 bytes.
@@ -44,24 +43,6 @@ pub(crate) enum Row {
     },
 }
 
-/// The row of a PSW and a cell, if that is of a general register.
-#[inline(always)]
-fn with_register(psw: Psw, cell: Cell) -> Option<Row>
-    requires { Fits true cell.place cell.value }
-    ensures within { IfSome result (λ row. HasNoMore row) }
-    ensures over { IfSome result (λ row. IsOver row [] []) }
-    ensures cells { IfSome result (λ row. cells_of_row row [] [] ≡ psw_cell psw ∷ (cell ∷ [])) }
-{
-    match cell.place {
-        Place::Register(number) if number < 16 => Some(Row::Register {
-            register: RegisterNumber::new(number),
-            word: cell.value as u32,
-            psw,
-        }),
-        _ => None,
-    }
-}
-
 impl Row {
     /// The row of a change of the core that has all but its bytes within it, and these bytes.
     #[inline(always)]
@@ -69,14 +50,22 @@ impl Row {
         requires { AllFit true (cells_of_change core.now) }
         ensures { IfSome result (λ r. IsRowOf (cells_of_change core.now) r.0 r.1.now) }
     {
-        let (psw, cells) = (core.altered_psw(), core.cells());
-        if cells.is_empty() {
-            return Some((psw.map_or(Row::Nothing, Row::Psw), &[]));
-        }
-        let psw = psw?;
-        match cells.only()? {
-            Part::Cell(cell) => Some((with_register(psw, cell)?, &[])),
-            Part::Bytes(address, bytes) => {
+        let psw = core.altered_psw();
+        match core.beside_psw() {
+            BesidePsw::Nothing => Some((psw.map_or(Row::Nothing, Row::Psw), &[])),
+            BesidePsw::Register(register, word) => {
+                let psw = psw?;
+                Some((
+                    Row::Register {
+                        register,
+                        word,
+                        psw,
+                    },
+                    &[],
+                ))
+            }
+            BesidePsw::Run(address, bytes) => {
+                let psw = psw?;
                 let count = u16::try_from(bytes.len()).ok()?;
                 Some((
                     Row::Bytes {
@@ -87,6 +76,7 @@ impl Row {
                     bytes,
                 ))
             }
+            BesidePsw::More => None,
         }
     }
 

@@ -18,7 +18,7 @@ use Rattle.s360_store.specs.declared.items.Item.TheVariants.{Single, Run}
 use Rattle.s360_store.specs.declared.items.Part.TheVariants.{Cell as OfCell}
 use Rattle.s360_store.specs.Cells.{HasEachOnce, IsFresh, byte_cells, places_of_cells}
 use Rattle.s360_store.specs.Order.{IsAscending, IsBefore, IsBeforeAll}
-use Rattle.s360_store.specs.Items.{AddsRun, AllMiss, AreItems, IsItem, IsJoined, IsPartAt, IsReplaced, IsRunBefore, IsSingle, MissesBytes, bytes_of_item, bytes_of_items, cells_of_item, cells_of_items, count_of_item, first_place, has_place, is_in_run, last_place}
+use Rattle.s360_store.specs.Items.{AddsRun, AllMiss, AreItems, IsItem, IsJoined, IsPartAt, IsReplaced, IsRunBefore, IsRunOf, IsSingle, MissesBytes, bytes_of_item, bytes_of_items, cells_of_item, cells_of_items, count_of_item, first_place, has_place, is_in_run, last_place}
 use Rattle.s360_store.specs.Places.{same_place}
 use Rattle.s360_store.specs.Plans.{after_put, planned_value}
 use Rattle.s360_store.proofs.AscendingLemmas.{Among, IsAscending-append, IsBefore-trans, IsBeforeAll-append}
@@ -33,12 +33,7 @@ cells_of_item-behind (Single c) bs cs l = refl
 cells_of_item-behind (Run a n) bs cs l = rw (take-append-le n bs cs l) refl
 
 -- a run alone has all cells
-pub record IsOnlyRun (is : List Item) (bs : List ℕ) (a : ℕ) : Type 0 where
-  pub is_all : byte_cells a bs ≡ cells_of_items is bs
-  pub some : 0 < length (cells_of_items is bs)
-  pub small : a + length bs ≤ 2 ^ 32
-
-pub only-run : (is : List Item) (bs : List ℕ) (a n : ℕ) (d : Item) → AreItems is → bytes_of_items is ≡ length bs → length is ≡ 1 → get_or is 0 d ≡ Run a n → IsOnlyRun is bs a
+pub only-run : (is : List Item) (bs : List ℕ) (a n : ℕ) (d : Item) → AreItems is → bytes_of_items is ≡ length bs → length is ≡ 1 → get_or is 0 d ≡ Run a n → IsRunOf (cells_of_items is bs) a bs
 only-run [] bs a n d whole all one e = absurd cc
 only-run (i ∷ j ∷ js) bs a n d whole all one e = absurd cc
 only-run (i ∷ []) bs a n d whole all one e =
@@ -47,7 +42,7 @@ only-run (i ∷ []) bs a n d whole all one e =
     in let same : take n bs ≡ bs = take_all n bs (omega (arith, many))
     in let cells : cells_of_items (i ∷ []) bs ≡ byte_cells a bs = rw (e, same, append-nil) refl
     in record {
-      is_all = sym cells;
+      is = sym cells;
       some = rw cells (omega (arith, length-byte_cells a bs, many, item.0));
       small = omega (arith, many, item.1);
     }

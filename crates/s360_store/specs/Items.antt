@@ -125,11 +125,11 @@ pub record IsPartAt (cs : List Cell) (i : ℕ) (part : Part) : Type 0 where
   pub is : drop i cs ≡ cells_of_part part ++ drop (i + length (cells_of_part part)) cs
   pub small : HasAddresses part
 
--- the part is all of the cells
-pub record IsAllOf (cs : List Cell) (part : Part) : Type 0 where
-  pub is : cells_of_part part ≡ cs
+-- the cells are those of bytes from an address on, at least one
+pub record IsRunOf (cs : List Cell) (a : ℕ) (bs : List ℕ) : Type 0 where
+  pub is : byte_cells a bs ≡ cs
   pub some : 0 < length cs
-  pub small : HasAddresses part
+  pub small : a + length bs ≤ 2 ^ 32
 
 -- lists of items and of bytes have more at their ends: those of cells
 pub record Appended (old_items new_items : List Item) (old_bytes new_bytes : List ℕ) (cells : List Cell) : Type 0 where

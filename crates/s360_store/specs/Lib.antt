@@ -1,3 +1,4 @@
+pub mod Altered
 pub mod Places
 pub mod Order
 pub mod Cells

@@ -5,7 +5,7 @@ ghost use Rattle.std.specs.Prelude.{if◌then◌else◌, ◌⊎◌, IfOk, IfSome
 ghost use Rattle.std.specs.List.{list_any};
 ghost use Rattle.s360_store.specs.Cells.{AllFit, AreCellsOf, after_exchange, byte_cells};
 ghost use Rattle.s360_store.specs.Cells.{cells_after_exchange, places_of_cells};
-ghost use Rattle.s360_store.specs.Items.{AddsRun, Appended, AreItems, IsAllOf, IsPartAt};
+ghost use Rattle.s360_store.specs.Items.{AddsRun, Appended, AreItems, IsPartAt, IsRunOf};
 ghost use Rattle.s360_store.specs.Items.{bytes_of_items};
 ghost use Rattle.s360_store.specs.Items.{core_of};
 ghost use Rattle.s360_store.specs.Places.{same_place};
@@ -160,18 +160,18 @@ impl Cells {
         part_at(self.items.as_slice(), self.bytes.as_slice(), i)
     }
 
-    /// All cells as one part, if they are one cell or one run.
+    /// The address and the bytes of all cells, if they are one run.
     #[inline(always)]
-    pub fn only(&self) -> Option<Part<'_>>
-        ensures { IfSome result (λ part. IsAllOf self.now part) }
+    pub(crate) fn run(&self) -> Option<(u32, &[u8])>
+        ensures { IfSome result (λ run. IsRunOf self.now run.0 run.1.now) }
     {
         let items = self.items.as_slice();
         if items.len() != 1 {
             return None;
         }
         match items[0] {
-            Item::Single(cell) => Some(Part::Cell(cell)),
-            Item::Run { address, .. } => Some(Part::Bytes(address, self.bytes.as_slice())),
+            Item::Run { address, .. } => Some((address, self.bytes.as_slice())),
+            Item::Single(_) => None,
         }
     }
 

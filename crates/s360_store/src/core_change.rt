@@ -2,6 +2,7 @@
 //! stands there.
 ghost use Rattle.std.specs.Prelude.{◌≡◌, ◌<◌, ◌≤◌, ◌+◌, ◌∷◌, [], None, Some, OnErr, OnOk, length, slice_get, true};
 ghost use Rattle.s360_model.specs.Psw.{IsCurrentPsw};
+ghost use Rattle.s360_store.specs.Altered.{IsBesidePsw};
 ghost use Rattle.s360_store.specs.Cells.{AllFit, AreCellsOf, after_exchange, byte_cells, cells_after_exchange, places_of_cells};
 ghost use Rattle.s360_store.specs.CoreChanges.{AllBefore, cells_of_change, other_psw, psw_cell};
 ghost use Rattle.s360_store.specs.Items.{Appended};
@@ -10,8 +11,8 @@ ghost use Rattle.s360_store.specs.Order.{IsAscending};
 ghost use Rattle.s360_store.specs.Plans.{HasBytes};
 ghost use Rattle.s360_store.specs.declared.place.Place.TheVariants.{Byte, Psw as psw_place};
 
+use crate::altered::{Altered, BesidePsw};
 use crate::block_key::BlockKey;
-use crate::cells::Cells;
 use crate::core_state::Core;
 use crate::differing::next_run;
 use crate::items::Item;
@@ -28,7 +29,7 @@ pub struct CoreChange {
     /// The PSW, if it is another.
     psw: Option<Psw>,
     /// The other places.
-    cells: Cells,
+    cells: Altered,
 }
 
 impl Model for CoreChange {
@@ -46,7 +47,7 @@ impl CoreChange {
     {
         CoreChange {
             psw: None,
-            cells: Cells::new(alloc),
+            cells: Altered::new(alloc),
         }
     }
 
@@ -67,12 +68,12 @@ impl CoreChange {
         self.psw
     }
 
-    /// The other places.
+    /// What it has beside the PSW.
     #[inline(always)]
-    pub fn cells(&self) -> &Cells
-        ensures { result.now ≡ self.now.cells }
+    pub fn beside_psw(&self) -> BesidePsw<'_>
+        ensures { IsBesidePsw self.now.cells result }
     {
-        &self.cells
+        self.cells.beside_psw()
     }
 
     /// The number of places.
@@ -89,9 +90,9 @@ impl CoreChange {
         ensures { slice_get (places_of_cells (cells_of_change self.now)) i ≡ Some result }
     {
         match self.psw {
-            None => self.cells.cell(i).place,
+            None => self.cells.place(i),
             Some(_) if i == 0 => Place::Psw,
-            Some(_) => self.cells.cell(i - 1).place,
+            Some(_) => self.cells.place(i - 1),
         }
     }
 
@@ -125,10 +126,10 @@ impl CoreChange {
         ensures values { AllFit true (cells_of_change self.new) }
     {
         match &mut self.psw {
-            None => core.exchange_cells(&mut self.cells),
+            None => self.cells.exchange(core),
             Some(psw) => {
                 core.exchange_psw(psw);
-                core.exchange_cells(&mut self.cells);
+                self.cells.exchange(core);
             }
         }
     }
@@ -157,7 +158,7 @@ fn other_psw(core: &Core, psw: Psw) -> Option<Psw>
 }
 
 /// Adds those of bytes from an address on that differ from storage, as runs.
-fn keep_bytes(core: &Core, address: u32, new: &[u8], kept: &mut Cells) -> Result<(), AllocError>
+fn keep_bytes(core: &Core, address: u32, new: &[u8], kept: &mut Altered) -> Result<(), AllocError>
     requires inside { HasBytes address (length new.now) core.now }
     requires room { length kept.old + length new.now ≤ 1000000 }
     requires ascending { IsAscending (psw_place ∷ places_of_cells kept.old) }
@@ -212,11 +213,7 @@ impl Puts for CoreChange {
         word: Word,
     ) -> Result<(), AllocError> {
         if core.register(register) != word {
-            let place = Place::Register(register.number());
-            self.cells.push(Cell {
-                place,
-                value: u64::from(word),
-            })?;
+            self.cells.push_register(register, word)?;
         }
         Ok(())
     }

@@ -4,6 +4,7 @@
 //! Addresses count bytes from 0. Source: GA22-6821, "System Structure".
 #![tactic(auto)]
 
+mod altered;
 mod block_key;
 mod bytes;
 mod cells;
@@ -20,6 +21,7 @@ mod puts;
 mod span;
 mod storage;
 
+pub use altered::BesidePsw;
 pub use block_key::BlockKey;
 pub use bytes::{Bytes, append_bytes};
 pub use cells::Cells;

@@ -1,10 +1,10 @@
 use Rattle.std.proofs.Common.{◌≡◌, arith}
-use Rattle.s360_fixed.proofs.RegisterLemmas.{loaded_below-all, loaded_below-more, loaded_below-none}
+use Rattle.s360_fixed.proofs.RegisterLemmas.{loaded_below-all, loaded_below-first, loaded_below-more, loaded_below-past}
 use Rattle.s360_fixed.proofs.puts.put_registers.Goals as goal
 
 pub loop-number-init : goal.loop-number-init
 loop-number-init g c = record {
-  made = loaded_below-none _ _ _ _ _;
+  made = loaded_below-first _ _ _ _ _ _ c.loaded_numbers-first.ensures.before;
   may = c.requires.may;
   past = λ k l. c.requires.past _;
   few = omega arith;
@@ -20,5 +20,6 @@ loop-number-preserved g c = record {
 
 pub returns-clause-made : goal.returns-clause-made
 returns-clause-made g c =
-    let all : c.loop-number.number ≡ 16 = omega arith
-    in loaded_below-all _ c.args.words.now.r1 _ c.args.words.now.count _ _ (omega arith) c.requires.count c.requires.sixteen (rw all at c.loop-number.invariant.made)
+    let all : c.loop-number.number ≡ c.loaded_numbers-first.result.1 = omega (arith, c.loaded_numbers-first.ensures.order)
+    in loaded_below-all _ c.args.words.now.r1 _ c.args.words.now.count _ _ (omega arith) c.requires.count c.requires.sixteen
+    (loaded_below-past _ _ _ _ c.loaded_numbers-first.result.1 _ _ c.loaded_numbers-first.ensures.most c.loaded_numbers-first.ensures.behind (rw all at c.loop-number.invariant.made))

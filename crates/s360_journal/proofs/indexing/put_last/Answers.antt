@@ -27,15 +27,15 @@ loop-span-init c =
 
 pub loop-span-preserved : goal.loop-span-preserved
 loop-span-preserved c =
-    indexing-more c.args.number c.args.index.now c.loop-span.index c.put.new.self (spans_apart c.into_iter-span-iterator.result) (spans_apart c.loop-span.span-iterator) (spans_apart c.next.new.self) c.in-Some.span
-    c.in-Some.ensures.steps c.loop-span.invariant c.in_ok-put-in-Apart.ensures.ok
+    indexing-more c.args.number c.args.index.now c.loop-span.index c.put_apart.new.index (spans_apart c.into_iter-span-iterator.result) (spans_apart c.loop-span.span-iterator) (spans_apart c.next.new.self) c.in-Some.span
+    c.in-Some.ensures.steps c.loop-span.invariant c.in_ok-put_apart-in-Apart.ensures.ok
 
-pub returns-in_err-put-in-Apart-clause-err : goal.returns-in_err-put-in-Apart-clause-err
-returns-in_err-put-in-Apart-clause-err c =
+pub returns-in_err-put_apart-in-Apart-clause-err : goal.returns-in_err-put_apart-in-Apart-clause-err
+returns-in_err-put_apart-in-Apart-clause-err c =
     let last : (x : Change) × IsLastOf c.args.changes.now c.args.number x = last-of c.args.changes.now c.args.number c.requires.some c.requires.last
     in let spans : AreSpansOf (spans_apart c.into_iter-span-iterator.result) last.0 = rw c.into_iter-span-iterator.ensures.into_iter_gives (rw last.1.found_last at c.in-Apart.ensures)
-    in rw last.1.found (err-any c.from_residual.result _ (indexing-part c.args.index.now c.loop-span.index c.put.new.self (take (c.args.number - 1) c.args.changes.now) last.0 c.args.number
-    (spans_apart c.into_iter-span-iterator.result) (spans_apart c.loop-span.span-iterator) (spans_apart c.next.new.self) c.in-Some.span c.in-Some.ensures.steps last.1.count spans c.requires.index c.loop-span.invariant c.in_err-put-in-Apart.ensures.err))
+    in rw last.1.found (err-any c.from_residual.result _ (indexing-part c.args.index.now c.loop-span.index c.put_apart.new.index (take (c.args.number - 1) c.args.changes.now) last.0 c.args.number
+    (spans_apart c.into_iter-span-iterator.result) (spans_apart c.loop-span.span-iterator) (spans_apart c.next.new.self) c.in-Some.span c.in-Some.ensures.steps last.1.count spans c.requires.index c.loop-span.invariant c.in_err-put_apart-in-Apart.ensures.err))
 
 pub returns-in-None-clause-ok : goal.returns-in-None-clause-ok
 returns-in-None-clause-ok c =

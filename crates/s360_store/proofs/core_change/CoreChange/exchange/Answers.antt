@@ -4,8 +4,8 @@ use Rattle.s360_store.specs.CoreChanges.{CoreChange}
 use Rattle.s360_store.proofs.ExchangeLemmas.{AreCellsOf-kept}
 use Rattle.s360_store.proofs.core_change.CoreChange.exchange.Goals as goal
 
-pub exchange_cells-requires-in-Some : goal.exchange_cells-requires-in-Some
-exchange_cells-requires-in-Some c =
+pub exchange-requires-in-Some : goal.exchange-requires-in-Some
+exchange-requires-in-Some c =
     let same : c.self.inside.cells ≡ c.args.self.now.cells = ap (λ (x : CoreChange). x.cells) c.self.view_is
     in let psw : c.args.self.now.psw ≡ Some c.in-Some.psw = sym (ap (λ (x : CoreChange). x.psw) c.self.view_is) ∙ c.in-Some.is
     in let can = rw psw at c.requires.can

@@ -2,7 +2,7 @@ use Rattle.std.proofs.Common.{◌∙◌, refl, ap, arith}
 use Rattle.s360_model.specs.Core.{core_with_psw}
 use Rattle.s360_fixed.specs.Storing.{next_psw, with_registers_loaded}
 use Rattle.s360_fixed.proofs.PutLemmas.{with_registers_loaded-psw}
-use Rattle.s360_fixed.proofs.making.put_loaded.Goals as goal
+use Rattle.s360_fixed.proofs.register_words.put_loaded.Goals as goal
 
 pub put_registers-requires-clause-sixteen : goal.put_registers-requires-clause-sixteen
 put_registers-requires-clause-sixteen g c = rw (c.in_ok-put_next_psw.ensures.made, c.requires.none.same) c.register.ensures.sixteen

@@ -7,8 +7,8 @@ use Rattle.s360_journal.proofs.ForwardLemmas.{or_full-None, or_full-room}
 use Rattle.s360_journal.proofs.IndexLemmas.{index-appended}
 use Rattle.s360_journal.proofs.SessionLemmas.{HasAdvanced, if-appended, machine_of-session, session-advanced, some-appended}
 use Rattle.s360_journal.proofs.WithdrawalLemmas.{size-session}
-use Rattle.s360_journal.proofs.session.Session.advance.Goals as goal
-use Rattle.s360_journal.proofs.session.Session.advance.Goals.{In_ok-stand}
+use Rattle.s360_journal.proofs.session.Session.offer.Goals as goal
+use Rattle.s360_journal.proofs.session.Session.offer.Goals.{In_ok-stand}
 
 pub append_event-requires-clause-few : goal.append_event-requires-clause-few
 append_event-requires-clause-few c =

@@ -2,7 +2,7 @@ use Rattle.std.proofs.Common.{◌∙◌, refl, ap, arith}
 use Rattle.s360_model.specs.Core.{core_with_psw}
 use Rattle.s360_fixed.specs.Storing.{next_psw, with_registers_stored}
 use Rattle.s360_fixed.proofs.PutLemmas.{with_registers_stored-psw}
-use Rattle.s360_fixed.proofs.making.put_stored.Goals as goal
+use Rattle.s360_fixed.proofs.register_words.put_stored.Goals as goal
 
 pub returns : goal.returns
 returns g c = record {

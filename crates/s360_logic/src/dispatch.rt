@@ -1,0 +1,512 @@
+//! The dispatch of instructions: one `match` on the operation code, whose arms name the row and the operands that its
+//! format has. Source: GA22-6821, "Operation Codes", and "System Structure", program execution.
+ghost use Rattle.std.specs.Prelude.{◌≡◌, ◌<◌, ◌≤◌, ◌%◌, IfOk, Some, length, slice_index};
+ghost use Rattle.s360_store.specs.Puts.{HasNoPuts};
+ghost use Rattle.s360_fixed.specs.Branching.{branch_outcome, index_outcome, register_target};
+ghost use Rattle.s360_fixed.specs.Operands.{operand_address, storage_operand, word_operand};
+ghost use Rattle.s360_fixed.specs.Outcomes.{combination_outcome, pair_outcome};
+ghost use Rattle.s360_fixed.specs.Plans.{PutsOutcome};
+ghost use Rattle.s360_fixed.specs.Shifting.{pair_shift_outcome, shift_outcome};
+ghost use Rattle.s360_fixed.specs.Storing.{store_outcome};
+ghost use Rattle.s360_fixed.specs.Table.{displacement_at, form_of, high_digit, instruction_length, low_digit};
+ghost use Rattle.s360_fixed.specs.View.{register_of};
+ghost use Rattle.s360_fixed.specs.declared.second_operand.SecondOperand.TheVariants.{InStorage};
+ghost use Rattle.s360_fixed.specs.declared.second_operand.Width.TheVariants.{Word};
+ghost use Rattle.s360_logic.specs.declared.row.ImmediateRow.TheVariants.{Combine};
+ghost use Rattle.s360_logic.specs.declared.row.RegisterStatus.TheVariants.{StorageKey};
+ghost use Rattle.s360_logic.specs.declared.row.StorageRow.TheVariants.{Combine as CombineBytes, Digits};
+ghost use Rattle.s360_logic.specs.declared.row.StorageStatus.TheVariants.{InputOutput};
+ghost use Rattle.s360_logic.specs.Converting.{conversion_outcome};
+ghost use Rattle.s360_logic.specs.Immediate.{immediate_outcome};
+ghost use Rattle.s360_logic.specs.Instruction.{fetched_outcome};
+ghost use Rattle.s360_logic.specs.Logic.{storage_outcome};
+ghost use Rattle.s360_logic.specs.Status.{register_status_outcome, storage_status_outcome};
+
+use crate::converting::put_conversion;
+use crate::immediate::put_immediate;
+use crate::logic::{put_execute, put_storage};
+use crate::row::{
+    ByteCombination, Conversion, DigitRow, ImmediateRow, KeyRow, RegisterStatus, StorageRow,
+    StorageStatus,
+};
+use crate::status::{put_register_status, put_storage_status};
+use s360_fixed::{
+    Branch, Combination, Ended, IndexBranch, IoOperation, PairCombination, ProgramCode,
+    SecondOperand, Shift, View, Width, based_address, high_register, indexed_address, low_register,
+    put_branch, put_branch_on_index, put_combined, put_combined_at, put_loads, put_pair,
+    put_pair_at, put_pair_shift, put_register, put_shift, put_stores, register_target,
+};
+use s360_store::Puts;
+use std::alloc::AllocError;
+
+/// A second operand of one, two or four bytes in storage.
+const BYTE: SecondOperand = SecondOperand::InStorage(Width::Byte);
+
+const HALFWORD: SecondOperand = SecondOperand::InStorage(Width::Halfword);
+
+const WORD: SecondOperand = SecondOperand::InStorage(Width::Word);
+
+/// Puts what is made of R1 and of R2.
+#[inline(always)]
+fn put_rr<P: Puts>(
+    combination: Combination,
+    bytes: &[u8],
+    view: &View,
+    puts: &mut P,
+) -> Result<Ended, AllocError>
+    requires whole { 2 ≤ length bytes.now }
+    requires none { HasNoPuts view.now.core (P.made puts.old) (P.may puts.old) (P.past puts.old) (P.count puts.old) }
+    ensures { IfOk result (PutsOutcome view.now.core (P.made puts.new) (P.may puts.new) (P.past puts.new) (P.count puts.new) (combination_outcome combination view.now (high_digit bytes.now 1) (word_operand (register_of view.now (low_digit bytes.now 1))))) }
+{
+    let second = view.register(low_register(bytes, 1));
+    put_combined(view, combination, high_register(bytes, 1), second, puts)
+}
+
+/// Puts what is made of R1 and of the second operand of the format RX.
+#[inline(always)]
+fn put_rx<P: Puts>(
+    second: SecondOperand,
+    combination: Combination,
+    bytes: &[u8],
+    view: &View,
+    puts: &mut P,
+) -> Result<Ended, AllocError>
+    requires whole { 4 ≤ length bytes.now }
+    requires none { HasNoPuts view.now.core (P.made puts.old) (P.may puts.old) (P.past puts.old) (P.count puts.old) }
+    ensures { IfOk result (PutsOutcome view.now.core (P.made puts.new) (P.may puts.new) (P.past puts.new) (P.count puts.new) (combination_outcome combination view.now (high_digit bytes.now 1) (storage_operand view.now.core second (operand_address view.now.core.registers (low_digit bytes.now 1) (high_digit bytes.now 2) (displacement_at bytes.now 2))))) }
+{
+    let address = indexed_address(bytes, view);
+    put_combined_at(
+        view,
+        second,
+        combination,
+        high_register(bytes, 1),
+        address,
+        puts,
+    )
+}
+
+/// Puts what is made of the pair and of R2.
+#[inline(always)]
+fn put_pair_rr<P: Puts>(
+    pair: PairCombination,
+    bytes: &[u8],
+    view: &View,
+    puts: &mut P,
+) -> Result<Ended, AllocError>
+    requires whole { 2 ≤ length bytes.now }
+    requires none { HasNoPuts view.now.core (P.made puts.old) (P.may puts.old) (P.past puts.old) (P.count puts.old) }
+    ensures { IfOk result (PutsOutcome view.now.core (P.made puts.new) (P.may puts.new) (P.past puts.new) (P.count puts.new) (pair_outcome pair view.now (high_digit bytes.now 1) (word_operand (register_of view.now (low_digit bytes.now 1))))) }
+{
+    put_pair(
+        view,
+        pair,
+        high_register(bytes, 1),
+        view.register(low_register(bytes, 1)),
+        puts,
+    )
+}
+
+/// Puts what is made of the pair and of a word in storage.
+#[inline(always)]
+fn put_pair_rx<P: Puts>(
+    pair: PairCombination,
+    bytes: &[u8],
+    view: &View,
+    puts: &mut P,
+) -> Result<Ended, AllocError>
+    requires whole { 4 ≤ length bytes.now }
+    requires none { HasNoPuts view.now.core (P.made puts.old) (P.may puts.old) (P.past puts.old) (P.count puts.old) }
+    ensures { IfOk result (PutsOutcome view.now.core (P.made puts.new) (P.may puts.new) (P.past puts.new) (P.count puts.new) (pair_outcome pair view.now (high_digit bytes.now 1) (storage_operand view.now.core (InStorage Word) (operand_address view.now.core.registers (low_digit bytes.now 1) (high_digit bytes.now 2) (displacement_at bytes.now 2))))) }
+{
+    put_pair_at(
+        view,
+        pair,
+        high_register(bytes, 1),
+        indexed_address(bytes, view),
+        puts,
+    )
+}
+
+/// Puts a branch to the address in R2.
+#[inline(always)]
+fn put_branch_rr<P: Puts>(
+    branch: Branch,
+    bytes: &[u8],
+    view: &View,
+    puts: &mut P,
+) -> Result<Ended, AllocError>
+    requires whole { 2 ≤ length bytes.now }
+    requires none { HasNoPuts view.now.core (P.made puts.old) (P.may puts.old) (P.past puts.old) (P.count puts.old) }
+    ensures { IfOk result (PutsOutcome view.now.core (P.made puts.new) (P.may puts.new) (P.past puts.new) (P.count puts.new) (branch_outcome branch view.now (high_digit bytes.now 1) (register_target view.now (low_digit bytes.now 1)))) }
+{
+    let target = register_target(view, low_register(bytes, 1));
+    put_branch(view, branch, high_register(bytes, 1), target, puts)
+}
+
+/// Puts a branch to an address of the format RX.
+#[inline(always)]
+fn put_branch_rx<P: Puts>(
+    branch: Branch,
+    bytes: &[u8],
+    view: &View,
+    puts: &mut P,
+) -> Result<Ended, AllocError>
+    requires whole { 4 ≤ length bytes.now }
+    requires none { HasNoPuts view.now.core (P.made puts.old) (P.may puts.old) (P.past puts.old) (P.count puts.old) }
+    ensures { IfOk result (PutsOutcome view.now.core (P.made puts.new) (P.may puts.new) (P.past puts.new) (P.count puts.new) (branch_outcome branch view.now (high_digit bytes.now 1) (Some (operand_address view.now.core.registers (low_digit bytes.now 1) (high_digit bytes.now 2) (displacement_at bytes.now 2))))) }
+{
+    let target = Some(indexed_address(bytes, view));
+    put_branch(view, branch, high_register(bytes, 1), target, puts)
+}
+
+/// Puts a store of so many low bytes of R1.
+#[inline(always)]
+fn put_store_rx<P: Puts>(
+    width: Width,
+    bytes: &[u8],
+    view: &View,
+    puts: &mut P,
+) -> Result<Ended, AllocError>
+    requires whole { 4 ≤ length bytes.now }
+    requires none { HasNoPuts view.now.core (P.made puts.old) (P.may puts.old) (P.past puts.old) (P.count puts.old) }
+    ensures { IfOk result (PutsOutcome view.now.core (P.made puts.new) (P.may puts.new) (P.past puts.new) (P.count puts.new) (store_outcome width view.now (high_digit bytes.now 1) (operand_address view.now.core.registers (low_digit bytes.now 1) (high_digit bytes.now 2) (displacement_at bytes.now 2)))) }
+{
+    put_register(
+        view,
+        width,
+        high_register(bytes, 1),
+        indexed_address(bytes, view),
+        puts,
+    )
+}
+
+/// Puts a conversion of a word in R1.
+#[inline(always)]
+fn put_conversion_rx<P: Puts>(
+    conversion: Conversion,
+    bytes: &[u8],
+    view: &View,
+    puts: &mut P,
+) -> Result<Ended, AllocError>
+    requires whole { 4 ≤ length bytes.now }
+    requires none { HasNoPuts view.now.core (P.made puts.old) (P.may puts.old) (P.past puts.old) (P.count puts.old) }
+    ensures { IfOk result (PutsOutcome view.now.core (P.made puts.new) (P.may puts.new) (P.past puts.new) (P.count puts.new) (conversion_outcome conversion view.now (high_digit bytes.now 1) (operand_address view.now.core.registers (low_digit bytes.now 1) (high_digit bytes.now 2) (displacement_at bytes.now 2)))) }
+{
+    put_conversion(
+        view,
+        conversion,
+        high_register(bytes, 1),
+        indexed_address(bytes, view),
+        puts,
+    )
+}
+
+/// Puts a shift of R1 by the low six bits of the address.
+#[inline(always)]
+fn put_shift_rs<P: Puts>(
+    shift: Shift,
+    bytes: &[u8],
+    view: &View,
+    puts: &mut P,
+) -> Result<Ended, AllocError>
+    requires whole { 4 ≤ length bytes.now }
+    requires none { HasNoPuts view.now.core (P.made puts.old) (P.may puts.old) (P.past puts.old) (P.count puts.old) }
+    ensures { IfOk result (PutsOutcome view.now.core (P.made puts.new) (P.may puts.new) (P.past puts.new) (P.count puts.new) (shift_outcome shift view.now (high_digit bytes.now 1) ((operand_address view.now.core.registers 0 (high_digit bytes.now 2) (displacement_at bytes.now 2)) % 64))) }
+{
+    let count = (based_address(bytes, 2, view) % 64) as u8;
+    put_shift(view, shift, high_register(bytes, 1), count, puts)
+}
+
+/// Puts a shift of the pair by the low six bits of the address.
+#[inline(always)]
+fn put_pair_shift_rs<P: Puts>(
+    shift: Shift,
+    bytes: &[u8],
+    view: &View,
+    puts: &mut P,
+) -> Result<Ended, AllocError>
+    requires whole { 4 ≤ length bytes.now }
+    requires none { HasNoPuts view.now.core (P.made puts.old) (P.may puts.old) (P.past puts.old) (P.count puts.old) }
+    ensures { IfOk result (PutsOutcome view.now.core (P.made puts.new) (P.may puts.new) (P.past puts.new) (P.count puts.new) (pair_shift_outcome shift view.now (high_digit bytes.now 1) ((operand_address view.now.core.registers 0 (high_digit bytes.now 2) (displacement_at bytes.now 2)) % 64))) }
+{
+    let count = (based_address(bytes, 2, view) % 64) as u8;
+    put_pair_shift(view, shift, high_register(bytes, 1), count, puts)
+}
+
+/// Puts a branch on the sum of R1 and R3.
+#[inline(always)]
+fn put_branch_rs<P: Puts>(
+    branch: IndexBranch,
+    bytes: &[u8],
+    view: &View,
+    puts: &mut P,
+) -> Result<Ended, AllocError>
+    requires whole { 4 ≤ length bytes.now }
+    requires none { HasNoPuts view.now.core (P.made puts.old) (P.may puts.old) (P.past puts.old) (P.count puts.old) }
+    ensures { IfOk result (PutsOutcome view.now.core (P.made puts.new) (P.may puts.new) (P.past puts.new) (P.count puts.new) (index_outcome branch view.now (high_digit bytes.now 1) (low_digit bytes.now 1) (operand_address view.now.core.registers 0 (high_digit bytes.now 2) (displacement_at bytes.now 2)))) }
+{
+    let address = based_address(bytes, 2, view);
+    put_branch_on_index(
+        view,
+        branch,
+        high_register(bytes, 1),
+        low_register(bytes, 1),
+        address,
+        puts,
+    )
+}
+
+/// Puts a row of a byte in storage and the byte of the instruction.
+#[inline(always)]
+fn put_si<P: Puts>(
+    row: ImmediateRow,
+    bytes: &[u8],
+    view: &View,
+    puts: &mut P,
+) -> Result<Ended, AllocError>
+    requires whole { 4 ≤ length bytes.now }
+    requires none { HasNoPuts view.now.core (P.made puts.old) (P.may puts.old) (P.past puts.old) (P.count puts.old) }
+    ensures { IfOk result (PutsOutcome view.now.core (P.made puts.new) (P.may puts.new) (P.past puts.new) (P.count puts.new) (immediate_outcome row view.now (slice_index bytes.now 1) (operand_address view.now.core.registers 0 (high_digit bytes.now 2) (displacement_at bytes.now 2)))) }
+{
+    put_immediate(view, row, bytes[1], based_address(bytes, 2, view), puts)
+}
+
+/// Puts a row that switches status by an operand in storage, or of one of the channels.
+#[inline(always)]
+fn put_status_si<P: Puts>(
+    row: StorageStatus,
+    bytes: &[u8],
+    view: &View,
+    puts: &mut P,
+) -> Result<Ended, AllocError>
+    requires whole { 4 ≤ length bytes.now }
+    requires none { HasNoPuts view.now.core (P.made puts.old) (P.may puts.old) (P.past puts.old) (P.count puts.old) }
+    ensures { IfOk result (PutsOutcome view.now.core (P.made puts.new) (P.may puts.new) (P.past puts.new) (P.count puts.new) (storage_status_outcome row view.now (operand_address view.now.core.registers 0 (high_digit bytes.now 2) (displacement_at bytes.now 2)))) }
+{
+    put_storage_status(view, row, based_address(bytes, 2, view), puts)
+}
+
+/// Puts a row that switches status by registers.
+#[inline(always)]
+fn put_status_rr<P: Puts>(
+    row: RegisterStatus,
+    bytes: &[u8],
+    view: &View,
+    puts: &mut P,
+) -> Result<Ended, AllocError>
+    requires whole { 2 ≤ length bytes.now }
+    requires none { HasNoPuts view.now.core (P.made puts.old) (P.may puts.old) (P.past puts.old) (P.count puts.old) }
+    ensures { IfOk result (PutsOutcome view.now.core (P.made puts.new) (P.may puts.new) (P.past puts.new) (P.count puts.new) (register_status_outcome row view.now (high_digit bytes.now 1) (low_digit bytes.now 1))) }
+{
+    put_register_status(
+        view,
+        row,
+        high_register(bytes, 1),
+        low_register(bytes, 1),
+        puts,
+    )
+}
+
+/// Puts a row of two operands in storage.
+#[inline(always)]
+fn put_ss<P: Puts>(
+    row: StorageRow,
+    bytes: &[u8],
+    view: &View,
+    puts: &mut P,
+) -> Result<Ended, AllocError>
+    requires whole { 6 ≤ length bytes.now }
+    requires none { HasNoPuts view.now.core (P.made puts.old) (P.may puts.old) (P.past puts.old) (P.count puts.old) }
+    ensures { IfOk result (PutsOutcome view.now.core (P.made puts.new) (P.may puts.new) (P.past puts.new) (P.count puts.new) (storage_outcome row view.now (slice_index bytes.now 1) (operand_address view.now.core.registers 0 (high_digit bytes.now 2) (displacement_at bytes.now 2)) (operand_address view.now.core.registers 0 (high_digit bytes.now 4) (displacement_at bytes.now 4)))) }
+{
+    let (first, second) = (based_address(bytes, 2, view), based_address(bytes, 4, view));
+    put_storage(view, row, bytes[1], first, second, puts)
+}
+
+/// Puts what is made of a byte in storage and the byte of the instruction.
+#[inline(always)]
+fn put_byte_si<P: Puts>(
+    combination: ByteCombination,
+    bytes: &[u8],
+    view: &View,
+    puts: &mut P,
+) -> Result<Ended, AllocError>
+    requires whole { 4 ≤ length bytes.now }
+    requires none { HasNoPuts view.now.core (P.made puts.old) (P.may puts.old) (P.past puts.old) (P.count puts.old) }
+    ensures { IfOk result (PutsOutcome view.now.core (P.made puts.new) (P.may puts.new) (P.past puts.new) (P.count puts.new) (immediate_outcome (Combine combination) view.now (slice_index bytes.now 1) (operand_address view.now.core.registers 0 (high_digit bytes.now 2) (displacement_at bytes.now 2)))) }
+{
+    put_si(ImmediateRow::Combine(combination), bytes, view, puts)
+}
+
+/// Puts what the channels do to a unit.
+#[inline(always)]
+fn put_io_si<P: Puts>(
+    operation: IoOperation,
+    bytes: &[u8],
+    view: &View,
+    puts: &mut P,
+) -> Result<Ended, AllocError>
+    requires whole { 4 ≤ length bytes.now }
+    requires none { HasNoPuts view.now.core (P.made puts.old) (P.may puts.old) (P.past puts.old) (P.count puts.old) }
+    ensures { IfOk result (PutsOutcome view.now.core (P.made puts.new) (P.may puts.new) (P.past puts.new) (P.count puts.new) (storage_status_outcome (InputOutput operation) view.now (operand_address view.now.core.registers 0 (high_digit bytes.now 2) (displacement_at bytes.now 2)))) }
+{
+    put_status_si(StorageStatus::InputOutput(operation), bytes, view, puts)
+}
+
+/// Puts a row of a storage key.
+#[inline(always)]
+fn put_key_rr<P: Puts>(
+    row: KeyRow,
+    bytes: &[u8],
+    view: &View,
+    puts: &mut P,
+) -> Result<Ended, AllocError>
+    requires whole { 2 ≤ length bytes.now }
+    requires none { HasNoPuts view.now.core (P.made puts.old) (P.may puts.old) (P.past puts.old) (P.count puts.old) }
+    ensures { IfOk result (PutsOutcome view.now.core (P.made puts.new) (P.may puts.new) (P.past puts.new) (P.count puts.new) (register_status_outcome (StorageKey row) view.now (high_digit bytes.now 1) (low_digit bytes.now 1))) }
+{
+    put_status_rr(RegisterStatus::StorageKey(row), bytes, view, puts)
+}
+
+/// Puts what is made of the bytes of two operands in storage.
+#[inline(always)]
+fn put_bytes_ss<P: Puts>(
+    combination: ByteCombination,
+    bytes: &[u8],
+    view: &View,
+    puts: &mut P,
+) -> Result<Ended, AllocError>
+    requires whole { 6 ≤ length bytes.now }
+    requires none { HasNoPuts view.now.core (P.made puts.old) (P.may puts.old) (P.past puts.old) (P.count puts.old) }
+    ensures { IfOk result (PutsOutcome view.now.core (P.made puts.new) (P.may puts.new) (P.past puts.new) (P.count puts.new) (storage_outcome (CombineBytes combination) view.now (slice_index bytes.now 1) (operand_address view.now.core.registers 0 (high_digit bytes.now 2) (displacement_at bytes.now 2)) (operand_address view.now.core.registers 0 (high_digit bytes.now 4) (displacement_at bytes.now 4)))) }
+{
+    put_ss(StorageRow::Combine(combination), bytes, view, puts)
+}
+
+/// Puts what is made of the digits of two operands in storage.
+#[inline(always)]
+fn put_digits_ss<P: Puts>(
+    row: DigitRow,
+    bytes: &[u8],
+    view: &View,
+    puts: &mut P,
+) -> Result<Ended, AllocError>
+    requires whole { 6 ≤ length bytes.now }
+    requires none { HasNoPuts view.now.core (P.made puts.old) (P.may puts.old) (P.past puts.old) (P.count puts.old) }
+    ensures { IfOk result (PutsOutcome view.now.core (P.made puts.new) (P.may puts.new) (P.past puts.new) (P.count puts.new) (storage_outcome (Digits row) view.now (slice_index bytes.now 1) (operand_address view.now.core.registers 0 (high_digit bytes.now 2) (displacement_at bytes.now 2)) (operand_address view.now.core.registers 0 (high_digit bytes.now 4) (displacement_at bytes.now 4)))) }
+{
+    put_ss(StorageRow::Digits(row), bytes, view, puts)
+}
+
+/// Puts the instruction that bytes are: by its code, the row and the operands that its format has.
+#[inline(always)]
+pub(crate) fn put_bytes<P: Puts>(
+    bytes: &[u8],
+    view: &View,
+    puts: &mut P,
+) -> Result<Ended, AllocError>
+    requires begun { 0 < length bytes.now }
+    requires whole { length bytes.now ≡ instruction_length (slice_index bytes.now 0) }
+    requires none { HasNoPuts view.now.core (P.made puts.old) (P.may puts.old) (P.past puts.old) (P.count puts.old) }
+    ensures { IfOk result (PutsOutcome view.now.core (P.made puts.new) (P.may puts.new) (P.past puts.new) (P.count puts.new) (fetched_outcome view.now (form_of bytes.now))) }
+{
+    let (r1, r3) = (high_register(bytes, 1), low_register(bytes, 1));
+    match bytes[0] {
+        0x04 => put_status_rr(RegisterStatus::SetProgramMask, bytes, view, puts),
+        0x05 => put_branch_rr(Branch::AndLink, bytes, view, puts),
+        0x06 => put_branch_rr(Branch::OnCount, bytes, view, puts),
+        0x07 => put_branch_rr(Branch::OnCondition, bytes, view, puts),
+        0x08 => put_key_rr(KeyRow::Set, bytes, view, puts),
+        0x09 => put_key_rr(KeyRow::Insert, bytes, view, puts),
+        0x0A => put_status_rr(RegisterStatus::SupervisorCall, bytes, view, puts),
+        0x10 => put_rr(Combination::Absolute, bytes, view, puts),
+        0x11 => put_rr(Combination::NegativeAbsolute, bytes, view, puts),
+        0x12 => put_rr(Combination::Tested, bytes, view, puts),
+        0x13 => put_rr(Combination::Complement, bytes, view, puts),
+        0x14 => put_rr(Combination::BitwiseAnd, bytes, view, puts),
+        0x15 => put_rr(Combination::LogicalComparison, bytes, view, puts),
+        0x16 => put_rr(Combination::BitwiseOr, bytes, view, puts),
+        0x17 => put_rr(Combination::BitwiseExclusiveOr, bytes, view, puts),
+        0x18 => put_rr(Combination::Second, bytes, view, puts),
+        0x19 => put_rr(Combination::Comparison, bytes, view, puts),
+        0x1A => put_rr(Combination::Sum, bytes, view, puts),
+        0x1B => put_rr(Combination::Difference, bytes, view, puts),
+        0x1C => put_pair_rr(PairCombination::Product, bytes, view, puts),
+        0x1D => put_pair_rr(PairCombination::Quotient, bytes, view, puts),
+        0x1E => put_rr(Combination::LogicalSum, bytes, view, puts),
+        0x1F => put_rr(Combination::LogicalDifference, bytes, view, puts),
+        0x40 => put_store_rx(Width::Halfword, bytes, view, puts),
+        0x41 => put_rx(
+            SecondOperand::Address,
+            Combination::Second,
+            bytes,
+            view,
+            puts,
+        ),
+        0x42 => put_store_rx(Width::Byte, bytes, view, puts),
+        0x43 => put_rx(BYTE, Combination::InsertedCharacter, bytes, view, puts),
+        0x44 => put_execute(view, r1, indexed_address(bytes, view), puts),
+        0x45 => put_branch_rx(Branch::AndLink, bytes, view, puts),
+        0x46 => put_branch_rx(Branch::OnCount, bytes, view, puts),
+        0x47 => put_branch_rx(Branch::OnCondition, bytes, view, puts),
+        0x48 => put_rx(HALFWORD, Combination::Second, bytes, view, puts),
+        0x49 => put_rx(HALFWORD, Combination::Comparison, bytes, view, puts),
+        0x4A => put_rx(HALFWORD, Combination::Sum, bytes, view, puts),
+        0x4B => put_rx(HALFWORD, Combination::Difference, bytes, view, puts),
+        0x4C => put_rx(HALFWORD, Combination::LowProduct, bytes, view, puts),
+        0x4E => put_conversion_rx(Conversion::ToDecimal, bytes, view, puts),
+        0x4F => put_conversion_rx(Conversion::ToBinary, bytes, view, puts),
+        0x50 => put_store_rx(Width::Word, bytes, view, puts),
+        0x54 => put_rx(WORD, Combination::BitwiseAnd, bytes, view, puts),
+        0x55 => put_rx(WORD, Combination::LogicalComparison, bytes, view, puts),
+        0x56 => put_rx(WORD, Combination::BitwiseOr, bytes, view, puts),
+        0x57 => put_rx(WORD, Combination::BitwiseExclusiveOr, bytes, view, puts),
+        0x58 => put_rx(WORD, Combination::Second, bytes, view, puts),
+        0x59 => put_rx(WORD, Combination::Comparison, bytes, view, puts),
+        0x5A => put_rx(WORD, Combination::Sum, bytes, view, puts),
+        0x5B => put_rx(WORD, Combination::Difference, bytes, view, puts),
+        0x5C => put_pair_rx(PairCombination::Product, bytes, view, puts),
+        0x5D => put_pair_rx(PairCombination::Quotient, bytes, view, puts),
+        0x5E => put_rx(WORD, Combination::LogicalSum, bytes, view, puts),
+        0x5F => put_rx(WORD, Combination::LogicalDifference, bytes, view, puts),
+        0x80 => put_status_si(StorageStatus::SetSystemMask, bytes, view, puts),
+        0x82 => put_status_si(StorageStatus::LoadPsw, bytes, view, puts),
+        0x86 => put_branch_rs(IndexBranch::High, bytes, view, puts),
+        0x87 => put_branch_rs(IndexBranch::LowOrEqual, bytes, view, puts),
+        0x88 => put_shift_rs(Shift::RightLogical, bytes, view, puts),
+        0x89 => put_shift_rs(Shift::LeftLogical, bytes, view, puts),
+        0x8A => put_shift_rs(Shift::Right, bytes, view, puts),
+        0x8B => put_shift_rs(Shift::Left, bytes, view, puts),
+        0x8C => put_pair_shift_rs(Shift::RightLogical, bytes, view, puts),
+        0x8D => put_pair_shift_rs(Shift::LeftLogical, bytes, view, puts),
+        0x8E => put_pair_shift_rs(Shift::Right, bytes, view, puts),
+        0x8F => put_pair_shift_rs(Shift::Left, bytes, view, puts),
+        0x90 => put_stores(view, r1, r3, based_address(bytes, 2, view), puts),
+        0x91 => put_si(ImmediateRow::TestUnderMask, bytes, view, puts),
+        0x92 => put_byte_si(ByteCombination::Second, bytes, view, puts),
+        0x93 => put_si(ImmediateRow::TestAndSet, bytes, view, puts),
+        0x94 => put_byte_si(ByteCombination::BitwiseAnd, bytes, view, puts),
+        0x95 => put_si(ImmediateRow::Compare, bytes, view, puts),
+        0x96 => put_byte_si(ByteCombination::BitwiseOr, bytes, view, puts),
+        0x97 => put_byte_si(ByteCombination::BitwiseExclusiveOr, bytes, view, puts),
+        0x98 => put_loads(view, r1, r3, based_address(bytes, 2, view), puts),
+        0x9C => put_io_si(IoOperation::Start, bytes, view, puts),
+        0x9D => put_io_si(IoOperation::Test, bytes, view, puts),
+        0x9E => put_io_si(IoOperation::Halt, bytes, view, puts),
+        0x9F => put_io_si(IoOperation::TestChannel, bytes, view, puts),
+        0xD1 => put_bytes_ss(ByteCombination::LowHalf, bytes, view, puts),
+        0xD2 => put_bytes_ss(ByteCombination::Second, bytes, view, puts),
+        0xD3 => put_bytes_ss(ByteCombination::HighHalf, bytes, view, puts),
+        0xD4 => put_bytes_ss(ByteCombination::BitwiseAnd, bytes, view, puts),
+        0xD5 => put_ss(StorageRow::Compare, bytes, view, puts),
+        0xD6 => put_bytes_ss(ByteCombination::BitwiseOr, bytes, view, puts),
+        0xD7 => put_bytes_ss(ByteCombination::BitwiseExclusiveOr, bytes, view, puts),
+        0xDC => put_ss(StorageRow::Translate, bytes, view, puts),
+        0xDD => put_ss(StorageRow::TranslateAndTest, bytes, view, puts),
+        0xF1 => put_digits_ss(DigitRow::MoveWithOffset, bytes, view, puts),
+        0xF2 => put_digits_ss(DigitRow::Pack, bytes, view, puts),
+        0xF3 => put_digits_ss(DigitRow::Unpack, bytes, view, puts),
+        _ => Ok(Ended::Program(ProgramCode::Operation)),
+    }
+}
