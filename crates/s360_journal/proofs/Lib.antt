@@ -4,6 +4,7 @@ pub mod IndexLemmas
 pub mod PartLemmas
 pub mod TimelineLemmas
 pub mod SameLemmas
+pub mod RecordedLemmas
 pub mod EventLemmas
 pub mod BreakpointLemmas
 pub mod StopLemmas

@@ -46,7 +46,7 @@ pub struct Session {
 }
 
 impl Model for Session {
-    ghost use Rattle.std.specs.Prelude.{◌≤◌, ◌++◌, length};
+    ghost use Rattle.std.specs.Prelude.{◌≤◌, ◌+◌, ◌++◌, length};
     ghost use Rattle.s360_machine.specs.Machine.{seen};
     ghost use Rattle.s360_journal.specs.Advances.{AreLed, start_of};
     ghost use Rattle.s360_journal.specs.Recorded.{Recorded};
@@ -149,7 +149,7 @@ impl Session {
     pub(crate) fn stands(&self, number: u32) -> bool
         ensures stands { result ≡ is_standing number (standing_events self.now) }
         ensures few { length self.now.events ≤ self.now.limit }
-        ensures allowed { AreAllowed (storage_size (seen self.now.start)) self.now.events }
+        ensures allowed { AreAllowed (storage_size (seen self.now.start)) (standing_events self.now) }
     {
         0 < number && number <= self.journal.len()
     }
@@ -189,7 +189,7 @@ impl Session {
     pub fn refusal(&self, event: &Event) -> Option<Refusal>
         ensures { result ≡ refusal_in (session_of self.now) event.now }
     {
-        if let Some(refusal) = self.journal.machine().refusal(event) {
+        if let Some(refusal) = self.machine().refusal(event) {
             return Some(refusal);
         }
         if self.standing() < self.limit {
@@ -205,7 +205,7 @@ impl Session {
     {
         match self.timeline.next()? {
             Some(event) => Ok(event),
-            None => Ok(next_event(self.journal.machine())),
+            None => Ok(next_event(self.machine())),
         }
     }
 
@@ -343,7 +343,7 @@ impl Session {
         while standing > 0 {
             let _taken = self.step_back();
             standing -= 1;
-            if breaks.stops(self.journal.machine()) {
+            if breaks.stops(self.machine()) {
                 return standing;
             }
         }

@@ -17,4 +17,4 @@ index_last-requires-clause-size c =
 pub returns-clause-index : goal.returns-clause-index
 returns-clause-index c =
     index-swapped c.index_last.new.index c.args.machine.now.whole c.args.changes.now c.swap_last.new.self c.requires.some c.swap_last.ensures.changes
-    (ok-there c.index_last.result _ (sym c.is_err-2.ensures.value ∙ c.if-is_err-2.false) c.index_last.ensures.ok)
+    (ok-there c.index_last.result _ (sym c.is_err.ensures.value ∙ c.if-is_err.false) c.index_last.ensures.ok)
