@@ -5,6 +5,8 @@ pub mod PartLemmas
 pub mod TimelineLemmas
 pub mod SameLemmas
 pub mod RecordedLemmas
+pub mod GoingLemmas
+pub mod AloneLemmas
 pub mod EventLemmas
 pub mod BreakpointLemmas
 pub mod StopLemmas

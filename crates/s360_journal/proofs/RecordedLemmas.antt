@@ -4,22 +4,27 @@ use Rattle.std.proofs.Math.Nat.{pos_of_ne-zero}
 use Rattle.std.proofs.Math.Seq.{drop-append_seam, take-append_seam}
 use Rattle.std.proofs.lemmas.List.{append-nil}
 use Rattle.std.specs.List.{slice_get}
+use Rattle.std.specs.Prelude.{IfSome}
 use Rattle.s360_machine.specs.declared.event.Event.{Event}
-use Rattle.s360_machine.specs.Change.{Change}
+use Rattle.s360_store.specs.declared.place.Place.{Place}
+use Rattle.s360_machine.specs.Change.{Change, places_of_change}
 use Rattle.s360_machine.specs.Machine.{Machine, Whole, seen, storage_size}
 use Rattle.s360_machine.specs.Refusals.{refusal_of}
 use Rattle.s360_machine.specs.Step.{after, step}
-use Rattle.s360_journal.specs.Advances.{LeadsAfter, LeadsOn, LedFrom, start_of}
+use Rattle.s360_journal.specs.Advances.{AreAlike, AreLed, Journaled, LeadsAfter, LeadsOn, LedFrom, start_of}
+use Rattle.s360_journal.specs.Reports.{IsReport}
+use Rattle.s360_journal.specs.declared.report.Report.{Report}
 use Rattle.s360_journal.specs.History.{AreHistory}
 use Rattle.s360_journal.specs.Recorded.{Recorded, after_event, cut_to, next_recorded, rest_of, session_of, standing_events, with_standing, without_last}
 use Rattle.s360_journal.specs.Rerun.{AreAccepted, rerun}
 use Rattle.s360_journal.specs.Same.{same_event}
-use Rattle.s360_journal.specs.Standing.{IsAfter, Standing, machine_of, refusal_in}
-use Rattle.s360_journal.specs.Timelines.{IsNoted, Spare, dropped_after, dropped_with, is_first, rest_after}
+use Rattle.s360_journal.specs.Standing.{IsAfter, Standing, alteration, machine_of, refusal_in}
+use Rattle.s360_journal.specs.Timelines.{IsNoted, Spare, Timeline, dropped_after, dropped_with, is_first, rest_after}
 use Rattle.s360_journal.proofs.ForwardLemmas.{or_full-None, or_full-room}
 use Rattle.s360_journal.proofs.HistoryLemmas.{IsStep, IsStep-from}
+use Rattle.s360_journal.proofs.WithdrawalLemmas.{size-session}
 use Rattle.s360_journal.proofs.SameLemmas.{same_event-Decides}
-use Rattle.s360_journal.proofs.SessionLemmas.{AreAccepted-session, machine_of-session, rerun-session, split-last}
+use Rattle.s360_journal.proofs.SessionLemmas.{AreAccepted-session, alteration-session, machine_of-session, rerun-session, some-session, split-last}
 
 abbrev pub seen_as : Whole → List Event → List Event → List Change → ℕ → ℕ → Recorded
 seen_as w st rest xs limit dropped = record { start = start_of w st xs; events = st ++ rest; standing = length st; limit = limit; dropped = dropped }
@@ -51,6 +56,10 @@ session-of w st rest xs limit dropped r i =
 
 pub machine-of : (w : Whole) (st rest : List Event) (xs : List Change) (limit dropped : ℕ) (r : Recorded) → Inside w st rest xs limit dropped r → seen w ≡ machine_of (session_of r)
 machine-of w st rest xs limit dropped r i = machine_of-session w st xs limit (session_of r) i.led (session-of w st rest xs limit dropped r i)
+
+pub size-of : (w : Whole) (st rest : List Event) (xs : List Change) (limit dropped : ℕ) (r : Recorded) → Inside w st rest xs limit dropped r
+    → storage_size (machine_of (session_of r)) ≡ storage_size (seen r.start)
+size-of w st rest xs limit dropped r i = size-session w st xs limit (session_of r) i.led (session-of w st rest xs limit dropped r i)
 
 -- ---- nothing of the record is refused from the start on
 
@@ -169,6 +178,15 @@ inside-cut w v st rest st2 rest2 xs ys limit dropped dropped2 r e i leads room n
           ∙ ap (λ (k : Recorded). cut_to k (standing_events k ++ e ∷ []) (k.standing + 1)) i.view;
     }
 
+-- over a timeline of which only what there is memory for was another
+pub noted-from : (e : Event) (old new : Timeline) (before after : ℕ) {st rest : List Event} → old.standing ≡ st → old.rest ≡ rest → IsNoted e old before new after
+    → IsNoted e (record { standing = st; rest = rest; spare = old.spare }) before new after
+noted-from e old new before after standing rest noted = record {
+  standing = noted.standing ∙ ap (λ es. es ++ e ∷ []) standing;
+  rest = noted.rest ∙ ap (λ es. rest_after es e) rest;
+  dropped = noted.dropped ∙ ap (λ es. dropped_after es e before) rest;
+}
+
 -- by whether it is the next
 pub inside-after : (w v : Whole) (st rest st2 rest2 : List Event) (xs ys : List Change) (limit dropped dropped2 : ℕ) (r : Recorded) (e : Event) (s s2 : Spare) → Inside w st rest xs limit dropped r
     → LeadsOn (record { whole = w; changes = xs }) e (record { whole = v; changes = ys }) → length st < limit
@@ -176,14 +194,57 @@ pub inside-after : (w v : Whole) (st rest st2 rest2 : List Event) (xs ys : List 
     → Inside v st2 rest2 ys limit dropped2 (after_event r e)
 inside-after w v st rest st2 rest2 xs ys limit dropped dropped2 r e s s2 i leads room noted =
     let by : (b : Bool) → is_first rest e ≡ b → rest2 ≡ cond b (drop 1 rest) [] → dropped2 ≡ cond b dropped (dropped_with rest dropped)
-        → Inside v st2 rest2 ys limit dropped2 (cond b (with_standing r (r.standing + 1)) (cut_to r (standing_events r ++ e ∷ []) (r.standing + 1)))
+    → Inside v st2 rest2 ys limit dropped2 (cond b (with_standing r (r.standing + 1)) (cut_to r (standing_events r ++ e ∷ []) (r.standing + 1)))
     = λ b. elim b as (λ x. is_first rest e ≡ x → rest2 ≡ cond x (drop 1 rest) [] → dropped2 ≡ cond x dropped (dropped_with rest dropped)
-        → Inside v st2 rest2 ys limit dropped2 (cond x (with_standing r (r.standing + 1)) (cut_to r (standing_events r ++ e ∷ []) (r.standing + 1)))) [
+    → Inside v st2 rest2 ys limit dropped2 (cond x (with_standing r (r.standing + 1)) (cut_to r (standing_events r ++ e ∷ []) (r.standing + 1)))) [
       | true ↦ λ is left same. rw same (inside-again w v st rest st2 rest2 xs ys limit dropped r e i leads (first-is rest e is ∙ ap (λ es. e ∷ es) (sym left)) noted.standing)
       | false ↦ λ is left same. inside-cut w v st rest st2 rest2 xs ys limit dropped dropped2 r e i leads room left noted.standing same
     ]
     in let first : is_first (rest_of r) e ≡ is_first rest e = ap (λ es. is_first es e) (rest-of w st rest xs limit dropped r i)
     in rw first (by (is_first rest e) refl noted.rest noted.dropped)
+
+-- and what is reported of it
+pub reported-of : (w v : Whole) (st rest : List Event) (xs ys : List Change) (limit dropped : ℕ) (r : Recorded) (e : Event) (report : Report) → Inside w st rest xs limit dropped r
+    → LeadsOn (record { whole = w; changes = xs }) e (record { whole = v; changes = ys }) → IfSome (slice_get ys (length ys - 1)) (λ x. IsReport report (places_of_change x))
+    → IsReport report (alteration (session_of r) e)
+reported-of w v st rest xs ys limit dropped r e report i leads told =
+    let on = leads.history st i.led
+    in let t : Standing = record { start = start_of v (st ++ e ∷ []) ys; events = st ++ e ∷ []; limit = limit }
+    in let after : IsAfter t (session_of r) e
+    = ap (λ (s : Whole). record { start = s; events = st ++ e ∷ []; limit = limit }) on.start ∙ ap (λ (s : Standing). record s { events = s.events ++ e ∷ [] }) (session-of w st rest xs limit dropped r i)
+    in let last : (x : Change) × (slice_get ys (length ys - 1) ≡ Some x) = some-session v (st ++ e ∷ []) ys limit t (session_of r) e on.after refl after
+    in subst (λ (ps : List Place). IsReport report ps) (alteration-session v (st ++ e ∷ []) ys last.0 limit t (session_of r) e on.after refl last.1 after) (rw last.1 at told)
+
+-- ---- an event is made and taken back
+
+-- a change stands then
+pub some-led : (es : List Event) (j k : Journaled) (e : Event) → AreLed es j → LeadsOn j e k → (0 < length k.changes) × ((fs : List Event) × AreLed fs k)
+some-led es j k e h leads =
+    let on = leads.history es h
+    in (omega (arith, on.after.1, length-append es (e ∷ [])), (es ++ e ∷ [], on.after))
+
+pub alike-back : (j k l : Journaled) (e : Event) → LeadsOn j e k → LedFrom k l → AreAlike j l
+alike-back j k l e leads led = λ es h.
+    let on = leads.history es h
+    in let back = led es e on.after
+    in let begin : start_of l.whole es l.changes ≡ start_of j.whole es j.changes = sym back.1.start ∙ on.start
+    in (
+      back.1.before,
+      begin,
+      sym (rerun-session l.whole es l.changes back.1.before) ∙ ap (λ (s : Whole). rerun (seen s) es) begin ∙ rerun-session j.whole es j.changes h,
+    )
+
+pub inside-alike : (w v : Whole) (st rest : List Event) (xs ys : List Change) (limit dropped : ℕ) (r : Recorded) → Inside w st rest xs limit dropped r
+    → AreAlike (record { whole = w; changes = xs }) (record { whole = v; changes = ys }) → Inside v st rest ys limit dropped r
+inside-alike w v st rest xs ys limit dropped r i alike =
+    let same = alike st i.led
+    in record {
+      led = same.0;
+      accepted = subst (λ (m : Machine). AreAccepted m rest) (sym same.2) i.accepted;
+      few = i.few;
+      limited = i.limited;
+      view = ap (λ (s : Whole). record { start = s; events = st ++ rest; standing = length st; limit = limit; dropped = dropped }) same.1 ∙ i.view;
+    }
 
 -- ---- the last event that stands is taken back
 

@@ -39,3 +39,7 @@ pub record LeadsOn (j : Journaled) (e : Event) (k : Journaled) : Type 0 where
 -- the last event that led to k is taken back, which leads to j
 abbrev pub LedFrom : Journaled → Journaled → Type 0
 LedFrom k j = (es : List Event) (e : Event) → AreLed (es ++ e ∷ []) k → (step (seen j.whole) e ≡ Ok (seen k.whole)) × LeadsAfter es j e k
+
+-- two that are seen alike, and that the same events lead to from the same start
+abbrev pub AreAlike : Journaled → Journaled → Type 0
+AreAlike j k = (es : List Event) → AreLed es j → AreLed es k × (start_of k.whole es k.changes ≡ start_of j.whole es j.changes) × (seen k.whole ≡ seen j.whole)

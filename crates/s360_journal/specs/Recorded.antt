@@ -1,5 +1,5 @@
 -- What a session is seen as: the events that were recorded, of which the first ones stand.
-use Rattle.std.specs.Prelude.{◌≡◌, ◌⊎◌, ℕ, ◌+◌, ◌-◌, ◌++◌, if◌then◌else◌, List, [], ◌∷◌, take, drop, reverse, slice_get, Option}
+use Rattle.std.specs.Prelude.{◌≡◌, ℕ, ◌+◌, ◌-◌, ◌++◌, if◌then◌else◌, List, [], ◌∷◌, take, drop, length, slice_get, Option}
 use Rattle.s360_machine.specs.declared.event.Event.{Event}
 use Rattle.s360_machine.specs.Machine.{Whole}
 use Rattle.s360_journal.specs.Offers.{with_events}
@@ -62,8 +62,11 @@ without_last r = cut_to r (take (r.standing - 1) r.events) (r.standing - 1)
 abbrev pub without_change : Recorded → ℕ → Recorded
 without_change r k = cut_to r (without_event k (standing_events r)) (r.standing - 1)
 
--- changes of s were taken back one after another, with these events, the last of them first; the rest of the record was dropped
--- if there were any
-pub record AreTakenBack (s : Recorded) (later : List Event) (t : Recorded) : Type 0 where
-  pub stands : session_of s ≡ with_events (session_of t) (reverse later)
-  pub cut : (later ≡ []) × (t ≡ s) ⊎ (t ≡ cut_to s (take t.standing s.events) t.standing)
+-- all that is recorded stands
+abbrev pub IsAlone : Recorded → Type 0
+IsAlone r = r.standing ≡ length r.events
+
+-- of two records of which all stands, the number of those that were dropped last is the same
+pub record StaysAlone (r t : Recorded) : Type 0 where
+  pub alone : IsAlone t
+  pub dropped : t.dropped ≡ r.dropped

@@ -5,8 +5,7 @@ ghost use Rattle.s360_machine.specs.Machine.{seen, storage_size};
 ghost use Rattle.s360_machine.specs.Packed.{IsSwapOf};
 ghost use Rattle.s360_machine.specs.Refusals.{refusal_of};
 ghost use Rattle.s360_machine.specs.declared.event.Event.{Event as AnEvent};
-ghost use Rattle.s360_journal.specs.Advances.{IsMade, LeadsOn, LedFrom};
-ghost use Rattle.s360_journal.specs.History.{AreHistory};
+ghost use Rattle.s360_journal.specs.Advances.{AreAlike, AreLed, IsMade, LeadsOn, LedFrom};
 ghost use Rattle.s360_journal.specs.Indexed.{IsIndexOf, altering};
 ghost use Rattle.s360_journal.specs.Reports.{IsReport};
 
@@ -165,13 +164,6 @@ impl Journal {
         is_idle(&self.changes)
     }
 
-    /// The report of the event that made the last of the changes. Where nothing was altered it takes no memory.
-    pub(crate) fn last_report(&self, alloc: Global) -> Result<Report, AllocError>
-        ensures { IfOk result (λ report. IfSome (slice_get self.now.changes (length self.now.changes - 1)) (λ x. IsReport report (places_of_change x))) }
-    {
-        Report::of_last(alloc, &self.changes)
-    }
-
     /// Makes the change of an event that is not refused. Want of memory leaves all as it was.
     #[inline(always)]
     pub(crate) fn make(&mut self, event: &Event) -> Result<(), AllocError>
@@ -185,11 +177,33 @@ impl Journal {
         make_last(&mut self.machine, &mut self.changes, &mut self.index)
     }
 
+    /// Makes the change of an event that is not refused, and reports it. Want of memory leaves all as it was.
+    pub(crate) fn make_reported(
+        &mut self,
+        alloc: Global,
+        event: &Event,
+    ) -> Result<Report, AllocError>
+        requires few { length self.old.changes < 10000000 }
+        requires accepted { refusal_of (storage_size (seen self.old.whole)) event.now ≡ None }
+        requires led { (es : List AnEvent) × AreLed es self.old }
+        ensures ok { OnOk result (LeadsOn self.old event.now self.new) }
+        ensures report { IfOk result (λ report. IfSome (slice_get self.new.changes (length self.new.changes - 1)) (λ x. IsReport report (places_of_change x))) }
+        ensures err { OnErr result (AreAlike self.old self.new) }
+    {
+        self.make(event)?;
+        let report = Report::of_last(alloc, &self.changes);
+        if report.is_err() {
+            // It is taken back, for which no memory is wanted.
+            self.unmake();
+        }
+        report
+    }
+
     /// Takes back the last of the changes that events led by, of which there is one. It takes no memory.
     #[inline(always)]
     pub(crate) fn unmake(&mut self)
         requires some { 0 < length self.old.changes }
-        requires history { (es : List AnEvent) × AreHistory self.old.whole es self.old.changes }
+        requires led { (es : List AnEvent) × AreLed es self.old }
         ensures { LedFrom self.old self.new }
     {
         unmake_last(&mut self.machine, &mut self.changes, &mut self.index);

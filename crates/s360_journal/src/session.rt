@@ -4,7 +4,7 @@ ghost use Rattle.std.specs.Prelude.{IsOkUnless, MatchOption, max, min};
 ghost use Rattle.std.specs.Option.{unwrap_or};
 ghost use Rattle.s360_machine.specs.Machine.{seen, storage_size};
 ghost use Rattle.s360_machine.specs.declared.refusal.Refusal.TheVariants.{Memory};
-ghost use Rattle.s360_journal.specs.Recorded.{after_event, next_recorded, session_of, standing_events, with_standing, without_last};
+ghost use Rattle.s360_journal.specs.Recorded.{after_event, cut_to, next_recorded, session_of, standing_events, with_standing, without_last};
 ghost use Rattle.s360_journal.specs.Reports.{IsReport};
 ghost use Rattle.s360_journal.specs.Rerun.{rerun, AreAccepted, changes_of, last_change_of};
 ghost use Rattle.s360_journal.specs.Running.{next_event};
@@ -148,6 +148,7 @@ impl Session {
     /// Whether a change of this number stands, counted from 1.
     pub(crate) fn stands(&self, number: u32) -> bool
         ensures stands { result ≡ is_standing number (standing_events self.now) }
+        ensures recorded { self.now.standing ≤ length self.now.events }
         ensures few { length self.now.events ≤ self.now.limit }
         ensures allowed { AreAllowed (storage_size (seen self.now.start)) (standing_events self.now) }
     {
@@ -216,6 +217,7 @@ impl Session {
         ensures stands { OnOk result (IsAfter (session_of self.new) (session_of self.old) event) }
         ensures err { OnErr result (self.new ≡ self.old) }
         ensures refused { MatchOption (refusal_in (session_of self.old) event) (IsOkUnless result Memory) (λ r. result ≡ Err r) }
+        ensures size { storage_size (machine_of (session_of self.old)) ≡ storage_size (seen self.old.start) }
     {
         match event {
             // So the compiler has the most frequent event for itself.
@@ -231,6 +233,7 @@ impl Session {
         ensures stands { OnOk result (IsAfter (session_of self.new) (session_of self.old) event) }
         ensures err { OnErr result (self.new ≡ self.old) }
         ensures refused { MatchOption (refusal_in (session_of self.old) event) (IsOkUnless result Memory) (λ r. result ≡ Err r) }
+        ensures size { storage_size (machine_of (session_of self.old)) ≡ storage_size (seen self.old.start) }
     {
         if let Some(refusal) = self.refusal(&event) {
             return Err(refusal);
@@ -254,19 +257,9 @@ impl Session {
             return Err(refusal);
         }
         self.timeline.reserve(&event)?;
-        self.journal.make(&event)?;
-        let report = self.journal.last_report(self.alloc);
-        match report {
-            Ok(report) => {
-                note(&mut self.timeline, &mut self.dropped, event);
-                Ok(report)
-            }
-            Err(fault) => {
-                // The change is taken back, for which no memory is wanted.
-                self.journal.unmake();
-                Err(Refusal::from(fault))
-            }
-        }
+        let report = self.journal.make_reported(self.alloc, &event)?;
+        note(&mut self.timeline, &mut self.dropped, event);
+        Ok(report)
     }
 
     /// What an event would report, or why it is refused: it is run and taken back, which restores the
@@ -279,10 +272,17 @@ impl Session {
         if let Some(refusal) = self.refusal(&event) {
             return Err(refusal);
         }
-        self.journal.make(&event)?;
-        let report = self.journal.last_report(self.alloc);
+        let report = self.journal.make_reported(self.alloc, &event)?;
         self.journal.unmake();
-        Ok(report?)
+        Ok(report)
+    }
+
+    /// Drops what does not stand.
+    pub(crate) fn cut(&mut self)
+        ensures { self.new ≡ cut_to self.old (standing_events self.old) self.old.standing }
+    {
+        self.dropped = dropped_with(&self.timeline, self.dropped);
+        self.timeline.cut();
     }
 
     /// Takes the last change that stands back, and its event out of the record, of which the rest is dropped. It takes no

@@ -1,9 +1,11 @@
 //! A change that is withdrawn from among those that stand. The later ones are run again without it.
-ghost use Rattle.std.specs.Prelude.{◌≡◌, ◌<◌, ◌≤◌, ◌+◌, ◌∷◌, [], None, true, length, reverse, Err, IfOk, IsOkUnless, OnErr, OnOk};
+ghost use Rattle.std.specs.Prelude.{◌≡◌, ◌<◌, ◌≤◌, ◌+◌, None, true, length, reverse, Err, IfOk, IsOkUnless, OnErr, OnOk};
 ghost use Rattle.std.specs.Bool.{MatchBool};
 ghost use Rattle.s360_machine.specs.Machine.{seen, storage_size};
 ghost use Rattle.s360_machine.specs.Refusals.{refusal_of};
-ghost use Rattle.s360_journal.specs.Recorded.{AreRun, AreTakenBack, session_of, standing_events, without_change};
+ghost use Rattle.s360_journal.specs.Offers.{with_events};
+ghost use Rattle.s360_journal.specs.Recorded.{IsAlone, StaysAlone, session_of, standing_events, without_change};
+ghost use Rattle.s360_journal.specs.Standing.{IsAfter};
 ghost use Rattle.s360_journal.specs.Withdrawals.{AreAllowed, is_standing, without_event};
 ghost use Rattle.s360_journal.specs.declared.withdrawing.Withdrawal.TheVariants.{Memory, NoSuchChange};
 
@@ -33,12 +35,13 @@ impl From<AllocError> for Withdrawal {
 }
 
 impl Session {
-    /// Takes back all changes after the one of a number, and answers their events, the last of them first. The rest of the record
-    /// is dropped.
+    /// Takes back all changes after the one of a number, and answers their events, the last of them first.
     fn take_back_to(&mut self, number: u32) -> Result<Timeline, AllocError>
+        requires alone { IsAlone self.old }
         requires stands { number ≤ self.old.standing }
-        ensures ok { IfOk result (λ later. AreTakenBack self.old later.standing self.new) }
+        ensures ok { IfOk result (λ later. session_of self.old ≡ with_events (session_of self.new) (reverse later.standing)) }
         ensures kept { OnOk result (self.new.standing ≡ number) }
+        ensures alone { StaysAlone self.old self.new }
     {
         let mut later = Timeline::new(self.allocator());
         while self.standing() > number {
@@ -52,9 +55,11 @@ impl Session {
 
     /// Runs an event again that storage of the start's size does not refuse.
     fn run_again(&mut self, event: Event) -> Result<(), AllocError>
+        requires alone { IsAlone self.old }
         requires allowed { refusal_of (storage_size (seen self.old.start)) event ≡ None }
-        requires room { length (standing_events self.old) < self.old.limit }
-        ensures { OnOk result (AreRun self.old (event ∷ []) self.new) }
+        requires room { self.old.standing < self.old.limit }
+        ensures stands { OnOk result (IsAfter (session_of self.new) (session_of self.old) event) }
+        ensures alone { StaysAlone self.old self.new }
     {
         match self.advance(event) {
             Ok(()) => Ok(()),
@@ -65,9 +70,11 @@ impl Session {
 
     /// Runs events again, which are given with the last of them first.
     fn run_all_again(&mut self, mut later: Timeline) -> Result<(), AllocError>
+        requires alone { IsAlone self.old }
         requires allowed { AreAllowed (storage_size (seen self.old.start)) later.standing }
-        requires room { length (standing_events self.old) + length later.standing ≤ self.old.limit }
-        ensures { OnOk result (AreRun self.old (reverse later.standing) self.new) }
+        requires room { self.old.standing + length later.standing ≤ self.old.limit }
+        ensures stands { OnOk result (session_of self.new ≡ with_events (session_of self.old) (reverse later.standing)) }
+        ensures alone { StaysAlone self.old self.new }
     {
         while let Some(event) = later.take_last() {
             self.run_again(event)?;
@@ -77,12 +84,13 @@ impl Session {
 
     /// Takes a change and the later ones back, and runs the events of these again.
     fn leave_out(&mut self, number: u32) -> Result<(), AllocError>
-        requires stands { 0 < number }
-        requires inside { number ≤ self.old.standing }
-        requires few { self.old.standing ≤ self.old.limit }
+        requires stands { is_standing number (standing_events self.old) ≡ true }
+        requires recorded { self.old.standing ≤ length self.old.events }
+        requires few { length self.old.events ≤ self.old.limit }
         requires allowed { AreAllowed (storage_size (seen self.old.start)) (standing_events self.old) }
         ensures { OnOk result (self.new ≡ without_change self.old number) }
     {
+        self.cut();
         let later = self.take_back_to(number)?;
         let _withdrawn = self.back();
         self.run_all_again(later)
@@ -91,7 +99,8 @@ impl Session {
     /// The session in which all changes stand but one.
     fn without(&self, number: u32) -> Result<Session, AllocError>
         requires stands { is_standing number (standing_events self.now) ≡ true }
-        requires few { self.now.standing ≤ self.now.limit }
+        requires recorded { self.now.standing ≤ length self.now.events }
+        requires few { length self.now.events ≤ self.now.limit }
         requires allowed { AreAllowed (storage_size (seen self.now.start)) (standing_events self.now) }
         ensures { IfOk result (λ session. session ≡ without_change self.now number) }
     {
