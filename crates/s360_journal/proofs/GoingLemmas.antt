@@ -24,6 +24,21 @@ first-of-first (suc k) zero es h = absurd (omega (arith, h))
 first-of-first (suc k) (suc n) [] h = refl
 first-of-first (suc k) (suc n) (x ∷ es) h = ap (λ l. x ∷ l) (first-of-first k n es (omega (arith, h)))
 
+first-fewer : (n : ℕ) (es : List Event) → n ≤ length es → take (n - 1) es ≡ take (length (take n es) - 1) (take n es)
+first-fewer zero es h = refl
+first-fewer (suc n) es h =
+    let less : suc n - 1 ≡ n = omega arith
+    in let last : length (take (suc n) es) - 1 ≡ n = omega (arith, length-take-le (suc n) es h)
+    in rw (less, last) (first-of-first n (suc n) es (omega arith))
+
+-- ---- the last one is taken back
+
+pub session_of-back : (old new : Recorded) → old.standing ≤ length old.events → new ≡ with_standing old (old.standing - 1)
+    → session_of new ≡ record (session_of old) { events = take (length (standing_events old) - 1) (standing_events old) }
+session_of-back old new within is =
+    ap (λ (r : Recorded). session_of r) is
+    ∙ ap (λ es. record (session_of old) { events = es }) (first-fewer old.standing old.events within)
+
 -- ---- changes are taken back to a stop
 
 taken-one : (r : Recorded) (n : ℕ) → n < length r.events → (e : Event) × (session_of (with_standing r (suc n)) ≡ record (session_of (with_standing r n)) { events = take n r.events ++ e ∷ [] })

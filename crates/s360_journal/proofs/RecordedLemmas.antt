@@ -82,6 +82,9 @@ pub few-of : (w : Whole) (st rest : List Event) (xs : List Change) (limit droppe
 few-of w st rest xs limit dropped r i =
     omega (arith, i.few, length-append st rest, ap (λ (k : Recorded). length k.events) i.view, ap (λ (k : Recorded). k.limit) i.view)
 
+pub within-of : (w : Whole) (st rest : List Event) (xs : List Change) (limit dropped : ℕ) (r : Recorded) → Inside w st rest xs limit dropped r → r.standing ≤ length r.events
+within-of w st rest xs limit dropped r i = omega (arith, length-append st rest, ap (λ (k : Recorded). length k.events) i.view, ap (λ (k : Recorded). k.standing) i.view)
+
 -- an event that is not refused, for which there is room
 pub allowed-of : (w : Whole) (st rest : List Event) (xs : List Change) (limit dropped : ℕ) (r : Recorded) (e : Event) → Inside w st rest xs limit dropped r → None ≡ refusal_in (session_of r) e
     → refusal_of (storage_size (seen w)) e ≡ None

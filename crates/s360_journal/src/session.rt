@@ -1,5 +1,5 @@
 //! The session: the machine, and the journal of the changes that stand.
-ghost use Rattle.std.specs.Prelude.{◌≡◌, ◌↔◌, ◌-◌, ◌+◌, ◌<◌, ◌++◌, ◌∷◌, ◌≤◌, [], length, OnOk, OnErr, IfOk, IsTrue, Err};
+ghost use Rattle.std.specs.Prelude.{◌≡◌, ◌↔◌, ◌-◌, ◌+◌, ◌<◌, ◌++◌, ◌∷◌, ◌≤◌, [], length, take, OnOk, OnErr, IfOk, IsTrue, Err};
 ghost use Rattle.std.specs.Prelude.{IsOkUnless, MatchOption, max, min};
 ghost use Rattle.std.specs.Option.{unwrap_or};
 ghost use Rattle.s360_machine.specs.Machine.{seen, storage_size};
@@ -307,6 +307,7 @@ impl Session {
     /// Takes the last change that stands back. Its event stays in the record, and comes next. It takes no memory.
     pub fn step_back(&mut self) -> Result<(), NothingStands>
         ensures ok { OnOk result (self.new ≡ with_standing self.old (self.old.standing - 1)) }
+        ensures stands { OnOk result (session_of self.new ≡ record (session_of self.old) { events = take (length (standing_events self.old) - 1) (standing_events self.old) }) }
         ensures some { OnOk result (0 < self.old.standing) }
         ensures err { OnErr result (self.new ≡ self.old) }
         ensures nothing { OnErr result (self.old.standing ≡ 0) }
@@ -337,6 +338,7 @@ impl Session {
     pub fn back_until(&mut self, breaks: &Breaks) -> u32
         ensures stop { result ≡ stop_of (seen self.old.start) (standing_events self.old) breaks.now }
         ensures kept { self.new ≡ with_standing self.old result }
+        ensures stands { session_of self.new ≡ record (session_of self.old) { events = take result (standing_events self.old) } }
         ensures within { result ≤ self.old.standing }
     {
         let mut standing = self.standing();

@@ -3,7 +3,7 @@ use Rattle.s360_machine.specs.Machine.{seen}
 use Rattle.s360_journal.specs.Breakpoints.{is_at_breakpoint}
 use Rattle.s360_journal.specs.Standing.{machine_of}
 use Rattle.s360_journal.specs.Recorded.{session_of, with_standing}
-use Rattle.s360_journal.proofs.GoingLemmas.{IsBackAt-passed, back-one, stop-at, stops-back}
+use Rattle.s360_journal.proofs.GoingLemmas.{IsBackAt-passed, back-one, session_of-first, stop-at, stops-back}
 use Rattle.s360_journal.proofs.session.Session.back_until.Goals as goal
 
 pub returns-then-stops-clause-stop : goal.returns-then-stops-clause-stop
@@ -30,3 +30,11 @@ loop-standing-preserved c =
       recorded = c.loop-standing.invariant.recorded;
       back = IsBackAt-passed c.args.self.now n c.args.breaks.now some (omega (arith, c.loop-standing.invariant.within, c.loop-standing.invariant.recorded)) c.loop-standing.invariant.back here;
     }
+
+pub returns-then-stops-clause-stands : goal.returns-then-stops-clause-stands
+returns-then-stops-clause-stands c =
+    let n = c.loop-standing.standing
+    in let some : 0 < n = omega (arith, c.loop-standing-test.true)
+    in let new : c.step_back-taken.new.self ≡ with_standing c.args.self.now (n - 1)
+    = back-one c.args.self.now c.loop-standing.self c.step_back-taken.new.self n c.step_back-taken.result c.loop-standing.invariant.kept some c.step_back-taken.ensures.ok c.step_back-taken.ensures.nothing
+    in session_of-first c.args.self.now c.step_back-taken.new.self (n - 1) (omega (arith, c.loop-standing.invariant.within)) new

@@ -1,6 +1,7 @@
 use Rattle.std.proofs.Common.{◌≡◌, ◌<◌, ◌-◌, ◌∙◌, length, sym}
 use Rattle.s360_journal.specs.Recorded.{with_standing}
-use Rattle.s360_journal.proofs.RecordedLemmas.{Inside, inside-back, inside-of, some-stand}
+use Rattle.s360_journal.proofs.RecordedLemmas.{Inside, inside-back, inside-of, some-stand, within-of}
+use Rattle.s360_journal.proofs.GoingLemmas.{session_of-back}
 use Rattle.s360_journal.proofs.session.Session.step_back.Goals.{After-back}
 use Rattle.s360_journal.proofs.session.Session.step_back.Goals as goal
 
@@ -16,3 +17,8 @@ invariant_of-self c = let after = back (goal.at.invariant_of-self c).After-back 
 
 pub returns-clause-ok : goal.returns-clause-ok
 returns-clause-ok c = (back (goal.at.returns-clause-ok c).After-back).view
+
+pub returns-clause-stands : goal.returns-clause-stands
+returns-clause-stands c =
+    let after = back (goal.at.returns-clause-stands c).After-back
+    in session_of-back c.args.self.now _ (within-of c.self.inside.journal.whole c.self.inside.timeline.standing c.self.inside.timeline.rest c.self.inside.journal.changes c.self.inside.limit c.self.inside.dropped c.args.self.now (inside-of c.self.inside.journal.whole c.self.inside.timeline.standing c.self.inside.timeline.rest c.self.inside.journal.changes c.self.inside.limit c.self.inside.dropped c.args.self.now c.self.invariant c.self.view_is)) after.view
