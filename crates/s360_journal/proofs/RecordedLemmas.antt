@@ -147,6 +147,13 @@ inside-again w v st rest st2 rest2 xs ys limit dropped r e i leads next more =
           ∙ ap (λ (k : Recorded). with_standing k (k.standing + 1)) i.view;
     }
 
+-- an event that is the next comes to stand again
+pub after_next : (r : Recorded) (e : Event) → next_recorded r ≡ Some e → after_event r e ≡ with_standing r (r.standing + 1)
+after_next r e next =
+    let same : same_event e e ≡ true = (same_event-Decides e e).1 refl
+    in let first : is_first (rest_of r) e ≡ true = rw next same
+    in rw first refl
+
 -- as it is found there
 pub inside-on : (w v : Whole) (st rest st2 rest2 : List Event) (xs ys : List Change) (limit dropped : ℕ) (r : Recorded) (e : Event) → Inside w st rest xs limit dropped r
     → LeadsOn (record { whole = w; changes = xs }) e (record { whole = v; changes = ys }) → Some e ≡ slice_get rest 0 → st2 ≡ st ++ take 1 rest → rest2 ≡ drop 1 rest

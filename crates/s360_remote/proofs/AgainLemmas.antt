@@ -12,7 +12,7 @@ use Rattle.s360_journal.specs.Rerun.{AreAccepted}
 use Rattle.s360_journal.specs.Running.{next_event}
 use Rattle.s360_journal.specs.Standing.{machine_of, refusal_in}
 use Rattle.s360_journal.proofs.HistoryLemmas.{IsStep, IsStep-from}
-use Rattle.s360_record.specs.Recorded.{Recorded, next_recorded, session_of, standing_events, with_standing}
+use Rattle.s360_journal.specs.Recorded.{Recorded, next_recorded, session_of, standing_events, with_standing}
 use Rattle.s360_record.proofs.RecordLemmas.{AreAccepted-next}
 use Rattle.s360_remote.specs.Forward.{TurnRunsAgain, after_event_of, after_turn, event_of_turn, state_of_turn, unless_refused}
 

@@ -17,7 +17,7 @@ use Rattle.s360_journal.specs.Standing.{IsAfter, Standing, alteration, refusal_i
 use Rattle.s360_journal.proofs.SessionLemmas.{last-there}
 use Rattle.s360_inquiry.proofs.InquiryLemmas.{take-next}
 use Rattle.s360_record.specs.Forwarding.{IsMet, state_after}
-use Rattle.s360_record.specs.Recorded.{Recorded, next_recorded, rest_of, session_of, standing_events, with_event}
+use Rattle.s360_journal.specs.Recorded.{Recorded, next_recorded, rest_of, session_of, standing_events, with_event}
 use Rattle.s360_record.specs.declared.forwarding.Forwarded.{Forwarded}
 use Rattle.s360_record.specs.declared.forwarding.Forwarded.TheVariants.{New, Again, Dropped}
 use Rattle.s360_remote.specs.Backward.{is_cpu_last}

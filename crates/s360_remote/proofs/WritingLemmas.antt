@@ -12,7 +12,7 @@ use Rattle.s360_machine.specs.declared.event.Patch.TheVariants.{Bytes}
 use Rattle.s360_machine.specs.declared.refusal.Refusal.{Refusal}
 use Rattle.s360_machine.specs.declared.refusal.Refusal.TheVariants.{JournalFull}
 use Rattle.s360_journal.specs.Standing.{machine_of, or_full, refusal_in}
-use Rattle.s360_record.specs.Recorded.{Recorded, session_of, standing_events}
+use Rattle.s360_journal.specs.Recorded.{Recorded, session_of, standing_events}
 use Rattle.s360_record.specs.declared.forwarding.Forwarded.{Forwarded}
 use Rattle.s360_record.specs.declared.forwarding.Forwarded.TheVariants.{New, Again, Dropped}
 use Rattle.s360_remote.specs.Driven.{Driven}

@@ -1,4 +1,4 @@
-use Rattle.s360_record.specs.Recorded.{session_of}
+use Rattle.s360_journal.specs.Recorded.{session_of}
 use Rattle.s360_remote.specs.Forward.{event_of_turn}
 use Rattle.s360_remote.proofs.ForwardLemmas.{IsAfter-turn, idle-other}
 use Rattle.s360_remote.proofs.target.Target.is_idle_after.Goals as goal

@@ -1,6 +1,6 @@
 use Rattle.std.proofs.Common.{◌≡◌, ◌∙◌, [], ap, refl, sym}
 use Rattle.s360_journal.specs.Standing.{alteration}
-use Rattle.s360_record.specs.Recorded.{next_recorded, session_of}
+use Rattle.s360_journal.specs.Recorded.{next_recorded, session_of}
 use Rattle.s360_remote.specs.Forward.{event_of_turn, is_end_of, is_idle, is_reached}
 use Rattle.s360_remote.specs.Points.{bytes_altered_by}
 use Rattle.s360_remote.proofs.ForwardLemmas.{IsAfter-turn, pause-watch, pause_after-is}

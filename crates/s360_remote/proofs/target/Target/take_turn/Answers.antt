@@ -4,7 +4,7 @@ use Rattle.s360_machine.specs.declared.refusal.Refusal.TheVariants.{Memory}
 use Rattle.s360_journal.specs.Standing.{refusal_in}
 use Rattle.s360_journal.proofs.RunningLemmas.{accepted-None, refused-Some}
 use Rattle.s360_record.specs.Forwarding.{IsMet, state_after}
-use Rattle.s360_record.specs.Recorded.{Recorded, rest_of, session_of}
+use Rattle.s360_journal.specs.Recorded.{Recorded, rest_of, session_of}
 use Rattle.s360_remote.specs.Forward.{IsTurn, event_of_turn, pause_of_turn, state_of_turn}
 use Rattle.s360_remote.specs.declared.pause.Pause.TheVariants.{Refused}
 use Rattle.s360_remote.proofs.ForwardLemmas.{turn-accepted, turn-refused}
@@ -12,7 +12,7 @@ use Rattle.s360_remote.proofs.target.Target.take_turn.Goals as goal
 
 pub returns-in-Ok : goal.returns-in-Ok
 returns-in-Ok c =
-    let r : Recorded = c.self.inside.counting.recording
+    let r : Recorded = c.self.inside.session
     in let p = c.self.inside.points
     in let now : Recorded = c.forward.new.self
     in let is : c.in_ok-event.event ≡ event_of_turn r = c.in_ok-event.ensures
@@ -32,7 +32,7 @@ returns-in-Ok c =
 
 pub returns-in-Err : goal.returns-in-Err
 returns-in-Err c =
-    let r : Recorded = c.self.inside.counting.recording
+    let r : Recorded = c.self.inside.session
     in let p = c.self.inside.points
     in let is : c.in_ok-event.event ≡ event_of_turn r = c.in_ok-event.ensures
     in let other : c.in-Err.refusal ≢ Memory = λ same. search rules
