@@ -85,6 +85,11 @@ few-of w st rest xs limit dropped r i =
 pub within-of : (w : Whole) (st rest : List Event) (xs : List Change) (limit dropped : ℕ) (r : Recorded) → Inside w st rest xs limit dropped r → r.standing ≤ length r.events
 within-of w st rest xs limit dropped r i = omega (arith, length-append st rest, ap (λ (k : Recorded). length k.events) i.view, ap (λ (k : Recorded). k.standing) i.view)
 
+-- the event between those before it and those after it
+pub AreAccepted-next : (m : Machine) (es fs : List Event) (e : Event) → AreAccepted m (es ++ e ∷ fs) → step (rerun m es) e ≡ Ok (after (rerun m es) e)
+AreAccepted-next m [] fs e h = h.0
+AreAccepted-next m (x ∷ es) fs e h = AreAccepted-next (after m x) es fs e h.1
+
 -- an event that is not refused, for which there is room
 pub allowed-of : (w : Whole) (st rest : List Event) (xs : List Change) (limit dropped : ℕ) (r : Recorded) (e : Event) → Inside w st rest xs limit dropped r → None ≡ refusal_in (session_of r) e
     → refusal_of (storage_size (seen w)) e ≡ None
@@ -153,6 +158,21 @@ after_next r e next =
     let same : same_event e e ≡ true = (same_event-Decides e e).1 refl
     in let first : is_first (rest_of r) e ≡ true = rw next same
     in rw first refl
+
+-- what an event that comes to stand leaves as it was
+pub record Keeps (r t : Recorded) : Type 0 where
+  pub start : t.start ≡ r.start
+  pub limit : t.limit ≡ r.limit
+  pub standing : t.standing ≡ r.standing + 1
+
+pub after-keeps : (r : Recorded) (e : Event) → Keeps r (after_event r e)
+after-keeps r e =
+    let by : (b : Bool) → Keeps r (cond b (with_standing r (r.standing + 1)) (cut_to r (standing_events r ++ e ∷ []) (r.standing + 1)))
+    = λ b. elim b as (λ x. Keeps r (cond x (with_standing r (r.standing + 1)) (cut_to r (standing_events r ++ e ∷ []) (r.standing + 1)))) [
+      | true ↦ record { start = refl; limit = refl; standing = refl }
+      | false ↦ record { start = refl; limit = refl; standing = refl }
+    ]
+    in by (is_first (rest_of r) e)
 
 -- as it is found there
 pub inside-on : (w v : Whole) (st rest st2 rest2 : List Event) (xs ys : List Change) (limit dropped : ℕ) (r : Recorded) (e : Event) → Inside w st rest xs limit dropped r

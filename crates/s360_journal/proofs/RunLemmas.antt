@@ -1,5 +1,5 @@
 -- A run of calls leaves the start and the limit, and the events that stand by its calls and answers.
-use Rattle.std.proofs.Common.{◌≡◌, ◌+◌, ◌-◌, ◌++◌, ℕ, Bool, true, false, cond, List, [], ◌∷◌, refl, ap, sym, ◌∙◌, length, take, arith, Ok, Err, Option, Some, None, Result}
+use Rattle.std.proofs.Common.{◌≡◌, ◌-◌, ◌++◌, ℕ, List, [], ◌∷◌, refl, ap, sym, ◌∙◌, length, take, arith, Ok, Err, Option, Some, None, Result}
 use Rattle.std.proofs.Math.Seq.{take-length}
 use Rattle.std.proofs.lemmas.List.{length-append, length-take, take_min}
 use Rattle.std.specs.List.{slice_get}
@@ -15,8 +15,8 @@ use Rattle.s360_machine.specs.declared.refusal.Refusal.TheVariants.{Memory}
 use Rattle.s360_journal.specs.declared.report.Report.{Report}
 use Rattle.s360_journal.specs.Reports.{IsReport}
 use Rattle.s360_journal.specs.declared.running.RunEnd.{RunEnd}
-use Rattle.s360_journal.specs.Recorded.{AreRun, Recorded, after_event, after_events, cut_to, rest_of, session_of, standing_events, with_standing, without_last}
-use Rattle.s360_journal.specs.Timelines.{is_first}
+use Rattle.s360_journal.specs.Recorded.{AreRun, Recorded, after_event, after_events, session_of, standing_events, without_last}
+use Rattle.s360_journal.proofs.RecordedLemmas.{after-keeps}
 use Rattle.s360_journal.specs.Running.{run_of}
 use Rattle.s360_journal.specs.Standing.{Standing, alteration, last_of, refusal_in}
 use Rattle.s360_journal.specs.Calls.{IsAnswer, IsRun, state_after, state_after_all}
@@ -32,10 +32,7 @@ leads-IsRun r t (c ∷ cs) [] h = absurd h
 
 -- the start stays
 start-event : (r : Recorded) (e : Event) → (after_event r e).start ≡ r.start
-start-event r e =
-    let by : (b : Bool) → (cond b (with_standing r (r.standing + 1)) (cut_to r (standing_events r ++ e ∷ []) (r.standing + 1))).start ≡ r.start
-    = λ b. elim b as (λ x. (cond x (with_standing r (r.standing + 1)) (cut_to r (standing_events r ++ e ∷ []) (r.standing + 1))).start ≡ r.start) [ true ↦ refl | false ↦ refl ]
-    in by (is_first (rest_of r) e)
+start-event r e = (after-keeps r e).start
 
 start-events : (r : Recorded) (es : List Event) → (after_events r es).start ≡ r.start
 start-events r [] = refl
