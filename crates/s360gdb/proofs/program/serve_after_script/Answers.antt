@@ -7,8 +7,8 @@ returns-clause-served g c = (
   record { noted = g.N.Write.contents c.in_ok-notes.notes; asked = g.F.Opening.asked c.args.host.files },
   c.serve.new.target,
   record {
-    stands = rw c.new-recording.ensures at c.in_ok-notes.ensures.state;
-    noted = rw c.new-recording.ensures at c.in_ok-notes.ensures.answers;
+    stands = rw c.new-session.ensures at c.in_ok-notes.ensures.state;
+    noted = rw c.new-session.ensures at c.in_ok-notes.ensures.answers;
     asked = refl;
   },
   rw c.new-target.ensures at c.in_ok-serve.ensures.served,
