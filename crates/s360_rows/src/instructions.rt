@@ -6,7 +6,7 @@ ghost use Rattle.std.specs.Prelude.{◌≡◌, []};
 use crate::fault::Fault;
 use crate::rows::{Subject, Words, assert_no_fault, fault_of_rows};
 use crate::storage::put_bytes;
-use s360_fixed::{Ended, Form, View, made, plan_fixed};
+use s360_fixed::{Ended, Form, View, is_fixed, plan_fixed};
 use s360_logic::{fetch, plan_instruction};
 use s360_psw::Psw;
 use s360_store::{Core, Place, Plan, Storage};
@@ -16,7 +16,7 @@ use std::alloc::{AllocError, Global};
 fn plan_if_fixed(form: &Form, view: &View, plan: &mut Plan) -> Result<Option<Ended>, AllocError>
     requires { plan.old ≡ [] }
 {
-    if made(form, view).is_none() {
+    if !is_fixed(form) {
         return Ok(None);
     }
     Ok(Some(plan_fixed(form, view, plan)?))
