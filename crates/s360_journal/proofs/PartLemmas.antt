@@ -1,6 +1,6 @@
 -- An item goes from one part of a list to the other.
 use Rattle.std.proofs.Common.{◌≡◌, ◌≤◌, ◌<◌, ◌+◌, ◌-◌, ◌++◌, ◌∙◌, ℕ, zero, suc, List, [], ◌∷◌, refl, ap, sym, arith, drop, length, reverse, take}
-use Rattle.std.proofs.lemmas.List.{reverse-append}
+use Rattle.std.proofs.lemmas.List.{length-reverse, reverse-append}
 
 -- the item at a place
 at : {X : Type 0} (l : List X) (n : ℕ) → n < length l → (x : X) × (drop n l ≡ x ∷ drop (suc n) l)
@@ -50,3 +50,13 @@ part-back l n h some =
     let there : (x : _) × (reverse (take n l) ≡ x ∷ drop 1 (reverse (take n l))) = first-there (reverse (take n l)) some
     in let one = gone-back l n there.0 (drop 1 (reverse (take n l))) h there.1
     in (one.0, one.1 ∙ ap (λ k. take 1 k ++ drop n l) (sym there.1))
+
+-- where nothing is behind a place, all is before it
+pub take-all : {X : Type 0} (l : List X) (n : ℕ) → n ≤ length l → drop n l ≡ [] → take n l ≡ l
+take-all [] zero h none = refl
+take-all [] (suc n) h none = refl
+take-all (x ∷ l) zero h none = absurd (cc)
+take-all (x ∷ l) (suc n) h none = ap (λ k. x ∷ k) (take-all l n (omega (arith, h)) none)
+
+pub all-before : {X : Type 0} (l : List X) (n : ℕ) → n ≤ length l → drop n l ≡ [] → length (reverse (take n l)) ≡ length l
+all-before l n h none = length-reverse (take n l) ∙ ap (λ k. length k) (take-all l n h none)

@@ -50,3 +50,19 @@ last_is_first (x ∷ xs) =
 pub none_there : {X : Type 0} (xs : List X) → None ≡ slice_get xs 0 → xs ≡ []
 none_there [] h = refl
 none_there (x ∷ xs) h = absurd (let no : None ≡ Some x = h in cc)
+
+cons_is_some : {X : Type 0} {x : X} {xs : List X} → x ∷ xs ≡ [] → ⊥
+cons_is_some h = cc
+
+-- no event has nothing in the lists
+pub none_of_events : (ts : List Tag) (us : List UnitAddress) (os : List Event) → AreEvents ts us os → events_of ts us os ≡ []
+    → (ts ≡ []) × (us ≡ []) × (os ≡ [])
+none_of_events [] us os h none = (refl, h.0, h.1)
+none_of_events (cpu ∷ ts) us os h none = absurd (cons_is_some none)
+none_of_events (tick ∷ ts) us os h none = absurd (cons_is_some none)
+none_of_events (channel ∷ ts) [] os h none = absurd h
+none_of_events (channel ∷ ts) (u ∷ us) os h none = absurd (cons_is_some none)
+none_of_events (load ∷ ts) [] os h none = absurd h
+none_of_events (load ∷ ts) (u ∷ us) os h none = absurd (cons_is_some none)
+none_of_events (other ∷ ts) us [] h none = absurd h
+none_of_events (other ∷ ts) us (e ∷ os) h none = absurd (cons_is_some none)

@@ -95,6 +95,7 @@ impl<T> Parted<T> {
     }
 
     /// Takes memory for one more that stands.
+    #[inline(always)]
     pub(crate) fn reserve(&mut self) -> Result<(), AllocError>
         ensures past { self.new.past ≡ self.old.past }
         ensures next { self.new.next ≡ self.old.next }
@@ -119,6 +120,17 @@ impl<T> Parted<T> {
         self.standing += 1;
     }
 
+    /// Puts an item after those that stand, for which there is memory, where none comes next.
+    #[inline(always)]
+    pub(crate) fn push(&mut self, item: T)
+        requires room { length self.old.past < self.old.room }
+        requires last { self.old.next ≡ [] }
+        ensures { self.new ≡ record self.old { past = item ∷ self.old.past } }
+    {
+        self.items.push_reserved(item);
+        self.standing += 1;
+    }
+
     /// Takes the first of those that come next out.
     pub(crate) fn take_first(&mut self) -> Option<T>
         ensures next { self.old.next ≡ option_to_list result ++ self.new.next }
@@ -138,16 +150,6 @@ impl<T: Drop> Parted<T> {
         ensures { self.new ≡ record self.old { next = [] } }
     {
         self.items.truncate(self.standing);
-    }
-
-    /// Puts an item after those that stand, for which there is memory, and drops all that come next.
-    pub(crate) fn put(&mut self, item: T)
-        requires { length self.old.past < self.old.room }
-        ensures { self.new ≡ record self.old { past = item ∷ self.old.past; next = [] } }
-    {
-        self.items.truncate(self.standing);
-        self.items.push_reserved(item);
-        self.standing += 1;
     }
 
     /// Takes the newest of those that stand out, and drops all that come next.

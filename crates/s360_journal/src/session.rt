@@ -408,10 +408,13 @@ fn note(timeline: &mut Timeline, dropped: &mut u32, event: Event)
     requires few { length timeline.old.standing + length timeline.old.rest ≤ 10000000 }
     ensures { IsNoted event timeline.old dropped.old timeline.new dropped.new }
 {
-    if timeline.is_next(&event) {
-        timeline.on();
-        return;
+    if timeline.rest_len() > 0 {
+        if timeline.is_next(&event) {
+            timeline.on();
+            return;
+        }
+        *dropped = dropped_with(timeline, *dropped);
+        timeline.cut();
     }
-    *dropped = dropped_with(timeline, *dropped);
-    timeline.put(event);
+    timeline.push(event);
 }

@@ -47,7 +47,7 @@ impl Session {
         while self.standing() > number {
             if let Ok(event) = self.back() {
                 later.reserve(&event)?;
-                later.put(event);
+                later.push(event);
             }
         }
         Ok(later)

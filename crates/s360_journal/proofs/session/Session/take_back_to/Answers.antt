@@ -10,6 +10,7 @@ loop-self-init c =
     in record {
       off = TakesOff-none (session_of s) c.new-later.result.standing c.args.number c.new-later.ensures.standing (omega (arith, c.requires.stands, alone-count s c.requires.alone));
       alone = StaysAlone-same s c.requires.alone;
+      last = c.new-later.ensures.rest;
     }
 
 pub returns-in_err-reserve-clause-alone : goal.returns-in_err-reserve-clause-alone
@@ -24,9 +25,10 @@ loop-self-preserved-in-Ok c =
     let t = c.loop-self.self
     in let less : c.args.number < length (standing_events t) = omega (arith, c.loop-self-test.true, c.standing.ensures.events)
     in record {
-      off = TakesOff-more (session_of c.args.self.now) (session_of t) (session_of c.back.new.self) c.loop-self.later.standing c.put.new.self.standing c.in-Ok.event c.args.number c.loop-self.invariant.off less
-          c.in-Ok.ensures.ok (c.put.ensures.standing ∙ ap (λ es. es ++ c.in-Ok.event ∷ []) c.in_ok-reserve.ensures.standing);
+      off = TakesOff-more (session_of c.args.self.now) (session_of t) (session_of c.back.new.self) c.loop-self.later.standing c.push.new.self.standing c.in-Ok.event c.args.number c.loop-self.invariant.off less
+          c.in-Ok.ensures.ok (c.push.ensures.standing ∙ ap (λ es. es ++ c.in-Ok.event ∷ []) c.in_ok-reserve.ensures.standing);
       alone = StaysAlone-more c.args.self.now t c.back.new.self c.loop-self.invariant.alone (StaysAlone-back t c.back.new.self c.loop-self.invariant.alone.alone c.in-Ok.ensures.recorded);
+      last = c.push.ensures.rest;
     }
 
 pub loop-self-preserved : goal.loop-self-preserved
@@ -35,6 +37,7 @@ loop-self-preserved c =
     in record {
       off = subst (λ r. TakesOff (session_of c.args.self.now) (session_of r) c.loop-self.later.standing c.args.number) (sym same) c.loop-self.invariant.off;
       alone = subst (λ r. StaysAlone c.args.self.now r) (sym same) c.loop-self.invariant.alone;
+      last = c.loop-self.invariant.last;
     }
 
 pub returns-clause-ok : goal.returns-clause-ok
