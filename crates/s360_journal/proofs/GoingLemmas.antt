@@ -1,5 +1,5 @@
 -- The session that stands, as the record goes on and back.
-use Rattle.std.proofs.Common.{◌≡◌, ◌≤◌, ◌<◌, ◌+◌, ◌-◌, ◌++◌, ◌∙◌, ℕ, zero, suc, List, [], ◌∷◌, true, false, refl, ap, sym, arith, length, take}
+use Rattle.std.proofs.Common.{◌≡◌, ◌≤◌, ◌<◌, ◌-◌, ◌++◌, ◌∙◌, ℕ, zero, suc, List, [], ◌∷◌, true, false, refl, ap, sym, arith, length, take}
 use Rattle.std.proofs.lemmas.List.{append-nil, length-take-le}
 use Rattle.std.specs.Prelude.{Bool, Err, Ok, OnErr, OnOk, Result}
 use Rattle.s360_machine.specs.declared.event.Event.{Event}

@@ -1,5 +1,5 @@
 -- A session as it is seen: what stands of the record, and how the record goes on and back.
-use Rattle.std.proofs.Common.{◌≡◌, ◌≤◌, ◌<◌, ◌+◌, ◌-◌, ◌++◌, ◌∙◌, ℕ, zero, suc, List, [], ◌∷◌, Bool, true, false, Option, Some, None, Ok, refl, ap, sym, subst, append_assoc, arith, cond, drop, length, length-append, min, take}
+use Rattle.std.proofs.Common.{◌≡◌, ◌≤◌, ◌<◌, ◌+◌, ◌-◌, ◌++◌, ◌∙◌, ℕ, List, [], ◌∷◌, Bool, true, false, Some, None, Ok, refl, ap, sym, subst, append_assoc, arith, cond, drop, length, length-append, min, take}
 use Rattle.std.proofs.Math.Nat.{pos_of_ne-zero}
 use Rattle.std.proofs.Math.Seq.{drop-append_seam, take-append_seam}
 use Rattle.std.proofs.lemmas.List.{append-nil}
@@ -11,7 +11,7 @@ use Rattle.s360_machine.specs.Change.{Change, places_of_change}
 use Rattle.s360_machine.specs.Machine.{Machine, Whole, seen, storage_size}
 use Rattle.s360_machine.specs.Refusals.{refusal_of}
 use Rattle.s360_machine.specs.Step.{after, step}
-use Rattle.s360_journal.specs.Advances.{AreAlike, AreLed, Journaled, LeadsAfter, LeadsOn, LedFrom, start_of}
+use Rattle.s360_journal.specs.Advances.{AreAlike, AreLed, Journaled, LeadsOn, LedFrom, start_of}
 use Rattle.s360_journal.specs.Reports.{IsReport}
 use Rattle.s360_journal.specs.declared.report.Report.{Report}
 use Rattle.s360_journal.specs.History.{AreHistory}

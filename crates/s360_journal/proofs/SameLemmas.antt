@@ -1,5 +1,5 @@
 -- The tests of whether events are the same decide whether they are equal.
-use Rattle.std.proofs.Common.{◌≡◌, ◌∙◌, Bool, true, false, List, [], ◌∷◌, Option, Some, None, refl, ap, sym}
+use Rattle.std.proofs.Common.{◌≡◌, Bool, List, Some, refl, ap}
 use Rattle.std.specs.List.{slice_get}
 use Rattle.std.specs.Cmp.{booleans_Decides, both_ways}
 use Rattle.std.specs.Prelude.{◌↔◌, IsTrue}

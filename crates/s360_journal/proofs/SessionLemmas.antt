@@ -1,11 +1,11 @@
 -- Events and changes of a session, side by side as entries.
-use Rattle.std.proofs.Common.{◌≡◌, ◌<◌, ◌≤◌, ◌+◌, ◌-◌, ◌++◌, ◌∙◌, ℕ, zero, suc, List, [], ◌∷◌, Some, None, Ok, refl, ap, sym, subst, map, reverse, length, take, set, arith}
+use Rattle.std.proofs.Common.{◌≡◌, ◌<◌, ◌+◌, ◌-◌, ◌++◌, ◌∙◌, ℕ, zero, suc, List, [], ◌∷◌, Some, None, Ok, refl, ap, sym, subst, map, reverse, length, take, set, arith}
 use Rattle.std.specs.List.{slice_get}
 use Rattle.std.specs.Prelude.{IfSome}
 use Rattle.std.proofs.lemmas.List.{length-append, length-map, reverse-append}
 use Rattle.std.proofs.lemmas.Option.{slice_get-get_or}
 use Rattle.s360_machine.specs.declared.event.Event.{Event}
-use Rattle.s360_machine.specs.Machine.{Machine, Whole, seen}
+use Rattle.s360_machine.specs.Machine.{Whole, seen}
 use Rattle.s360_machine.specs.Change.{CanSwap, Change, HasRoom, NeedsNoRoom, after_swap, change_after_swap, places_of_change}
 use Rattle.s360_machine.specs.Packed.{IsSwapOf}
 use Rattle.s360_machine.specs.Planned.{IsChangeTo}

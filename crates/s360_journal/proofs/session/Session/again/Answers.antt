@@ -1,4 +1,4 @@
-use Rattle.std.proofs.Common.{◌≡◌, ◌+◌, ◌∙◌, length, min, sym}
+use Rattle.std.proofs.Common.{◌+◌, ◌∙◌, length, min, sym}
 use Rattle.s360_journal.specs.Recorded.{with_standing}
 use Rattle.s360_journal.proofs.RecordedLemmas.{Inside, first-allowed, inside-of, inside-on}
 use Rattle.s360_journal.proofs.session.Session.again.Goals.{Joined-event-2}

@@ -1,4 +1,3 @@
-use Rattle.std.proofs.Common.{◌≡◌}
 use Rattle.s360_journal.specs.Recorded.{after_event}
 use Rattle.s360_journal.proofs.RecordedLemmas.{Inside, allowed-of, inside-after, inside-of, noted-from, room-of, size-of}
 use Rattle.s360_journal.proofs.session.Session.offer.Goals.{After-note}

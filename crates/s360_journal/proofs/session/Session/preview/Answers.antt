@@ -1,4 +1,4 @@
-use Rattle.s360_journal.proofs.RecordedLemmas.{Inside, alike-back, allowed-of, inside-alike, inside-of, reported-of, some-led}
+use Rattle.s360_journal.proofs.RecordedLemmas.{Inside, alike-back, allowed-of, inside-alike, inside-of, reported-of}
 use Rattle.s360_journal.proofs.session.Session.preview.Goals.{Joined-event-3}
 use Rattle.s360_journal.proofs.session.Session.preview.Goals as goal
 

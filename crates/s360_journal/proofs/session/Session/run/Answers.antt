@@ -1,4 +1,4 @@
-use Rattle.std.proofs.Common.{◌≡◌, ◌+◌, ◌-◌, ◌∙◌, ℕ, sym, subst, take, arith}
+use Rattle.std.proofs.Common.{◌≡◌, ◌+◌, ◌-◌, ◌∙◌, sym, subst, take, arith}
 use Rattle.s360_journal.specs.Recorded.{AreRun, session_of}
 use Rattle.s360_journal.specs.Running.{run_of}
 use Rattle.s360_journal.proofs.RunningLemmas.{IsRunning-start, IsRunning-more, IsRunning-ended, IsRunning-all, IsRunning-part, OnErr-from}

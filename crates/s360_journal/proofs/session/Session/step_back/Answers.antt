@@ -1,4 +1,4 @@
-use Rattle.std.proofs.Common.{◌≡◌, ◌<◌, ◌-◌, ◌∙◌, length, sym}
+use Rattle.std.proofs.Common.{◌<◌, ◌-◌, ◌∙◌, length}
 use Rattle.s360_journal.specs.Recorded.{with_standing}
 use Rattle.s360_journal.proofs.RecordedLemmas.{Inside, inside-back, inside-of, some-stand, within-of}
 use Rattle.s360_journal.proofs.GoingLemmas.{session_of-back}

@@ -1,4 +1,4 @@
-use Rattle.std.proofs.Common.{◌≡◌, ◌≤◌, ◌<◌, ◌∙◌, ◌++◌, ◌∷◌, [], ap, arith, length, refl, subst, sym}
+use Rattle.std.proofs.Common.{◌≡◌, ◌<◌, ◌∙◌, ◌++◌, ◌∷◌, [], ap, arith, length, subst, sym}
 use Rattle.s360_journal.specs.Recorded.{StaysAlone, session_of, standing_events}
 use Rattle.s360_journal.proofs.AloneLemmas.{StaysAlone-back, StaysAlone-more, StaysAlone-same, alone-count}
 use Rattle.s360_journal.proofs.WithdrawalLemmas.{TakesOff, TakesOff-more, TakesOff-none}

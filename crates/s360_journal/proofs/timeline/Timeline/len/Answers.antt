@@ -1,4 +1,4 @@
-use Rattle.std.proofs.Common.{◌≡◌, ◌+◌, arith, length}
+use Rattle.std.proofs.Common.{arith}
 use Rattle.std.proofs.lemmas.List.{length-reverse}
 use Rattle.s360_journal.specs.Events.{events_of}
 use Rattle.s360_journal.proofs.TimelineLemmas.{length_of_events}
