@@ -1,4 +1,4 @@
-use Rattle.std.proofs.Common.{◌≡◌, refl}
+use Rattle.std.proofs.Common.{refl}
 use Rattle.s360gdb.proofs.program.serve_after_script.Goals as goal
 
 pub returns-clause-served : goal.returns-clause-served
