@@ -1,5 +1,5 @@
 -- Sessions in which more events stand.
-use Rattle.std.proofs.Common.{◌≡◌, ◌⊎◌, ◌∙◌, inl, inr, List, Option, Some, Result, Ok, Err, OnErr, ap, sym, length}
+use Rattle.std.proofs.Common.{◌≡◌, ◌⊎◌, ◌∙◌, inl, inr, List, Option, Some, Result, Ok, Err, OnErr, OnOk, ap, sym, length}
 use Rattle.std.proofs.Math.Seq.{take-length}
 use Rattle.s360_machine.specs.declared.event.Event.{Event}
 use Rattle.s360_journal.specs.Offers.{with_events}
@@ -33,3 +33,8 @@ pub StandsPartly-offered : {X E : Type 0} (result : Result X E) (P : Type 0) (d 
 StandsPartly-offered (Ok x) P d command e t h same stands = tt
 StandsPartly-offered (Err x) P d command e t h same (inl p) = offered d command e t h (inl (same p))
 StandsPartly-offered (Err x) P d command e t h same (inr all) = offered d command e t h (inr all)
+
+-- what holds holds after a success
+pub OnOk-from : {X E : Type 0} (r : Result X E) (P : Type 0) → P → OnOk r P
+OnOk-from (Ok x) P h = h
+OnOk-from (Err e) P h = tt

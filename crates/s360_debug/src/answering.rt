@@ -1,4 +1,5 @@
 //! What a command answers. Each command has its row in `answer`; those that offer an event share one.
+ghost use Rattle.s360_journal.specs.Recorded.{session_of};
 ghost use Rattle.std.specs.Prelude.{◌≡◌, ◌≢◌, ◌⊎◌, ◌++◌, length, take, ◌-◌, IfOk, OnErr, OnOk, Some, codes};
 ghost use Rattle.s360_model.specs.Text.{decimal};
 ghost use Rattle.s360_journal.specs.Breakpoints.{with_address, without_address};
@@ -16,7 +17,7 @@ ghost use Rattle.s360_journal.specs.Withdrawals.{is_standing};
 
 use crate::open_line::OpenLine;
 use crate::running::answer_run;
-use s360_journal::{Breaks, Places, Report, Reversible, Withdrawal};
+use s360_journal::{Breaks, Places, Report, Session, Withdrawal};
 use s360_language::{Command, LineFault, push_event, push_place, refusal_text, text_of_shown};
 use s360_machine::{Event, EventKind, Refusal};
 use s360_text::Text;
@@ -28,15 +29,15 @@ const NAMED: u32 = 8;
 /// Carries a command out, and answers its text. After want of memory some first ones of the events stand
 /// that it would have run, and a command that offers none leaves all as it was.
 #[tactic(auto, unfolding(crate::specs::Answers::answer_to, crate::specs::Answers::state_after))]
-pub fn answer<S: Reversible>(
+pub fn answer(
     alloc: Global,
-    session: &mut S,
+    session: &mut Session,
     breaks: &mut Breaks,
     command: Command,
 ) -> Result<Text, AllocError>
-    ensures text { IfOk result (λ text. text ≡ answer_to (record { session = S.standing_of session.old; breaks = breaks.old }) command) }
-    ensures state { OnOk result (record { session = S.standing_of session.new; breaks = breaks.new } ≡ state_after (record { session = S.standing_of session.old; breaks = breaks.old }) command) }
-    ensures memory { OnErr result (StandsPartly (record { session = S.standing_of session.old; breaks = breaks.old }) command (S.standing_of session.new)) }
+    ensures text { IfOk result (λ text. text ≡ answer_to (record { session = session_of session.old; breaks = breaks.old }) command) }
+    ensures state { OnOk result (record { session = session_of session.new; breaks = breaks.new } ≡ state_after (record { session = session_of session.old; breaks = breaks.old }) command) }
+    ensures memory { OnErr result (StandsPartly (record { session = session_of session.old; breaks = breaks.old }) command (session_of session.new)) }
     ensures memory_breaks { OnErr result (breaks.new ≡ breaks.old) }
 {
     match command {
@@ -57,14 +58,10 @@ pub fn answer<S: Reversible>(
 }
 
 /// Offers an event, and answers its report or its refusal.
-fn answer_event<S: Reversible>(
-    alloc: Global,
-    session: &mut S,
-    event: Event,
-) -> Result<Text, AllocError>
-    ensures text { IfOk result (λ text. text ≡ text_of_event (S.standing_of session.old) event) }
-    ensures state { OnOk result (S.standing_of session.new ≡ with_events (S.standing_of session.old) (accepted_of_offer (S.standing_of session.old) (Some event))) }
-    ensures memory { OnErr result ((session.new ≡ session.old) ⊎ (S.standing_of session.new ≡ with_events (S.standing_of session.old) (accepted_of_offer (S.standing_of session.old) (Some event)))) }
+fn answer_event(alloc: Global, session: &mut Session, event: Event) -> Result<Text, AllocError>
+    ensures text { IfOk result (λ text. text ≡ text_of_event (session_of session.old) event) }
+    ensures state { OnOk result (session_of session.new ≡ with_events (session_of session.old) (accepted_of_offer (session_of session.old) (Some event))) }
+    ensures memory { OnErr result ((session.new ≡ session.old) ⊎ (session_of session.new ≡ with_events (session_of session.old) (accepted_of_offer (session_of session.old) (Some event)))) }
 {
     match session.forward(event) {
         Ok(report) => {
@@ -118,13 +115,13 @@ fn push_places(text: &mut Text, places: &Places, count: u32) -> Result<(), Alloc
 }
 
 /// Takes the last change back. Its text is made first, so that want of memory leaves it standing.
-fn answer_back<S: Reversible>(alloc: Global, session: &mut S) -> Result<Text, AllocError>
-    ensures text { IfOk result (λ text. text ≡ back_text (length (S.standing_of session.old).events) (last_kind_of (S.standing_of session.old).events)) }
-    ensures state { OnOk result (S.standing_of session.new ≡ record (S.standing_of session.old) { events = take (length (S.standing_of session.old).events - 1) (S.standing_of session.old).events }) }
+fn answer_back(alloc: Global, session: &mut Session) -> Result<Text, AllocError>
+    ensures text { IfOk result (λ text. text ≡ back_text (length (session_of session.old).events) (last_kind_of (session_of session.old).events)) }
+    ensures state { OnOk result (session_of session.new ≡ record (session_of session.old) { events = take (length (session_of session.old).events - 1) (session_of session.old).events }) }
     ensures memory { OnErr result (session.new ≡ session.old) }
 {
     let text = text_of_back(alloc, session.standing(), session.last_event())?;
-    let _ = session.back();
+    let _taken = session.step_back();
     Ok(text)
 }
 
@@ -183,13 +180,9 @@ fn answer_clear(alloc: Global, breaks: &mut Breaks, at: u32) -> Result<Text, All
 
 /// Goes back to the last stop at a breakpoint. Room for its text is made first, so that want of memory
 /// leaves all changes standing.
-fn answer_until<S: Reversible>(
-    alloc: Global,
-    session: &mut S,
-    breaks: &Breaks,
-) -> Result<Text, AllocError>
-    ensures text { IfOk result (λ text. text ≡ codes "until " ++ decimal (stop_in (record { session = S.standing_of session.old; breaks = breaks.now })) ++ codes "\n") }
-    ensures state { OnOk result (S.standing_of session.new ≡ record (S.standing_of session.old) { events = take (stop_in (record { session = S.standing_of session.old; breaks = breaks.now })) (S.standing_of session.old).events }) }
+fn answer_until(alloc: Global, session: &mut Session, breaks: &Breaks) -> Result<Text, AllocError>
+    ensures text { IfOk result (λ text. text ≡ codes "until " ++ decimal (stop_in (record { session = session_of session.old; breaks = breaks.now })) ++ codes "\n") }
+    ensures state { OnOk result (session_of session.new ≡ record (session_of session.old) { events = take (stop_in (record { session = session_of session.old; breaks = breaks.now })) (session_of session.old).events }) }
     ensures memory { OnErr result (session.new ≡ session.old) }
 {
     let line = OpenLine::new(alloc, "until ")?;
@@ -197,13 +190,9 @@ fn answer_until<S: Reversible>(
 }
 
 /// Withdraws a change. Room for its text is made first, so that want of memory leaves all changes standing.
-fn answer_withdraw<S: Reversible>(
-    alloc: Global,
-    session: &mut S,
-    number: u32,
-) -> Result<Text, AllocError>
-    ensures text { IfOk result (λ text. text ≡ withdrawal_text number (is_standing number (S.standing_of session.old).events)) }
-    ensures state { OnOk result (S.standing_of session.new ≡ record (S.standing_of session.old) { events = events_left number (S.standing_of session.old).events }) }
+fn answer_withdraw(alloc: Global, session: &mut Session, number: u32) -> Result<Text, AllocError>
+    ensures text { IfOk result (λ text. text ≡ withdrawal_text number (is_standing number (session_of session.old).events)) }
+    ensures state { OnOk result (session_of session.new ≡ record (session_of session.old) { events = events_left number (session_of session.old).events }) }
     ensures memory { OnErr result (session.new ≡ session.old) }
 {
     let line = OpenLine::new(alloc, "withdrawn ")?;

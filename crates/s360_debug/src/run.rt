@@ -1,4 +1,5 @@
 //! A script, read whole and then answered line by line.
+ghost use Rattle.s360_journal.specs.Recorded.{session_of};
 ghost use Rattle.std.specs.Prelude.{◌≡◌, ◌≢◌, ◌⊎◌, ◌≤◌, ◌<◌, length, IfOk, IfSome, OnOk, OnErr, Err};
 ghost use Rattle.std.specs.Io.KnownBytes.{Appends};
 ghost use Rattle.s360_language.specs.Reading.{reading_of};
@@ -11,7 +12,7 @@ ghost use Rattle.s360_text.specs.declared.script_fault.ScriptFault.TheVariants.{
 
 use crate::answering::{answer, text_of_fault};
 use crate::lines::{Lines, skips};
-use s360_journal::{Breaks, Reversible};
+use s360_journal::{Breaks, Session};
 use s360_language::read_command;
 use s360_text::{ScriptFault, Text, read_whole, write_whole};
 use std::alloc::{AllocError, Global};
@@ -23,40 +24,40 @@ const LONGEST_SCRIPT: usize = 1_048_576;
 /// Carries out the script that a reader has left, writes the answers, and answers the number of its
 /// command lines, faulty ones included. The script is read whole before its first line is carried out.
 /// No breakpoint is set before that line.
-pub fn run_script<S: Reversible, R: Read, W: Write>(
+pub fn run_script<R: Read, W: Write>(
     alloc: Global,
-    session: &mut S,
+    session: &mut Session,
     reader: &mut R,
     writer: &mut W,
 ) -> Result<u32, ScriptFault>
     ensures length { IfOk result (λ n. IfSome (R.remaining reader.old) (λ text. length text ≤ 1048576)) }
-    ensures answers { IfOk result (λ n. IfSome (R.remaining reader.old) (λ text. Appends (W.contents writer.old) (W.contents writer.new) (answers_of (S.standing_of session.old) text))) }
+    ensures answers { IfOk result (λ n. IfSome (R.remaining reader.old) (λ text. Appends (W.contents writer.old) (W.contents writer.new) (answers_of (session_of session.old) text))) }
     ensures lines { IfOk result (λ n. IfSome (R.remaining reader.old) (λ text. n ≡ lines_of_script text)) }
-    ensures state { IfOk result (λ n. IfSome (R.remaining reader.old) (λ text. S.standing_of session.new ≡ (state_after_lines (new_debugger (S.standing_of session.old)) (lines_of text)).session)) }
-    ensures limit { OnOk result ((S.standing_of session.new).limit ≡ (S.standing_of session.old).limit) }
+    ensures state { IfOk result (λ n. IfSome (R.remaining reader.old) (λ text. session_of session.new ≡ (state_after_lines (new_debugger (session_of session.old)) (lines_of text)).session)) }
+    ensures limit { OnOk result ((session_of session.new).limit ≡ (session_of session.old).limit) }
     ensures unread_session { (result ≡ Err read_failed) ⊎ (result ≡ Err TooLong) → session.new ≡ session.old }
     ensures unread_writer { (result ≡ Err read_failed) ⊎ (result ≡ Err TooLong) → writer.new ≡ writer.old }
     ensures too_long { result ≡ Err TooLong → IfSome (R.remaining reader.old) (λ text. 1048576 < length text) }
-    ensures memory { result ≡ Err Memory → IfSome (R.remaining reader.old) (λ text. IsStopped (W.contents writer.old) (W.contents writer.new) (new_debugger (S.standing_of session.old)) (S.standing_of session.new) (lines_of text)) }
-    ensures write { result ≡ Err write_failed → IfSome (R.remaining reader.old) (λ text. IsCut (W.contents writer.old) (W.contents writer.new) (new_debugger (S.standing_of session.old)) (S.standing_of session.new) (lines_of text)) }
+    ensures memory { result ≡ Err Memory → IfSome (R.remaining reader.old) (λ text. IsStopped (W.contents writer.old) (W.contents writer.new) (new_debugger (session_of session.old)) (session_of session.new) (lines_of text)) }
+    ensures write { result ≡ Err write_failed → IfSome (R.remaining reader.old) (λ text. IsCut (W.contents writer.old) (W.contents writer.new) (new_debugger (session_of session.old)) (session_of session.new) (lines_of text)) }
 {
     let script = read_whole(alloc, reader, LONGEST_SCRIPT)?;
     answer_script(alloc, session, &script, writer)
 }
 
 /// Answers the lines of a script in turn, and counts those that are not skipped.
-fn answer_script<S: Reversible, W: Write>(
+fn answer_script<W: Write>(
     alloc: Global,
-    session: &mut S,
+    session: &mut Session,
     script: &[u8],
     writer: &mut W,
 ) -> Result<u32, ScriptFault>
     requires { length script.now ≤ 1048576 }
-    ensures answers { OnOk result (Appends (W.contents writer.old) (W.contents writer.new) (answers_of (S.standing_of session.old) script.now)) }
+    ensures answers { OnOk result (Appends (W.contents writer.old) (W.contents writer.new) (answers_of (session_of session.old) script.now)) }
     ensures lines { IfOk result (λ n. n ≡ lines_of_script script.now) }
-    ensures state { OnOk result (S.standing_of session.new ≡ (state_after_lines (new_debugger (S.standing_of session.old)) (lines_of script.now)).session) }
-    ensures memory { result ≡ Err Memory → IsStopped (W.contents writer.old) (W.contents writer.new) (new_debugger (S.standing_of session.old)) (S.standing_of session.new) (lines_of script.now) }
-    ensures write { result ≡ Err write_failed → IsCut (W.contents writer.old) (W.contents writer.new) (new_debugger (S.standing_of session.old)) (S.standing_of session.new) (lines_of script.now) }
+    ensures state { OnOk result (session_of session.new ≡ (state_after_lines (new_debugger (session_of session.old)) (lines_of script.now)).session) }
+    ensures memory { result ≡ Err Memory → IsStopped (W.contents writer.old) (W.contents writer.new) (new_debugger (session_of session.old)) (session_of session.new) (lines_of script.now) }
+    ensures write { result ≡ Err write_failed → IsCut (W.contents writer.old) (W.contents writer.new) (new_debugger (session_of session.old)) (session_of session.new) (lines_of script.now) }
     ensures read { result ≢ Err read_failed }
     ensures too_long { result ≢ Err TooLong }
 {
@@ -75,15 +76,15 @@ fn answer_script<S: Reversible, W: Write>(
 
 /// Answers a line that is not skipped: carries out its command, or tells what is wrong with it. After want of memory some
 /// first ones of the events stand that it would have run.
-pub fn answer_line<S: Reversible>(
+pub fn answer_line(
     alloc: Global,
-    session: &mut S,
+    session: &mut Session,
     breaks: &mut Breaks,
     line: &[u8],
 ) -> Result<Text, AllocError>
-    ensures text { IfOk result (λ text. text ≡ answer_to_reading (record { session = S.standing_of session.old; breaks = breaks.old }) (reading_of line.now)) }
-    ensures state { OnOk result (record { session = S.standing_of session.new; breaks = breaks.new } ≡ state_after_reading (record { session = S.standing_of session.old; breaks = breaks.old }) (reading_of line.now)) }
-    ensures memory { OnErr result (StandsAfterReading (reading_of line.now) (record { session = S.standing_of session.old; breaks = breaks.old }) (S.standing_of session.new)) }
+    ensures text { IfOk result (λ text. text ≡ answer_to_reading (record { session = session_of session.old; breaks = breaks.old }) (reading_of line.now)) }
+    ensures state { OnOk result (record { session = session_of session.new; breaks = breaks.new } ≡ state_after_reading (record { session = session_of session.old; breaks = breaks.old }) (reading_of line.now)) }
+    ensures memory { OnErr result (StandsAfterReading (reading_of line.now) (record { session = session_of session.old; breaks = breaks.old }) (session_of session.new)) }
     ensures memory_breaks { OnErr result (breaks.new ≡ breaks.old) }
 {
     match read_command(alloc, line) {

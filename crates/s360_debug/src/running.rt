@@ -1,28 +1,29 @@
 //! The line of a run.
+ghost use Rattle.s360_journal.specs.Recorded.{session_of};
 ghost use Rattle.std.specs.Prelude.{◌≡◌, ℕ, ◌++◌, IfOk, OnOk, OnErr, length, take};
 ghost use Rattle.s360_journal.specs.Offers.{with_events};
 ghost use Rattle.s360_journal.specs.Running.{run_of};
 ghost use Rattle.s360_debug.specs.Running.{end_text, run_text};
 
-use s360_journal::{Breaks, Reversible, RunEnd, run_turns};
+use s360_journal::{Breaks, RunEnd, Session};
 use s360_language::push_refusal;
 use s360_text::Text;
 use std::alloc::{AllocError, Global};
 
 /// Runs at most so many events, and answers how many were accepted and why the run ended. After want
 /// of memory some first ones of them stand.
-pub(crate) fn answer_run<S: Reversible>(
+pub(crate) fn answer_run(
     alloc: Global,
-    session: &mut S,
+    session: &mut Session,
     breaks: &Breaks,
     most: u32,
 ) -> Result<Text, AllocError>
-    ensures text { IfOk result (λ text. text ≡ run_text (length (run_of breaks.now (S.standing_of session.old) most).events) (run_of breaks.now (S.standing_of session.old) most).why) }
-    ensures state { OnOk result (S.standing_of session.new ≡ with_events (S.standing_of session.old) (run_of breaks.now (S.standing_of session.old) most).events) }
-    ensures memory { OnErr result ((n : ℕ) × (S.standing_of session.new ≡ with_events (S.standing_of session.old) (take n (run_of breaks.now (S.standing_of session.old) most).events))) }
+    ensures text { IfOk result (λ text. text ≡ run_text (length (run_of breaks.now (session_of session.old) most).events) (run_of breaks.now (session_of session.old) most).why) }
+    ensures state { OnOk result (session_of session.new ≡ with_events (session_of session.old) (run_of breaks.now (session_of session.old) most).events) }
+    ensures memory { OnErr result ((n : ℕ) × (session_of session.new ≡ with_events (session_of session.old) (take n (run_of breaks.now (session_of session.old) most).events))) }
 {
     let before = session.standing();
-    let end = run_turns(session, breaks, most)?;
+    let end = session.run(breaks, most)?;
     text_of_run(alloc, session.standing() - before, end)
 }
 

@@ -1,4 +1,5 @@
 //! A script that is carried out over a machine, and its answers.
+ghost use Rattle.s360_journal.specs.Recorded.{session_of};
 ghost use Rattle.std.specs.Prelude.{◌≡◌, ◌⊎◌, ◌≤◌, ◌<◌, [], true, length, IfOk, IfSome, OnOk, Err, None};
 ghost use Rattle.std.specs.Io.KnownBytes.{Appends, Keeps};
 ghost use Rattle.std.specs.Io.Buffered.{writer_buffer, writer_contents};
@@ -9,7 +10,7 @@ ghost use Rattle.s360_text.specs.declared.script_fault.ScriptFault.TheVariants.{
 ghost use Rattle.s360_text.specs.declared.script_fault.ScriptFault.TheVariants.{Write as write_failed};
 
 use crate::run::run_script;
-use s360_journal::Reversible;
+use s360_journal::Session;
 use s360_text::{OneTry, ScriptFault};
 use std::alloc::Global;
 use std::io::{BufWriter, Read, Write};
@@ -17,20 +18,20 @@ use std::io::{BufWriter, Read, Write};
 /// Carries out the script that a reader has left, writes its answers, and answers the writer. The answers
 /// that come before a fault are written too, but after a write that failed none is written again. After a fault the writer is
 /// gone, so that what it got is not told.
-pub fn carry_out<S: Reversible, R: Read, W: Write + Drop>(
+pub fn carry_out<R: Read, W: Write + Drop>(
     alloc: Global,
-    session: &mut S,
+    session: &mut Session,
     reader: &mut R,
     writer: W,
 ) -> Result<W, ScriptFault>
     ensures length { OnOk result (IfSome (R.remaining reader.old) (λ text. length text ≤ 1048576)) }
-    ensures answers { IfOk result (λ w. IfSome (R.remaining reader.old) (λ text. Appends (W.contents writer) (W.contents w) (answers_of (S.standing_of session.old) text))) }
-    ensures state { OnOk result (IfSome (R.remaining reader.old) (λ text. S.standing_of session.new ≡ (state_after_lines (new_debugger (S.standing_of session.old)) (lines_of text)).session)) }
-    ensures limit { OnOk result ((S.standing_of session.new).limit ≡ (S.standing_of session.old).limit) }
+    ensures answers { IfOk result (λ w. IfSome (R.remaining reader.old) (λ text. Appends (W.contents writer) (W.contents w) (answers_of (session_of session.old) text))) }
+    ensures state { OnOk result (IfSome (R.remaining reader.old) (λ text. session_of session.new ≡ (state_after_lines (new_debugger (session_of session.old)) (lines_of text)).session)) }
+    ensures limit { OnOk result ((session_of session.new).limit ≡ (session_of session.old).limit) }
     ensures unread { (result ≡ Err read_failed) ⊎ (result ≡ Err TooLong) → session.new ≡ session.old }
     ensures too_long { result ≡ Err TooLong → IfSome (R.remaining reader.old) (λ text. 1048576 < length text) }
-    ensures memory { result ≡ Err Memory → IfSome (R.remaining reader.old) (λ text. IsStopped None None (new_debugger (S.standing_of session.old)) (S.standing_of session.new) (lines_of text)) }
-    ensures write { result ≡ Err write_failed → IfSome (R.remaining reader.old) (λ text. AreCarriedOut (new_debugger (S.standing_of session.old)) (S.standing_of session.new) (lines_of text)) }
+    ensures memory { result ≡ Err Memory → IfSome (R.remaining reader.old) (λ text. IsStopped None None (new_debugger (session_of session.old)) (session_of session.new) (lines_of text)) }
+    ensures write { result ≡ Err write_failed → IfSome (R.remaining reader.old) (λ text. AreCarriedOut (new_debugger (session_of session.old)) (session_of session.new) (lines_of text)) }
 {
     let Ok(mut buffered) = BufWriter::new(alloc, OneTry { writer }) else {
         return Err(ScriptFault::Memory);

@@ -19,7 +19,7 @@ use Rattle.s360_journal.specs.Reports.{IsReport}
 use Rattle.s360_journal.specs.declared.report.Report.{Report}
 use Rattle.s360_journal.specs.declared.report.Report.TheVariants.{Changed, Idle}
 use Rattle.s360_journal.proofs.SessionLemmas.{last-there}
-use Rattle.s360_record.specs.Recorded.{Recorded, next_recorded, session_of, standing_events, with_standing}
+use Rattle.s360_journal.specs.Recorded.{Recorded, next_recorded, session_of, standing_events, with_standing}
 use Rattle.s360_debug.specs.Answers.{changed_after}
 use Rattle.s360_inquiry.specs.Changes.{event_words, kind_of_change, last_change_in, machine_after}
 use Rattle.s360_inquiry.specs.Histories.{altered_next, history_line, lines_from, places_words, report_words}

@@ -11,7 +11,7 @@ use Rattle.s360_store.specs.declared.place.Place.{Place}
 use Rattle.s360_store.specs.declared.place.Place.TheVariants.{Psw, Register, Byte, Key, Run, External, UnitState, UnitMedia}
 use Rattle.s360_store.specs.Places.{same_place}
 use Rattle.s360_store.proofs.PlanPartLemmas.{equal}
-use Rattle.s360_record.specs.Recorded.{Recorded, with_standing}
+use Rattle.s360_journal.specs.Recorded.{Recorded, with_standing}
 use Rattle.s360_inquiry.specs.declared.cause.Cause.{Cause}
 use Rattle.s360_inquiry.specs.declared.cause.Origin.{Origin}
 use Rattle.s360_inquiry.specs.declared.cause.Origin.TheVariants.{Change}

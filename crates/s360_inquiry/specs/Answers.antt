@@ -2,7 +2,7 @@
 -- feed. No inquiry alters the record.
 use Rattle.std.specs.Prelude.{ℕ, nat_eq, if◌then◌else◌, Option, Some, List}
 use Rattle.s360_journal.specs.Standing.{machine_of}
-use Rattle.s360_record.specs.Recorded.{Recorded, session_of, with_standing}
+use Rattle.s360_journal.specs.Recorded.{Recorded, session_of, with_standing}
 use Rattle.s360_inquiry.specs.declared.inquiry.Inquiry.{Inquiry}
 use Rattle.s360_inquiry.specs.declared.inquiry.Inquiry.TheVariants.{Who, Why, Goto, Changes, History, Dump, Units, Where}
 use Rattle.s360_inquiry.specs.Causes.{why_text}

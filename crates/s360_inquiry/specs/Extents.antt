@@ -7,7 +7,7 @@ use Rattle.s360_store.specs.declared.place.Place.{Place}
 use Rattle.s360_store.specs.declared.place.Place.TheVariants.{Byte}
 use Rattle.s360_store.specs.Spans.{byte_places}
 use Rattle.s360_machine.specs.Machine.{Machine}
-use Rattle.s360_record.specs.Recorded.{Recorded}
+use Rattle.s360_journal.specs.Recorded.{Recorded}
 use Rattle.s360_language.specs.Names.{place_name}
 use Rattle.s360_inquiry.specs.declared.extent.Extent.{Extent}
 use Rattle.s360_inquiry.specs.declared.extent.Extent.TheVariants.{Bytes, Place as Alone}

@@ -1,7 +1,7 @@
 -- To go elsewhere in what was recorded (own profile). The record stays as it is.
 use Rattle.std.specs.Prelude.{ℕ, nat_le, if◌then◌else◌, Option, Some, None, List, ◌++◌, codes, length}
 use Rattle.s360_model.specs.Text.{decimal}
-use Rattle.s360_record.specs.Recorded.{Recorded, with_standing}
+use Rattle.s360_journal.specs.Recorded.{Recorded, with_standing}
 use Rattle.s360_inquiry.specs.declared.inquiry.Mark.{Mark}
 use Rattle.s360_inquiry.specs.declared.inquiry.Mark.TheVariants.{Change, Start, End, Last}
 

@@ -7,7 +7,7 @@ use Rattle.s360_store.specs.declared.place.Place.{Place}
 use Rattle.s360_journal.specs.declared.report.Report.{Report}
 use Rattle.s360_journal.specs.declared.report.Report.TheVariants.{Changed, Idle}
 use Rattle.s360_journal.specs.Standing.{alteration}
-use Rattle.s360_record.specs.Recorded.{Recorded, next_recorded, session_of, with_standing}
+use Rattle.s360_journal.specs.Recorded.{Recorded, next_recorded, session_of, with_standing}
 use Rattle.s360_debug.specs.Answers.{changed_after}
 use Rattle.s360_inquiry.specs.Changes.{words_of_change}
 

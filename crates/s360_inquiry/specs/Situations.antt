@@ -7,7 +7,7 @@ use Rattle.s360_channel.specs.ConfiguredUnits.{address_of_unit, configured_units
 use Rattle.s360_channel.specs.Units.{is_pending}
 use Rattle.s360_machine.specs.Machine.{Machine}
 use Rattle.s360_journal.specs.Standing.{machine_of}
-use Rattle.s360_record.specs.Recorded.{Recorded, session_of}
+use Rattle.s360_journal.specs.Recorded.{Recorded, session_of}
 use Rattle.s360_language.specs.Shown.{shown_text}
 use Rattle.s360_language.specs.declared.command.Shown.TheVariants.{External, Psw, UnitState}
 use Rattle.s360_language.specs.ShownUnits.{control_words, device_words}

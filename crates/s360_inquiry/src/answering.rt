@@ -1,6 +1,6 @@
 //! What an inquiry is answered. Each has its row in `text_of_inquiry`.
 ghost use Rattle.std.specs.Prelude.{◌≡◌, IfOk, OnErr, OnOk};
-ghost use Rattle.s360_record.specs.Recorded.{with_standing};
+ghost use Rattle.s360_journal.specs.Recorded.{with_standing};
 ghost use Rattle.s360_inquiry.specs.Answers.{answer_to, stands_after, state_after};
 
 use crate::change::{answer_changes, answer_who};
@@ -10,7 +10,7 @@ use crate::history::answer_history;
 use crate::inquiry::Inquiry;
 use crate::situation::{units_of, where_of};
 use crate::why::answer_why;
-use s360_record::Recording;
+use s360_journal::Session;
 use s360_text::Text;
 use std::alloc::{AllocError, Global};
 
@@ -18,7 +18,7 @@ use std::alloc::{AllocError, Global};
 /// record. Want of memory leaves the recording at some change, and `stood` as it was.
 pub fn answer_inquiry(
     alloc: Global,
-    recording: &mut Recording,
+    recording: &mut Session,
     stood: &mut Option<u32>,
     inquiry: Inquiry,
 ) -> Result<Text, AllocError>
@@ -39,7 +39,7 @@ pub fn answer_inquiry(
 #[tactic(auto, unfolding(crate::specs::Answers::answer_to, crate::specs::Answers::stands_after))]
 fn text_of_inquiry(
     alloc: Global,
-    recording: &mut Recording,
+    recording: &mut Session,
     stood: Option<u32>,
     inquiry: Inquiry,
 ) -> Result<Text, AllocError>

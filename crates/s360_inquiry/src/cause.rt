@@ -1,6 +1,6 @@
 //! A cause of a value: an extent with the value that it had, and the change that made that.
 ghost use Rattle.std.specs.Prelude.{◌≡◌, ◌-◌, IfOk, OnErr, OnOk, length, min};
-ghost use Rattle.s360_record.specs.Recorded.{with_standing};
+ghost use Rattle.s360_journal.specs.Recorded.{with_standing};
 ghost use Rattle.s360_inquiry.specs.Causes.{IsMaking, cause_in, cause_with, causes_by, causes_next, causes_of, decided_next};
 ghost use Rattle.s360_inquiry.specs.Causes.{decided_words, event_next, first_cause, origin_in, origin_of};
 ghost use Rattle.s360_inquiry.specs.Changes.{just_before};
@@ -10,8 +10,8 @@ use crate::decider::decided_by;
 use crate::extent::{Extent, extents_of, words_of_extent};
 use crate::going::go_to;
 use crate::place_set::places_before;
+use s360_journal::Session;
 use s360_machine::Event;
-use s360_record::Recording;
 use s360_store::Place;
 use s360_text::Text;
 use std::alloc::{AllocError, Global};
@@ -46,7 +46,7 @@ pub(crate) struct Making {
 }
 
 /// What made the value of a place.
-fn origin_of(recording: &Recording, place: Place) -> Origin
+fn origin_of(recording: &Session, place: Place) -> Origin
     ensures { result ≡ origin_of recording.now place }
 {
     match recording.last_change(place) {
@@ -56,7 +56,7 @@ fn origin_of(recording: &Recording, place: Place) -> Origin
 }
 
 /// What made the value of an extent, if it is to be followed.
-pub(crate) fn origin_in(recording: &Recording, extent: Extent) -> Origin
+pub(crate) fn origin_in(recording: &Session, extent: Extent) -> Origin
     ensures { result ≡ origin_in recording.now extent }
 {
     match extent {
@@ -68,7 +68,7 @@ pub(crate) fn origin_in(recording: &Recording, extent: Extent) -> Origin
 /// An extent with the value that it has where the recording stands, and what made that.
 fn cause_with(
     alloc: Global,
-    recording: &Recording,
+    recording: &Session,
     extent: Extent,
     origin: Origin,
 ) -> Result<Cause, AllocError>
@@ -82,7 +82,7 @@ fn cause_with(
 }
 
 /// An extent as a cause, where the recording stands.
-fn cause_in(alloc: Global, recording: &Recording, extent: Extent) -> Result<Cause, AllocError>
+fn cause_in(alloc: Global, recording: &Session, extent: Extent) -> Result<Cause, AllocError>
     ensures { IfOk result (λ cause. cause ≡ cause_in recording.now extent) }
 {
     cause_with(alloc, recording, extent, origin_in(recording, extent))
@@ -91,7 +91,7 @@ fn cause_in(alloc: Global, recording: &Recording, extent: Extent) -> Result<Caus
 /// A place as the first cause of a chain, which is followed whatever place it is.
 pub(crate) fn first_cause(
     alloc: Global,
-    recording: &Recording,
+    recording: &Session,
     place: Place,
 ) -> Result<Cause, AllocError>
     ensures { IfOk result (λ cause. cause ≡ first_cause recording.now place) }
@@ -107,7 +107,7 @@ pub(crate) fn first_cause(
 /// What an event makes an extent of that the recording meets where it stands.
 fn causes_by(
     alloc: Global,
-    recording: &Recording,
+    recording: &Session,
     event: &Event,
     extent: Extent,
 ) -> Result<Vec<Cause>, AllocError>
@@ -124,7 +124,7 @@ fn causes_by(
 /// What decides the next event, and what it makes an extent of.
 fn of_next(
     alloc: Global,
-    recording: &Recording,
+    recording: &Session,
     extent: Extent,
 ) -> Result<(Text, Vec<Cause>), AllocError>
     ensures decided { IfOk result (λ r. r.0 ≡ decided_next recording.now) }
@@ -140,7 +140,7 @@ fn of_next(
 /// the recording at some change.
 pub(crate) fn making_of(
     alloc: Global,
-    recording: &mut Recording,
+    recording: &mut Session,
     number: u32,
     extent: Extent,
 ) -> Result<Making, AllocError>

@@ -1,7 +1,7 @@
 //! A change of a place: its event, and the place's value before and after. Values are read by going there.
 ghost use Rattle.std.specs.Prelude.{◌≡◌, ◌++◌, ◌-◌, length, min, IfOk, OnErr, OnOk};
 ghost use Rattle.s360_machine.specs.Machine.{seen};
-ghost use Rattle.s360_record.specs.Recorded.{with_standing};
+ghost use Rattle.s360_journal.specs.Recorded.{with_standing};
 ghost use Rattle.s360_inquiry.specs.Changes.{change_text, changes_text, event_words, just_before, kind_words, last_change_in};
 ghost use Rattle.s360_inquiry.specs.Changes.{kind_of_change, last_of, machine_after, stands_after_who, told_changes};
 ghost use Rattle.s360_inquiry.specs.Changes.{told_text, who_text};
@@ -11,9 +11,9 @@ use crate::going::go_to;
 use crate::happening::push_happening;
 use crate::value::{push_value, text_of_value};
 use s360_debug::text_of_line;
+use s360_journal::Session;
 use s360_language::push_place;
 use s360_machine::{EventKind, Machine};
-use s360_record::Recording;
 use s360_store::Place;
 use s360_text::Text;
 use std::alloc::{AllocError, Global};
@@ -47,7 +47,7 @@ fn push_kind(text: &mut Text, machine: &Machine, kind: Option<EventKind>) -> Res
 /// memory leaves the recording there, or where it was.
 fn value_after(
     alloc: Global,
-    recording: &mut Recording,
+    recording: &mut Session,
     place: Place,
     number: u32,
 ) -> Result<(Text, Option<EventKind>), AllocError>
@@ -87,7 +87,7 @@ fn push_told(
 fn push_change(
     alloc: Global,
     text: &mut Text,
-    recording: &mut Recording,
+    recording: &mut Session,
     place: Place,
     number: u32,
 ) -> Result<(), AllocError>
@@ -104,7 +104,7 @@ fn push_change(
 /// where it is.
 pub(crate) fn answer_who(
     alloc: Global,
-    recording: &mut Recording,
+    recording: &mut Session,
     place: Place,
 ) -> Result<Text, AllocError>
     ensures text { IfOk result (λ text. text ≡ who_text recording.old place (last_change_in recording.old place)) }
@@ -129,7 +129,7 @@ fn last_of(numbers: &[u32], most: u32) -> &[u32]
 /// Tells the last changes of a place, so many at most, the oldest first. The recording stands where it stood.
 pub(crate) fn answer_changes(
     alloc: Global,
-    recording: &mut Recording,
+    recording: &mut Session,
     place: Place,
     most: u32,
 ) -> Result<Text, AllocError>
@@ -144,7 +144,7 @@ pub(crate) fn answer_changes(
 /// Tells the changes of these numbers.
 fn tell_changes(
     alloc: Global,
-    recording: &mut Recording,
+    recording: &mut Session,
     place: Place,
     numbers: &[u32],
 ) -> Result<Text, AllocError>

@@ -5,15 +5,15 @@ ghost use Rattle.s360_inquiry.specs.Causes.{decided_by, decider_words, named_dec
 use crate::cause::{Origin, origin_in};
 use crate::extent::{Extent, extents_of, push_extent, words_of_extent};
 use crate::place_set::places_deciding;
+use s360_journal::Session;
 use s360_machine::Event;
-use s360_record::Recording;
 use s360_text::Text;
 use std::alloc::{AllocError, Global};
 
 /// What decides an event that the recording meets where it stands.
 pub(crate) fn decided_by(
     alloc: Global,
-    recording: &Recording,
+    recording: &Session,
     event: &Event,
 ) -> Result<Text, AllocError>
     ensures { IfOk result (λ words. words ≡ decided_by recording.now event.now) }
@@ -30,7 +30,7 @@ pub(crate) fn decided_by(
 fn push_decider(
     alloc: Global,
     words: &mut Text,
-    recording: &Recording,
+    recording: &Session,
     extent: Extent,
 ) -> Result<(), AllocError>
     ensures { OnOk result (words.new ≡ words.old ++ named_decider recording.now extent) }
@@ -50,7 +50,7 @@ fn push_decider(
 fn push_told(
     alloc: Global,
     words: &mut Text,
-    recording: &Recording,
+    recording: &Session,
     extent: Extent,
     origin: Origin,
 ) -> Result<(), AllocError>

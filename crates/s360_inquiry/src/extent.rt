@@ -6,9 +6,9 @@ ghost use Rattle.s360_inquiry.specs.Extents.{extent_name, extent_of, extent_word
 ghost use Rattle.s360_inquiry.specs.Extents.{is_joined, places_of_extent, run_words_of, same_change, with_place};
 
 use crate::value::push_value;
+use s360_journal::Session;
 use s360_language::{push_digits, push_place};
 use s360_machine::Machine;
-use s360_record::Recording;
 use s360_store::{Place, Storage};
 use s360_text::Text;
 use std::alloc::{AllocError, Global};
@@ -86,7 +86,7 @@ fn same_change(one: Option<u32>, other: Option<u32>) -> bool
 }
 
 /// Whether a byte goes together with the run that begins behind it.
-fn is_joined(recording: &Recording, at: u32, first: u32) -> bool
+fn is_joined(recording: &Session, at: u32, first: u32) -> bool
     ensures { result ≡ is_joined recording.now at first }
 {
     at.checked_add(1) == Some(first)
@@ -97,7 +97,7 @@ fn is_joined(recording: &Recording, at: u32, first: u32) -> bool
 }
 
 /// A byte with the run that begins behind it, if they go together.
-fn joined(recording: &Recording, place: Place, next: Extent) -> Option<Extent>
+fn joined(recording: &Session, place: Place, next: Extent) -> Option<Extent>
     ensures { result ≡ joined recording.now place next }
 {
     match (place, next) {
@@ -110,7 +110,7 @@ fn joined(recording: &Recording, place: Place, next: Extent) -> Option<Extent>
 
 /// Puts a place before extents, which are listed from the last one on.
 fn put_before(
-    recording: &Recording,
+    recording: &Session,
     extents: &mut Vec<Extent>,
     place: Place,
 ) -> Result<(), AllocError>
@@ -133,7 +133,7 @@ fn put_before(
 /// The extents of some places, in their order, by the changes that stand.
 pub(crate) fn extents_of(
     alloc: Global,
-    recording: &Recording,
+    recording: &Session,
     places: &[Place],
 ) -> Result<Vec<Extent>, AllocError>
     ensures { IfOk result (λ extents. extents.items ≡ extents_of recording.now places.now) }

@@ -1,17 +1,17 @@
 //! To go elsewhere in what was recorded, back or forth. Nothing of the record is lost.
 ghost use Rattle.std.specs.Prelude.{◌≡◌, ◌++◌, length, min, IfOk, OnErr, OnOk};
-ghost use Rattle.s360_record.specs.Recorded.{with_standing};
+ghost use Rattle.s360_journal.specs.Recorded.{with_standing};
 ghost use Rattle.s360_inquiry.specs.Going.{goto_number, goto_text, number_of_mark, stands_after_goto, stands_line};
 
 use crate::inquiry::Mark;
 use s360_debug::text_of_line;
-use s360_record::Recording;
+use s360_journal::Session;
 use s360_text::Text;
 use std::alloc::{AllocError, Global};
 
 /// Goes to just after the change of a number, or to the end of the record if it has no such change. Want of memory leaves the
 /// recording there, or where it was.
-pub(crate) fn go_to(recording: &mut Recording, number: u32) -> Result<(), AllocError>
+pub(crate) fn go_to(recording: &mut Session, number: u32) -> Result<(), AllocError>
     ensures state { OnOk result (recording.new ≡ with_standing recording.old (min number (length recording.old.events))) }
     ensures err { OnErr result (recording.new ≡ with_standing recording.old (min number recording.old.standing)) }
 {
@@ -35,7 +35,7 @@ fn number_of_mark(mark: Mark, recorded: u32, stood: Option<u32>) -> Option<u32>
 }
 
 /// To which change a mark leads, if to one that is recorded.
-fn goto_number(recording: &Recording, stood: Option<u32>, mark: Mark) -> Option<u32>
+fn goto_number(recording: &Session, stood: Option<u32>, mark: Mark) -> Option<u32>
     ensures { result ≡ goto_number recording.now stood mark }
 {
     let recorded = recording.recorded();
@@ -50,7 +50,7 @@ fn goto_number(recording: &Recording, stood: Option<u32>, mark: Mark) -> Option<
 /// Goes to a mark, and answers where the recording stands then.
 pub(crate) fn answer_goto(
     alloc: Global,
-    recording: &mut Recording,
+    recording: &mut Session,
     stood: Option<u32>,
     mark: Mark,
 ) -> Result<Text, AllocError>
@@ -68,7 +68,7 @@ pub(crate) fn answer_goto(
 }
 
 /// How many changes stand, of how many that are recorded.
-pub(crate) fn text_of_standing(alloc: Global, recording: &Recording) -> Result<Text, AllocError>
+pub(crate) fn text_of_standing(alloc: Global, recording: &Session) -> Result<Text, AllocError>
     ensures { IfOk result (λ text. text ≡ stands_line recording.now) }
 {
     let mut text = Text::new(alloc);

@@ -2,14 +2,13 @@
 ghost use Rattle.std.specs.Prelude.{◌≡◌, ◌++◌, ◌-◌, ◌+◌, ◌<◌, length, IfOk, OnErr, OnOk, Some};
 ghost use Rattle.s360_journal.specs.Reports.{IsReport};
 ghost use Rattle.s360_journal.specs.Standing.{alteration};
-ghost use Rattle.s360_record.specs.Recorded.{next_recorded, session_of, with_standing};
+ghost use Rattle.s360_journal.specs.Recorded.{next_recorded, session_of, with_standing};
 ghost use Rattle.s360_inquiry.specs.Histories.{history_line, history_text, report_words};
 
 use crate::change::push_event_of;
 use s360_debug::{push_changed, text_of_line};
-use s360_journal::Report;
+use s360_journal::{Report, Session};
 use s360_machine::Event;
-use s360_record::Recording;
 use s360_text::Text;
 use std::alloc::{AllocError, Global};
 
@@ -17,7 +16,7 @@ use std::alloc::{AllocError, Global};
 /// stands where it stood; want of memory leaves it at some change.
 pub(crate) fn answer_history(
     alloc: Global,
-    recording: &mut Recording,
+    recording: &mut Session,
     most: u32,
 ) -> Result<Text, AllocError>
     ensures text { IfOk result (λ text. text ≡ history_text recording.old most) }
@@ -37,7 +36,7 @@ pub(crate) fn answer_history(
 }
 
 /// Runs the next event of the record again, whose number this is, and adds its line.
-fn push_run_again(text: &mut Text, recording: &mut Recording, number: u32) -> Result<(), AllocError>
+fn push_run_again(text: &mut Text, recording: &mut Session, number: u32) -> Result<(), AllocError>
     requires next { recording.old.standing < length recording.old.events }
     requires numbered { number ≡ recording.old.standing + 1 }
     ensures text { OnOk result (text.new ≡ text.old ++ history_line recording.old number) }
@@ -52,14 +51,14 @@ fn push_run_again(text: &mut Text, recording: &mut Recording, number: u32) -> Re
 }
 
 /// Runs the next event of the record again, which is this, and reports it.
-fn run_again(recording: &mut Recording, event: Event) -> Result<Report, AllocError>
+fn run_again(recording: &mut Session, event: Event) -> Result<Report, AllocError>
     requires next { next_recorded recording.old ≡ Some event }
     ensures report { IfOk result (λ report. IsReport report (alteration (session_of recording.old) event)) }
     ensures state { OnOk result (recording.new ≡ with_standing recording.old (recording.old.standing + 1)) }
     ensures err { OnErr result (recording.new ≡ recording.old) }
 {
-    match recording.forward_reported(event) {
-        Ok((report, _forwarded)) => Ok(report),
+    match recording.forward(event) {
+        Ok(report) => Ok(report),
         // An event of the record is refused for want of memory alone.
         Err(_) => Err(AllocError),
     }

@@ -2,7 +2,7 @@
 ghost use Rattle.std.specs.Prelude.{◌≡◌, ◌++◌, IfOk, OnOk};
 ghost use Rattle.s360_journal.specs.Standing.{machine_of};
 ghost use Rattle.s360_machine.specs.Machine.{seen};
-ghost use Rattle.s360_record.specs.Recorded.{session_of};
+ghost use Rattle.s360_journal.specs.Recorded.{session_of};
 ghost use Rattle.s360_inquiry.specs.Situations.{next_text, pending_lines, pending_text, unit_and_device, units_text};
 ghost use Rattle.s360_inquiry.specs.Situations.{where_text};
 ghost use Rattle.s360_language.specs.Shown.{shown_text};
@@ -10,14 +10,14 @@ ghost use Rattle.s360_language.specs.Shown.{shown_text};
 use crate::going::text_of_standing;
 use crate::happening::push_cpu;
 use crate::unit::{attention_of, is_pending, state_of};
+use s360_journal::Session;
 use s360_language::{Shown, push_control, push_device, text_of_shown};
 use s360_machine::{ConfiguredUnit, Machine};
-use s360_record::Recording;
 use s360_text::Text;
 use std::alloc::{AllocError, Global};
 
 /// A line for each unit: what the channel does for it, its sense, and its media in numbers.
-pub(crate) fn units_of(alloc: Global, recording: &Recording) -> Result<Text, AllocError>
+pub(crate) fn units_of(alloc: Global, recording: &Session) -> Result<Text, AllocError>
     ensures { IfOk result (λ text. text ≡ units_text (machine_of (session_of recording.now))) }
 {
     let text = text_of_units(alloc, recording.machine())?;
@@ -47,7 +47,7 @@ fn push_unit(text: &mut Text, machine: &Machine, unit: ConfiguredUnit) -> Result
 }
 
 /// How far the recording stands, the PSW and the run state, what the CPU does next, and what is pending.
-pub(crate) fn where_of(alloc: Global, recording: &Recording) -> Result<Text, AllocError>
+pub(crate) fn where_of(alloc: Global, recording: &Session) -> Result<Text, AllocError>
     ensures { IfOk result (λ text. text ≡ where_text recording.now) }
 {
     let mut text = text_of_standing(alloc, recording)?;

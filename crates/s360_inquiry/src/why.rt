@@ -4,14 +4,14 @@ ghost use Rattle.std.specs.Prelude.{◌≡◌, ◌≤◌, ◌<◌, ◌+◌, ◌+
 ghost use Rattle.std.specs.Bool.{IsTrue};
 ghost use Rattle.std.specs.List.{IsAmong};
 ghost use Rattle.s360_model.specs.Text.{decimal};
-ghost use Rattle.s360_record.specs.Recorded.{with_standing};
+ghost use Rattle.s360_journal.specs.Recorded.{with_standing};
 ghost use Rattle.s360_inquiry.specs.Causes.{IsMaking, IsOf, IsTold, cause_line, cause_lines, decided_line, decided_lines};
 ghost use Rattle.s360_inquiry.specs.Causes.{indent, told_lines, why_text};
 
 use crate::cause::{Cause, Making, Origin, first_cause, making_of};
 use crate::extent::{Extent, push_extent};
 use crate::going::go_to;
-use s360_record::Recording;
+use s360_journal::Session;
 use s360_store::Place;
 use s360_text::Text;
 use std::alloc::{AllocError, Global};
@@ -137,7 +137,7 @@ fn noted(makings: &[Making], number: u32, extent: Extent) -> Option<&Making>
 #[cycle(telling)]
 fn tell(
     alloc: Global,
-    recording: &mut Recording,
+    recording: &mut Session,
     makings: &[Making],
     telling: &mut Telling,
     level: u32,
@@ -178,7 +178,7 @@ fn tell(
 #[cycle(telling)]
 fn tell_making(
     alloc: Global,
-    recording: &mut Recording,
+    recording: &mut Session,
     makings: &[Making],
     telling: &mut Telling,
     level: u32,
@@ -267,7 +267,7 @@ impl Pending {
 /// Goes back from each change that is to be followed to the next before it, and notes what it made.
 fn gather(
     alloc: Global,
-    recording: &mut Recording,
+    recording: &mut Session,
     first: &Cause,
     depth: u32,
 ) -> Result<Vec<Making>, AllocError>
@@ -299,7 +299,7 @@ fn gather(
 /// Tells why a place has its value, so deep. The recording stands where it stood; want of memory leaves it at some change.
 pub(crate) fn answer_why(
     alloc: Global,
-    recording: &mut Recording,
+    recording: &mut Session,
     place: Place,
     depth: u32,
 ) -> Result<Text, AllocError>

@@ -1,7 +1,12 @@
 pub mod HistoryLemmas
 pub mod SessionLemmas
 pub mod IndexLemmas
-pub mod StackLemmas
+pub mod PartLemmas
+pub mod TimelineLemmas
+pub mod SameLemmas
+pub mod RecordedLemmas
+pub mod GoingLemmas
+pub mod AloneLemmas
 pub mod EventLemmas
 pub mod BreakpointLemmas
 pub mod StopLemmas

@@ -1,56 +1,60 @@
 -- A run of calls leaves the start and the limit, and the events that stand by its calls and answers.
-use Rattle.std.proofs.Common.{◌≡◌, ◌-◌, ℕ, List, [], ◌∷◌, refl, ap, sym, ◌∙◌, length, take, arith, Ok, Err, Option, Some, None, Result}
+use Rattle.std.proofs.Common.{◌≡◌, ◌-◌, ◌++◌, ℕ, List, [], ◌∷◌, refl, ap, sym, ◌∙◌, length, take, arith, Ok, Err, Option, Some, None, Result}
 use Rattle.std.proofs.Math.Seq.{take-length}
 use Rattle.std.proofs.lemmas.List.{length-append, length-take, take_min}
+use Rattle.std.specs.List.{slice_get}
 use Rattle.std.specs.declared.alloc.AllocError.{AllocError}
 use Rattle.s360_machine.specs.declared.event.Event.{Event}
 use Rattle.s360_journal.specs.declared.calls.Call.{Call}
-use Rattle.s360_journal.specs.declared.calls.Call.TheVariants.{Forward, Advance, Preview, Run, Back, BackUntil, BackTo, Withdraw, Standing as standing, LastChange}
+use Rattle.s360_journal.specs.declared.calls.Call.TheVariants.{Forward, Advance, Preview, Run, Back, StepBack, BackUntil, BackTo, Again, AgainTo, Withdraw}
 use Rattle.s360_journal.specs.declared.calls.Answer.{Answer}
-use Rattle.s360_journal.specs.declared.calls.Answer.TheVariants.{Forwarded, Advanced, Previewed, Ran, TookBack, WentBack, Withdrew, Stands, LastChanged}
+use Rattle.s360_journal.specs.declared.calls.Answer.TheVariants.{Forwarded, Advanced, Previewed, Ran, TookBack, SteppedBack, WentBack, RanAgain, WentOn, Withdrew}
 use Rattle.std.specs.Prelude.{IfOk, IsOkUnless, MatchOption, OnErr, OnOk, ⊤, min}
 use Rattle.s360_machine.specs.declared.refusal.Refusal.{Refusal}
 use Rattle.s360_machine.specs.declared.refusal.Refusal.TheVariants.{Memory}
 use Rattle.s360_journal.specs.declared.report.Report.{Report}
 use Rattle.s360_journal.specs.Reports.{IsReport}
 use Rattle.s360_journal.specs.declared.running.RunEnd.{RunEnd}
-use Rattle.s360_journal.specs.Offers.{with_events}
+use Rattle.s360_journal.specs.Recorded.{AreRun, Recorded, after_event, after_events, session_of, standing_events, without_last}
+use Rattle.s360_journal.proofs.RecordedLemmas.{after-keeps}
 use Rattle.s360_journal.specs.Running.{run_of}
-use Rattle.s360_journal.specs.Standing.{IsAfter, Standing, alteration, refusal_in}
-use Rattle.s360_journal.specs.Calls.{events_after, standing_events, IsAnswer, IsRun}
-use Rattle.s360_journal.proofs.StackLemmas.{take-push}
+use Rattle.s360_journal.specs.Standing.{Standing, alteration, last_of, refusal_in}
+use Rattle.s360_journal.specs.Calls.{IsAnswer, IsRun, state_after, state_after_all}
+use Rattle.s360_journal.specs.declared.session.NothingStands.{NothingStands}
+use Rattle.s360_journal.proofs.SessionLemmas.{last-there}
 
--- a call leaves start and limit, and the events by its answer
-leads-IsAnswer : (s t : Standing) (c : Call) (a : Answer) → IsAnswer s c a t → t ≡ record s { events = events_after s c a }
-leads-IsAnswer s t (Forward e) (Forwarded (Ok r)) h = h.2
-leads-IsAnswer s t (Forward e) (Forwarded (Err r)) h = h.1
-leads-IsAnswer s t (Advance e) (Advanced (Ok done)) h = h.1
-leads-IsAnswer s t (Advance e) (Advanced (Err r)) h = h.1
-leads-IsAnswer s t (Preview e) (Previewed (Ok r)) h = h.2
-leads-IsAnswer s t (Preview e) (Previewed (Err r)) h = h.1
-leads-IsAnswer s t (Run breaks most) (Ran accepted (Ok end)) h =
-    let es : List Event = (run_of breaks s most).events
-    in let all : take accepted es ≡ es = ap (λ k. take k es) h.1 ∙ take-length es
-    in h.2 ∙ ap (λ (fs : List Event). with_events s fs) (sym all)
-leads-IsAnswer s t (Run breaks most) (Ran accepted (Err e)) h = h.1
-leads-IsAnswer s t Back (TookBack (Ok e)) h =
-    sym (ap (λ (x : Standing). record x { events = take (length x.events - 1) x.events }) h ∙ ap (λ (es : List Event). record t { events = es }) (take-push t.events e))
-leads-IsAnswer s t Back (TookBack (Err n)) h = h.1
-leads-IsAnswer s t (BackUntil breaks) (WentBack k) h = h.1
-leads-IsAnswer s t (BackTo n) (WentBack k) h = h.1
-leads-IsAnswer s t (Withdraw k) (Withdrew (Ok done)) h = h.1
-leads-IsAnswer s t (Withdraw k) (Withdrew (Err w)) h = h.1
-leads-IsAnswer s t standing (Stands n) h = h.1
-leads-IsAnswer s t (LastChange p) (LastChanged k) h = h.1
-leads-IsAnswer s t c a h = absurd h
+-- calls, one after another, leave what their answers say
+pub leads-IsRun : (r t : Recorded) (cs : List Call) (answers : List Answer) → IsRun r cs answers t → t ≡ state_after_all r cs answers
+leads-IsRun r t [] [] h = h
+leads-IsRun r t (c ∷ cs) (a ∷ answers) h = leads-IsRun h.0 t cs answers h.2 ∙ ap (λ x. state_after_all x cs answers) h.1.1
+leads-IsRun r t [] (a ∷ answers) h = absurd h
+leads-IsRun r t (c ∷ cs) [] h = absurd h
 
--- and so do calls, one after another
-pub leads-IsRun : (s t : Standing) (cs : List Call) (answers : List Answer) → IsRun s cs answers t → t ≡ record s { events = standing_events s cs answers }
-leads-IsRun s t [] [] h = h
-leads-IsRun s t (c ∷ cs) (a ∷ answers) h =
-    leads-IsRun h.0 t cs answers h.2 ∙ ap (λ (x : Standing). record x { events = standing_events x cs answers }) (leads-IsAnswer s h.0 c a h.1)
-leads-IsRun s t [] (a ∷ answers) h = absurd h
-leads-IsRun s t (c ∷ cs) [] h = absurd h
+-- the start stays
+start-event : (r : Recorded) (e : Event) → (after_event r e).start ≡ r.start
+start-event r e = (after-keeps r e).start
+
+start-events : (r : Recorded) (es : List Event) → (after_events r es).start ≡ r.start
+start-events r [] = refl
+start-events r (e ∷ es) = start-events (after_event r e) es ∙ start-event r e
+
+start-call : (r : Recorded) (c : Call) (a : Answer) → (state_after r c a).start ≡ r.start
+start-call r (Forward e) (Forwarded (Ok report)) = start-event r e
+start-call r (Advance e) (Advanced (Ok done)) = start-event r e
+start-call r (Run breaks most) (Ran accepted end) = start-events r (take accepted (run_of breaks (session_of r) most).events)
+start-call r Back (TookBack (Ok e)) = refl
+start-call r StepBack (SteppedBack (Ok done)) = refl
+start-call r (BackUntil breaks) (WentBack k) = refl
+start-call r (BackTo n) (WentBack k) = refl
+start-call r Again (RanAgain (Ok ran)) = refl
+start-call r (AgainTo n) (WentOn (Ok k)) = refl
+start-call r (Withdraw k) (Withdrew (Ok done)) = refl
+start-call r c a = refl
+
+pub start-calls : (r : Recorded) (cs : List Call) (answers : List Answer) → (state_after_all r cs answers).start ≡ r.start
+start-calls r (c ∷ cs) (a ∷ answers) = start-calls (state_after r c a) cs answers ∙ start-call r c a
+start-calls r [] answers = refl
+start-calls r (c ∷ cs) [] = refl
 
 -- what an offered event is answered
 none-accepted : {X : Type 0} (o : Option Refusal) (r : Result X Refusal) (p : X) → r ≡ Ok p → MatchOption o (IsOkUnless r Memory) (λ q. r ≡ Err q) → o ≡ None
@@ -61,31 +65,42 @@ refused : {X : Type 0} (o : Option Refusal) (r : Result X Refusal) (x : Refusal)
 refused None r x e h = rw e at h
 refused (Some q) r x e h = let same : r ≡ Err q = h in cc
 
-pub IsAnswer-forward : (s t : Standing) (e : Event) (r : Result Report Refusal) → OnOk r (IsAfter t s e) → IfOk r (λ q. IsReport q (alteration s e)) → OnErr r (t ≡ s)
-    → MatchOption (refusal_in s e) (IsOkUnless r Memory) (λ q. r ≡ Err q) → IsAnswer s (Forward e) (Forwarded r) t
-IsAnswer-forward s t e (Ok r) ok report err refusal = (none-accepted (refusal_in s e) (Ok r) r refl refusal, report, ok)
-IsAnswer-forward s t e (Err x) ok report err refusal = (refused (refusal_in s e) (Err x) x refl refusal, err)
+pub IsAnswer-forward : (r t : Recorded) (e : Event) (result : Result Report Refusal) → OnOk result (t ≡ after_event r e) → IfOk result (λ q. IsReport q (alteration (session_of r) e)) → OnErr result (t ≡ r)
+    → MatchOption (refusal_in (session_of r) e) (IsOkUnless result Memory) (λ q. result ≡ Err q) → IsAnswer r (Forward e) (Forwarded result) t
+IsAnswer-forward r t e (Ok q) ok report err refusal = ((none-accepted (refusal_in (session_of r) e) (Ok q) q refl refusal, report), ok)
+IsAnswer-forward r t e (Err x) ok report err refusal = (refused (refusal_in (session_of r) e) (Err x) x refl refusal, err)
 
-pub IsAnswer-advance : (s t : Standing) (e : Event) (r : Result ⊤ Refusal) → OnOk r (IsAfter t s e) → OnErr r (t ≡ s)
-    → MatchOption (refusal_in s e) (IsOkUnless r Memory) (λ q. r ≡ Err q) → IsAnswer s (Advance e) (Advanced r) t
-IsAnswer-advance s t e (Ok r) ok err refusal = (none-accepted (refusal_in s e) (Ok r) r refl refusal, ok)
-IsAnswer-advance s t e (Err x) ok err refusal = (refused (refusal_in s e) (Err x) x refl refusal, err)
+pub IsAnswer-advance : (r t : Recorded) (e : Event) (result : Result ⊤ Refusal) → OnOk result (t ≡ after_event r e) → OnErr result (t ≡ r)
+    → MatchOption (refusal_in (session_of r) e) (IsOkUnless result Memory) (λ q. result ≡ Err q) → IsAnswer r (Advance e) (Advanced result) t
+IsAnswer-advance r t e (Ok q) ok err refusal = (none-accepted (refusal_in (session_of r) e) (Ok q) q refl refusal, ok)
+IsAnswer-advance r t e (Err x) ok err refusal = (refused (refusal_in (session_of r) e) (Err x) x refl refusal, err)
 
-pub IsAnswer-preview : (s t : Standing) (e : Event) (r : Result Report Refusal) → t ≡ s → IfOk r (λ q. IsReport q (alteration s e))
-    → MatchOption (refusal_in s e) (IsOkUnless r Memory) (λ q. r ≡ Err q) → IsAnswer s (Preview e) (Previewed r) t
-IsAnswer-preview s t e (Ok r) same report refusal = (none-accepted (refusal_in s e) (Ok r) r refl refusal, report, same)
-IsAnswer-preview s t e (Err x) same report refusal = (refused (refusal_in s e) (Err x) x refl refusal, same)
+pub IsAnswer-preview : (r t : Recorded) (e : Event) (result : Result Report Refusal) → t ≡ r → IfOk result (λ q. IsReport q (alteration (session_of r) e))
+    → MatchOption (refusal_in (session_of r) e) (IsOkUnless result Memory) (λ q. result ≡ Err q) → IsAnswer r (Preview e) (Previewed result) t
+IsAnswer-preview r t e (Ok q) same report refusal = ((none-accepted (refusal_in (session_of r) e) (Ok q) q refl refusal, report), same)
+IsAnswer-preview r t e (Err x) same report refusal = (refused (refusal_in (session_of r) e) (Err x) x refl refusal, same)
+
+pub IsAnswer-back : (r t : Recorded) (result : Result Event NothingStands) → IfOk result (λ e. session_of r ≡ record (session_of t) { events = standing_events t ++ e ∷ [] })
+    → OnOk result (t ≡ without_last r) → OnErr result (t ≡ r) → OnErr result (standing_events r ≡ []) → IsAnswer r Back (TookBack result) t
+IsAnswer-back r t (Ok e) one last err nothing =
+    let parts : standing_events r ≡ standing_events t ++ e ∷ [] = ap (λ (s : Standing). s.events) one
+    in let count : length (standing_events t ++ e ∷ []) - 1 ≡ length (standing_events t) = omega (arith, length-append (standing_events t) (e ∷ []))
+    in (ap (λ es. last_of es) parts ∙ ap (λ n. slice_get (standing_events t ++ e ∷ []) n) count ∙ last-there (standing_events t) e, last)
+IsAnswer-back r t (Err n) one last err nothing = (nothing, err)
 
 -- what a run is answered, with the number of events that came to stand
-added : (s t : Standing) (es : List Event) (before after : ℕ) → before ≡ length s.events → after ≡ length t.events → t ≡ with_events s es → after - before ≡ length es
-added s t es before after first last h = omega (arith, first, last, ap (λ (x : Standing). length x.events) h, length-append s.events es)
+added : (r t : Recorded) (es : List Event) (before after : ℕ) → before ≡ length (standing_events r) → after ≡ length (standing_events t) → AreRun r es t → after - before ≡ length es
+added r t es before after first last h = omega (arith, first, last, ap (λ (x : Standing). length x.events) h.stands, length-append (standing_events r) es)
 
-pub IsAnswer-run : (s t : Standing) (breaks : List ℕ) (most before after : ℕ) (r : Result RunEnd AllocError) → before ≡ length s.events → after ≡ length t.events
-    → IfOk r (λ end. end ≡ (run_of breaks s most).why) → OnOk r (t ≡ with_events s (run_of breaks s most).events)
-    → OnErr r ((n : ℕ) × (t ≡ with_events s (take n (run_of breaks s most).events))) → IsAnswer s (Run breaks most) (Ran (after - before) r) t
-IsAnswer-run s t breaks most before after (Ok end) first last why ok err = (why, added s t (run_of breaks s most).events before after first last ok, ok)
-IsAnswer-run s t breaks most before after (Err e) first last why ok err =
-    let es : List Event = (run_of breaks s most).events
-    in let count : after - before ≡ min err.0 (length es) = added s t (take err.0 es) before after first last err.1 ∙ length-take err.0 es
+pub IsAnswer-run : (r t : Recorded) (breaks : List ℕ) (most before after : ℕ) (result : Result RunEnd AllocError) → before ≡ length (standing_events r) → after ≡ length (standing_events t)
+    → IfOk result (λ end. end ≡ (run_of breaks (session_of r) most).why) → OnOk result (AreRun r (run_of breaks (session_of r) most).events t)
+    → OnErr result ((n : ℕ) × AreRun r (take n (run_of breaks (session_of r) most).events) t) → IsAnswer r (Run breaks most) (Ran (after - before) result) t
+IsAnswer-run r t breaks most before after (Ok end) first last why ok err =
+    let es : List Event = (run_of breaks (session_of r) most).events
+    in let count : after - before ≡ length es = added r t es before after first last ok
+    in ((why, count), ok.record_of ∙ ap (λ fs. after_events r fs) (sym (ap (λ k. take k es) count ∙ take-length es)))
+IsAnswer-run r t breaks most before after (Err e) first last why ok err =
+    let es : List Event = (run_of breaks (session_of r) most).events
+    in let count : after - before ≡ min err.0 (length es) = added r t (take err.0 es) before after first last err.1 ∙ length-take err.0 es
     in let same : take err.0 es ≡ take (after - before) es = sym (ap (λ k. take k es) count ∙ take_min err.0 es)
-    in (omega (arith, count), err.1 ∙ ap (λ (fs : List Event). with_events s fs) same)
+    in (omega (arith, count), err.1.record_of ∙ ap (λ fs. after_events r fs) same)

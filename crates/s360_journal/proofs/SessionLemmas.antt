@@ -1,23 +1,23 @@
 -- Events and changes of a session, side by side as entries.
-use Rattle.std.proofs.Common.{◌≡◌, ◌<◌, ◌≤◌, ◌+◌, ◌-◌, ◌++◌, ◌∙◌, ℕ, zero, suc, List, [], ◌∷◌, Some, None, refl, ap, sym, subst, map, reverse, length, take, set, arith}
+use Rattle.std.proofs.Common.{◌≡◌, ◌<◌, ◌+◌, ◌-◌, ◌++◌, ◌∙◌, ℕ, zero, suc, List, [], ◌∷◌, Some, None, Ok, refl, ap, sym, subst, map, reverse, length, take, set, arith}
 use Rattle.std.specs.List.{slice_get}
 use Rattle.std.specs.Prelude.{IfSome}
 use Rattle.std.proofs.lemmas.List.{length-append, length-map, reverse-append}
 use Rattle.std.proofs.lemmas.Option.{slice_get-get_or}
 use Rattle.s360_machine.specs.declared.event.Event.{Event}
-use Rattle.s360_machine.specs.Machine.{Machine, Whole, seen}
+use Rattle.s360_machine.specs.Machine.{Whole, seen}
 use Rattle.s360_machine.specs.Change.{CanSwap, Change, HasRoom, NeedsNoRoom, after_swap, change_after_swap, places_of_change}
 use Rattle.s360_machine.specs.Packed.{IsSwapOf}
 use Rattle.s360_machine.specs.Planned.{IsChangeTo}
 use Rattle.s360_machine.specs.Refusals.{refusal_of}
 use Rattle.s360_machine.specs.Machine.{storage_size}
-use Rattle.s360_machine.specs.Step.{after}
-use Rattle.s360_journal.specs.Advances.{IsMade}
+use Rattle.s360_machine.specs.Step.{after, step}
+use Rattle.s360_journal.specs.Advances.{IsMade, LeadsOn, LedFrom}
 use Rattle.s360_journal.specs.History.{AreHistory, Entry, IsHistory, entries_of, unwound}
 use Rattle.s360_journal.specs.Rerun.{AreAccepted, rerun}
-use Rattle.s360_journal.specs.Standing.{IsAfter, Standing, alteration, machine_of, refusal_in}
-use Rattle.s360_journal.proofs.ForwardLemmas.{IsHistory-forward, or_full-None, or_full-room}
-use Rattle.s360_journal.proofs.HistoryLemmas.{AreAccepted-unwound, alteration-last, machine_of-view, rerun-unwound}
+use Rattle.s360_journal.specs.Standing.{IsAfter, Standing, alteration, machine_of}
+use Rattle.s360_journal.proofs.ForwardLemmas.{IsHistory-forward}
+use Rattle.s360_journal.proofs.HistoryLemmas.{AreAccepted-unwound, alteration-last, machine_of-view, rerun-unwound, step-Ok}
 
 pub events-of : (es : List Event) (xs : List Change) → length es ≡ length xs → map (λ (x : Entry). x.event) (entries_of es xs) ≡ es
 events-of [] xs h = refl
@@ -111,6 +111,7 @@ pub record Last (w : Whole) (es : List Event) (xs : List Change) (fs : List Even
   pub changes : xs ≡ take (length xs - 1) xs ++ x ∷ []
   pub can : CanSwap w x
   pub no_room : NeedsNoRoom x
+  pub step : step (seen (after_swap w x)) e ≡ Ok (seen w)
   pub before : AreHistory (after_swap w x) fs (take (length xs - 1) xs)
   pub start : unwound w (reverse (entries_of es xs)) ≡ unwound (after_swap w x) (reverse (entries_of fs (take (length xs - 1) xs)))
 
@@ -141,6 +142,7 @@ last-session w es xs fs e h is =
         changes = split;
         can = history.0;
         no_room = history.1;
+        step = history.2;
         before = (history.4, count);
         start = ap (λ (l : List Entry). unwound w l) newest;
       },
@@ -188,26 +190,15 @@ advanced w u v es xs ys zs e x h accepted change same is made =
       ap (λ (l : List Change). unwound v (reverse (entries_of (es ++ e ∷ []) l))) all ∙ unwound-forward w v es xs e y h.1 swap.restores_machine,
     )
 
--- a session in which an event came to stand after others
-pub record HasAdvanced (v : Whole) (es : List Event) (xs : List Change) (limit : ℕ) (s : Standing) (e : Event) : Type 0 where
-  pub history : AreHistory v es xs
-  pub few : length es ≤ limit
-  pub view : IsAfter (record { start = unwound v (reverse (entries_of es xs)); events = es; limit = limit }) s e
-
-pub session-advanced : (w u v : Whole) (es fs : List Event) (xs ys zs : List Change) (limit : ℕ) (s : Standing) (e : Event) (x : Change) → AreHistory w es xs
-    → record { start = unwound w (reverse (entries_of es xs)); events = es; limit = limit } ≡ s → refusal_in s e ≡ None
-    → IsChangeTo w x (after (seen w) e) → u ≡ w → ys ≡ xs ++ x ∷ [] → IsMade u v ys zs → fs ≡ es ++ e ∷ [] → HasAdvanced v fs zs limit s e
-session-advanced w u v es fs xs ys zs limit s e x h view none change same is made events =
-    let accepted : refusal_of (storage_size (seen w)) e ≡ None
-    = subst (λ (k : Machine). refusal_of (storage_size k) e ≡ None) (sym (machine_of-session w es xs limit s h view)) (or_full-None _ (length s.events) s.limit none)
-    in let room : length s.events < s.limit = or_full-room _ (length s.events) s.limit none
-    in let parts : AreHistory v (es ++ e ∷ []) zs × (unwound v (reverse (entries_of (es ++ e ∷ []) zs)) ≡ unwound w (reverse (entries_of es xs)))
-    = advanced w u v es xs ys zs e x h accepted change same is made
-    in rw events (record {
-      history = parts.0;
-      few = omega (arith, room, ap (λ (t : Standing). length t.events) view, ap (λ (t : Standing). t.limit) view, length-append es (e ∷ []));
-      view = ap (λ (k : Whole). record { start = k; events = es ++ e ∷ []; limit = limit }) parts.1 ∙ ap (λ (t : Standing). record t { events = t.events ++ e ∷ [] }) view;
-    })
+-- whatever events led there
+pub leads-on : (w u v : Whole) (xs ys zs : List Change) (e : Event) (x : Change) → refusal_of (storage_size (seen w)) e ≡ None → IsChangeTo w x (after (seen w) e)
+    → u ≡ w → ys ≡ xs ++ x ∷ [] → IsMade u v ys zs → LeadsOn (record { whole = w; changes = xs }) e (record { whole = v; changes = zs })
+leads-on w u v xs ys zs e x accepted change same is made =
+    let swap : IsSwapOf w x v = subst (λ (k : Whole). IsSwapOf k x v) same (rw (found-last xs ys x (length ys) is refl) at made.machine)
+    in record {
+      step = step-Ok (seen w) e accepted ∙ ap (λ m. Ok m) (sym change.makes ∙ ap (λ k. seen k) (sym swap.machine));
+      history = λ es h. let parts = advanced w u v es xs ys zs e x h accepted change same is made in record { before = h; after = parts.0; start = parts.1 };
+    }
 
 -- the last change can be exchanged with the machine, for which nothing is wanted
 pub last-can : (w : Whole) (es : List Event) (xs : List Change) → AreHistory w es xs → 0 < length xs → IfSome (slice_get xs (length xs - 1)) (λ x. CanSwap w x)
@@ -216,16 +207,18 @@ last-can w es xs h some = let last : (x : Change) × IsLastChange w xs (length x
 pub last-room : (w : Whole) (es : List Event) (xs : List Change) (spare : _) → AreHistory w es xs → 0 < length xs → IfSome (slice_get xs (length xs - 1)) (λ x. HasRoom spare x)
 last-room w es xs spare h some = let last : (x : Change) × IsLastChange w xs (length xs) x = last-change w es xs (length xs) h some refl in rw last.1.found (last.1.no_room spare)
 
--- and after the last change was taken back
-pub gone-back : (w v : Whole) (es fs : List Event) (xs zs : List Change) (e : Event) → AreHistory w es xs → es ≡ fs ++ e ∷ []
-    → IfSome (slice_get xs (length xs - 1)) (λ x. IsSwapOf w x v) → zs ≡ take (length xs - 1) xs
-    → AreHistory v fs zs × (unwound w (reverse (entries_of es xs)) ≡ unwound v (reverse (entries_of fs zs)))
-gone-back w v es fs xs zs e h is swaps kept =
-    let last : (x : Change) × Last w es xs fs e x = last-session w es xs fs e h is
+-- and it is taken back
+pub led-from : (w v : Whole) (xs zs : List Change) → IfSome (slice_get xs (length xs - 1)) (λ x. IsSwapOf w x v) → zs ≡ take (length xs - 1) xs
+    → LedFrom (record { whole = w; changes = xs }) (record { whole = v; changes = zs })
+led-from w v xs zs swaps kept = λ es e h.
+    let last : (x : Change) × Last w (es ++ e ∷ []) xs es e x = last-session w (es ++ e ∷ []) xs es e h refl
     in let us : List Change = take (length xs - 1) xs
-    in let found : slice_get xs (length xs - 1) ≡ Some last.0 = found-last us xs last.0 (length xs) last.1.changes refl
-    in let swap : IsSwapOf w last.0 v = rw found at swaps
+    in let swap : IsSwapOf w last.0 v = rw (found-last us xs last.0 (length xs) last.1.changes refl) at swaps
     in (
-      subst (λ (l : List Change). AreHistory v fs l) (sym kept) (subst (λ (k : Whole). AreHistory k fs us) (sym swap.machine) last.1.before),
-      last.1.start ∙ ap (λ (k : Whole). unwound k (reverse (entries_of fs us))) (sym swap.machine) ∙ ap (λ (l : List Change). unwound v (reverse (entries_of fs l))) (sym kept),
+      ap (λ (k : Whole). step (seen k) e) swap.machine ∙ last.1.step,
+      record {
+        before = subst (λ (l : List Change). AreHistory v es l) (sym kept) (subst (λ (k : Whole). AreHistory k es us) (sym swap.machine) last.1.before);
+        after = h;
+        start = last.1.start ∙ ap (λ (k : Whole). unwound k (reverse (entries_of es us))) (sym swap.machine) ∙ ap (λ (l : List Change). unwound v (reverse (entries_of es l))) (sym kept);
+      },
     )

@@ -1,12 +1,13 @@
--- Events in a byte each, with what some of them carry in lists apart. In all three lists the newest comes first.
+-- Events in a byte each, with what some of them carry in lists apart. In all three lists the one that is nearest to the present
+-- comes first.
 use Rattle.std.specs.Prelude.{◌≡◌, true, List, [], ◌∷◌}
 use Rattle.s360_word.specs.declared.unit.Unit.{Unit as UnitAddress}
 use Rattle.s360_machine.specs.declared.event.Event.{Event}
 use Rattle.s360_machine.specs.declared.event.Event.TheVariants.{Cpu, Channel, Tick, Key}
 use Rattle.s360_machine.specs.declared.operator.Key.TheVariants.{Load}
-use Rattle.s360_journal.specs.declared.event_stack.Tag.{Tag}
-use Rattle.s360_journal.specs.declared.event_stack.Tag.TheVariants.{Cpu as cpu, Channel as channel, Tick as tick, Load as load, Other as other}
-use Rattle.s360_journal.specs.Stacks.{stands_apart}
+use Rattle.s360_journal.specs.declared.noted.Tag.{Tag}
+use Rattle.s360_journal.specs.declared.noted.Tag.TheVariants.{Cpu as cpu, Channel as channel, Tick as tick, Load as load, Other as other}
+use Rattle.s360_journal.specs.Timelines.{stands_apart}
 
 -- the events, of which channel events and loads have their units apart, and others stand apart whole
 abbrev pub events_of : List Tag → List UnitAddress → List Event → List Event

@@ -9,10 +9,13 @@ pub mod Standing
 pub mod Advances
 pub mod Offers
 pub mod Running
-pub mod Stacks
-pub mod Tops
+pub mod Parts
+pub mod Timelines
 pub mod Events
+pub mod Noted
+pub mod Same
 pub mod History
 pub mod Indexed
 pub mod Withdrawals
+pub mod Recorded
 pub mod Calls

@@ -4,8 +4,8 @@
 ghost use Rattle.std.specs.Prelude.{◌≡◌, ◌≤◌, IfOk, OnErr};
 ghost use Rattle.s360_machine.specs.Machine.{seen};
 ghost use Rattle.s360_journal.specs.Rerun.{rerun, AreAccepted};
-ghost use Rattle.s360_journal.specs.Calls.{IsAnswer, IsRun, new_session, standing_events};
-ghost use Rattle.s360_journal.specs.Standing.{Standing as State};
+ghost use Rattle.s360_journal.specs.Calls.{IsAnswer, IsRun, new_session, state_after_all};
+ghost use Rattle.s360_journal.specs.Recorded.{Recorded as State, standing_events};
 ghost use Rattle.s360_journal.specs.declared.calls.Call.TheVariants.{Run};
 
 use crate::breaks::Breaks;
@@ -31,14 +31,22 @@ pub enum Call {
     Run(Breaks, u32),
     /// `Session::back`
     Back,
+    /// `Session::step_back`
+    StepBack,
     /// `Session::back_until`
     BackUntil(Breaks),
     /// `Session::back_to`
     BackTo(u32),
+    /// `Session::again`
+    Again,
+    /// `Session::again_to`
+    AgainTo(u32),
     /// `Session::withdraw`
     Withdraw(u32),
     /// `Session::standing`
     Standing,
+    /// `Session::recorded`
+    Recorded,
     /// `Session::last_change`
     LastChange(Place),
 }
@@ -59,12 +67,20 @@ pub enum Answer {
     },
     /// Of `Session::back`.
     TookBack(Result<Event, NothingStands>),
+    /// Of `Session::step_back`.
+    SteppedBack(Result<(), NothingStands>),
     /// Of `Session::back_until` and `Session::back_to`.
     WentBack(u32),
+    /// Of `Session::again`.
+    RanAgain(Result<bool, AllocError>),
+    /// Of `Session::again_to`.
+    WentOn(Result<u32, AllocError>),
     /// Of `Session::withdraw`.
     Withdrew(Result<(), Withdrawal>),
     /// Of `Session::standing`.
     Stands(u32),
+    /// Of `Session::recorded`.
+    AreRecorded(u32),
     /// Of `Session::last_change`.
     LastChanged(Option<u32>),
 }
@@ -89,10 +105,14 @@ impl Session {
             Call::Preview(event) => Answer::Previewed(self.preview(event)),
             Call::Run(breaks, most) => self.perform_run(&breaks, most),
             Call::Back => Answer::TookBack(self.back()),
+            Call::StepBack => Answer::SteppedBack(self.step_back()),
             Call::BackUntil(breaks) => Answer::WentBack(self.back_until(&breaks)),
             Call::BackTo(number) => Answer::WentBack(self.back_to(number)),
+            Call::Again => Answer::RanAgain(self.again()),
+            Call::AgainTo(number) => Answer::WentOn(self.again_to(number)),
             Call::Withdraw(number) => Answer::Withdrew(self.withdraw(number)),
             Call::Standing => Answer::Stands(self.standing()),
+            Call::Recorded => Answer::AreRecorded(self.recorded()),
             Call::LastChange(place) => Answer::LastChanged(self.last_change(place)),
         }
     }
@@ -131,8 +151,8 @@ pub fn run_calls(
     calls: Vec<Call>,
 ) -> Result<Outcome, AllocError>
     requires { limit ≤ 10000000 }
-    ensures machine { IfOk result (λ o. seen o.machine.whole ≡ rerun (seen start.whole) (standing_events (new_session start.whole limit) calls.items o.answers.items)) }
-    ensures accepted { IfOk result (λ o. AreAccepted (seen start.whole) (standing_events (new_session start.whole limit) calls.items o.answers.items)) }
+    ensures machine { IfOk result (λ o. seen o.machine.whole ≡ rerun (seen start.whole) (standing_events (state_after_all (new_session start.whole limit) calls.items o.answers.items))) }
+    ensures accepted { IfOk result (λ o. AreAccepted (seen start.whole) (standing_events (state_after_all (new_session start.whole limit) calls.items o.answers.items))) }
     ensures answers { IfOk result (λ o. (end : State) × IsRun (new_session start.whole limit) calls.items o.answers.items end) }
 {
     let mut session = Session::new(alloc, start, limit);

@@ -1,22 +1,25 @@
 //! The session: the machine, and the journal of the changes that stand.
-ghost use Rattle.std.specs.Prelude.{◌≡◌, ◌↔◌, ◌-◌, ◌<◌, ◌++◌, ◌∷◌, ◌≤◌, [], length, take, OnOk, OnErr, IfOk, IsTrue, Err};
-ghost use Rattle.std.specs.Prelude.{IsOkUnless, MatchOption, false, min};
+ghost use Rattle.std.specs.Prelude.{◌≡◌, ◌↔◌, ◌-◌, ◌+◌, ◌<◌, ◌++◌, ◌∷◌, ◌≤◌, [], length, take, OnOk, OnErr, IfOk, IsTrue, Err};
+ghost use Rattle.std.specs.Prelude.{IsOkUnless, MatchOption, max, min};
+ghost use Rattle.std.specs.Option.{unwrap_or};
 ghost use Rattle.s360_machine.specs.Machine.{seen, storage_size};
 ghost use Rattle.s360_machine.specs.declared.refusal.Refusal.TheVariants.{Memory};
-ghost use Rattle.s360_journal.specs.Stacks.{Fits, IsAsLarge};
+ghost use Rattle.s360_journal.specs.Recorded.{after_event, cut_to, next_recorded, session_of, standing_events, with_standing, without_last};
 ghost use Rattle.s360_journal.specs.Reports.{IsReport};
 ghost use Rattle.s360_journal.specs.Rerun.{rerun, AreAccepted, changes_of, last_change_of};
+ghost use Rattle.s360_journal.specs.Running.{next_event};
 ghost use Rattle.s360_journal.specs.Stops.{stop_of};
 ghost use Rattle.s360_journal.specs.Standing.{IsAfter, Standing, machine_of, refusal_in, alteration, last_kind_of};
+ghost use Rattle.s360_journal.specs.Timelines.{HasRoomFor, IsNoted, dropped_with};
 ghost use Rattle.s360_journal.specs.Withdrawals.{AreAllowed, is_standing};
+ghost use Rattle.s360_machine.specs.declared.event.Event.{Event as AnEvent};
 
 use crate::breaks::Breaks;
-use crate::event_stack::EventStack;
-use crate::events::Events;
-use crate::report::{Report, is_idle};
-use crate::standing::{stand, unmake_last};
-use s360_index::Index;
-use s360_machine::{Changes, Event, EventKind, Machine, Packed, Refusal};
+use crate::journal::Journal;
+use crate::report::Report;
+use crate::running::next_event;
+use crate::timeline::Timeline;
+use s360_machine::{Event, EventKind, Machine, Refusal};
 use s360_store::Place;
 use std::alloc::{AllocError, Global};
 use std::marker::Model;
@@ -27,50 +30,45 @@ use thiserror::Error;
 #[error("nothing stands")]
 pub struct NothingStands;
 
-/// A machine with the changes that stand, each of which can be taken back. A contract sees its start,
-/// its standing events and its limit. The start is not stored: it is what taking back all standing
-/// changes would give.
+/// A machine with the changes that stand, each of which can be taken back, and the events that were recorded: those that stand,
+/// and those that were taken back and come next. A contract sees its start, the recorded events, how many first ones of them
+/// stand, and its limit. The start is not stored: it is what taking back all standing changes would give.
 #[derive(Drop)]
 pub struct Session {
-    machine: Machine,
-    /// The events that stand.
-    events: Events,
-    /// What each of them altered.
-    changes: Packed,
-    /// For each place the numbers of the changes that altered it, counted from 1.
-    index: Index,
-    /// What the next event alters, until it stands. It is kept so that its memory is taken once.
-    next: Changes,
+    /// The machine, and the changes that stand.
+    journal: Journal,
+    /// The events that were recorded.
+    timeline: Timeline,
+    /// So many recorded events were dropped, when some were dropped last.
+    dropped: u32,
     limit: u32,
     alloc: Global,
 }
 
 impl Model for Session {
-    ghost use Rattle.std.specs.Prelude.{◌≤◌, length, reverse};
-    ghost use Rattle.s360_journal.specs.Standing.{Standing};
-    ghost use Rattle.s360_journal.specs.History.{AreHistory, entries_of, unwound};
-    ghost use Rattle.s360_journal.specs.Indexed.{IsIndexOf};
+    ghost use Rattle.std.specs.Prelude.{◌≤◌, ◌+◌, ◌++◌, length};
+    ghost use Rattle.s360_machine.specs.Machine.{seen};
+    ghost use Rattle.s360_journal.specs.Advances.{AreLed, start_of};
+    ghost use Rattle.s360_journal.specs.Recorded.{Recorded};
+    ghost use Rattle.s360_journal.specs.Rerun.{AreAccepted};
 
-    ghost Value = { Standing };
+    ghost Value = { Recorded };
 
-    ghost view = { λ s. record { start = unwound s.machine.whole (reverse (entries_of s.events s.changes)); events = s.events; limit = s.limit } };
+    ghost view = { λ s. record { start = start_of s.journal.whole s.timeline.standing s.journal.changes; events = s.timeline.standing ++ s.timeline.rest; standing = length s.timeline.standing; limit = s.limit; dropped = s.dropped } };
 
-    ghost invariant = { λ s. AreHistory s.machine.whole s.events s.changes × IsIndexOf s.index s.changes × (length s.events ≤ s.limit) × (s.limit ≤ 10000000) };
+    ghost invariant = { λ s. AreLed s.timeline.standing s.journal × AreAccepted (seen s.journal.whole) s.timeline.rest × (length s.timeline.standing + length s.timeline.rest ≤ s.limit) × (s.limit ≤ 10000000) };
 }
 
 impl Session {
-    /// A session that starts at the machine, where at most `limit` changes may stand. It takes no
-    /// memory.
+    /// A session that starts at the machine, where at most `limit` events may be recorded. It takes no memory.
     pub fn new(alloc: Global, machine: Machine, limit: u32) -> Session
         requires { limit ≤ 10000000 }
-        ensures { result ≡ record { start = machine.whole; events = []; limit = limit } }
+        ensures { result ≡ record { start = machine.whole; events = []; standing = 0; limit = limit; dropped = 0 } }
     {
         Session {
-            machine,
-            events: Events::new(alloc),
-            changes: Packed::new(alloc),
-            index: Index::new(alloc),
-            next: Changes::new(alloc),
+            journal: Journal::new(alloc, machine),
+            timeline: Timeline::new(alloc),
+            dropped: 0,
             limit,
             alloc,
         }
@@ -80,16 +78,12 @@ impl Session {
     pub(crate) fn copy(&self) -> Result<Session, AllocError>
         ensures { IfOk result (λ session. session ≡ self.now) }
     {
-        let events = self.events.copy()?;
-        let changes = self.changes.copy()?;
-        let index = self.index.copy()?;
-        let machine = self.machine.copy()?;
+        let timeline = self.timeline.copy()?;
+        let journal = self.journal.copy(self.alloc)?;
         Ok(Session {
-            machine,
-            events,
-            changes,
-            index,
-            next: Changes::new(self.alloc),
+            journal,
+            timeline,
+            dropped: self.dropped,
             limit: self.limit,
             alloc: self.alloc,
         })
@@ -100,95 +94,101 @@ impl Session {
         self.alloc
     }
 
-    /// The machine: the start with the standing events run again, none of which is refused, or alters the size of storage or
-    /// whether fetches are protected.
+    /// The machine: the start with the standing events run again. None of the recorded events is refused from the start on, or
+    /// alters the size of storage or whether fetches are protected.
     pub fn machine(&self) -> &Machine
-        ensures rerun { seen result.now.whole ≡ rerun (seen self.now.start) self.now.events }
+        ensures rerun { seen result.now.whole ≡ rerun (seen self.now.start) (standing_events self.now) }
         ensures accepted { AreAccepted (seen self.now.start) self.now.events }
-        ensures size { storage_size (machine_of self.now) ≡ storage_size (seen self.now.start) }
-        ensures profile { (machine_of self.now).core.storage.fetch_protection ≡ self.now.start.core.storage.fetch_protection }
+        ensures few { length self.now.events ≤ self.now.limit }
+        ensures size { storage_size (machine_of (session_of self.now)) ≡ storage_size (seen self.now.start) }
+        ensures profile { (machine_of (session_of self.now)).core.storage.fetch_protection ≡ self.now.start.core.storage.fetch_protection }
     {
-        &self.machine
+        self.journal.machine()
     }
 
     /// The machine alone: the start with the standing events run again, none of which is refused.
     pub fn into_machine(self) -> Machine
-        ensures rerun { seen result.whole ≡ rerun (seen self.start) self.events }
-        ensures accepted { AreAccepted (seen self.start) self.events }
+        ensures rerun { seen result.whole ≡ rerun (seen self.start) (standing_events self) }
+        ensures accepted { AreAccepted (seen self.start) (standing_events self) }
     {
-        let Session { machine, .. } = self;
-        machine
+        let Session { journal, .. } = self;
+        journal.into_machine()
     }
 
     /// The number of changes that stand.
     pub fn standing(&self) -> u32
+        ensures standing { result ≡ self.now.standing }
+        ensures events { result ≡ length (standing_events self.now) }
+        ensures within { result ≤ length self.now.events }
+    {
+        self.journal.len()
+    }
+
+    /// The number of events that are recorded.
+    pub fn recorded(&self) -> u32
         ensures { result ≡ length self.now.events }
     {
-        self.changes.len()
+        self.timeline.len() as u32
+    }
+
+    /// How many recorded events were dropped, when some were dropped last.
+    pub fn dropped(&self) -> u32
+        ensures { result ≡ self.now.dropped }
+    {
+        self.dropped
+    }
+
+    /// From now on none was dropped.
+    pub fn forget_dropped(&mut self)
+        ensures { self.new ≡ record self.old { dropped = 0 } }
+    {
+        self.dropped = 0;
     }
 
     /// Whether a change of this number stands, counted from 1.
     pub(crate) fn stands(&self, number: u32) -> bool
-        ensures stands { result ≡ is_standing number self.now.events }
+        ensures stands { result ≡ is_standing number (standing_events self.now) }
+        ensures recorded { self.now.standing ≤ length self.now.events }
         ensures few { length self.now.events ≤ self.now.limit }
-        ensures allowed { AreAllowed (storage_size (seen self.now.start)) self.now.events }
+        ensures allowed { AreAllowed (storage_size (seen self.now.start)) (standing_events self.now) }
     {
-        0 < number && number <= self.changes.len()
+        0 < number && number <= self.journal.len()
     }
 
     /// What the last event is that stands, if one does: the one that `back` would answer.
     pub fn last_event(&self) -> Option<EventKind>
-        ensures { result ≡ last_kind_of self.now.events }
+        ensures { result ≡ last_kind_of (standing_events self.now) }
     {
-        self.events.last_kind()
-    }
-
-    /// Takes memory in a stack for the events that stand and for one more, beside those that are in it. Want of memory
-    /// leaves its events as they were.
-    #[inline(always)]
-    pub fn reserve_in(&self, stack: &mut EventStack, event: &Event) -> Result<(), AllocError>
-        requires { Fits (stack.old.events ++ self.now.events) stack.old.room }
-        ensures events { stack.new.events ≡ stack.old.events }
-        ensures ok { OnOk result (Fits (stack.old.events ++ (self.now.events ++ event.now ∷ [])) stack.new.room) }
-        ensures kept { IsAsLarge stack.old.room stack.new.room }
-    {
-        self.events.reserve_in(stack, event)
-    }
-
-    /// What the last change that stands altered.
-    fn last_report(&self) -> Result<Report, AllocError>
-        ensures { IfOk result (λ r. (s : Standing) (e : Event) → IsAfter self.now s e → IsReport r (alteration s e)) }
-    {
-        Report::of_last(self.alloc, &self.changes)
+        self.timeline.last_kind()
     }
 
     /// Whether the last change that stands altered nothing, or none stands.
     pub fn is_idle(&self) -> bool
-        ensures last { (s : Standing) (e : Event) → IsAfter self.now s e → (IsTrue result ↔ (alteration s e ≡ [])) }
-        ensures nothing { self.now.events ≡ [] → IsTrue result }
+        ensures last { (s : Standing) (e : AnEvent) → IsAfter (session_of self.now) s e → (IsTrue result ↔ (alteration s e ≡ [])) }
+        ensures nothing { standing_events self.now ≡ [] → IsTrue result }
     {
-        is_idle(&self.changes)
+        self.journal.is_idle()
     }
 
-    /// The number of the last change that altered a place, counted from 1. It takes no memory.
+    /// The number of the last standing change that altered a place, counted from 1. It takes no memory.
     pub fn last_change(&self, place: Place) -> Option<u32>
-        ensures { result ≡ last_change_of (seen self.now.start) self.now.events place }
+        ensures { result ≡ last_change_of (seen self.now.start) (standing_events self.now) place }
     {
         self.changes_of(place).last().copied()
     }
 
-    /// The numbers of all changes that altered a place, counted from 1, ascending; none of a place that the machine lacks.
-    /// It takes no memory.
+    /// The numbers of all standing changes that altered a place, counted from 1, ascending; none of a place that the machine
+    /// lacks. It takes no memory.
     pub fn changes_of(&self, place: Place) -> &[u32]
-        ensures { result.now ≡ changes_of (seen self.now.start) self.now.events place }
+        ensures { result.now ≡ changes_of (seen self.now.start) (standing_events self.now) place }
     {
-        self.index.numbers(place)
+        self.journal.numbers(place)
     }
 
     /// Why an event is refused, but for want of memory. It takes no memory.
     #[inline(always)]
     pub fn refusal(&self, event: &Event) -> Option<Refusal>
-        ensures { result ≡ refusal_in self.now event.now }
+        ensures { result ≡ refusal_in (session_of self.now) event.now }
     {
         if let Some(refusal) = self.machine().refusal(event) {
             return Some(refusal);
@@ -200,13 +200,24 @@ impl Session {
         }
     }
 
-    /// Runs an event, which then stands, also where it alters nothing, and reports nothing of it. A refused one changes
-    /// nothing.
+    /// The event that comes next in the record, for a copy of which memory may be taken; at its end the one whose turn it is.
+    pub fn next_event(&self) -> Result<Event, AllocError>
+        ensures { IfOk result (λ event. event ≡ unwrap_or (next_recorded self.now) (next_event (machine_of (session_of self.now)))) }
+    {
+        match self.timeline.next()? {
+            Some(event) => Ok(event),
+            None => Ok(next_event(self.machine())),
+        }
+    }
+
+    /// Runs an event, which then stands, also where it alters nothing, and reports nothing of it: the next of the record, or
+    /// else its last from now on. A refused one changes nothing.
     pub fn advance(&mut self, event: Event) -> Result<(), Refusal>
-        ensures ok { OnOk result (IsAfter self.new self.old event) }
+        ensures ok { OnOk result (self.new ≡ after_event self.old event) }
+        ensures stands { OnOk result (IsAfter (session_of self.new) (session_of self.old) event) }
         ensures err { OnErr result (self.new ≡ self.old) }
-        ensures refused { MatchOption (refusal_in self.old event) (IsOkUnless result Memory) (λ r. result ≡ Err r) }
-        ensures size { storage_size (machine_of self.old) ≡ storage_size (seen self.old.start) }
+        ensures refused { MatchOption (refusal_in (session_of self.old) event) (IsOkUnless result Memory) (λ r. result ≡ Err r) }
+        ensures size { storage_size (machine_of (session_of self.old)) ≡ storage_size (seen self.old.start) }
     {
         match event {
             // So the compiler has the most frequent event for itself.
@@ -218,110 +229,192 @@ impl Session {
     /// Runs an event as `advance` does.
     #[inline(always)]
     fn offer(&mut self, event: Event) -> Result<(), Refusal>
-        ensures ok { OnOk result (IsAfter self.new self.old event) }
+        ensures ok { OnOk result (self.new ≡ after_event self.old event) }
+        ensures stands { OnOk result (IsAfter (session_of self.new) (session_of self.old) event) }
         ensures err { OnErr result (self.new ≡ self.old) }
-        ensures refused { MatchOption (refusal_in self.old event) (IsOkUnless result Memory) (λ r. result ≡ Err r) }
-        ensures size { storage_size (machine_of self.old) ≡ storage_size (seen self.old.start) }
+        ensures refused { MatchOption (refusal_in (session_of self.old) event) (IsOkUnless result Memory) (λ r. result ≡ Err r) }
+        ensures size { storage_size (machine_of (session_of self.old)) ≡ storage_size (seen self.old.start) }
     {
         if let Some(refusal) = self.refusal(&event) {
             return Err(refusal);
         }
-        self.changes
-            .append_event(&mut self.machine, &event, &mut self.next)?;
-        stand(
-            &mut self.machine,
-            &mut self.events,
-            &mut self.changes,
-            &mut self.index,
-            event,
-        )?;
+        self.timeline.reserve(&event)?;
+        self.journal.make(&event)?;
+        note(&mut self.timeline, &mut self.dropped, event);
         Ok(())
     }
 
-    /// Runs an event, which then stands, also where it alters nothing. A refused one changes nothing.
+    /// Runs an event, which then stands, also where it alters nothing: the next of the record, or else its last from now on. A
+    /// refused one changes nothing.
     pub fn forward(&mut self, event: Event) -> Result<Report, Refusal>
-        ensures ok { OnOk result (self.new ≡ record self.old { events = self.old.events ++ event ∷ [] }) }
-        ensures report { IfOk result (λ r. IsReport r (alteration self.old event)) }
+        ensures ok { OnOk result (self.new ≡ after_event self.old event) }
+        ensures stands { OnOk result (session_of self.new ≡ record (session_of self.old) { events = standing_events self.old ++ event ∷ [] }) }
+        ensures report { IfOk result (λ r. IsReport r (alteration (session_of self.old) event)) }
         ensures err { OnErr result (self.new ≡ self.old) }
-        ensures refused { MatchOption (refusal_in self.old event) (IsOkUnless result Memory) (λ r. result ≡ Err r) }
+        ensures refused { MatchOption (refusal_in (session_of self.old) event) (IsOkUnless result Memory) (λ r. result ≡ Err r) }
     {
-        self.advance(event)?;
-        let report = self.last_report();
-        if report.is_err() {
-            // The event is taken back, for which no memory is wanted.
-            let _taken = self.take_back();
+        if let Some(refusal) = self.refusal(&event) {
+            return Err(refusal);
         }
-        Ok(report?)
-    }
-
-    /// Takes back the last change that stands. It takes no memory.
-    pub fn back(&mut self) -> Result<Event, NothingStands>
-        ensures ok { IfOk result (λ event. self.old ≡ record self.new { events = self.new.events ++ event ∷ [] }) }
-        ensures err { OnErr result (self.new ≡ self.old) }
-        ensures nothing { OnErr result (self.old.events ≡ []) }
-    {
-        if self.changes.len() == 0 {
-            return Err(NothingStands);
-        }
-        unmake_last(&mut self.machine, &mut self.changes, &mut self.index);
-        // It is taken last, so that it need not be held meanwhile.
-        match self.events.pop() {
-            Some(event) => Ok(event),
-            None => unreachable!(),
-        }
-    }
-
-    /// Takes back the last change that stands, if one does, and answers whether one did. It takes no memory.
-    #[inline(always)]
-    fn take_back(&mut self) -> bool
-        ensures some { IsTrue result → 0 < length self.old.events }
-        ensures nothing { result ≡ false → self.old.events ≡ [] }
-        ensures kept { self.new ≡ record self.old { events = take (length self.old.events - 1) self.old.events } }
-    {
-        if self.changes.len() == 0 {
-            return false;
-        }
-        unmake_last(&mut self.machine, &mut self.changes, &mut self.index);
-        self.events.drop_last();
-        true
-    }
-
-    /// Goes back to a change: takes back all changes after the one of this number, or none if no more stand. It answers how
-    /// many stand then. It takes no memory.
-    pub fn back_to(&mut self, number: u32) -> u32
-        ensures stand { result ≡ min number (length self.old.events) }
-        ensures kept { self.new ≡ record self.old { events = take result self.old.events } }
-    {
-        while self.standing() > number {
-            let _ = self.take_back();
-        }
-        self.standing()
-    }
-
-    /// Goes back to the last stop: to the greatest number of changes, below that which stand, after
-    /// which the CPU operates at a breakpoint, else to 0. It answers that number. It takes no
-    /// memory.
-    pub fn back_until(&mut self, breaks: &Breaks) -> u32
-        ensures stop { result ≡ stop_of (seen self.old.start) self.old.events breaks.now }
-        ensures kept { self.new ≡ record self.old { events = take result self.old.events } }
-    {
-        while self.take_back() {
-            if breaks.stops(self.machine()) {
-                return self.standing();
-            }
-        }
-        0
+        self.timeline.reserve(&event)?;
+        let report = self.journal.make_reported(self.alloc, &event)?;
+        note(&mut self.timeline, &mut self.dropped, event);
+        Ok(report)
     }
 
     /// What an event would report, or why it is refused: it is run and taken back, which restores the
     /// session exactly.
     pub fn preview(&mut self, event: Event) -> Result<Report, Refusal>
         ensures same { self.new ≡ self.old }
-        ensures report { IfOk result (λ r. IsReport r (alteration self.old event)) }
-        ensures refused { MatchOption (refusal_in self.old event) (IsOkUnless result Memory) (λ r. result ≡ Err r) }
+        ensures report { IfOk result (λ r. IsReport r (alteration (session_of self.old) event)) }
+        ensures refused { MatchOption (refusal_in (session_of self.old) event) (IsOkUnless result Memory) (λ r. result ≡ Err r) }
     {
-        let report = self.forward(event)?;
-        let _previewed = self.take_back();
+        if let Some(refusal) = self.refusal(&event) {
+            return Err(refusal);
+        }
+        let report = self.journal.make_reported(self.alloc, &event)?;
+        self.journal.unmake();
         Ok(report)
     }
+
+    /// Drops what does not stand.
+    pub(crate) fn cut(&mut self)
+        ensures { self.new ≡ cut_to self.old (standing_events self.old) self.old.standing }
+    {
+        self.dropped = dropped_with(&self.timeline, self.dropped);
+        self.timeline.cut();
+    }
+
+    /// Takes the last change that stands back, and its event out of the record, of which the rest is dropped. It takes no
+    /// memory.
+    pub fn back(&mut self) -> Result<Event, NothingStands>
+        ensures ok { IfOk result (λ event. session_of self.old ≡ record (session_of self.new) { events = standing_events self.new ++ event ∷ [] }) }
+        ensures recorded { OnOk result (self.new ≡ without_last self.old) }
+        ensures err { OnErr result (self.new ≡ self.old) }
+        ensures nothing { OnErr result (standing_events self.old ≡ []) }
+    {
+        if self.journal.len() == 0 {
+            return Err(NothingStands);
+        }
+        self.journal.unmake();
+        self.dropped = dropped_with(&self.timeline, self.dropped);
+        match self.timeline.take_last() {
+            Some(event) => Ok(event),
+            None => unreachable!(),
+        }
+    }
+
+    /// Takes the last change that stands back. Its event stays in the record, and comes next. It takes no memory.
+    pub fn step_back(&mut self) -> Result<(), NothingStands>
+        ensures ok { OnOk result (self.new ≡ with_standing self.old (self.old.standing - 1)) }
+        ensures stands { OnOk result (session_of self.new ≡ record (session_of self.old) { events = take (length (standing_events self.old) - 1) (standing_events self.old) }) }
+        ensures some { OnOk result (0 < self.old.standing) }
+        ensures err { OnErr result (self.new ≡ self.old) }
+        ensures nothing { OnErr result (self.old.standing ≡ 0) }
+    {
+        if self.journal.len() == 0 {
+            return Err(NothingStands);
+        }
+        self.journal.unmake();
+        self.timeline.back();
+        Ok(())
+    }
+
+    /// Goes back to a change: takes back all changes after the one of this number, or none if no more stand. Their events stay in
+    /// the record. It answers how many stand then. It takes no memory.
+    pub fn back_to(&mut self, number: u32) -> u32
+        ensures stand { result ≡ min number self.old.standing }
+        ensures kept { self.new ≡ with_standing self.old result }
+    {
+        while self.standing() > number {
+            let _taken = self.step_back();
+        }
+        self.standing()
+    }
+
+    /// Goes back to the last stop: to the greatest number of changes, below that which stand, after
+    /// which the CPU operates at a breakpoint, else to 0. Their events stay in the record. It answers that number. It takes no
+    /// memory.
+    pub fn back_until(&mut self, breaks: &Breaks) -> u32
+        ensures stop { result ≡ stop_of (seen self.old.start) (standing_events self.old) breaks.now }
+        ensures kept { self.new ≡ with_standing self.old result }
+        ensures stands { session_of self.new ≡ record (session_of self.old) { events = take result (standing_events self.old) } }
+        ensures within { result ≤ self.old.standing }
+    {
+        let mut standing = self.standing();
+        while standing > 0 {
+            let _taken = self.step_back();
+            standing -= 1;
+            if breaks.stops(self.machine()) {
+                return standing;
+            }
+        }
+        0
+    }
+
+    /// Runs the next event of the record again, and answers whether there was one. Want of memory changes nothing.
+    pub fn again(&mut self) -> Result<bool, AllocError>
+        ensures some { IfOk result (λ ran. IsTrue ran ↔ (self.old.standing < length self.old.events)) }
+        ensures state { OnOk result (self.new ≡ with_standing self.old (min (self.old.standing + 1) (length self.old.events))) }
+        ensures err { OnErr result (self.new ≡ self.old) }
+    {
+        let Some(event) = self.timeline.next()? else {
+            return Ok(false);
+        };
+        self.journal.make(&event)?;
+        self.timeline.on();
+        Ok(true)
+    }
+
+    /// Goes on to a change: runs the recorded events again up to the one of this number, or all if no more are recorded, or
+    /// none if as many stand. It answers how many stand then. Want of memory changes nothing.
+    pub fn again_to(&mut self, number: u32) -> Result<u32, AllocError>
+        ensures stand { IfOk result (λ n. n ≡ max self.old.standing (min number (length self.old.events))) }
+        ensures state { IfOk result (λ n. self.new ≡ with_standing self.old n) }
+        ensures err { OnErr result (self.new ≡ self.old) }
+    {
+        let before = self.standing();
+        for _at in before..number {
+            match self.again() {
+                Ok(true) => {}
+                Ok(false) => return Ok(self.standing()),
+                Err(fault) => {
+                    let _stand = self.back_to(before);
+                    return Err(fault);
+                }
+            }
+        }
+        Ok(self.standing())
+    }
+}
+
+/// How many recorded events were dropped last, where the rest of a record is dropped now.
+#[inline(always)]
+fn dropped_with(timeline: &Timeline, before: u32) -> u32
+    requires { length timeline.now.standing + length timeline.now.rest ≤ 10000000 }
+    ensures { result ≡ dropped_with timeline.now.rest before }
+{
+    match timeline.rest_len() {
+        0 => before,
+        count => count as u32,
+    }
+}
+
+/// Records an event that stands from now on, for which there is memory: it is the next of the record, or else its last from
+/// now on.
+#[inline(always)]
+fn note(timeline: &mut Timeline, dropped: &mut u32, event: Event)
+    requires room { HasRoomFor event timeline.old.spare }
+    requires few { length timeline.old.standing + length timeline.old.rest ≤ 10000000 }
+    ensures { IsNoted event timeline.old dropped.old timeline.new dropped.new }
+{
+    if timeline.rest_len() > 0 {
+        if timeline.is_next(&event) {
+            timeline.on();
+            return;
+        }
+        *dropped = dropped_with(timeline, *dropped);
+        timeline.cut();
+    }
+    timeline.push(event);
 }

@@ -1,15 +1,16 @@
 //! A change that is withdrawn from among those that stand. The later ones are run again without it.
-ghost use Rattle.std.specs.Prelude.{◌≡◌, ◌<◌, ◌≤◌, ◌+◌, true, length, reverse, Err, IfOk, IsOkUnless, OnErr, OnOk};
+ghost use Rattle.std.specs.Prelude.{◌≡◌, ◌<◌, ◌≤◌, ◌+◌, None, true, length, reverse, Err, IfOk, IsOkUnless, OnErr, OnOk};
 ghost use Rattle.std.specs.Bool.{MatchBool};
 ghost use Rattle.s360_machine.specs.Machine.{seen, storage_size};
 ghost use Rattle.s360_machine.specs.Refusals.{refusal_of};
 ghost use Rattle.s360_journal.specs.Offers.{with_events};
+ghost use Rattle.s360_journal.specs.Recorded.{IsAlone, StaysAlone, session_of, standing_events, without_change};
 ghost use Rattle.s360_journal.specs.Standing.{IsAfter};
 ghost use Rattle.s360_journal.specs.Withdrawals.{AreAllowed, is_standing, without_event};
 ghost use Rattle.s360_journal.specs.declared.withdrawing.Withdrawal.TheVariants.{Memory, NoSuchChange};
 
-use crate::events::Events;
 use crate::session::Session;
+use crate::timeline::Timeline;
 use s360_machine::{Event, Refusal};
 use std::alloc::AllocError;
 use thiserror::Error;
@@ -35,15 +36,18 @@ impl From<AllocError> for Withdrawal {
 
 impl Session {
     /// Takes back all changes after the one of a number, and answers their events, the last of them first.
-    fn take_back_to(&mut self, number: u32) -> Result<Events, AllocError>
-        requires stands { number ≤ length self.old.events }
-        ensures ok { IfOk result (λ later. self.old ≡ with_events self.new (reverse later)) }
-        ensures kept { OnOk result (length self.new.events ≡ number) }
+    fn take_back_to(&mut self, number: u32) -> Result<Timeline, AllocError>
+        requires alone { IsAlone self.old }
+        requires stands { number ≤ self.old.standing }
+        ensures ok { IfOk result (λ later. session_of self.old ≡ with_events (session_of self.new) (reverse later.standing)) }
+        ensures kept { OnOk result (self.new.standing ≡ number) }
+        ensures alone { StaysAlone self.old self.new }
     {
-        let mut later = Events::new(self.allocator());
+        let mut later = Timeline::new(self.allocator());
         while self.standing() > number {
             if let Ok(event) = self.back() {
-                later.push(event)?;
+                later.reserve(&event)?;
+                later.push(event);
             }
         }
         Ok(later)
@@ -51,9 +55,11 @@ impl Session {
 
     /// Runs an event again that storage of the start's size does not refuse.
     fn run_again(&mut self, event: Event) -> Result<(), AllocError>
+        requires alone { IsAlone self.old }
         requires allowed { refusal_of (storage_size (seen self.old.start)) event ≡ None }
-        requires room { length self.old.events < self.old.limit }
-        ensures { OnOk result (IsAfter self.new self.old event) }
+        requires room { self.old.standing < self.old.limit }
+        ensures stands { OnOk result (IsAfter (session_of self.new) (session_of self.old) event) }
+        ensures alone { StaysAlone self.old self.new }
     {
         match self.advance(event) {
             Ok(()) => Ok(()),
@@ -63,12 +69,14 @@ impl Session {
     }
 
     /// Runs events again, which are given with the last of them first.
-    fn run_all_again(&mut self, mut later: Events) -> Result<(), AllocError>
-        requires allowed { AreAllowed (storage_size (seen self.old.start)) later }
-        requires room { length self.old.events + length later ≤ self.old.limit }
-        ensures { OnOk result (self.new ≡ with_events self.old (reverse later)) }
+    fn run_all_again(&mut self, mut later: Timeline) -> Result<(), AllocError>
+        requires alone { IsAlone self.old }
+        requires allowed { AreAllowed (storage_size (seen self.old.start)) later.standing }
+        requires room { self.old.standing + length later.standing ≤ self.old.limit }
+        ensures stands { OnOk result (session_of self.new ≡ with_events (session_of self.old) (reverse later.standing)) }
+        ensures alone { StaysAlone self.old self.new }
     {
-        while let Some(event) = later.pop() {
+        while let Some(event) = later.take_last() {
             self.run_again(event)?;
         }
         Ok(())
@@ -76,12 +84,13 @@ impl Session {
 
     /// Takes a change and the later ones back, and runs the events of these again.
     fn leave_out(&mut self, number: u32) -> Result<(), AllocError>
-        requires stands { 0 < number }
-        requires inside { number ≤ length self.old.events }
+        requires stands { is_standing number (standing_events self.old) ≡ true }
+        requires recorded { self.old.standing ≤ length self.old.events }
         requires few { length self.old.events ≤ self.old.limit }
-        requires allowed { AreAllowed (storage_size (seen self.old.start)) self.old.events }
-        ensures { OnOk result (self.new ≡ record self.old { events = without_event number self.old.events }) }
+        requires allowed { AreAllowed (storage_size (seen self.old.start)) (standing_events self.old) }
+        ensures { OnOk result (self.new ≡ without_change self.old number) }
     {
+        self.cut();
         let later = self.take_back_to(number)?;
         let _withdrawn = self.back();
         self.run_all_again(later)
@@ -89,22 +98,24 @@ impl Session {
 
     /// The session in which all changes stand but one.
     fn without(&self, number: u32) -> Result<Session, AllocError>
-        requires stands { is_standing number self.now.events ≡ true }
+        requires stands { is_standing number (standing_events self.now) ≡ true }
+        requires recorded { self.now.standing ≤ length self.now.events }
         requires few { length self.now.events ≤ self.now.limit }
-        requires allowed { AreAllowed (storage_size (seen self.now.start)) self.now.events }
-        ensures { IfOk result (λ session. session ≡ record self.now { events = without_event number self.now.events }) }
+        requires allowed { AreAllowed (storage_size (seen self.now.start)) (standing_events self.now) }
+        ensures { IfOk result (λ session. session ≡ without_change self.now number) }
     {
         let mut other = self.copy()?;
         other.leave_out(number)?;
         Ok(other)
     }
 
-    /// Withdraws a change, counted from 1: the session is as if its event had never been. Each later change has a number
-    /// that is lower by one. Want of memory changes nothing.
+    /// Withdraws a change, counted from 1: the session is as if its event had never been, and what does not stand is dropped
+    /// from the record. Each later change has a number that is lower by one. Want of memory changes nothing.
     pub fn withdraw(&mut self, number: u32) -> Result<(), Withdrawal>
-        ensures ok { OnOk result (self.new ≡ record self.old { events = without_event number self.old.events }) }
+        ensures ok { OnOk result (self.new ≡ without_change self.old number) }
+        ensures stands { OnOk result (session_of self.new ≡ record (session_of self.old) { events = without_event number (standing_events self.old) }) }
         ensures err { OnErr result (self.new ≡ self.old) }
-        ensures refused { MatchBool (is_standing number self.old.events) (IsOkUnless result Memory) (result ≡ Err NoSuchChange) }
+        ensures refused { MatchBool (is_standing number (standing_events self.old)) (IsOkUnless result Memory) (result ≡ Err NoSuchChange) }
     {
         if !self.stands(number) {
             return Err(Withdrawal::NoSuchChange);

@@ -12,9 +12,9 @@ use Rattle.s360_journal.specs.Rerun.{AreAccepted}
 use Rattle.s360_journal.specs.Running.{next_event}
 use Rattle.s360_journal.specs.Standing.{machine_of, refusal_in}
 use Rattle.s360_journal.proofs.HistoryLemmas.{IsStep, IsStep-from}
-use Rattle.s360_record.specs.Recorded.{Recorded, next_recorded, session_of, standing_events, with_standing}
-use Rattle.s360_record.proofs.RecordLemmas.{AreAccepted-next}
-use Rattle.s360_remote.specs.Forward.{TurnRunsAgain, after_event_of, after_turn, event_of_turn, state_of_turn, unless_refused}
+use Rattle.s360_journal.specs.Recorded.{Recorded, after_event, next_recorded, session_of, standing_events, with_standing}
+use Rattle.s360_journal.proofs.RecordedLemmas.{AreAccepted-next, after_next}
+use Rattle.s360_remote.specs.Forward.{TurnRunsAgain, after_turn, event_of_turn, state_of_turn, unless_refused}
 
 -- an event that stands between those before it and those after it
 pub record IsThere (es : List Event) (n : ℕ) : Type 0 where
@@ -44,7 +44,7 @@ unfolding state_of_turn
 run-again r e next none =
     let event : event_of_turn r ≡ e = ap (λ o. unwrap_or o (next_event (machine_of (session_of r)))) next
     in ap (λ x. unless_refused (refusal_in (session_of r) x) r (after_turn r)) event ∙ ap (λ o. unless_refused o r (after_turn r)) none
-    ∙ ap (λ o. after_event_of o r) next
+    ∙ ap (λ x. after_event r x) event ∙ after_next r e next
 
 pub TurnRunsAgain-holds : TurnRunsAgain
 TurnRunsAgain-holds r accepted few some within =

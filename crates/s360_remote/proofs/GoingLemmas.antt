@@ -1,6 +1,6 @@
 -- Moves follow one another until the machine pauses.
 use Rattle.std.proofs.Common.{◌≡◌, ◌≢◌, ◌<◌, ◌+◌, ◌-◌, ◌∙◌, ℕ, suc, Bool, true, false, nat_eq, List, Option, Some, None, refl, ap, sym, arith, eq-eqb, ne_eqb}
-use Rattle.s360_record.specs.Recorded.{Recorded}
+use Rattle.s360_journal.specs.Recorded.{Recorded}
 use Rattle.s360_remote.specs.Backward.{is_reached_back, pause_of_back}
 use Rattle.s360_remote.specs.Driven.{Driven}
 use Rattle.s360_remote.specs.Forward.{Paused, is_at_rest, moved_by, pause_of_turn, pause_with, paused_by, resumed, state_of_turn}

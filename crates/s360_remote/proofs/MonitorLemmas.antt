@@ -9,7 +9,7 @@ use Rattle.s360_debug.specs.Debugger.{Debugger}
 use Rattle.s360_language.specs.Reading.{reading_of}
 use Rattle.s360_debug.specs.Lines.{is_skipped}
 use Rattle.s360_debug.specs.Script.{StandsAfterReading, answer_to_line, answer_to_reading, state_after_line, state_after_reading}
-use Rattle.s360_remote.specs.Driven.{Driven}
+use Rattle.s360_remote.specs.Driven.{Driven, fresh}
 use Rattle.s360_inquiry.specs.Reading.{Asked}
 use Rattle.s360_remote.specs.Monitor.{IsAnswered, IsBegun, IsCarriedOut, IsLineBegun, debugger_of, dropped_text}
 
@@ -56,9 +56,9 @@ state-skipped : (d : Debugger) (line : List ℕ) → is_skipped line ≡ true �
 unfolding state_after_line
 state-skipped d line h = rw h refl
 
-pub carried-skipped : (line : List ℕ) (d t : Driven) → is_skipped line ≡ true → line ≢ codes "help" → t ≡ record d { dropped = 0 } → IsCarriedOut line d t []
+pub carried-skipped : (line : List ℕ) (d t : Driven) → is_skipped line ≡ true → line ≢ codes "help" → t ≡ fresh d → IsCarriedOut line d t []
 carried-skipped line d t h other is = record {
-  text = λ _. ap (λ n. dropped_text n) (sym (ap (λ (x : Driven). x.dropped) is)) ∙ ap (λ l. l ++ dropped_text t.dropped) (sym (answer-skipped (debugger_of d) line h));
+  text = λ _. ap (λ n. dropped_text n) (sym (ap (λ (x : Driven). x.recorded.dropped) is)) ∙ ap (λ l. l ++ dropped_text t.recorded.dropped) (sym (answer-skipped (debugger_of d) line h));
   state = λ _. ap (λ x. debugger_of x) is ∙ sym (state-skipped (debugger_of d) line h);
   points = ap (λ (x : Driven). x.points) is;
   stood = ap (λ (x : Driven). x.stood) is;

@@ -2,7 +2,7 @@
 use Rattle.std.proofs.Common.{◌≡◌, ◌<◌, ◌+◌, ◌∙◌, ℕ, zero, suc, Bool, true, false, cond, List, [], ◌∷◌, Some, refl, ap, sym, subst, arith, length, drop, get_or, nat_eq}
 use Rattle.std.specs.List.{filter, fold, items_where_true, range_with_len}
 use Rattle.std.specs.List.Retain.{IsFiltered, ReturnsInTurn}
-use Rattle.s360_record.specs.Recorded.{Recorded}
+use Rattle.s360_journal.specs.Recorded.{Recorded}
 use Rattle.s360_remote.specs.Points.{Watched, byte_altered_by, last_change_at, with_altered}
 
 -- the bytes that remain, the first of them apart

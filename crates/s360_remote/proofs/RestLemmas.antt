@@ -8,7 +8,7 @@ use Rattle.s360_machine.specs.declared.event.Event.{Event}
 use Rattle.s360_journal.specs.Standing.{IsAfter, Standing, alteration, last_of}
 use Rattle.s360_journal.proofs.SessionLemmas.{last-there}
 use Rattle.s360_inquiry.proofs.InquiryLemmas.{take-next}
-use Rattle.s360_record.specs.Recorded.{Recorded, session_of, standing_events, with_standing}
+use Rattle.s360_journal.specs.Recorded.{Recorded, session_of, standing_events, with_standing}
 use Rattle.s360_remote.specs.Forward.{is_in_vain, was_in_vain}
 use Rattle.s360_remote.proofs.AgainLemmas.{IsThere, there}
 

@@ -12,9 +12,8 @@ use Rattle.s360_machine.specs.declared.event.Patch.TheVariants.{Bytes}
 use Rattle.s360_machine.specs.declared.refusal.Refusal.{Refusal}
 use Rattle.s360_machine.specs.declared.refusal.Refusal.TheVariants.{JournalFull}
 use Rattle.s360_journal.specs.Standing.{machine_of, or_full, refusal_in}
-use Rattle.s360_record.specs.Recorded.{Recorded, session_of, standing_events}
-use Rattle.s360_record.specs.declared.forwarding.Forwarded.{Forwarded}
-use Rattle.s360_record.specs.declared.forwarding.Forwarded.TheVariants.{New, Again, Dropped}
+use Rattle.s360_journal.specs.Recorded.{Recorded, session_of, standing_events}
+use Rattle.s360_journal.proofs.RecordedLemmas.{after-keeps}
 use Rattle.s360_remote.specs.Driven.{Driven}
 use Rattle.s360_remote.specs.Writing.{AreBegun, AreMade, IsMadeOrBegun, after_patch, patch_count, patches_from, patches_from_register, patches_of_bytes, register_patches}
 use Rattle.s360_remote.specs.declared.error_number.ErrorNumber.{ErrorNumber}
@@ -24,20 +23,20 @@ use Rattle.s360_remote.specs.declared.error_number.ErrorNumber.TheVariants.{Memo
 
 pub AreMade-both : (ps qs : List Patch) (d m t : Driven) → AreMade d ps m → AreMade m qs t → AreMade d (ps ++ qs) t
 AreMade-both [] qs d m t h made = subst (λ n. AreMade n qs t) h made
-AreMade-both (p ∷ ps) qs d m t h made = (h.0, h.1, AreMade-both ps qs (after_patch d p h.0) m t h.2 made)
+AreMade-both (p ∷ ps) qs d m t h made = AreMade-both ps qs (after_patch d p) m t h made
 
 AreBegun-both : (ps qs : List Patch) (d m t : Driven) → AreMade d ps m → AreBegun m qs t → AreBegun d (ps ++ qs) t
 AreBegun-both [] qs d m t h begun = subst (λ n. AreBegun n qs t) h begun
 AreBegun-both (p ∷ ps) qs d m t h begun =
-    let others : AreBegun (after_patch d p h.0) (ps ++ qs) t = AreBegun-both ps qs (after_patch d p h.0) m t h.2 begun
-    in (suc others.0, (h.0, h.1, others.1))
+    let others : AreBegun (after_patch d p) (ps ++ qs) t = AreBegun-both ps qs (after_patch d p) m t h begun
+    in (suc others.0, others.1)
 
 begun-first : (n : ℕ) (ps qs : List Patch) (d t : Driven) → AreMade d (take n ps) t → AreBegun d (ps ++ qs) t
 begun-first zero ps qs d t made = (0, made)
 begun-first (suc n) [] qs d t made = (0, made)
 begun-first (suc n) (p ∷ ps) qs d t made =
-    let others : AreBegun (after_patch d p made.0) (ps ++ qs) t = begun-first n ps qs (after_patch d p made.0) t made.2
-    in (suc others.0, (made.0, made.1, others.1))
+    let others : AreBegun (after_patch d p) (ps ++ qs) t = begun-first n ps qs (after_patch d p) t made
+    in (suc others.0, others.1)
 
 -- the first ones are made, and then the others
 pub made-both : (ps qs : List Patch) (d m t : Driven) (r : Result ⊤ ErrorNumber) → IsMadeOrBegun d ps m (Ok tt) → IsMadeOrBegun m qs t r → IsMadeOrBegun d (ps ++ qs) t r
@@ -53,20 +52,14 @@ made-from ps qs d t fault r is h = subst (λ x. IsMadeOrBegun d (ps ++ qs) t x) 
 
 -- ---- what a patch leaves as it is
 
-pub standing-after : (d : Driven) (p : Patch) (f : Forwarded) → (after_patch d p f).recorded.standing ≡ d.recorded.standing + 1
-standing-after d p New = refl
-standing-after d p Again = refl
-standing-after d p (Dropped n) = refl
+pub standing-after : (d : Driven) (p : Patch) → (after_patch d p).recorded.standing ≡ d.recorded.standing + 1
+standing-after d p = (after-keeps d.recorded (patch p)).standing
 
-pub limit-after : (d : Driven) (p : Patch) (f : Forwarded) → (after_patch d p f).recorded.limit ≡ d.recorded.limit
-limit-after d p New = refl
-limit-after d p Again = refl
-limit-after d p (Dropped n) = refl
+pub limit-after : (d : Driven) (p : Patch) → (after_patch d p).recorded.limit ≡ d.recorded.limit
+limit-after d p = (after-keeps d.recorded (patch p)).limit
 
-pub start-after : (d : Driven) (p : Patch) (f : Forwarded) → (after_patch d p f).recorded.start ≡ d.recorded.start
-start-after d p New = refl
-start-after d p Again = refl
-start-after d p (Dropped n) = refl
+pub start-after : (d : Driven) (p : Patch) → (after_patch d p).recorded.start ≡ d.recorded.start
+start-after d p = (after-keeps d.recorded (patch p)).start
 
 -- ---- bytes in parts
 

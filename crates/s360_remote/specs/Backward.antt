@@ -4,7 +4,7 @@ use Rattle.std.specs.Prelude.{ℕ, ◌-◌, Bool, false, nat_eq, if◌then◌els
 use Rattle.std.specs.Option.{option_map_or}
 use Rattle.s360_machine.specs.declared.event.Event.{Event}
 use Rattle.s360_journal.specs.Standing.{last_of, machine_of}
-use Rattle.s360_record.specs.Recorded.{Recorded, session_of, standing_events, with_standing}
+use Rattle.s360_journal.specs.Recorded.{Recorded, session_of, standing_events, with_standing}
 use Rattle.s360_remote.specs.Forward.{Paused, is_cpu, moved_by, pause_with}
 use Rattle.s360_remote.specs.Points.{Points, bytes_altered_by, is_at_stop}
 use Rattle.s360_remote.specs.declared.pause.Pause.{Pause}

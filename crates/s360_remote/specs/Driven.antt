@@ -1,6 +1,6 @@
 -- What a target is seen as.
 use Rattle.std.specs.Prelude.{ℕ, Bool, false, List, [], drop, Option}
-use Rattle.s360_record.specs.Recorded.{Recorded}
+use Rattle.s360_journal.specs.Recorded.{Recorded}
 use Rattle.s360_remote.specs.Forward.{Paused}
 use Rattle.s360_remote.specs.Points.{Points}
 use Rattle.s360_remote.specs.declared.pause.Pause.{Pause}
@@ -16,15 +16,18 @@ pub record Untold : Type 0 where
 abbrev pub nothing_untold : Untold
 nothing_untold = record { altered = []; stop = false; moved = false }
 
--- the recording, the points at which it stops, the breakpoints that lines of gdb's user set, how many recorded events the last
--- write or line dropped, where the recording stood before the last inquiry that went elsewhere, and what gdb is still to be told
+-- the session, the points at which it stops, the breakpoints that lines of gdb's user set, where the session stood before the last
+-- inquiry that went elsewhere, and what gdb is still to be told
 pub record Driven : Type 0 where
   pub recorded : Recorded
   pub points : Points
   pub own : List ℕ
-  pub dropped : ℕ
   pub stood : Option ℕ
   pub untold : Untold
+
+-- before a line or a write none of the record was dropped
+abbrev pub fresh : Driven → Driven
+fresh d = record d { recorded = record d.recorded { dropped = 0 } }
 
 -- gdb is told of one of the bytes alone
 abbrev pub others_of : Pause → List ℕ

@@ -1,5 +1,5 @@
 -- How the machine goes on, for gdb's `s` and `c` (gdb manual, "Packets", "Reverse Execution").
-use Rattle.std.specs.Prelude.{◌≡◌, ◌<◌, ◌≤◌, ℕ, zero, suc, ◌+◌, ◌-◌, Bool, true, false, nat_eq, ◌&&◌, if◌then◌else◌, List, [], ◌∷◌, Option, Some, None, length}
+use Rattle.std.specs.Prelude.{◌≡◌, ◌<◌, ◌≤◌, ℕ, zero, suc, ◌-◌, Bool, true, false, nat_eq, ◌&&◌, if◌then◌else◌, List, [], ◌∷◌, Option, Some, None, is_some, length}
 use Rattle.std.specs.Option.{unwrap_or}
 use Rattle.s360_store.specs.declared.place.Place.{Place}
 use Rattle.s360_machine.specs.declared.event.Event.{Event}
@@ -10,10 +10,8 @@ use Rattle.s360_machine.specs.declared.refusal.Refusal.{Refusal}
 use Rattle.s360_machine.specs.Machine.{seen}
 use Rattle.s360_journal.specs.Rerun.{AreAccepted}
 use Rattle.s360_journal.specs.Running.{next_event}
-use Rattle.s360_journal.specs.Standing.{alteration, last_kind_of, last_of, machine_of, refusal_in}
-use Rattle.s360_record.specs.Forwarding.{IsMet, state_after}
-use Rattle.s360_record.specs.Recorded.{Recorded, next_recorded, rest_of, session_of, standing_events, with_event, with_standing}
-use Rattle.s360_record.specs.declared.forwarding.Forwarded.{Forwarded}
+use Rattle.s360_journal.specs.Standing.{IsAfter, alteration, last_kind_of, last_of, machine_of, refusal_in}
+use Rattle.s360_journal.specs.Recorded.{Recorded, after_event, next_recorded, session_of, standing_events, with_standing}
 use Rattle.s360_remote.specs.Points.{Points, bytes_altered_by, is_at_stop}
 use Rattle.s360_remote.specs.declared.pause.Pause.{Pause}
 use Rattle.s360_remote.specs.declared.pause.Pause.TheVariants.{Refused, Watch, Idle, Break, Stepped, RecordEnd, Slice}
@@ -30,17 +28,14 @@ abbrev pub event_of_turn : Recorded → Event
 event_of_turn r = unwrap_or (next_recorded r) (next_event (machine_of (session_of r)))
 
 -- the record, once that event was run
-abbrev pub after_event_of : Option Event → Recorded → Recorded
-after_event_of (Some e) r = with_standing r (r.standing + 1)
-after_event_of None r = with_event r (event_of_turn r)
-
 abbrev pub after_turn : Recorded → Recorded
-after_turn r = after_event_of (next_recorded r) r
+after_turn r = after_event r (event_of_turn r)
 
--- the event whose turn it is in one state was run, and the other is the state then
-pub record IsTurn (before now : Recorded) (forwarded : Forwarded) : Type 0 where
-  pub met : IsMet (rest_of before) (event_of_turn before) forwarded
-  pub state : now ≡ state_after before (event_of_turn before) forwarded
+-- the event whose turn it is in one state was run, again if it was recorded, and the other is the state then
+pub record IsTurn (before now : Recorded) (again : Bool) : Type 0 where
+  pub met : again ≡ is_some (next_recorded before)
+  pub state : now ≡ after_turn before
+  pub stands : IsAfter (session_of now) (session_of before) (event_of_turn before)
 
 -- the last of the record was run again
 abbrev pub is_end_of : Option Event → Recorded → Bool

@@ -8,8 +8,8 @@ use Rattle.s360_language.specs.Reading.{reading_of}
 use Rattle.s360_debug.specs.Answers.{fault_text}
 use Rattle.s360_inquiry.specs.Answers.{Inquired, answer_to, state_after}
 use Rattle.s360_inquiry.specs.Reading.{Asked}
-use Rattle.s360_record.specs.Recorded.{session_of, with_standing}
-use Rattle.s360_remote.specs.Driven.{Driven}
+use Rattle.s360_journal.specs.Recorded.{session_of, with_standing}
+use Rattle.s360_remote.specs.Driven.{Driven, fresh}
 use Rattle.s360_remote.specs.declared.monitor.TheConstants.{HELP}
 
 -- what a line meets: the session that stands, and the breakpoints that lines set
@@ -27,7 +27,7 @@ monitor_text d line dropped = answer_to_line d line ++ dropped_text dropped
 -- the line was carried out: one of the language as a script's is, also where a script skips it; `help` with no change, and it
 -- tells the lines
 pub record IsCarriedOut (line : List ℕ) (d t : Driven) (said : List ℕ) : Type 0 where
-  pub text : line ≢ codes "help" → said ≡ monitor_text (debugger_of d) line t.dropped
+  pub text : line ≢ codes "help" → said ≡ monitor_text (debugger_of d) line t.recorded.dropped
   pub state : line ≢ codes "help" → debugger_of t ≡ state_after_line (debugger_of d) line
   pub points : t.points ≡ d.points
   pub stood : t.stood ≡ d.stood
@@ -52,23 +52,23 @@ abbrev pub answer_to_asked : Inquired → Asked → List ℕ
 answer_to_asked i (Ok inquiry) = answer_to i inquiry
 answer_to_asked i (Err fault) = fault_text fault
 
--- where the recording stands then; none of the record is dropped
+-- where the session stands then
 abbrev pub with_inquired : Driven → Inquired → Driven
-with_inquired d i = record d { recorded = i.recorded; stood = i.stood; dropped = 0 }
+with_inquired d i = record d { recorded = i.recorded; stood = i.stood }
 
 abbrev pub after_asked : Driven → Asked → Driven
 after_asked d (Ok inquiry) = with_inquired d (state_after (inquired_of d) inquiry)
-after_asked d (Err fault) = record d { dropped = 0 }
+after_asked d (Err fault) = d
 
 -- after want of memory the recording stands at some change, and all else is as it was
 abbrev pub IsAskedBegun : Driven → Driven → Type 0
-IsAskedBegun d t = t ≡ record d { recorded = with_standing d.recorded t.recorded.standing; dropped = 0 }
+IsAskedBegun d t = t ≡ record (fresh d) { recorded = with_standing (fresh d).recorded t.recorded.standing }
 
 -- how a line is answered that reads so as an inquiry, or that is none
 abbrev pub IsAnswered : Option Asked → List ℕ → Driven → Driven → List ℕ → Type 0
 IsAnswered None line d t said = IsCarriedOut line d t said
-IsAnswered (Some asked) line d t said = (said ≡ answer_to_asked (inquired_of d) asked) × (t ≡ after_asked d asked)
+IsAnswered (Some asked) line d t said = (said ≡ answer_to_asked (inquired_of (fresh d)) asked) × (t ≡ after_asked (fresh d) asked)
 
 abbrev pub IsBegun : Option Asked → List ℕ → Driven → Driven → Type 0
 IsBegun None line d t = IsLineBegun line d t
-IsBegun (Some asked) line d t = IsAskedBegun d t ⊎ (t ≡ after_asked d asked)
+IsBegun (Some asked) line d t = IsAskedBegun d t ⊎ (t ≡ after_asked (fresh d) asked)

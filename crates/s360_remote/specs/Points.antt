@@ -11,7 +11,7 @@ use Rattle.s360_model.specs.Psw.{instruction_address_of}
 use Rattle.s360_machine.specs.Machine.{Machine, seen}
 use Rattle.s360_journal.specs.Breakpoints.{has_room_for, is_at_breakpoint, with_address, without_address}
 use Rattle.s360_journal.specs.Rerun.{last_change_of}
-use Rattle.s360_record.specs.Recorded.{Recorded, standing_events}
+use Rattle.s360_journal.specs.Recorded.{Recorded, standing_events}
 use Rattle.s360_remote.specs.Registers.{words_of}
 
 -- conditions of the breakpoint at an address, of which one has to hold: each is the instructions of an expression

@@ -20,7 +20,7 @@ use Rattle.s360_packet.specs.declared.request.Thread.{Thread}
 use Rattle.s360_packet.specs.declared.request.Thread.TheVariants.{Numbered}
 use Rattle.s360_packet.specs.declared.request.Request.{Request}
 use Rattle.s360_packet.specs.declared.request.Request.TheVariants.{Stopped, Registers, WriteRegisters, Register, WriteRegister, Storage, WriteStorage, Step, Continue, StepBack, ContinueBack, Insert, InsertIf, Remove, Supported, Description, MemoryMap, HasMoved, Extend, Restart, Run, Select, IsAlive, CurrentThread, Attached, FirstThreads, NextThreads, StopAcknowledging, Command, Detach, Kill, KillProcess}
-use Rattle.s360_record.specs.Recorded.{session_of, standing_events, with_standing}
+use Rattle.s360_journal.specs.Recorded.{session_of, standing_events, with_standing}
 use Rattle.s360_remote.specs.Backward.{gone_back}
 use Rattle.s360_remote.specs.Conditions.{conditions_in}
 use Rattle.s360_remote.specs.Driven.{Driven, moved_to}
@@ -86,7 +86,7 @@ IsTold (Err fault) dropped next packets = (next ≡ then.GoOn) × (packets ≡ p
 
 -- a write ended, and not for want of memory, which is told
 abbrev pub IsWritten : Write → Driven → Driven → Then → List ℕ → Type 0
-IsWritten w d t next packets = (end : Result ⊤ ErrorNumber) × IsWriteEnd w d t end × (end ≢ Err Memory) × IsTold end t.dropped next packets
+IsWritten w d t next packets = (end : Result ⊤ ErrorNumber) × IsWriteEnd w d t end × (end ≢ Err Memory) × IsTold end t.recorded.dropped next packets
 
 -- a write ended, for want of memory or untold
 abbrev pub IsWriteBegun : Write → Driven → Driven → Type 0

@@ -7,29 +7,20 @@ use Rattle.s360_machine.specs.declared.event.Event.TheVariants.{Patch as patch}
 use Rattle.s360_machine.specs.declared.event.Patch.{Patch}
 use Rattle.s360_machine.specs.declared.event.Patch.TheVariants.{Bytes, Register}
 use Rattle.s360_journal.specs.Standing.{machine_of}
-use Rattle.s360_record.specs.Forwarding.{IsMet, state_after}
-use Rattle.s360_record.specs.Recorded.{rest_of, session_of}
-use Rattle.s360_record.specs.declared.forwarding.Forwarded.{Forwarded}
-use Rattle.s360_record.specs.declared.forwarding.Forwarded.TheVariants.{New, Again, Dropped}
-use Rattle.s360_remote.specs.Driven.{Driven}
+use Rattle.s360_journal.specs.Recorded.{after_event, session_of}
+use Rattle.s360_remote.specs.Driven.{Driven, fresh}
 use Rattle.s360_remote.specs.Registers.{patch_of_psw, patch_of_word, words_of}
 use Rattle.s360_remote.specs.declared.error_number.ErrorNumber.{ErrorNumber}
 use Rattle.s360_remote.specs.declared.error_number.ErrorNumber.TheVariants.{Memory, Address, Malformed, Full}
 
--- how many recorded events were dropped last
-abbrev pub dropped_after : Forwarded → ℕ → ℕ
-dropped_after New before = before
-dropped_after Again before = before
-dropped_after (Dropped n) before = n
-
--- a patch was made, which stands so to the record
-abbrev pub after_patch : Driven → Patch → Forwarded → Driven
-after_patch d p f = record d { recorded = state_after d.recorded (patch p) f; dropped = dropped_after f d.dropped }
+-- a patch was made
+abbrev pub after_patch : Driven → Patch → Driven
+after_patch d p = record d { recorded = after_event d.recorded (patch p) }
 
 -- patches are made one after another, and lead from one target to another
 abbrev pub AreMade : Driven → List Patch → Driven → Type 0
 AreMade d [] t = t ≡ d
-AreMade d (p ∷ ps) t = (f : Forwarded) × IsMet (rest_of d.recorded) (patch p) f × AreMade (after_patch d p f) ps t
+AreMade d (p ∷ ps) t = AreMade (after_patch d p) ps t
 
 -- some first ones of them are
 abbrev pub AreBegun : Driven → List Patch → Driven → Type 0
@@ -101,4 +92,4 @@ IsMadeOrBegun d ps t (Err fault) = (fault ≡ Memory) × AreBegun d ps t
 -- how a write ends
 abbrev pub IsWriteEnd : Write → Driven → Driven → Result ⊤ ErrorNumber → Type 0
 IsWriteEnd (Err fault) d t result = (t ≡ d) × (result ≡ Err fault)
-IsWriteEnd (Ok ps) d t result = IsMadeOrBegun (record d { dropped = 0 }) ps t result
+IsWriteEnd (Ok ps) d t result = IsMadeOrBegun (fresh d) ps t result

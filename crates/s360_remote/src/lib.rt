@@ -1,9 +1,8 @@
-//! The target that gdb drives: a session beside what was recorded, of which gdb asks and which it alters.
+//! The target that gdb drives: a session, of which gdb asks and which it alters.
 #![tactic(auto)]
 
 mod condition;
 mod connection;
-mod counting;
 mod errand;
 mod error_number;
 mod laws;

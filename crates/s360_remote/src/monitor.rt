@@ -7,6 +7,7 @@ ghost use Rattle.s360_debug.specs.Script.{StandsAfterReading, state_after_line};
 ghost use Rattle.s360_debug.specs.Answers.{fault_text};
 ghost use Rattle.s360_inquiry.specs.Answers.{answer_to, state_after};
 ghost use Rattle.s360_inquiry.specs.Reading.{inquiry_of};
+ghost use Rattle.s360_remote.specs.Driven.{fresh};
 ghost use Rattle.s360_remote.specs.Monitor.{IsAnswered, IsAskedBegun, IsBegun, IsCarriedOut, IsLineBegun, after_asked};
 ghost use Rattle.s360_remote.specs.Monitor.{answer_to_asked, debugger_of, dropped_text, inquired_of, monitor_text, with_inquired};
 
@@ -75,8 +76,8 @@ pub(crate) fn monitor(target: &mut Target, line: &[u8]) -> Result<Text, AllocErr
 
 /// Answers what a line asks of the recording, or tells what is wrong with it.
 fn answer_asked(target: &mut Target, asked: Result<Inquiry, LineFault>) -> Result<Text, AllocError>
-    ensures text { IfOk result (λ text. text ≡ answer_to_asked (inquired_of target.old) asked) }
-    ensures state { OnOk result (target.new ≡ after_asked target.old asked) }
+    ensures text { IfOk result (λ text. text ≡ answer_to_asked (inquired_of (fresh target.old)) asked) }
+    ensures state { OnOk result (target.new ≡ after_asked (fresh target.old) asked) }
     ensures begun { OnErr result (IsAskedBegun target.old target.new) }
 {
     match asked {
@@ -87,28 +88,23 @@ fn answer_asked(target: &mut Target, asked: Result<Inquiry, LineFault>) -> Resul
 
 /// Answers an inquiry.
 fn answer_of(target: &mut Target, inquiry: Inquiry) -> Result<Text, AllocError>
-    ensures text { IfOk result (λ text. text ≡ answer_to (inquired_of target.old) inquiry) }
-    ensures state { OnOk result (target.new ≡ with_inquired target.old (state_after (inquired_of target.old) inquiry)) }
+    ensures text { IfOk result (λ text. text ≡ answer_to (inquired_of (fresh target.old)) inquiry) }
+    ensures state { OnOk result (target.new ≡ with_inquired (fresh target.old) (state_after (inquired_of (fresh target.old)) inquiry)) }
     ensures begun { OnErr result (IsAskedBegun target.old target.new) }
 {
-    target.counting.dropped = 0;
+    target.session.forget_dropped();
     let alloc = target.alloc;
-    let text = answer_inquiry(
-        alloc,
-        &mut target.counting.recording,
-        &mut target.stood,
-        inquiry,
-    )?;
+    let text = answer_inquiry(alloc, &mut target.session, &mut target.stood, inquiry)?;
     Ok(text)
 }
 
 /// Tells what is wrong with a line.
 fn tell_fault(target: &mut Target, fault: LineFault) -> Result<Text, AllocError>
     ensures text { IfOk result (λ text. text ≡ fault_text fault) }
-    ensures state { target.new ≡ record target.old { dropped = 0 } }
+    ensures state { target.new ≡ fresh target.old }
     ensures begun { IsAskedBegun target.old target.new }
 {
-    target.counting.dropped = 0;
+    target.session.forget_dropped();
     let text = text_of_fault(target.alloc, fault)?;
     Ok(text)
 }
@@ -121,7 +117,7 @@ fn answer_command(target: &mut Target, line: &[u8]) -> Result<Text, AllocError>
     ensures begun { OnErr result (IsLineBegun line.now target.old target.new) }
 {
     if skips(line) {
-        target.counting.dropped = 0;
+        target.session.forget_dropped();
         return Ok(Text::new(target.alloc));
     }
     match line {
@@ -142,17 +138,17 @@ fn text_of(alloc: Global, words: &str) -> Result<Text, AllocError>
 /// Carries out a line of the language that a script does not skip.
 fn carry_out(target: &mut Target, line: &[u8]) -> Result<Text, AllocError>
     requires { is_skipped line.now ≡ false }
-    ensures text { IfOk result (λ text. text ≡ monitor_text (debugger_of target.old) line.now target.new.dropped) }
+    ensures text { IfOk result (λ text. text ≡ monitor_text (debugger_of target.old) line.now target.new.recorded.dropped) }
     ensures state { OnOk result (debugger_of target.new ≡ state_after_line (debugger_of target.old) line.now) }
     ensures points { target.new.points ≡ target.old.points }
     ensures stood { target.new.stood ≡ target.old.stood }
     ensures untold { target.new.untold ≡ target.old.untold }
     ensures memory { OnErr result (StandsAfterReading (reading_of line.now) (debugger_of target.old) (debugger_of target.new).session ⊎ (debugger_of target.new ≡ state_after_line (debugger_of target.old) line.now)) }
 {
-    target.counting.dropped = 0;
+    target.session.forget_dropped();
     let alloc = target.alloc;
-    let mut text = answer_line(alloc, &mut target.counting, &mut target.own_breaks, line)?;
-    push_dropped(&mut text, target.counting.dropped)?;
+    let mut text = answer_line(alloc, &mut target.session, &mut target.own_breaks, line)?;
+    push_dropped(&mut text, target.session.dropped())?;
     Ok(text)
 }
 

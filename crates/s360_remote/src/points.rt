@@ -12,9 +12,8 @@ ghost use Rattle.s360_remote.specs.Points.{has_byte, has_room_for_watch, is_watc
 use crate::readout::Readout;
 use arrayvec::ArrayVec;
 use s360_condition::Expression;
-use s360_journal::Breaks;
+use s360_journal::{Breaks, Session};
 use s360_machine::Machine;
-use s360_record::Recording;
 use s360_store::Place;
 use std::alloc::{AllocError, Global};
 use std::marker::Model;
@@ -52,11 +51,11 @@ impl Watch {
     }
 
     /// The address of the first of the bytes that a change of this number was the last to alter.
-    fn byte_altered_by(self, recording: &Recording, number: u32) -> Option<u32>
-        ensures { result ≡ byte_altered_by recording.now (range_with_len self.at self.count) number }
+    fn byte_altered_by(self, session: &Session, number: u32) -> Option<u32>
+        ensures { result ≡ byte_altered_by session.now (range_with_len self.at self.count) number }
     {
         for at in self.at..self.at + self.count {
-            if last_change_at(recording, at) == number {
+            if last_change_at(session, at) == number {
                 return Some(at);
             }
         }
@@ -72,10 +71,10 @@ impl Watch {
 }
 
 /// The number of the last change of a byte, 0 if there is none.
-fn last_change_at(recording: &Recording, at: u32) -> u32
-    ensures { result ≡ last_change_at recording.now at }
+fn last_change_at(session: &Session, at: u32) -> u32
+    ensures { result ≡ last_change_at session.now at }
 {
-    recording.last_change(Place::Byte(at)).unwrap_or(0)
+    session.last_change(Place::Byte(at)).unwrap_or(0)
 }
 
 /// Addresses of watched bytes that one change altered, one of each watch at most. A contract sees their list.
@@ -117,15 +116,15 @@ impl Altered {
     }
 
     /// Adds the first byte of a watch that the change of this number was the last to alter, if the watch has none of them yet.
-    fn add_byte_of(&mut self, watch: Watch, recording: &Recording, number: u32)
+    fn add_byte_of(&mut self, watch: Watch, session: &Session, number: u32)
         requires { length self.old < 64 }
-        ensures bytes { self.new ≡ with_altered recording.now number self.old watch }
+        ensures bytes { self.new ≡ with_altered session.now number self.old watch }
         ensures few { length self.new ≤ length self.old + 1 }
     {
         if self.is_in(watch) {
             return;
         }
-        if let Some(at) = watch.byte_altered_by(recording, number) {
+        if let Some(at) = watch.byte_altered_by(session, number) {
             self.addresses.push(at);
         }
     }
@@ -318,12 +317,12 @@ impl Points {
 
     /// The watched bytes that the change of this number was the last to alter: the first of each watch that has none of those
     /// before.
-    pub(crate) fn bytes_altered_by(&self, recording: &Recording, number: u32) -> Altered
-        ensures { result ≡ bytes_altered_by recording.now self.now.watches number }
+    pub(crate) fn bytes_altered_by(&self, session: &Session, number: u32) -> Altered
+        ensures { result ≡ bytes_altered_by session.now self.now.watches number }
     {
         let mut altered = Altered::new();
         for watch in self.watches.as_slice() {
-            altered.add_byte_of(*watch, recording, number);
+            altered.add_byte_of(*watch, session, number);
         }
         altered
     }

@@ -6,7 +6,7 @@ ghost use Rattle.s360_machine.specs.Machine.{storage_size};
 ghost use Rattle.s360_packet.specs.Answers.{registers_text};
 ghost use Rattle.s360_packet.specs.Framing.{framed};
 ghost use Rattle.s360_packet.specs.declared.answer.Answer.TheVariants.{Done, Moved};
-ghost use Rattle.s360_record.specs.Recorded.{standing_events};
+ghost use Rattle.s360_journal.specs.Recorded.{standing_events};
 ghost use Rattle.s360_remote.specs.Backward.{gone_back};
 ghost use Rattle.s360_remote.specs.Conditions.{conditions_in};
 ghost use Rattle.s360_remote.specs.Driven.{Driven, moved_to, others_of};
@@ -218,7 +218,7 @@ impl Target {
     fn start_anew(&mut self)
         ensures { self.new ≡ started_anew self.old }
     {
-        let _standing = self.counting.recording.back_to(0);
+        let _standing = self.session.back_to(0);
         self.untold.altered = Altered::new();
         self.untold.stop = false;
     }
@@ -360,13 +360,13 @@ impl Target {
         written: Result<(), ErrorNumber>,
         replies: &mut Replies,
     ) -> Result<Then, AllocError>
-        ensures told { IfOk result (λ next. (packets : List ℕ) × IsTold written self.now.dropped next packets × (replies.new ≡ replies.old ++ packets)) }
+        ensures told { IfOk result (λ next. (packets : List ℕ) × IsTold written self.now.recorded.dropped next packets × (replies.new ≡ replies.old ++ packets)) }
         ensures memory { OnOk result (written ≢ Err Memory) }
     {
         match written {
             Ok(()) => {
                 replies.push(Answer::Done)?;
-                Ok(after_write(self.counting.dropped))
+                Ok(after_write(self.session.dropped()))
             }
             Err(ErrorNumber::Memory) => Err(AllocError),
             Err(fault) => {
@@ -447,7 +447,7 @@ impl Target {
         let machine = self.machine();
         let words = idle_words(
             machine.run().is_operating(),
-            self.counting.recording.last_event(),
+            self.session.last_event(),
             machine.psw().wait(),
         );
         replies.push(Answer::Console(words.as_bytes()))

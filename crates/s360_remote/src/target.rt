@@ -5,7 +5,7 @@ ghost use Rattle.s360_machine.specs.Machine.{seen, storage_size};
 ghost use Rattle.s360_machine.specs.declared.event.Event.{Event as Happening};
 ghost use Rattle.s360_journal.specs.Rerun.{AreAccepted};
 ghost use Rattle.s360_journal.specs.Standing.{IsAfter, Standing, alteration, last_of, machine_of};
-ghost use Rattle.s360_record.specs.Recorded.{Recorded, next_recorded, session_of, standing_events, with_standing};
+ghost use Rattle.s360_journal.specs.Recorded.{Recorded, next_recorded, session_of, standing_events, with_standing};
 ghost use Rattle.s360_remote.specs.Driven.{nothing_untold};
 ghost use Rattle.s360_remote.specs.Backward.{gone_back, is_cpu_last, one_back, pause_of_back};
 ghost use Rattle.s360_remote.specs.Forward.{IsTurn, event_of_turn, is_at_rest, is_end_of, is_idle, is_reached, is_turn_of, most_turns, pause_after, pause_with};
@@ -13,27 +13,25 @@ ghost use Rattle.s360_remote.specs.Forward.{pause_of_turn, resumed, state_of_tur
 ghost use Rattle.s360_remote.specs.Points.{bytes_altered_by, is_at_stop};
 ghost use Rattle.s360_remote.specs.declared.pause.Pause.TheVariants.{Slice};
 
-use crate::counting::Counting;
 use crate::pause::{Pause, Reach};
 use crate::points::{Altered, Points};
 use crate::untold::Untold;
-use s360_journal::{Breaks, next_event};
+use s360_journal::{Breaks, Session, next_event};
 use s360_machine::{Event, EventKind, Machine, Refusal};
-use s360_record::{Forwarded, Recording};
 use std::alloc::{AllocError, Global};
 use std::marker::Model;
 
 /// So many events are run, or taken back, before gdb is let in: about a third of a second's.
 const TURNS: u32 = 300_000;
 
-/// A recording and the points at which it stops.
+/// A session and the points at which it stops.
 #[derive(Drop)]
 pub struct Target {
-    pub(crate) counting: Counting,
+    pub(crate) session: Session,
     pub(crate) points: Points,
     /// The breakpoints of the script language, which `monitor` sets.
     pub(crate) own_breaks: Breaks,
-    /// Where the recording stood before the last inquiry that went elsewhere.
+    /// Where the session stood before the last inquiry that went elsewhere.
     pub(crate) stood: Option<u32>,
     pub(crate) untold: Untold,
     pub(crate) limit: u32,
@@ -46,22 +44,19 @@ impl Model for Target {
 
     ghost Value = { Driven };
 
-    ghost view = { λ t. record { recorded = t.counting.recording; points = t.points; own = t.own_breaks; dropped = t.counting.dropped; stood = t.stood; untold = t.untold } };
+    ghost view = { λ t. record { recorded = t.session; points = t.points; own = t.own_breaks; stood = t.stood; untold = t.untold } };
 
-    ghost invariant = { λ t. t.limit ≡ t.counting.recording.limit };
+    ghost invariant = { λ t. t.limit ≡ t.session.limit };
 }
 
 impl Target {
-    /// A target over a recording, of which at most `limit` events may be recorded, with no points.
-    pub fn new(alloc: Global, recording: Recording, limit: u32) -> Target
-        requires { limit ≡ recording.limit }
-        ensures { result ≡ record { recorded = recording; points = record { breaks = []; conditional = []; watches = [] }; own = []; dropped = 0; stood = None; untold = nothing_untold } }
+    /// A target over a session, of which at most `limit` events may be recorded, with no points.
+    pub fn new(alloc: Global, session: Session, limit: u32) -> Target
+        requires { limit ≡ session.limit }
+        ensures { result ≡ record { recorded = session; points = record { breaks = []; conditional = []; watches = [] }; own = []; stood = None; untold = nothing_untold } }
     {
         Target {
-            counting: Counting {
-                recording,
-                dropped: 0,
-            },
+            session,
             points: Points::new(alloc),
             own_breaks: Breaks::new(),
             stood: None,
@@ -78,7 +73,7 @@ impl Target {
         ensures accepted { AreAccepted (seen self.now.recorded.start) self.now.recorded.events }
         ensures size { storage_size (machine_of (session_of self.now.recorded)) ≡ storage_size (seen self.now.recorded.start) }
     {
-        self.counting.recording.machine()
+        self.session.machine()
     }
 
     /// Goes on, and answers why the machine pauses. After want of memory some first ones of the events stand.
@@ -138,45 +133,42 @@ impl Target {
         ensures state { OnOk result (self.new ≡ record self.old { recorded = state_of_turn self.old.recorded }) }
         ensures memory { OnErr result (self.new ≡ self.old) }
     {
-        let event = self.counting.recording.next_event()?;
-        match self.counting.recording.forward(event) {
-            Ok(forwarded) => Ok(self.pause_after(reach, forwarded)),
+        let is_again = self.session.standing() < self.session.recorded();
+        let event = self.session.next_event()?;
+        match self.session.advance(event) {
+            Ok(()) => Ok(self.pause_after(reach, is_again)),
             Err(Refusal::Memory) => Err(AllocError),
             Err(refusal) => Ok(Some(Pause::Refused(refusal))),
         }
     }
 
-    /// Why the machine pauses after the event that was run last, if it does.
-    fn pause_after(&self, reach: Reach, forwarded: Forwarded) -> Option<Pause>
-        ensures { (before : Recorded) → IsTurn before self.now.recorded forwarded → result ≡ pause_after self.now.points reach before }
+    /// Why the machine pauses after the event that was run last, or again, if it does.
+    fn pause_after(&self, reach: Reach, is_again: bool) -> Option<Pause>
+        ensures { (before : Recorded) → IsTurn before self.now.recorded is_again → result ≡ pause_after self.now.points reach before }
     {
         if let Some(altered) = self.altered_by(self.standing()) {
             return Some(Pause::Watch(altered));
         }
-        let is_idle = self.is_idle_after(forwarded);
+        let is_idle = self.is_idle_after(is_again);
         let is_reached = self.is_reached(reach);
-        let is_end = self.is_at_end(forwarded);
+        let is_end = self.is_at_end(is_again);
         pause_with(is_idle, is_reached, is_end, reach)
     }
 
     /// Whether an event that was not recorded altered nothing.
-    fn is_idle_after(&self, forwarded: Forwarded) -> bool
-        ensures { (before : Recorded) → IsTurn before self.now.recorded forwarded → result ≡ is_idle (next_recorded before) (alteration (session_of before) (event_of_turn before)) }
+    fn is_idle_after(&self, is_again: bool) -> bool
+        ensures { (before : Recorded) → IsTurn before self.now.recorded is_again → result ≡ is_idle (next_recorded before) (alteration (session_of before) (event_of_turn before)) }
     {
-        if let Forwarded::Again = forwarded {
-            return false;
-        }
-        self.is_idle()
+        !is_again && self.is_idle()
     }
 
     /// Whether the event whose turn it is was the last, and altered nothing.
     fn is_at_rest(&self) -> bool
         ensures { result ≡ is_at_rest self.now.recorded }
     {
-        let recording = &self.counting.recording;
-        self.standing() == recording.recorded()
+        self.standing() == self.session.recorded()
             && self.is_last_in_vain()
-            && is_turn_of(recording.last_event(), next_event(recording.machine()))
+            && is_turn_of(self.session.last_event(), next_event(self.machine()))
     }
 
     /// Whether the last change altered nothing, or none stands.
@@ -184,14 +176,14 @@ impl Target {
         ensures { result ≡ was_in_vain (last_of (standing_events self.now.recorded)) self.now.recorded }
     {
         let _standing = self.standing();
-        self.counting.recording.is_idle()
+        self.session.is_idle()
     }
 
     /// Whether the last change that stands altered nothing.
     fn is_idle(&self) -> bool
         ensures { (s : Standing) (e : Happening) → IsAfter (session_of self.now.recorded) s e → (IsTrue result ↔ (alteration s e ≡ [])) }
     {
-        self.counting.recording.is_idle()
+        self.session.is_idle()
     }
 
     /// Whether the last event is as far as was asked.
@@ -205,27 +197,24 @@ impl Target {
     }
 
     /// Whether an event that was run again is the last of the record.
-    fn is_at_end(&self, forwarded: Forwarded) -> bool
-        ensures { (before : Recorded) → IsTurn before self.now.recorded forwarded → result ≡ is_end_of (next_recorded before) self.now.recorded }
+    fn is_at_end(&self, is_again: bool) -> bool
+        ensures { (before : Recorded) → IsTurn before self.now.recorded is_again → result ≡ is_end_of (next_recorded before) self.now.recorded }
     {
-        match forwarded {
-            Forwarded::Again => self.standing() == self.counting.recording.recorded(),
-            Forwarded::New | Forwarded::Dropped(_) => false,
-        }
+        is_again && self.standing() == self.session.recorded()
     }
 
     /// Whether the last event that stands is one of the CPU.
     fn is_cpu_last(&self) -> bool
         ensures { result ≡ is_cpu_last (standing_events self.now.recorded) }
     {
-        matches!(self.counting.recording.last_event(), Some(EventKind::Cpu))
+        matches!(self.session.last_event(), Some(EventKind::Cpu))
     }
 
     /// Whether the CPU operates at a breakpoint which has no conditions, or one that holds.
     fn is_at_stop(&self) -> bool
         ensures { result ≡ is_at_stop (machine_of (session_of self.now.recorded)) self.now.points }
     {
-        self.points.stops(self.counting.recording.machine())
+        self.points.stops(self.session.machine())
     }
 
     /// The number of changes that stand.
@@ -233,7 +222,7 @@ impl Target {
         ensures standing { result ≡ self.now.recorded.standing }
         ensures within { result ≤ length self.now.recorded.events }
     {
-        self.counting.recording.standing()
+        self.session.standing()
     }
 
     /// The watched bytes that the change of this number was the last to alter, one of each watch at most, if there are any.
@@ -243,9 +232,7 @@ impl Target {
         if self.points.watches_nothing() {
             return None;
         }
-        let altered = self
-            .points
-            .bytes_altered_by(&self.counting.recording, number);
+        let altered = self.points.bytes_altered_by(&self.session, number);
         if altered.is_empty() {
             return None;
         }
@@ -257,7 +244,7 @@ impl Target {
         requires { 0 < self.old.recorded.standing }
         ensures { self.new ≡ record self.old { recorded = with_standing self.old.recorded (self.old.recorded.standing - 1) } }
     {
-        let _taken = self.counting.recording.back();
+        let _taken = self.session.step_back();
     }
 }
 

@@ -6,7 +6,6 @@ ghost use Rattle.s360_machine.specs.Refusals.{refusal_of_patch};
 ghost use Rattle.s360_remote.specs.Writing.{IsMadeOrBegun, IsWriteEnd, is_other, patch_count, patches_from_register, patches_of_bytes};
 ghost use Rattle.s360_remote.specs.Writing.{patches_of_words, register_write, registers_write, storage_write};
 
-use crate::counting::dropped_by;
 use crate::error_number::ErrorNumber;
 use crate::registers::{patch_of_psw, patch_of_word, words_of};
 use crate::target::Target;
@@ -31,7 +30,7 @@ impl Target {
         if !self.has_room_for(bytes.len().div_ceil(PATCH)) {
             return Err(ErrorNumber::Full);
         }
-        self.counting.dropped = 0;
+        self.session.forget_dropped();
         self.write_parts(at, bytes)
     }
 
@@ -45,7 +44,7 @@ impl Target {
         if !self.has_room_for(1) {
             return Err(ErrorNumber::Full);
         }
-        self.counting.dropped = 0;
+        self.session.forget_dropped();
         let patch = patch_of_word(self.machine(), number as u8, word);
         self.patch(patch)
     }
@@ -58,7 +57,7 @@ impl Target {
         if !self.has_room_for(REGISTERS) {
             return Err(ErrorNumber::Full);
         }
-        self.counting.dropped = 0;
+        self.session.forget_dropped();
         let before = words_of(self.machine());
         self.write_words(&before, words)
     }
@@ -146,8 +145,7 @@ impl Target {
         // Both are looked at, since their clauses have that storage is as large as at the start, and that what stands is recorded.
         let _machine = self.machine();
         let _standing = self.standing();
-        let forwarded = self.counting.recording.forward(Event::Patch(patch))?;
-        self.counting.dropped = dropped_by(forwarded, self.counting.dropped);
+        self.session.advance(Event::Patch(patch))?;
         Ok(())
     }
 }

@@ -42,6 +42,15 @@ last r 1
 until 0
 step
 to 3
+recorded
+again
+on 9
+last r 1
+step back
+recorded
+patch r 3 1
+recorded
+again
 standing";
 
 /// Their answers where so many changes may stand, and register 1 in the end.
@@ -69,7 +78,16 @@ Some(5)
 until 4
 [Psw, Register(1)]
 until 3
-3
+5
+true
+on 5
+Some(5)
+stepped back
+5
+[Register(3)]
+5
+false
+5
 7FFFFFFF
 ";
 

@@ -14,15 +14,19 @@ fn break_at(address: &str) -> Result<Breaks, Fault> {
     Ok(breaks)
 }
 
-/// The call that a line asks of a session: how many changes stand, a step back, going back to a change or to a
-/// breakpoint, a withdrawal, the last change of a byte or a register, a run with no breakpoint, or the event that it
-/// offers.
+/// The call that a line asks of a session: how many changes stand or are recorded, taking the last change out of the
+/// record or a step back, going back to a change or to a breakpoint, going on by one or to a change, a withdrawal, the
+/// last change of a byte or a register, a run with no breakpoint, or the event that it offers.
 pub(crate) fn call(alloc: Global, line: &str) -> Result<Call, Fault> {
     Ok(match line.split_once(" ") {
         None if line == "standing" => Call::Standing,
+        None if line == "recorded" => Call::Recorded,
         None if line == "back" => Call::Back,
+        None if line == "again" => Call::Again,
+        Some(("step", "back")) => Call::StepBack,
         Some(("until", address)) => Call::BackUntil(break_at(address)?),
         Some(("to", number)) => Call::BackTo(number.parse()?),
+        Some(("on", number)) => Call::AgainTo(number.parse()?),
         Some(("withdraw", number)) => Call::Withdraw(number.parse()?),
         Some(("last", place)) => Call::LastChange(place_of(place)?),
         Some(("run", most)) => Call::Run(Breaks::new(), most.parse()?),
@@ -129,11 +133,16 @@ pub(crate) fn text_of_answer(alloc: Global, answer: &Answer) -> Result<String, F
         Answer::Ran { accepted, end } => text_of_run(alloc, *accepted, end)?,
         Answer::TookBack(Ok(event)) => format!(in alloc; "{event:?}")?,
         Answer::TookBack(Err(fault)) => format!(in alloc; "{fault}")?,
+        Answer::SteppedBack(Ok(())) => format!(in alloc; "stepped back")?,
+        Answer::SteppedBack(Err(fault)) => format!(in alloc; "{fault}")?,
         Answer::WentBack(number) => format!(in alloc; "until {number}")?,
+        Answer::RanAgain(Ok(ran)) => format!(in alloc; "{ran}")?,
+        Answer::WentOn(Ok(number)) => format!(in alloc; "on {number}")?,
+        Answer::RanAgain(Err(_)) | Answer::WentOn(Err(_)) => return Err(Fault::Memory),
         Answer::Withdrew(Ok(())) => format!(in alloc; "withdrawn")?,
         Answer::Withdrew(Err(Withdrawal::Memory)) => return Err(Fault::Memory),
         Answer::Withdrew(Err(fault)) => format!(in alloc; "{fault}")?,
-        Answer::Stands(count) => format!(in alloc; "{count}")?,
+        Answer::Stands(count) | Answer::AreRecorded(count) => format!(in alloc; "{count}")?,
         Answer::LastChanged(number) => format!(in alloc; "{number:?}")?,
     })
 }

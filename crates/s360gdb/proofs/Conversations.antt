@@ -1,5 +1,5 @@
 -- A conversation goes on.
-use Rattle.std.proofs.Common.{◌≡◌, ◌≢◌, ◌∙◌, ◌≤◌, ◌<◌, ◌+◌, ap, sym, subst, refl, arith, ℕ, true, false, List, [], ◌∷◌, ◌++◌, length, take, get_or, inl, inr, zero, suc, Option, append_assoc}
+use Rattle.std.proofs.Common.{◌≡◌, ◌≢◌, ◌∙◌, ◌≤◌, ◌<◌, ◌+◌, ap, sym, subst, refl, arith, ℕ, false, List, [], ◌∷◌, ◌++◌, length, take, get_or, inl, inr, zero, suc, Option, append_assoc}
 use Rattle.std.proofs.lemmas.List.{append-nil, length-append, length-take-le, take_more}
 use Rattle.std.specs.Io.KnownBytes.{Appends, Consumes, IsAtEnd}
 use Rattle.std.proofs.KnownBytes.{Consumes-nil, Consumes-trans}

@@ -3,7 +3,7 @@ use Rattle.std.specs.Prelude.{◌≡◌, ℕ, IfSome, List, [], None, Option}
 use Rattle.std.specs.Io.KnownBytes.{Appends}
 use Rattle.s360_machine.specs.Machine.{Whole}
 use Rattle.s360_journal.specs.Standing.{Standing}
-use Rattle.s360_record.specs.Recorded.{Recorded, session_of}
+use Rattle.s360_journal.specs.Recorded.{Recorded, session_of}
 use Rattle.s360_debug.specs.Debugger.{new_debugger}
 use Rattle.s360_debug.specs.Lines.{lines_of}
 use Rattle.s360_debug.specs.Script.{answers_of, state_after_lines}
@@ -17,7 +17,7 @@ new_session start = record { start = start; events = []; limit = 10000000 }
 
 -- a recording as a target that nobody has asked anything of
 abbrev pub new_target : Recorded → Driven
-new_target recorded = record { recorded = recorded; points = record { breaks = []; conditional = []; watches = [] }; own = []; dropped = 0; stood = None; untold = nothing_untold }
+new_target recorded = record { recorded = recorded; points = record { breaks = []; conditional = []; watches = [] }; own = []; stood = None; untold = nothing_untold }
 
 -- a script of this text, where it is known, was carried out over a machine, and its answers are noted
 pub record IsFound (start : Whole) (script : Option (List ℕ)) (k l : Known) (recorded : Recorded) : Type 0 where

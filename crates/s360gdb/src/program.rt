@@ -17,8 +17,8 @@ use crate::opening::Opening;
 use itoa::Buffer;
 use s360_beginning::set_up;
 use s360_debug::carry_out;
+use s360_journal::Session;
 use s360_machine::Machine;
-use s360_record::Recording;
 use s360_remote::{Connection, Errand, Replies, Target};
 use s360_setup::{Failure, Fault, LIMIT, Options, Part, Program, open, tell};
 use s360_text::{Untaken, write_whole};
@@ -76,14 +76,14 @@ fn serve_after_script<F: Opening + Drop, N: Write + Drop, S: Read, R: Read, W: W
         files,
         notes,
     } = host;
-    let mut recording = Recording::new(alloc, machine, LIMIT);
-    let notes = carry_out(alloc, &mut recording, script, notes)?;
+    let mut session = Session::new(alloc, machine, LIMIT);
+    let notes = carry_out(alloc, &mut session, script, notes)?;
     let mut host = Host {
         alloc,
         files,
         notes,
     };
-    let mut target = Target::new(alloc, recording, LIMIT);
+    let mut target = Target::new(alloc, session, LIMIT);
     serve(&mut host, &mut target, reader, writer)?;
     Ok(host)
 }

@@ -1,5 +1,5 @@
 use Rattle.std.proofs.Common.{◌≡◌, ◌∙◌, Option, Some, ap, sym, ℕ}
-use Rattle.s360_record.specs.Recorded.{with_standing}
+use Rattle.s360_journal.specs.Recorded.{with_standing}
 use Rattle.s360_inquiry.specs.Changes.{last_change_in, stands_after_who}
 use Rattle.s360_inquiry.proofs.InquiryLemmas.{change-within}
 use Rattle.s360_inquiry.proofs.change.answer_who.Goals as goal

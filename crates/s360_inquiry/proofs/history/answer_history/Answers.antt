@@ -1,5 +1,5 @@
 use Rattle.std.proofs.Common.{◌+◌, ◌∙◌, ap, arith}
-use Rattle.s360_record.specs.Recorded.{Recorded, with_standing}
+use Rattle.s360_journal.specs.Recorded.{Recorded, with_standing}
 use Rattle.s360_inquiry.proofs.InquiryLemmas.{lines-more}
 use Rattle.s360_inquiry.proofs.history.answer_history.Goals as goal
 

@@ -1,5 +1,5 @@
 use Rattle.std.proofs.Common.{◌≡◌, ◌-◌}
-use Rattle.s360_record.specs.Recorded.{with_standing}
+use Rattle.s360_journal.specs.Recorded.{with_standing}
 use Rattle.s360_inquiry.specs.Histories.{lines_from}
 use Rattle.s360_inquiry.proofs.history.answer_history.Given as goal
 

@@ -1,6 +1,6 @@
 use Rattle.std.proofs.Common.{◌≡◌, ◌*◌, ◌+◌, ◌-◌, ◌++◌, ℕ, List, take}
 use Rattle.std.specs.List.{flat_map}
-use Rattle.s360_record.specs.Recorded.{with_standing}
+use Rattle.s360_journal.specs.Recorded.{with_standing}
 use Rattle.s360_inquiry.specs.declared.cause.Cause.{Cause}
 use Rattle.s360_inquiry.specs.Causes.{IsTold, cause_lines}
 use Rattle.s360_inquiry.proofs.why.+telling.Given as goal

@@ -1,5 +1,5 @@
 use Rattle.std.proofs.Common.{◌≡◌, ◌∙◌, [], ℕ, List, Result, Ok, Err, IfOk, ap, refl}
-use Rattle.s360_record.specs.Recorded.{Recorded, with_standing}
+use Rattle.s360_journal.specs.Recorded.{Recorded, with_standing}
 use Rattle.s360_inquiry.specs.declared.cause.Cause.{Cause}
 use Rattle.s360_inquiry.specs.Causes.{cause_lines, first_cause, told_lines, why_text}
 use Rattle.s360_inquiry.proofs.WhyLemmas.{same-record}

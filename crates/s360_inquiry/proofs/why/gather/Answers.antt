@@ -1,6 +1,6 @@
 use Rattle.std.proofs.Common.{All, List, subst, sym}
 use Rattle.std.proofs.lemmas.List.Elements.{All-push}
-use Rattle.s360_record.specs.Recorded.{Recorded, with_standing}
+use Rattle.s360_journal.specs.Recorded.{Recorded, with_standing}
 use Rattle.s360_inquiry.specs.declared.cause.Making.{Making}
 use Rattle.s360_inquiry.specs.Causes.{IsMaking}
 use Rattle.s360_inquiry.proofs.WhyLemmas.{kept-more, same-record}

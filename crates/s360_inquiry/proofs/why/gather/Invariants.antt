@@ -1,5 +1,5 @@
 use Rattle.std.proofs.Common.{◌≡◌, All}
-use Rattle.s360_record.specs.Recorded.{with_standing}
+use Rattle.s360_journal.specs.Recorded.{with_standing}
 use Rattle.s360_inquiry.specs.Causes.{IsMaking}
 use Rattle.s360_inquiry.proofs.why.gather.Given as goal
 

@@ -1,4 +1,4 @@
-use Rattle.std.proofs.Common.{◌≡◌, ◌∙◌, ◌≤◌, ◌<◌, sym, inl, inr, arith, rules, length}
+use Rattle.std.proofs.Common.{◌∙◌, ◌≤◌, sym, inl, inr, arith, rules, length}
 use Rattle.s360gdb.specs.Conversation.{new_connection}
 use Rattle.s360gdb.specs.Saving.{known_of}
 use Rattle.s360gdb.proofs.Conversations.{served_next, served_whole-at_end}

@@ -1,4 +1,4 @@
-use Rattle.std.proofs.Common.{◌≡◌, refl}
+use Rattle.std.proofs.Common.{refl}
 use Rattle.s360gdb.proofs.program.serve_after_script.Goals as goal
 
 pub returns-clause-served : goal.returns-clause-served
@@ -7,8 +7,8 @@ returns-clause-served g c = (
   record { noted = g.N.Write.contents c.in_ok-notes.notes; asked = g.F.Opening.asked c.args.host.files },
   c.serve.new.target,
   record {
-    stands = rw c.new-recording.ensures at c.in_ok-notes.ensures.state;
-    noted = rw c.new-recording.ensures at c.in_ok-notes.ensures.answers;
+    stands = rw c.new-session.ensures at c.in_ok-notes.ensures.state;
+    noted = rw c.new-session.ensures at c.in_ok-notes.ensures.answers;
     asked = refl;
   },
   rw c.new-target.ensures at c.in_ok-serve.ensures.served,

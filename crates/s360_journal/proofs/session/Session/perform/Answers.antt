@@ -1,4 +1,4 @@
-use Rattle.s360_journal.proofs.RunLemmas.{IsAnswer-advance, IsAnswer-forward, IsAnswer-preview}
+use Rattle.s360_journal.proofs.RunLemmas.{IsAnswer-advance, IsAnswer-back, IsAnswer-forward, IsAnswer-preview}
 use Rattle.s360_journal.proofs.session.Session.perform.Goals as goal
 
 pub returns-in-Forward : goal.returns-in-Forward
@@ -12,3 +12,7 @@ returns-in-Advance c =
 pub returns-in-Preview : goal.returns-in-Preview
 returns-in-Preview c =
     rw c.in-Preview.is (IsAnswer-preview c.args.self.now c.preview.new.self c.in-Preview.event c.preview.result c.preview.ensures.same c.preview.ensures.report c.preview.ensures.refused)
+
+pub returns-in-Back : goal.returns-in-Back
+returns-in-Back c =
+    rw c.in-Back.is (IsAnswer-back c.args.self.now c.back.new.self c.back.result c.back.ensures.ok c.back.ensures.recorded c.back.ensures.err c.back.ensures.nothing)

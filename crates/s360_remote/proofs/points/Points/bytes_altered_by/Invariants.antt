@@ -5,5 +5,5 @@ use Rattle.s360_remote.proofs.points.Points.bytes_altered_by.Given as goal
 
 abbrev pub invariant-loop-watch : goal.invariant-loop-watch
 invariant-loop-watch l =
-    (bytes_altered_by l.recording l.self.watches l.number ≡ fold (λ t v. with_altered l.recording l.number t v) l.altered (drop l.watch-index l.self.watches))
+    (bytes_altered_by l.session l.self.watches l.number ≡ fold (λ t v. with_altered l.session l.number t v) l.altered (drop l.watch-index l.self.watches))
     × (length l.altered ≤ l.watch-index)

@@ -5,7 +5,7 @@ use Rattle.s360_remote.proofs.points.Watch.byte_altered_by.Goals as goal
 
 pub returns-then-last_change_at-number : goal.returns-then-last_change_at-number
 returns-then-last_change_at-number c =
-    let r = c.args.recording.now
+    let r = c.args.session.now
     in let end : ℕ = c.args.self.at + c.args.self.count
     in let more : end - c.loop-at.at ≡ end - (c.loop-at.at + 1) + 1
     = omega (arith, c.loop-at-test.true, ap (λ (w : Watched). w.at) c.self.view_is, ap (λ (w : Watched). w.count) c.self.view_is)
@@ -14,7 +14,7 @@ returns-then-last_change_at-number c =
 
 pub loop-at-preserved : goal.loop-at-preserved
 loop-at-preserved c =
-    let r = c.args.recording.now
+    let r = c.args.session.now
     in let end : ℕ = c.args.self.at + c.args.self.count
     in let more : end - c.loop-at.at ≡ end - (c.loop-at.at + 1) + 1
     = omega (arith, c.loop-at-test.true, ap (λ (w : Watched). w.at) c.self.view_is, ap (λ (w : Watched). w.count) c.self.view_is)

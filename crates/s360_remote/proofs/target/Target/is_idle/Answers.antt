@@ -1,5 +1,5 @@
 use Rattle.std.proofs.Common.{◌∙◌, ap}
-use Rattle.s360_record.specs.Recorded.{session_of}
+use Rattle.s360_journal.specs.Recorded.{session_of}
 use Rattle.s360_remote.specs.Driven.{Driven}
 use Rattle.s360_remote.proofs.target.Target.is_idle.Goals as goal
 

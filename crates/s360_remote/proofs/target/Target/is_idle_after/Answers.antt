@@ -1,9 +1,10 @@
-use Rattle.s360_record.specs.Recorded.{session_of}
+use Rattle.s360_journal.specs.Recorded.{session_of}
+use Rattle.s360_journal.specs.Standing.{alteration}
 use Rattle.s360_remote.specs.Forward.{event_of_turn}
-use Rattle.s360_remote.proofs.ForwardLemmas.{IsAfter-turn, idle-other}
+use Rattle.s360_remote.proofs.ForwardLemmas.{idle-after}
 use Rattle.s360_remote.proofs.target.Target.is_idle_after.Goals as goal
 
-pub returns : goal.returns
-returns c = λ before turn.
-    let now = c.args.self.now.recorded
-    in idle-other before now c.args.forwarded c.is_idle.result c.in_default.not-Again turn (c.is_idle.ensures (session_of before) (event_of_turn before) (IsAfter-turn before now c.args.forwarded turn))
+pub returns-then-not-is_again : goal.returns-then-not-is_again
+returns-then-not-is_again c = λ before turn.
+    let e = event_of_turn before
+    in rw c.if-not-is_again.true at (idle-after before c.args.self.now.recorded c.args.is_again c.is_idle.result (alteration (session_of before) e) turn (c.is_idle.ensures (session_of before) e turn.stands))

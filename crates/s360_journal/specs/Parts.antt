@@ -1,0 +1,8 @@
+-- A list in two parts: the items that stand, the newest first, and those that come next.
+use Rattle.std.specs.Prelude.{ℕ, List}
+
+-- the parts, and how many items there is memory for
+pub record Parts (T : Type 0) : Type 0 where
+  pub past : List T
+  pub next : List T
+  pub room : ℕ

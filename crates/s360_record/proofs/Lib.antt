@@ -1,3 +1,0 @@
-pub mod MemoryLemmas
-pub mod RecordLemmas
-pub mod ReversingLemmas
