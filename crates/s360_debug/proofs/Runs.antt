@@ -2,7 +2,7 @@
 use Rattle.std.proofs.Common.{◌≡◌, ◌≤◌, ◌+◌, ◌++◌, ◌∷◌, [], ℕ, List, refl, sym, ap, ◌∙◌, Option, Some, None, Bool, true, false, nat_eq, length, append_assoc, add_assoc, arith, if◌then◌else◌, IfSome}
 use Rattle.std.proofs.lemmas.List.{append-nil, length-append}
 use Rattle.std.specs.Io.KnownBytes.{Appends}
-use Rattle.s360_journal.specs.Standing.{Standing}
+use Rattle.s360_journal.specs.Recorded.{Recorded}
 use Rattle.s360_language.specs.Reading.{reading_of}
 use Rattle.s360_debug.specs.Debugger.{Debugger}
 use Rattle.s360_debug.specs.Lines.{lines_from, lines_of, is_skipped, without_return}
@@ -153,7 +153,7 @@ IsStopped-unread old (Some text) d =
       stands = unmoved (reading_of first.next) d;
     }
 
-pub AreCarriedOut-cut : (old new remaining : Option (List ℕ)) (d : Debugger) (s : Standing)
+pub AreCarriedOut-cut : (old new remaining : Option (List ℕ)) (d : Debugger) (s : Recorded)
     → IfSome remaining (λ text. IsCut old new d s (lines_of text)) → IfSome remaining (λ text. AreCarriedOut d s (lines_of text))
 AreCarriedOut-cut old new None d s h = tt
 AreCarriedOut-cut old new (Some text) d s h = record {

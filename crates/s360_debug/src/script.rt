@@ -1,5 +1,4 @@
 //! A script that is carried out over a machine, and its answers.
-ghost use Rattle.s360_journal.specs.Recorded.{session_of};
 ghost use Rattle.std.specs.Prelude.{◌≡◌, ◌⊎◌, ◌≤◌, ◌<◌, [], true, length, IfOk, IfSome, OnOk, Err, None};
 ghost use Rattle.std.specs.Io.KnownBytes.{Appends, Keeps};
 ghost use Rattle.std.specs.Io.Buffered.{writer_buffer, writer_contents};
@@ -25,13 +24,12 @@ pub fn carry_out<R: Read, W: Write + Drop>(
     writer: W,
 ) -> Result<W, ScriptFault>
     ensures length { OnOk result (IfSome (R.remaining reader.old) (λ text. length text ≤ 1048576)) }
-    ensures answers { IfOk result (λ w. IfSome (R.remaining reader.old) (λ text. Appends (W.contents writer) (W.contents w) (answers_of (session_of session.old) text))) }
-    ensures state { OnOk result (IfSome (R.remaining reader.old) (λ text. session_of session.new ≡ (state_after_lines (new_debugger (session_of session.old)) (lines_of text)).session)) }
-    ensures limit { OnOk result ((session_of session.new).limit ≡ (session_of session.old).limit) }
+    ensures answers { IfOk result (λ w. IfSome (R.remaining reader.old) (λ text. Appends (W.contents writer) (W.contents w) (answers_of session.old text))) }
+    ensures state { OnOk result (IfSome (R.remaining reader.old) (λ text. session.new ≡ (state_after_lines (new_debugger session.old) (lines_of text)).session)) }
     ensures unread { (result ≡ Err read_failed) ⊎ (result ≡ Err TooLong) → session.new ≡ session.old }
     ensures too_long { result ≡ Err TooLong → IfSome (R.remaining reader.old) (λ text. 1048576 < length text) }
-    ensures memory { result ≡ Err Memory → IfSome (R.remaining reader.old) (λ text. IsStopped None None (new_debugger (session_of session.old)) (session_of session.new) (lines_of text)) }
-    ensures write { result ≡ Err write_failed → IfSome (R.remaining reader.old) (λ text. AreCarriedOut (new_debugger (session_of session.old)) (session_of session.new) (lines_of text)) }
+    ensures memory { result ≡ Err Memory → IfSome (R.remaining reader.old) (λ text. IsStopped None None (new_debugger session.old) session.new (lines_of text)) }
+    ensures write { result ≡ Err write_failed → IfSome (R.remaining reader.old) (λ text. AreCarriedOut (new_debugger session.old) session.new (lines_of text)) }
 {
     let Ok(mut buffered) = BufWriter::new(alloc, OneTry { writer }) else {
         return Err(ScriptFault::Memory);

@@ -1,10 +1,8 @@
 -- What a target is seen as.
 use Rattle.std.specs.Prelude.{ℕ, Bool, false, List, [], drop, Option}
 use Rattle.s360_journal.specs.Recorded.{Recorded}
-use Rattle.s360_remote.specs.Forward.{Paused}
+use Rattle.s360_remote.specs.Moving.{Moved}
 use Rattle.s360_remote.specs.Points.{Points}
-use Rattle.s360_remote.specs.declared.pause.Pause.{Pause}
-use Rattle.s360_remote.specs.declared.pause.Pause.TheVariants.{Watch}
 
 -- what gdb is still to be told: watched bytes that were altered together with one that it was told of; that the machine stands
 -- where it does; and, if gdb asks, whether the last line of its user moved the machine
@@ -29,11 +27,10 @@ pub record Driven : Type 0 where
 abbrev pub fresh : Driven → Driven
 fresh d = record d { recorded = record d.recorded { dropped = 0 } }
 
--- gdb is told of one of the bytes alone
-abbrev pub others_of : Pause → List ℕ
-others_of (Watch altered) = drop 1 altered
-others_of other = []
+-- the target, where the machine went to, with altered bytes of which gdb is to be told
+abbrev pub come_to : Driven → Moved → Driven
+come_to d moved = record d { recorded = moved.recorded; untold = record d.untold { altered = moved.altered } }
 
--- the target, where the machine went to
-abbrev pub moved_to : Driven → Paused → Driven
-moved_to d paused = record d { recorded = paused.state; untold = record d.untold { altered = others_of paused.why } }
+-- gdb was told of the first
+abbrev pub moved_to : Driven → Moved → Driven
+moved_to d moved = record d { recorded = moved.recorded; untold = record d.untold { altered = drop 1 moved.altered } }

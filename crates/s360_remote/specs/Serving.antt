@@ -20,12 +20,11 @@ use Rattle.s360_packet.specs.declared.request.Thread.{Thread}
 use Rattle.s360_packet.specs.declared.request.Thread.TheVariants.{Numbered}
 use Rattle.s360_packet.specs.declared.request.Request.{Request}
 use Rattle.s360_packet.specs.declared.request.Request.TheVariants.{Stopped, Registers, WriteRegisters, Register, WriteRegister, Storage, WriteStorage, Step, Continue, StepBack, ContinueBack, Insert, InsertIf, Remove, Supported, Description, MemoryMap, HasMoved, Extend, Restart, Run, Select, IsAlive, CurrentThread, Attached, FirstThreads, NextThreads, StopAcknowledging, Command, Detach, Kill, KillProcess}
-use Rattle.s360_journal.specs.Recorded.{session_of, standing_events, with_standing}
-use Rattle.s360_remote.specs.Backward.{gone_back}
+use Rattle.s360_journal.specs.Recorded.{after_events, session_of, standing_events, with_standing}
 use Rattle.s360_remote.specs.Conditions.{conditions_in}
 use Rattle.s360_remote.specs.Driven.{Driven, moved_to}
 use Rattle.s360_remote.specs.ErrorNumbers.{error_of}
-use Rattle.s360_remote.specs.Forward.{Paused, most_turns, resumed}
+use Rattle.s360_remote.specs.Moving.{Moved, gone_back, resumed, run_on}
 use Rattle.s360_inquiry.specs.Reading.{inquiry_of}
 use Rattle.s360_remote.specs.Monitor.{IsAnswered, IsBegun as IsMonitorBegun}
 use Rattle.s360_saving.specs.Reading.{Asked, saving_of}
@@ -37,8 +36,8 @@ use Rattle.s360_remote.specs.Untold.{after_stop, stop_before}
 use Rattle.s360_remote.specs.Writing.{IsWriteEnd, Write, register_write, registers_write, storage_write}
 use Rattle.s360_remote.specs.declared.error_number.ErrorNumber.{ErrorNumber}
 use Rattle.s360_remote.specs.declared.error_number.ErrorNumber.TheVariants.{NoThread, Address, Full, Malformed, Memory}
-use Rattle.s360_remote.specs.declared.pause.Reach.{Reach}
-use Rattle.s360_remote.specs.declared.pause.Reach.TheVariants as reach
+use Rattle.s360_journal.specs.declared.running.Reach.{Reach}
+use Rattle.s360_journal.specs.declared.running.Reach.TheVariants as reach
 use Rattle.s360_remote.specs.declared.serving.Then.{Then}
 use Rattle.s360_remote.specs.declared.serving.Then.TheVariants as then
 
@@ -54,19 +53,25 @@ abbrev pub after_told : Driven → Driven
 after_told d = record d { untold = after_stop d.untold d.points.watches }
 
 -- the machine paused: the target is as it was but for the machine, and gdb is told why
-abbrev pub IsPaused : Reach → Paused → Driven → Driven → Then → List ℕ → Type 0
-IsPaused reach paused d t next packets =
-    (t ≡ moved_to d paused) × (next ≡ then.GoOn) × (packets ≡ pause_packets reach (machine_now t) (last_kind_of (standing_events t.recorded)) paused.why)
+abbrev pub IsPaused : Reach → Moved → Driven → Driven → Then → List ℕ → Type 0
+IsPaused reach moved d t next packets =
+    (t ≡ moved_to d moved) × (next ≡ then.GoOn) × (packets ≡ pause_packets reach (machine_now t) (last_kind_of (standing_events t.recorded)) moved.altered moved.why)
 
 -- gdb was told what it was still to be told, and the machine stays where it is; else it goes on or back
-abbrev pub IsResumed : Option Stop → Reach → Paused → Driven → Driven → Then → List ℕ → Type 0
-IsResumed (Some stop) reach paused d t next packets = (t ≡ after_told d) × (next ≡ then.GoOn) × (packets ≡ stop_packet stop)
-IsResumed None reach paused d t next packets = IsPaused reach paused d t next packets
+abbrev pub IsResumed : Option Stop → Reach → Moved → Driven → Driven → Then → List ℕ → Type 0
+IsResumed (Some stop) reach moved d t next packets = (t ≡ after_told d) × (next ≡ then.GoOn) × (packets ≡ stop_packet stop)
+IsResumed None reach moved d t next packets = IsPaused reach moved d t next packets
 
 -- after want of memory: likewise, or the machine moved so
 abbrev pub IsResumedBegun : Option Stop → Driven → Driven → Type 0 → Type 0
 IsResumedBegun (Some stop) d t moved = t ≡ after_told d
 IsResumedBegun None d t moved = moved
+
+-- the machine went on and its pause is lost, or some first ones of the events stand
+abbrev pub HasGoneOn : Reach → Driven → Driven → Type 0
+HasGoneOn reach d t =
+    (t ≡ moved_to d (resumed d.points reach d.recorded))
+    ⊎ ((n : ℕ) × (t ≡ record (after_told d) { recorded = after_events d.recorded (take n (run_on d.points reach d.recorded).events) }))
 
 -- the machine is started anew: it goes back to the start of the record, and nothing else is told
 abbrev pub started_anew : Driven → Driven
@@ -202,10 +207,10 @@ then_after Extend = then.Extend
 then_after other = then.GoOn
 
 abbrev pub IsServed : Request → Driven → Driven → Then → List ℕ → Type 0
-IsServed Step d t next packets = IsResumed (told_first d) reach.Step (resumed d.points reach.Step d.recorded most_turns) d t next packets
-IsServed Continue d t next packets = IsResumed (told_first d) reach.Stop (resumed d.points reach.Stop d.recorded most_turns) d t next packets
-IsServed StepBack d t next packets = IsResumed (told_first d) reach.Step (gone_back d.points reach.Step d.recorded most_turns) d t next packets
-IsServed ContinueBack d t next packets = IsResumed (told_first d) reach.Stop (gone_back d.points reach.Stop d.recorded most_turns) d t next packets
+IsServed Step d t next packets = IsResumed (told_first d) reach.Step (resumed d.points reach.Step d.recorded) d t next packets
+IsServed Continue d t next packets = IsResumed (told_first d) reach.Stop (resumed d.points reach.Stop d.recorded) d t next packets
+IsServed StepBack d t next packets = IsResumed (told_first d) reach.Step (gone_back d.points reach.Step d.recorded) d t next packets
+IsServed ContinueBack d t next packets = IsResumed (told_first d) reach.Stop (gone_back d.points reach.Stop d.recorded) d t next packets
 IsServed (WriteStorage at bytes) d t next packets = IsWritten (storage_write d at bytes) d t next packets
 IsServed (WriteRegister number word) d t next packets = IsWritten (register_write d number word) d t next packets
 IsServed (WriteRegisters bytes) d t next packets = AreAllWritten bytes d t next packets
@@ -221,10 +226,10 @@ IsServed other d t next packets = (t ≡ d) × (next ≡ then_after other) × (p
 
 -- after want of memory: some first ones of its events stand, or all that it makes is there and its answer is lost
 abbrev pub IsBegun : Request → Driven → Driven → Type 0
-IsBegun Step d t = IsResumedBegun (told_first d) d t ((n : ℕ) × (t ≡ moved_to d (resumed d.points reach.Step d.recorded n)))
-IsBegun Continue d t = IsResumedBegun (told_first d) d t ((n : ℕ) × (t ≡ moved_to d (resumed d.points reach.Stop d.recorded n)))
-IsBegun StepBack d t = IsResumedBegun (told_first d) d t (t ≡ moved_to d (gone_back d.points reach.Step d.recorded most_turns))
-IsBegun ContinueBack d t = IsResumedBegun (told_first d) d t (t ≡ moved_to d (gone_back d.points reach.Stop d.recorded most_turns))
+IsBegun Step d t = IsResumedBegun (told_first d) d t (HasGoneOn reach.Step d t)
+IsBegun Continue d t = IsResumedBegun (told_first d) d t (HasGoneOn reach.Stop d t)
+IsBegun StepBack d t = IsResumedBegun (told_first d) d t (t ≡ moved_to d (gone_back d.points reach.Step d.recorded))
+IsBegun ContinueBack d t = IsResumedBegun (told_first d) d t (t ≡ moved_to d (gone_back d.points reach.Stop d.recorded))
 IsBegun (WriteStorage at bytes) d t = IsWriteBegun (storage_write d at bytes) d t
 IsBegun (WriteRegister number word) d t = IsWriteBegun (register_write d number word) d t
 IsBegun (WriteRegisters bytes) d t = AreAllBegun bytes d t

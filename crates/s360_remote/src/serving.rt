@@ -1,5 +1,5 @@
 //! What gdb asks, and what is answered. Source: gdb manual, "Packets", "Stop Reply Packets", "General Query Packets".
-ghost use Rattle.std.specs.Prelude.{◌≡◌, ◌≢◌, ◌≤◌, ◌+◌, ◌++◌, ℕ, List, Err, IfOk, OnErr, OnOk, SomeIff};
+ghost use Rattle.std.specs.Prelude.{◌≡◌, ◌≢◌, ◌≤◌, ◌+◌, ◌++◌, ℕ, List, drop, Err, IfOk, OnErr, OnOk, SomeIff};
 ghost use Rattle.s360_journal.specs.Standing.{last_kind_of};
 ghost use Rattle.s360_language.specs.Names.{refused_text};
 ghost use Rattle.s360_machine.specs.Machine.{storage_size};
@@ -7,16 +7,15 @@ ghost use Rattle.s360_packet.specs.Answers.{registers_text};
 ghost use Rattle.s360_packet.specs.Framing.{framed};
 ghost use Rattle.s360_packet.specs.declared.answer.Answer.TheVariants.{Done, Moved};
 ghost use Rattle.s360_journal.specs.Recorded.{standing_events};
-ghost use Rattle.s360_remote.specs.Backward.{gone_back};
 ghost use Rattle.s360_remote.specs.Conditions.{conditions_in};
-ghost use Rattle.s360_remote.specs.Driven.{Driven, moved_to, others_of};
-ghost use Rattle.s360_remote.specs.Forward.{most_turns, resumed};
+ghost use Rattle.s360_remote.specs.Driven.{Driven, moved_to};
+ghost use Rattle.s360_remote.specs.Moving.{gone_back, resumed};
 ghost use Rattle.s360_inquiry.specs.Reading.{inquiry_of};
 ghost use Rattle.s360_remote.specs.Monitor.{IsAnswered, IsBegun as IsMonitorBegun};
 ghost use Rattle.s360_remote.specs.Registers.{words_of};
 ghost use Rattle.s360_remote.specs.Replies.{console_packet, end_packets, idle_words, idle_words_of, line_text};
 ghost use Rattle.s360_remote.specs.Replies.{packet_of, pause_packets, register_of_number, stop_packet, storage_text};
-ghost use Rattle.s360_remote.specs.Serving.{AreAllBegun, AreAllWritten, IsBegun, IsResumed, IsResumedBegun, IsServed, IsTold};
+ghost use Rattle.s360_remote.specs.Serving.{AreAllBegun, AreAllWritten, HasGoneOn, IsBegun, IsResumed, IsResumedBegun, IsServed, IsTold};
 ghost use Rattle.s360_remote.specs.Serving.{IsCommandBegun, IsCommandServed, IsInsertIfBegun, IsInsertedIf, after_asking, set_if, started_anew, told_first, unmoved, with_moved};
 ghost use Rattle.s360_remote.specs.Serving.{after_write, insert_answer, machine_now, points_with, points_without, then_after, thread_answer, told};
 ghost use Rattle.s360_saving.specs.Reading.{saving_of};
@@ -26,13 +25,13 @@ ghost use Rattle.s360_remote.specs.declared.serving.Then.TheVariants.{GoOn};
 use crate::condition::read_conditions;
 use crate::error_number::ErrorNumber;
 use crate::monitor::monitor;
-use crate::pause::{Pause, Reach};
 use crate::points::{Altered, Watch};
 use crate::registers::words_of;
 use crate::replies::Replies;
 use crate::saving::save;
 use crate::target::Target;
 use byteorder::{BigEndian, ByteOrder};
+use s360_journal::{Pause, Reach};
 use s360_language::refusal_text;
 use s360_machine::{EventKind, Refusal};
 use s360_packet::{
@@ -178,8 +177,8 @@ impl Target {
 
     /// Tells what gdb is still to be told, or goes on and tells why the machine pauses.
     fn resume(&mut self, reach: Reach, replies: &mut Replies) -> Result<Then, AllocError>
-        ensures served { IfOk result (λ next. (packets : List ℕ) × IsResumed (told_first self.old) reach (resumed self.old.points reach self.old.recorded most_turns) self.old self.new next packets × (replies.new ≡ replies.old ++ packets)) }
-        ensures begun { OnErr result (IsResumedBegun (told_first self.old) self.old self.new ((n : ℕ) × (self.new ≡ moved_to self.old (resumed self.old.points reach self.old.recorded n)))) }
+        ensures served { IfOk result (λ next. (packets : List ℕ) × IsResumed (told_first self.old) reach (resumed self.old.points reach self.old.recorded) self.old self.new next packets × (replies.new ≡ replies.old ++ packets)) }
+        ensures begun { OnErr result (IsResumedBegun (told_first self.old) self.old self.new (HasGoneOn reach self.old self.new)) }
     {
         if let Some(stop) = self.untold.take_stop(&self.points) {
             return tell_stop(stop, replies);
@@ -190,8 +189,8 @@ impl Target {
 
     /// Tells what gdb is still to be told, or goes back and tells why the machine pauses.
     fn resume_back(&mut self, reach: Reach, replies: &mut Replies) -> Result<Then, AllocError>
-        ensures served { IfOk result (λ next. (packets : List ℕ) × IsResumed (told_first self.old) reach (gone_back self.old.points reach self.old.recorded most_turns) self.old self.new next packets × (replies.new ≡ replies.old ++ packets)) }
-        ensures begun { OnErr result (IsResumedBegun (told_first self.old) self.old self.new (self.new ≡ moved_to self.old (gone_back self.old.points reach self.old.recorded most_turns))) }
+        ensures served { IfOk result (λ next. (packets : List ℕ) × IsResumed (told_first self.old) reach (gone_back self.old.points reach self.old.recorded) self.old self.new next packets × (replies.new ≡ replies.old ++ packets)) }
+        ensures begun { OnErr result (IsResumedBegun (told_first self.old) self.old self.new (self.new ≡ moved_to self.old (gone_back self.old.points reach self.old.recorded))) }
     {
         if let Some(stop) = self.untold.take_stop(&self.points) {
             return tell_stop(stop, replies);
@@ -383,12 +382,12 @@ impl Target {
         reach: Reach,
         replies: &mut Replies,
     ) -> Result<Then, AllocError>
-        ensures state { self.new ≡ record self.old { untold = record self.old.untold { altered = others_of pause } } }
+        ensures state { self.new ≡ record self.old { untold = record self.old.untold { altered = drop 1 self.old.untold.altered } } }
         ensures next { IfOk result (λ next. next ≡ GoOn) }
-        ensures packets { OnOk result (replies.new ≡ replies.old ++ pause_packets reach (machine_now self.old) (last_kind_of (standing_events self.old.recorded)) pause) }
+        ensures packets { OnOk result (replies.new ≡ replies.old ++ pause_packets reach (machine_now self.old) (last_kind_of (standing_events self.old.recorded)) self.old.untold.altered pause) }
     {
-        let pushed = self.push_pause(&pause, reach, replies);
-        self.untold.altered = pause.others();
+        let pushed = self.push_pause(pause, reach, replies);
+        let _told = self.untold.altered.take_first();
         pushed?;
         Ok(Then::GoOn)
     }
@@ -396,22 +395,22 @@ impl Target {
     /// Adds what tells why the machine pauses. If nothing is left to do, or an event was refused, a text says so before the stop.
     fn push_pause(
         &self,
-        pause: &Pause,
+        pause: Pause,
         reach: Reach,
         replies: &mut Replies,
     ) -> Result<(), AllocError>
-        ensures { OnOk result (replies.new ≡ replies.old ++ pause_packets reach (machine_now self.now) (last_kind_of (standing_events self.now.recorded)) pause.now) }
+        ensures { OnOk result (replies.new ≡ replies.old ++ pause_packets reach (machine_now self.now) (last_kind_of (standing_events self.now.recorded)) self.now.untold.altered pause) }
     {
         match pause {
             Pause::Refused(refusal) => {
-                self.tell_refusal(*refusal, replies)?;
+                self.tell_refusal(refusal, replies)?;
                 replies.push(Answer::Stopped(Stop::Quiet))
             }
             Pause::Idle => {
                 self.tell_idle(replies)?;
                 replies.push(Answer::Stopped(Stop::Quiet))
             }
-            Pause::Break | Pause::Slice => replies.push(Answer::Stopped(Stop::Breakpoint)),
+            Pause::Break | Pause::Done => replies.push(Answer::Stopped(Stop::Breakpoint)),
             Pause::RecordEnd => push_end(
                 reach,
                 "end of what was recorded\n",
@@ -424,7 +423,7 @@ impl Target {
                 Stop::HistoryBegin,
                 replies,
             ),
-            Pause::Watch(altered) => replies.push(Answer::Stopped(match altered.first() {
+            Pause::Watch => replies.push(Answer::Stopped(match self.untold.altered.first() {
                 Some(at) => Stop::Watch { at },
                 None => Stop::Trap,
             })),

@@ -66,7 +66,7 @@ impl Target {
     fn has_room_for(&self, events: usize) -> bool
         ensures { result ≡ nat_le (self.now.recorded.standing + events) self.now.recorded.limit }
     {
-        (self.standing() as usize).saturating_add(events) <= self.limit as usize
+        (self.standing() as usize).saturating_add(events) <= self.session.limit() as usize
     }
 
     /// Gives storage from an address on these bytes, all of which are in storage. The record has room for the patches.

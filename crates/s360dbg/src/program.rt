@@ -3,7 +3,6 @@ ghost use Rattle.std.specs.Prelude.{◌≡◌, ◌≢◌, ◌≤◌, true, false
 ghost use Rattle.std.specs.Prelude.{IfErr, IfOk, IfSome, OnOk, Err};
 ghost use Rattle.std.specs.Io.KnownBytes.{Appends};
 ghost use Rattle.s360_model.specs.Storage.{is_storage_size};
-ghost use Rattle.s360_journal.specs.Recorded.{session_of};
 ghost use Rattle.s360_debug.specs.Debugger.{new_debugger};
 ghost use Rattle.s360_debug.specs.Lines.{lines_of};
 ghost use Rattle.s360_debug.specs.Script.{answers_of, state_after_lines};
@@ -60,8 +59,8 @@ fn answer<R: Read, W: Write + Drop>(
     writer: W,
 ) -> Result<W, Failure>
     ensures length { OnOk result (IfSome (R.remaining reader.old) (λ text. length text ≤ 1048576)) }
-    ensures answers { IfOk result (λ w. IfSome (R.remaining reader.old) (λ text. Appends (W.contents writer) (W.contents w) (answers_of (session_of session.old) text))) }
-    ensures state { OnOk result (IfSome (R.remaining reader.old) (λ text. session_of session.new ≡ (state_after_lines (new_debugger (session_of session.old)) (lines_of text)).session)) }
+    ensures answers { IfOk result (λ w. IfSome (R.remaining reader.old) (λ text. Appends (W.contents writer) (W.contents w) (answers_of session.old text))) }
+    ensures state { OnOk result (IfSome (R.remaining reader.old) (λ text. session.new ≡ (state_after_lines (new_debugger session.old) (lines_of text)).session)) }
     ensures failure { IfErr result IsScriptFailure }
 {
     Ok(carry_out(alloc, session, reader, writer)?)

@@ -83,7 +83,7 @@ fn serve_after_script<F: Opening + Drop, N: Write + Drop, S: Read, R: Read, W: W
         files,
         notes,
     };
-    let mut target = Target::new(alloc, session, LIMIT);
+    let mut target = Target::new(alloc, session);
     serve(&mut host, &mut target, reader, writer)?;
     Ok(host)
 }

@@ -3,4 +3,4 @@ use Rattle.s360_journal.proofs.RunningLemmas.{IsRunning}
 use Rattle.s360_journal.proofs.session.Session.run.Given as goal
 
 abbrev pub invariant-loop-turn : goal.invariant-loop-turn
-invariant-loop-turn l = IsRunning l.breaks l.initial.self l.self l.most (l.most - l._turn)
+invariant-loop-turn g l = IsRunning (g.S.Stops.stops_of l.stops) l.turn l.reach l.initial.self l.self l.most (l.most - l._turn)
