@@ -53,12 +53,15 @@ runs-again r t accepted few less is =
     in let count : min (r.standing + 1) (length r.events) ≡ r.standing + 1 = omega (arith, less)
     in let more : r.standing + 1 ≡ suc r.standing = omega arith
     in let state : t ≡ with_standing r (r.standing + 1) = is ∙ ap (λ n. with_standing r n) count
-    in (one.event, record {
-      next = one.next;
-      accepted = allowed r one accepted few less;
-      state = state ∙ sym (after_next r one.event one.next);
-      stands = ap (λ (k : Recorded). session_of k) state ∙ ap (λ n. record (session_of r) { events = take n r.events }) more ∙ ap (λ (es : List Event). record (session_of r) { events = es }) one.one;
-    })
+    in (
+      one.event,
+      record {
+        next = one.next;
+        accepted = allowed r one accepted few less;
+        state = state ∙ sym (after_next r one.event one.next);
+        stands = ap (λ (k : Recorded). session_of k) state ∙ ap (λ n. record (session_of r) { events = take n r.events }) more ∙ ap (λ (es : List Event). record (session_of r) { events = es }) one.one;
+      },
+    )
 
 -- one turn alone
 run_by-alone : (es : List Event) (pause : Option Pause) (others : Run) → others.events ≡ [] → (run_by es pause others).events ≡ es

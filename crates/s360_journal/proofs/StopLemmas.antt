@@ -49,20 +49,20 @@ back-stops breaks (suc n) r within h =
     = λ b. elim b as (λ x. nat_eq r.standing 0 ≡ x → (back_of (stops_at breaks) Stop r (suc n)).standing ≡ stop_of (seen r.start) (standing_events r) breaks) [
       | true ↦ λ is. let none : r.standing ≡ 0 = eqb-eq r.standing 0 is in rw none refl
       | false ↦ λ is.
-        let some : 0 < r.standing = pos_of_ne-zero (λ no. true≢false (sym (eq-eqb r.standing 0 no) ∙ is))
-        in let t : Recorded = one_back r
-        in let last : IsThere r.events t.standing = there t.standing r.events (omega (arith, some, within))
-        in let more : suc (r.standing - 1) ≡ r.standing = omega (arith, some)
-        in let split : standing_events r ≡ standing_events t ++ last.event ∷ [] = ap (λ k. take k r.events) (sym more) ∙ last.one
-        in let count : length (standing_events t) ≡ r.standing - 1 = length-take-le (r.standing - 1) r.events (omega (arith, within))
-        in let later : (back_of (stops_at breaks) Stop t n).standing ≡ stop_of (seen r.start) (standing_events t) breaks = back-stops breaks n t (omega (arith, within)) (omega (arith, h, some))
-        in let pushed : (c : Bool) → is_at_breakpoint (machine_of (session_of t)) breaks ≡ c → stop_of (seen r.start) (standing_events r) breaks ≡ cond c (length (standing_events t)) (stop_of (seen r.start) (standing_events t) breaks)
-        = λ c here. ap (λ es. stop_of (seen r.start) es breaks) split ∙ stop_of-push (seen r.start) (standing_events t) last.event breaks c here
-        in let at : (c : Bool) → is_at_breakpoint (machine_of (session_of t)) breaks ≡ c → (back_of (stops_at breaks) Stop r (suc n)).standing ≡ stop_of (seen r.start) (standing_events r) breaks
-        = λ c. elim c as (λ x. is_at_breakpoint (machine_of (session_of t)) breaks ≡ x → (back_of (stops_at breaks) Stop r (suc n)).standing ≡ stop_of (seen r.start) (standing_events r) breaks) [
-          | true ↦ λ here. rw (is, here) (sym count ∙ sym (pushed true here))
-          | false ↦ λ here. rw (is, here) (later ∙ sym (pushed false here))
-        ]
-        in at (is_at_breakpoint (machine_of (session_of t)) breaks) refl
+          let some : 0 < r.standing = pos_of_ne-zero (λ no. true≢false (sym (eq-eqb r.standing 0 no) ∙ is))
+          in let t : Recorded = one_back r
+          in let last : IsThere r.events t.standing = there t.standing r.events (omega (arith, some, within))
+          in let more : suc (r.standing - 1) ≡ r.standing = omega (arith, some)
+          in let split : standing_events r ≡ standing_events t ++ last.event ∷ [] = ap (λ k. take k r.events) (sym more) ∙ last.one
+          in let count : length (standing_events t) ≡ r.standing - 1 = length-take-le (r.standing - 1) r.events (omega (arith, within))
+          in let later : (back_of (stops_at breaks) Stop t n).standing ≡ stop_of (seen r.start) (standing_events t) breaks = back-stops breaks n t (omega (arith, within)) (omega (arith, h, some))
+          in let pushed : (c : Bool) → is_at_breakpoint (machine_of (session_of t)) breaks ≡ c → stop_of (seen r.start) (standing_events r) breaks ≡ cond c (length (standing_events t)) (stop_of (seen r.start) (standing_events t) breaks)
+          = λ c here. ap (λ es. stop_of (seen r.start) es breaks) split ∙ stop_of-push (seen r.start) (standing_events t) last.event breaks c here
+          in let at : (c : Bool) → is_at_breakpoint (machine_of (session_of t)) breaks ≡ c → (back_of (stops_at breaks) Stop r (suc n)).standing ≡ stop_of (seen r.start) (standing_events r) breaks
+          = λ c. elim c as (λ x. is_at_breakpoint (machine_of (session_of t)) breaks ≡ x → (back_of (stops_at breaks) Stop r (suc n)).standing ≡ stop_of (seen r.start) (standing_events r) breaks) [
+            | true ↦ λ here. rw (is, here) (sym count ∙ sym (pushed true here))
+            | false ↦ λ here. rw (is, here) (later ∙ sym (pushed false here))
+          ]
+          in at (is_at_breakpoint (machine_of (session_of t)) breaks) refl
     ]
     in start (nat_eq r.standing 0) refl

@@ -72,7 +72,10 @@ pub enum Answer {
     /// Of `Session::step_back`.
     SteppedBack(Result<(), NothingStands>),
     /// Of `Session::run_back`, with the number of changes that stand then.
-    RanBack { standing: u32, why: Pause },
+    RanBack {
+        standing: u32,
+        why: Pause,
+    },
     /// Of `Session::back_until` and `Session::back_to`.
     WentBack(u32),
     /// Of `Session::again`.
@@ -112,7 +115,10 @@ impl Session {
             Call::StepBack => Answer::SteppedBack(self.step_back()),
             Call::RunBack(breaks, reach, most) => {
                 let why = self.run_back(&breaks, reach, most);
-                Answer::RanBack { standing: self.standing(), why }
+                Answer::RanBack {
+                    standing: self.standing(),
+                    why,
+                }
             }
             Call::BackUntil(breaks) => Answer::WentBack(self.back_until(&breaks)),
             Call::BackTo(number) => Answer::WentBack(self.back_to(number)),

@@ -89,7 +89,7 @@ impl Session {
         ensures state { OnOk result (AreRun self.old (run_in (S.stops_of stops.now) turn reach self.old most).events self.new) }
         ensures memory { OnErr result ((n : ℕ) × AreRun self.old (take n (run_in (S.stops_of stops.now) turn reach self.old most).events) self.new) }
     {
-        for _turn in 0..most {
+        for _event in 0..most {
             if let Some(pause) = self.take_turn(stops, turn, reach)? {
                 return Ok(pause);
             }
@@ -148,7 +148,7 @@ impl Session {
         ensures state { self.new ≡ with_standing self.old (back_of (S.stops_of stops.now) reach self.old most).standing }
         ensures within { self.new.standing ≤ self.old.standing }
     {
-        for _turn in 0..most {
+        for _change in 0..most {
             if let Some(pause) = self.take_back(stops, reach) {
                 return pause;
             }
@@ -169,11 +169,11 @@ impl Session {
         }
         let is_cpu = reach == Reach::Step && self.is_cpu_last();
         let _taken = self.step_back();
-        let is_reached = match reach {
+        let is_far_enough = match reach {
             Reach::Step => is_cpu,
             Reach::Stop => stops.is_at_stop(self.machine()),
         };
-        is_reached.then_some(reach.pause())
+        is_far_enough.then_some(reach.pause())
     }
 
     /// Whether the last event that stands is one of the CPU.
