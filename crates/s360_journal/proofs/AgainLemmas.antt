@@ -1,5 +1,5 @@
 -- What was taken back is run again.
-use Rattle.std.proofs.Common.{◌≡◌, ◌<◌, ◌≤◌, ◌+◌, ◌++◌, ◌∙◌, ℕ, zero, suc, List, [], ◌∷◌, Option, Some, None, refl, ap, sym, subst, arith, length, min, take, drop, true}
+use Rattle.std.proofs.Common.{◌≡◌, ◌<◌, ◌≤◌, ◌+◌, ◌++◌, ◌∙◌, ℕ, zero, suc, List, [], ◌∷◌, Option, Some, None, refl, ap, sym, subst, arith, length, take, drop, true}
 use Rattle.std.proofs.lemmas.Bool.{lt-ltb}
 use Rattle.std.proofs.lemmas.List.{append-nil, length-take-le}
 use Rattle.std.specs.List.{slice_get}
@@ -18,7 +18,7 @@ use Rattle.s360_journal.specs.declared.running.Pause.{Pause}
 use Rattle.s360_journal.specs.declared.running.Reach.{Reach}
 use Rattle.s360_journal.specs.declared.running.Turn.TheVariants.{Next}
 use Rattle.s360_journal.proofs.HistoryLemmas.{IsStep, IsStep-from}
-use Rattle.s360_journal.specs.Recorded.{IsRunAgain, Recorded, after_events, rest_of, session_of, standing_events, with_standing}
+use Rattle.s360_journal.specs.Recorded.{IsRunAgain, Recorded, after_events, next_recorded, rest_of, session_of, standing_events, with_standing}
 use Rattle.s360_journal.proofs.RecordedLemmas.{AreAccepted-next, after_next}
 
 -- an event that stands between those before it and those after it
@@ -46,22 +46,34 @@ allowed r one accepted few less =
     in rw step.accepted (rw room refl)
 
 -- the next event of an accepted record
-pub runs-again : (r t : Recorded) → AreAccepted (seen r.start) r.events → length r.events ≤ r.limit → r.standing < length r.events
-    → t ≡ with_standing r (min (r.standing + 1) (length r.events)) → (e : Event) × IsRunAgain r t e
+pub runs-again : (r t : Recorded) → AreAccepted (seen r.start) r.events → length r.events ≤ r.limit → r.standing < length r.events → t ≡ with_standing r (r.standing + 1)
+    → (e : Event) × IsRunAgain r t e
 runs-again r t accepted few less is =
     let one : IsThere r.events r.standing = there r.standing r.events less
-    in let count : min (r.standing + 1) (length r.events) ≡ r.standing + 1 = omega (arith, less)
     in let more : r.standing + 1 ≡ suc r.standing = omega arith
-    in let state : t ≡ with_standing r (r.standing + 1) = is ∙ ap (λ n. with_standing r n) count
-    in (
-      one.event,
-      record {
-        next = one.next;
-        accepted = allowed r one accepted few less;
-        state = state ∙ sym (after_next r one.event one.next);
-        stands = ap (λ (k : Recorded). session_of k) state ∙ ap (λ n. record (session_of r) { events = take n r.events }) more ∙ ap (λ (es : List Event). record (session_of r) { events = es }) one.one;
-      },
-    )
+    in (one.event, record {
+      next = one.next;
+      accepted = allowed r one accepted few less;
+      state = is ∙ sym (after_next r one.event one.next);
+      stands = ap (λ (k : Recorded). session_of k) is ∙ ap (λ n. record (session_of r) { events = take n r.events }) more ∙ ap (λ (es : List Event). record (session_of r) { events = es }) one.one;
+    })
+
+-- and that event alone
+none-dropped : (n : ℕ) (e : Event) → slice_get (drop n []) 0 ≡ Some e → ⊥
+none-dropped zero e h = cc
+none-dropped (suc n) e h = cc
+
+next-less : (n : ℕ) (es : List Event) (e : Event) → slice_get (drop n es) 0 ≡ Some e → n < length es
+next-less n [] e h = absurd (none-dropped n e h)
+next-less zero (x ∷ es) e h = omega arith
+next-less (suc n) (x ∷ es) e h = omega (arith, next-less n es e h)
+
+pub runs-that : (r t : Recorded) (e : Event) → AreAccepted (seen r.start) r.events → length r.events ≤ r.limit → next_recorded r ≡ Some e → t ≡ with_standing r (r.standing + 1) → IsRunAgain r t e
+runs-that r t e accepted few next is =
+    let again = runs-again r t accepted few (next-less r.standing r.events e next) is
+    in let both : Some again.0 ≡ Some e = sym again.1.next ∙ next
+    in let same : again.0 ≡ e = cc
+    in subst (λ x. IsRunAgain r t x) same again.1
 
 -- one turn alone
 run_by-alone : (es : List Event) (pause : Option Pause) (others : Run) → others.events ≡ [] → (run_by es pause others).events ≡ es
@@ -79,6 +91,6 @@ runs-one stops reach r t e ran =
 pub TurnRunsAgain-holds : TurnRunsAgain
 TurnRunsAgain-holds stops reach r accepted few some within =
     let before : Recorded = one_back r
-    in let count : min (before.standing + 1) (length before.events) ≡ r.standing = omega (arith, some, within)
+    in let count : before.standing + 1 ≡ r.standing = omega (arith, some)
     in let again = runs-again before r accepted few (omega (arith, some, within)) (ap (λ n. with_standing r n) (sym count))
     in ap (λ es. after_events before es) (runs-one stops reach before r again.0 again.1) ∙ sym again.1.state

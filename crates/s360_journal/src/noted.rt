@@ -40,6 +40,7 @@ pub(crate) enum Noted<'a> {
 }
 
 /// The event of a tag, with the unit and the whole event that are the nearest apart.
+#[inline(always)]
 pub(crate) fn note_of<'a>(
     tag: Option<&Tag>,
     unit: Option<&Unit>,
@@ -58,6 +59,7 @@ pub(crate) fn note_of<'a>(
 
 impl Noted<'_> {
     /// An event that is equal to it.
+    #[inline(always)]
     pub(crate) fn event(self) -> Result<Event, AllocError>
         ensures { IfOk result (λ event. event ≡ event_noted self.entry) }
     {

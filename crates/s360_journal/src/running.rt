@@ -108,7 +108,7 @@ impl Session {
         ensures taken { IfOk result (λ pause. IsTurn (S.stops_of stops.now) turn reach self.old pause self.new) }
         ensures memory { OnErr result (self.new ≡ self.old) }
     {
-        if turn == Turn::Next && self.again()? {
+        if turn == Turn::Next && self.standing() < self.recorded() && self.again()? {
             return Ok(self.pause_after(stops, reach, true));
         }
         let event = next_event(self.machine());

@@ -1,5 +1,5 @@
 //! The session: the machine, and the journal of the changes that stand.
-ghost use Rattle.std.specs.Prelude.{◌≡◌, ◌↔◌, ◌-◌, ◌+◌, ◌<◌, ◌++◌, ◌∷◌, ◌≤◌, [], length, take, OnOk, OnErr, IfOk, IsTrue, Err};
+ghost use Rattle.std.specs.Prelude.{◌≡◌, ◌↔◌, ◌-◌, ◌+◌, ◌<◌, ◌++◌, ◌∷◌, ◌≤◌, [], Some, length, take, OnOk, OnErr, IfOk, IsTrue, Err};
 ghost use Rattle.std.specs.Prelude.{IsOkUnless, MatchOption, max, min};
 ghost use Rattle.std.specs.Option.{unwrap_or};
 ghost use Rattle.s360_machine.specs.Machine.{seen, storage_size};
@@ -360,12 +360,26 @@ impl Session {
         ensures state { OnOk result (self.new ≡ with_standing self.old (min (self.old.standing + 1) (length self.old.events))) }
         ensures err { OnErr result (self.new ≡ self.old) }
     {
-        let Some(event) = self.timeline.next()? else {
-            return Ok(false);
-        };
+        match self.timeline.next()? {
+            None => return Ok(false),
+            // So the compiler has the most frequent event for itself.
+            Some(Event::Cpu) => self.make_again(Event::Cpu)?,
+            Some(event) => self.make_again(event)?,
+        }
+        Ok(true)
+    }
+
+    /// Makes the change of the event that comes next in the record, which then stands. Want of memory changes nothing.
+    #[inline(always)]
+    fn make_again(&mut self, event: Event) -> Result<(), AllocError>
+        requires { next_recorded self.old ≡ Some event }
+        ensures event { OnOk result (IsRunAgain self.old self.new event) }
+        ensures state { OnOk result (self.new ≡ with_standing self.old (self.old.standing + 1)) }
+        ensures err { OnErr result (self.new ≡ self.old) }
+    {
         self.journal.make(&event)?;
         self.timeline.on();
-        Ok(true)
+        Ok(())
     }
 
     /// Goes on to a change: runs the recorded events again up to the one of this number, or all if no more are recorded, or

@@ -151,6 +151,7 @@ impl Timeline {
 
     /// The first event of the rest stands.
     #[tactic(auto, using(crate::proofs::TimelineLemmas::none_there))]
+    #[inline(always)]
     pub(crate) fn on(&mut self)
         requires { self.old.rest ≢ [] }
         ensures standing { self.new.standing ≡ self.old.standing ++ take 1 self.old.rest }
@@ -205,6 +206,7 @@ impl Timeline {
 
     /// The first event of the rest.
     #[tactic(auto, using(crate::proofs::TimelineLemmas::first_of_events))]
+    #[inline(always)]
     fn first(&self) -> Option<Noted<'_>>
         ensures { option_map event_noted result ≡ slice_get self.now.rest 0 }
     {
@@ -241,6 +243,7 @@ impl Timeline {
     }
 
     /// An event that is equal to the first of the rest, if there is one.
+    #[inline(always)]
     pub(crate) fn next(&self) -> Result<Option<Event>, AllocError>
         ensures { IfOk result (λ event. event ≡ slice_get self.now.rest 0) }
     {

@@ -20,7 +20,7 @@ mod writing;
 pub use connection::Connection;
 pub use errand::Errand;
 pub use error_number::ErrorNumber;
-pub use laws::{both_words_are_the_psw, turn_runs_again};
+pub use laws::both_words_are_the_psw;
 pub use points::{Altered, Points, Watch};
 pub use registers::{patch_of_psw, patch_of_word, words_of};
 pub use replies::Replies;

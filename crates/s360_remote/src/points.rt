@@ -319,11 +319,13 @@ impl Stops for Points {
     ghost stops_of = { λ p. stops_of p };
 
     /// Whether the CPU operates at a breakpoint which has no conditions, or one that holds.
+    #[inline(always)]
     fn is_at_stop(&self, machine: &Machine) -> bool {
         self.breaks.is_at_stop(machine) && !self.is_passed(machine)
     }
 
     /// Whether the last change altered watched bytes.
+    #[inline(always)]
     fn is_altered(&self, session: &Session) -> bool {
         !self.watches.is_empty() && !self.bytes_altered(session).is_empty()
     }
