@@ -3,3 +3,4 @@ pub mod DifferenceLemmas
 pub mod UnitChangeLemmas
 pub mod KnownChannels
 mod KnownTapes
+mod OldExecution
