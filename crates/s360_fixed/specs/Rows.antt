@@ -44,10 +44,7 @@ pub data Meaning : Type 0 where
   -- none: R1 is compared with the second operand, both read in one way
   comparison : (ℕ → ℤ) → Meaning
 
--- the kinds of condition code
-abbrev pub kept : ℤ → CodeSetting
-kept n = unchanged
-
+-- the condition code of an exact signed number: by its sign, and where an overflow is told, of a word or of a pair
 abbrev pub by_sign : ℤ → CodeSetting
 by_sign n = set_to (sign_code n)
 
@@ -57,57 +54,28 @@ by_sign_or_overflow n = set_by_signed (signed_code n)
 abbrev pub by_sign_or_pair_overflow : ℤ → CodeSetting
 by_sign_or_pair_overflow n = set_by_signed (signed_pair_code n)
 
-abbrev pub kept_word : ℕ → CodeSetting
-kept_word word = unchanged
-
-abbrev pub by_sign_of_word : ℕ → CodeSetting
-by_sign_of_word word = set_to (sign_code (signed word))
-
-abbrev pub by_carry : ℕ → CodeSetting
-by_carry sum = set_to (carry_code sum)
-
+-- of the bits of a word
 abbrev pub by_bits : ℕ → CodeSetting
 by_bits word = set_to (bits_code word)
 
--- results of the second operand alone
-abbrev pub second_operand : ℕ → ℕ → ℕ
-second_operand first second = second
-
-abbrev pub complement_of_second : ℕ → ℕ → ℤ
-complement_of_second first second = signed_complement second
-
-abbrev pub absolute_value_of_second : ℕ → ℕ → ℤ
-absolute_value_of_second first second = absolute_value second
-
-abbrev pub negative_absolute_value_of_second : ℕ → ℕ → ℤ
-negative_absolute_value_of_second first second = negative_absolute_value second
-
--- a byte in place of the low eight bits
-abbrev pub inserted_character : ℕ → ℕ → ℕ
-inserted_character first second = first / 256 * 256 + second % 256
-
--- a word read as an unsigned number
-abbrev pub unsigned : ℕ → ℤ
-unsigned word = pos word
-
--- what is made of R1 and the second operand
+-- what is made of R1 and the second operand. A character that is inserted is a byte in place of the low eight bits
 abbrev pub meaning_of : Combination → Meaning
-meaning_of Second = word_result second_operand kept_word
-meaning_of InsertedCharacter = word_result inserted_character kept_word
-meaning_of Tested = word_result second_operand by_sign_of_word
-meaning_of Complement = signed_result complement_of_second by_sign_or_overflow
-meaning_of Absolute = signed_result absolute_value_of_second by_sign_or_overflow
-meaning_of NegativeAbsolute = signed_result negative_absolute_value_of_second by_sign
+meaning_of Second = word_result (λ first second. second) (λ word. unchanged)
+meaning_of InsertedCharacter = word_result (λ first second. first / 256 * 256 + second % 256) (λ word. unchanged)
+meaning_of Tested = word_result (λ first second. second) (λ word. by_sign (signed word))
+meaning_of Complement = signed_result (λ first second. signed_complement second) by_sign_or_overflow
+meaning_of Absolute = signed_result (λ first second. absolute_value second) by_sign_or_overflow
+meaning_of NegativeAbsolute = signed_result (λ first second. negative_absolute_value second) by_sign
 meaning_of Sum = signed_result signed_sum by_sign_or_overflow
 meaning_of Difference = signed_result signed_difference by_sign_or_overflow
-meaning_of LogicalSum = logical_result logical_sum by_carry
-meaning_of LogicalDifference = logical_result logical_difference by_carry
+meaning_of LogicalSum = logical_result logical_sum (λ sum. set_to (carry_code sum))
+meaning_of LogicalDifference = logical_result logical_difference (λ sum. set_to (carry_code sum))
 meaning_of Comparison = comparison signed
-meaning_of LogicalComparison = comparison unsigned
+meaning_of LogicalComparison = comparison pos
 meaning_of BitwiseAnd = word_result bit_and by_bits
 meaning_of BitwiseOr = word_result bit_or by_bits
 meaning_of BitwiseExclusiveOr = word_result bit_xor by_bits
-meaning_of LowProduct = signed_result signed_product kept
+meaning_of LowProduct = signed_result signed_product (λ product. unchanged)
 
 -- when a branch on index is taken, by the sum and the comparand
 abbrev pub is_taken : IndexBranch → ℤ → ℤ → Bool

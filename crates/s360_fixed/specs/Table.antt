@@ -1,6 +1,7 @@
 -- The operation codes: the format and the operation of each (GA22-6821, "Operation Codes"), and the
 -- fields of the formats ("System Structure", program execution).
-use Rattle.std.specs.Prelude.{ℕ, ◌+◌, ◌*◌, ◌/◌, ◌%◌, nat_lt, if◌then◌else◌, Option, Some, None, List, [], ◌∷◌, slice_index}
+use Rattle.std.specs.Prelude.{ℕ, ◌+◌, ◌*◌, ◌/◌, ◌%◌, nat_lt, if◌then◌else◌, Option, List, [], ◌∷◌, slice_index}
+use Rattle.std.specs.Option.{option_map}
 use Rattle.s360_model.specs.Tables.{entry_in}
 use Rattle.s360_fixed.specs.declared.operation.Operation.{Operation}
 use Rattle.s360_fixed.specs.declared.operation.Operation.TheVariants.{SetProgramMask, BranchAndLink, BranchOnCount, BranchOnCondition, SetStorageKey}
@@ -152,7 +153,4 @@ form_with Ss op bytes = ss op (slice_index bytes 1) (high_digit bytes 2) (displa
 
 -- the instruction that bytes are; none where their first is no operation code
 abbrev pub form_of : List ℕ → Option Form
-form_of bytes = with_fields (entry_of (slice_index bytes 0)) where
-  with_fields : Option Entry → Option Form
-  with_fields None = None
-  with_fields (Some e) = Some (form_with e.format e.operation bytes)
+form_of bytes = option_map (λ (e : Entry). form_with e.format e.operation bytes) (entry_of (slice_index bytes 0))
