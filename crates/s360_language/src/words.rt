@@ -1,7 +1,7 @@
 //! The words of a line: what stands between its blanks.
 ghost use Rattle.std.specs.Prelude.{◌≡◌, ◌≤◌, ◌+◌, ◌∷◌, [], MatchOption, IfSome, length, nat_eq, not};
 ghost use Rattle.std.specs.List.{position};
-ghost use Rattle.s360_language.specs.Reading.{is_word};
+ghost use Rattle.s360_language.specs.Lines.{is_word};
 ghost use Rattle.s360_language.specs.Words.{behind_word, text_behind, words_of};
 
 use std::marker::Model;

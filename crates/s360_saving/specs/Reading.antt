@@ -1,11 +1,10 @@
--- The reading of a line as one that saves (own profile): `save WHAT FILE`, or `save! WHAT FILE`, which writes over a file that
--- is there. FILE is the rest of the line, and may have blanks in it.
-use Rattle.std.specs.Prelude.{ℕ, Bool, true, false, nat_eq, nat_lt, not, if◌then◌else◌, Option, None, Some, Result, Ok, Err, List, [], ◌∷◌, codes, length}
+-- The lines that save (own profile): `save WHAT FILE`, or `save! WHAT FILE`, which writes over a file that is there. FILE is
+-- the rest of the line, and may have blanks in it.
+use Rattle.std.specs.Prelude.{ℕ, Bool, true, false, nat_eq, not, if◌then◌else◌, Option, None, Some, Result, List, [], ◌∷◌, codes}
 use Rattle.s360_device.specs.declared.card.PunchStacker.TheVariants.{P1, P2, Rp3}
 use Rattle.s360_language.specs.declared.command.LineFault.{LineFault}
-use Rattle.s360_language.specs.declared.command.LineFault.TheVariants.{Argument}
-use Rattle.s360_language.specs.Reading.{and_then, argument, is_word, longest_line}
-use Rattle.s360_language.specs.Words.{behind_word, from_first, words_of}
+use Rattle.s360_language.specs.Lines.{Line, if_known, is_word, judged, line, takes, text}
+use Rattle.s360_language.specs.Words.{behind_word, from_first}
 use Rattle.s360_saving.specs.declared.saving.Medium.{Medium}
 use Rattle.s360_saving.specs.declared.saving.Medium.TheVariants.{Printer, Punch, Console, Tape0, Tape1}
 
@@ -32,23 +31,17 @@ medium_of word =
 abbrev pub name_in : List ℕ → List ℕ
 name_in line = from_first (λ b. not (nat_eq b 32)) (behind_word (behind_word line))
 
--- the name is not empty
-abbrev pub asked_in : Bool → List ℕ → Medium → Result Asked LineFault
-asked_in over [] what = Err (Argument 2)
-asked_in over (b ∷ bs) what = Ok (record { what = what; name = b ∷ bs; over = over })
+-- a name is not empty
+abbrev pub file_name : List ℕ → Option (List ℕ)
+file_name [] = None
+file_name (b ∷ bs) = Some (b ∷ bs)
 
--- what the words after the first say is saved, in a file of this name
-abbrev pub saving_reading : Bool → List ℕ → List (List ℕ) → Result Asked LineFault
-saving_reading over name words = and_then (argument 1 medium_of words) (asked_in over name)
+-- the name is what follows the first two words
+abbrev pub savings : List ℕ → List (Line Asked)
+savings behind =
+    line (codes "save") (takes medium_of (λ what. text file_name behind (λ name. record { what = what; name = name; over = false }))) ∷
+    line (codes "save!") (takes medium_of (λ what. text file_name behind (λ name. record { what = what; name = name; over = true }))) ∷
+    []
 
--- another first word saves nothing
-abbrev pub saving_of_words : List ℕ → List (List ℕ) → Option (Result Asked LineFault)
-saving_of_words name [] = None
-saving_of_words name (word ∷ words) =
-    if is_word word (codes "save") then Some (saving_reading false name words)
-    else (if is_word word (codes "save!") then Some (saving_reading true name words)
-    else None)
-
--- a line that is too long saves nothing
 abbrev pub saving_of : List ℕ → Option (Result Asked LineFault)
-saving_of line = if nat_lt longest_line (length line) then None else saving_of_words (name_in line) (words_of line)
+saving_of bytes = if_known (judged (savings (name_in bytes)) bytes)
