@@ -1,9 +1,9 @@
 -- The lines of an inquiry (own profile). Their arguments are those of the script language.
-use Rattle.std.specs.Prelude.{ℕ, if◌then◌else◌, Option, None, Some, Result, List, [], ◌∷◌, codes}
-use Rattle.std.specs.Option.{option_map}
+use Rattle.std.specs.Prelude.{ℕ, Option, Result, List, [], ◌∷◌, codes}
+use Rattle.std.specs.Option.{option_map, option_or}
 use Rattle.s360_language.specs.declared.command.LineFault.{LineFault}
 use Rattle.s360_language.specs.Digits.{count_of}
-use Rattle.s360_language.specs.Lines.{Line, if_known, is_word, judged, kind, line, makes, may_take, one, part, two}
+use Rattle.s360_language.specs.Lines.{Line, if_known, judged, kind, line, makes, may_take, one, one_of, part, two}
 use Rattle.s360_language.specs.Reading.{address, most_count, places}
 use Rattle.s360_inquiry.specs.Causes.{most_depth}
 use Rattle.s360_inquiry.specs.declared.inquiry.Inquiry.{Inquiry}
@@ -28,10 +28,8 @@ depth_told = 5
 -- where to go: `start`, `end`, `last` or the number of a change
 abbrev pub mark_of : List ℕ → Option Mark
 mark_of word =
-    if is_word word (codes "start") then Some Start
-    else (if is_word word (codes "end") then Some End
-    else (if is_word word (codes "last") then Some Last
-    else option_map (λ number. Change number) (count_of most_count word)))
+    option_or (one_of ((codes "start", Start) ∷ (codes "end", End) ∷ (codes "last", Last) ∷ []) word)
+    (option_map (λ number. Change number) (count_of most_count word))
 
 abbrev pub inquiries : List (Line Inquiry)
 inquiries =

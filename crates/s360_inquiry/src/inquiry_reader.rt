@@ -1,12 +1,15 @@
 //! The lines of an inquiry.
 ghost use Rattle.std.specs.Prelude.{◌≡◌};
+ghost use Rattle.std.specs.Option.{option_map};
+ghost use Rattle.s360_language.specs.Digits.{count_of};
 ghost use Rattle.s360_language.specs.Lines.{judged};
+ghost use Rattle.s360_language.specs.Reading.{most_count};
 ghost use Rattle.s360_inquiry.specs.Reading.{inquiries, inquiry_of, mark_of};
 
 use crate::inquiry::{Inquiry, Mark};
 use crate::why::MOST_DEPTH;
 use s360_language::{
-    LineFault, MOST_COUNT, address_in, count_in, finish, if_known, is_word, next_place, read_line,
+    LineFault, MOST_COUNT, address_in, count_in, finish, if_known, next_place, read_line, read_word,
     words_in,
 };
 use s360_store::GREATEST_SIZE;
@@ -46,14 +49,17 @@ fn reading_of(line: &[u8]) -> Result<Inquiry, LineFault>
 fn mark_in(word: &[u8]) -> Option<Mark>
     ensures { result ≡ mark_of word.now }
 {
-    if is_word(word, "start") {
-        Some(Mark::Start)
-    } else if is_word(word, "end") {
-        Some(Mark::End)
-    } else if is_word(word, "last") {
-        Some(Mark::Last)
-    } else {
-        let number = count_in(word, MOST_COUNT)?;
-        Some(Mark::Change(number))
+    read_word! { word, change_in(word);
+        "start" => Mark::Start;
+        "end" => Mark::End;
+        "last" => Mark::Last;
     }
+}
+
+/// The change of a word that is its number.
+fn change_in(word: &[u8]) -> Option<Mark>
+    ensures { result ≡ option_map (λ number. Mark.Change number) (count_of most_count word.now) }
+{
+    let number = count_in(word, MOST_COUNT)?;
+    Some(Mark::Change(number))
 }

@@ -2,6 +2,7 @@
 -- right, and the first that is wrong, missing or too many is named by its number, the first word of a line being 0.
 use Rattle.std.specs.Prelude.{◌-◌, ◌+◌, ℕ, Bool, nat_eq, nat_lt, if◌then◌else◌, Option, None, Some, Result, Ok, Err, List, [], ◌∷◌, drop, length}
 use Rattle.std.specs.Cmp.Lexicographic.{pointwise}
+use Rattle.std.specs.Map.{lookup}
 use Rattle.std.specs.Option.{ok_or}
 use Rattle.s360_language.specs.declared.command.LineFault.{LineFault}
 use Rattle.s360_language.specs.declared.command.LineFault.TheVariants.{LineTooLong, Unknown, Argument}
@@ -27,6 +28,10 @@ argument number value (word ∷ words) = ok_or (value word) (Argument number)
 abbrev pub argument_or : {V : Type 0} → ℕ → (List ℕ → Option V) → V → List (List ℕ) → Result V LineFault
 argument_or number value otherwise [] = Ok otherwise
 argument_or number value otherwise (word ∷ words) = ok_or (value word) (Argument number)
+
+-- the value that a word says, among words that each say one
+abbrev pub one_of : {V : Type 0} → List (List ℕ × V) → List ℕ → Option V
+one_of values word = lookup (λ name. is_word word name) values
 
 -- what words say, the first of which has this number
 abbrev pub Form : Type 0 → Type 0

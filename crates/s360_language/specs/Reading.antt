@@ -18,7 +18,7 @@ use Rattle.s360_language.specs.declared.command.Shown.TheVariants.{Registers, Ps
 use Rattle.s360_language.specs.declared.command.LineFault.{LineFault}
 use Rattle.s360_language.specs.declared.command.LineFault.TheVariants.{Memory}
 use Rattle.s360_language.specs.Digits.{hex_number, doubleword_of, count_of}
-use Rattle.s360_language.specs.Lines.{Line, begins, is_word, judged, kind, line, makes, one, part, takes, text, two}
+use Rattle.s360_language.specs.Lines.{Line, begins, judged, kind, line, makes, one, one_of, part, takes, text, two}
 use Rattle.s360_language.specs.Words.{text_behind}
 
 abbrev pub Reading : Type 0
@@ -55,18 +55,13 @@ abbrev pub bytes_in : List ℕ → Option (List ℕ)
 bytes_in word = if nat_eq (length word) 0 then None else result_ok (decode_of word)
 
 abbrev pub bit_of : List ℕ → Option Bool
-bit_of word = if is_word word (codes "0") then Some false else (if is_word word (codes "1") then Some true else None)
+bit_of word = one_of ((codes "0", false) ∷ (codes "1", true) ∷ []) word
 
 -- the operator's key of a name
 abbrev pub key_of : List ℕ → Option OperatorKey
 key_of word =
-    if is_word word (codes "start") then Some Start
-    else (if is_word word (codes "stop") then Some Stop
-    else (if is_word word (codes "reset") then Some Reset
-    else (if is_word word (codes "interrupt") then Some Interrupt
-    else (if is_word word (codes "eof") then Some EndOfFile
-    else (if is_word word (codes "request") then Some Request
-    else None)))))
+    one_of ((codes "start", Start) ∷ (codes "stop", Stop) ∷ (codes "reset", Reset) ∷ (codes "interrupt", Interrupt) ∷ (codes "eof", EndOfFile)
+    ∷ (codes "request", Request) ∷ []) word
 
 -- the EBCDIC bytes of a text in ASCII, if each of its signs has one
 abbrev pub ebcdic_text : List ℕ → Option (List ℕ)

@@ -6,8 +6,8 @@ ghost use Rattle.s360_language.specs.Reading.{address, bit_of, key_of, places, r
 
 use crate::command::LineFault;
 use crate::lines::go_on;
-use crate::read_line;
-use crate::words::{Words, is_word};
+use crate::words::Words;
+use crate::{read_line, read_word};
 use s360_machine::Key;
 use s360_store::{BLOCK_SIZE, Place};
 use s360_text::number_in;
@@ -81,33 +81,20 @@ pub(crate) fn unit_in(word: &[u8]) -> Option<Unit>
 pub(crate) fn bit_in(word: &[u8]) -> Option<bool>
     ensures { result ≡ bit_of word.now }
 {
-    if is_word(word, "0") {
-        Some(false)
-    } else if is_word(word, "1") {
-        Some(true)
-    } else {
-        None
-    }
+    read_word! { word, None; "0" => false; "1" => true; }
 }
 
 /// A key of the operator, by its name.
 pub(crate) fn key_in(word: &[u8]) -> Option<Key>
     ensures { result ≡ key_of word.now }
 {
-    if is_word(word, "start") {
-        Some(Key::Start)
-    } else if is_word(word, "stop") {
-        Some(Key::Stop)
-    } else if is_word(word, "reset") {
-        Some(Key::Reset)
-    } else if is_word(word, "interrupt") {
-        Some(Key::Interrupt)
-    } else if is_word(word, "eof") {
-        Some(Key::EndOfFile)
-    } else if is_word(word, "request") {
-        Some(Key::Request)
-    } else {
-        None
+    read_word! { word, None;
+        "start" => Key::Start;
+        "stop" => Key::Stop;
+        "reset" => Key::Reset;
+        "interrupt" => Key::Interrupt;
+        "eof" => Key::EndOfFile;
+        "request" => Key::Request;
     }
 }
 

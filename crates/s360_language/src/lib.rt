@@ -23,4 +23,4 @@ pub use names::{
 pub use show::{push_block_key, text_of_shown};
 pub use show_items::{line_of_typed, push_signs};
 pub use show_units::{push_control, push_device, push_digits};
-pub use words::{Words, is_word};
+pub use words::{Words, behind_word, from_word, is_word};

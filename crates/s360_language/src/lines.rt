@@ -51,6 +51,14 @@ macro_rules! read_arguments {
     }};
 }
 
+/// The value that a word says, among words that each say one; that of any other word is this.
+#[macro_export]
+macro_rules! read_word {
+    ($word:ident, $other:expr; $($name:literal => $value:expr;)*) => {
+        $(if $crate::is_word($word, $name) { Some($value) } else)* { $other }
+    };
+}
+
 /// The words of a line, unless it is too long.
 pub fn words_in(line: &[u8]) -> Result<Words<'_>, LineFault>
     ensures { result ≡ (if nat_lt longest_line (length line.now) then Err LineFault.LineTooLong else Ok (words_of line.now)) }

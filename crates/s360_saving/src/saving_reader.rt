@@ -1,13 +1,13 @@
 //! The lines that save.
-ghost use Rattle.std.specs.Prelude.{◌≡◌, nat_eq, not};
-ghost use Rattle.std.specs.List.{position};
+ghost use Rattle.std.specs.Prelude.{◌≡◌, []};
 ghost use Rattle.s360_language.specs.Lines.{judged, text};
-ghost use Rattle.s360_language.specs.Words.{from_first};
 ghost use Rattle.s360_saving.specs.Reading.{file_name, medium_of, name_in, saving_of, savings};
 
 use crate::saving::{Medium, Saving};
 use s360_device::PunchStacker;
-use s360_language::{LineFault, Words, if_known, is_word, read_line, words_in};
+use s360_language::{
+    LineFault, Words, behind_word, from_word, if_known, read_line, read_word, words_in,
+};
 
 /// What a line asks to be saved, or why it asks for nothing; nothing of a line that begins with no word that saves, or is too
 /// long. It takes no memory.
@@ -43,24 +43,15 @@ fn with_name<'a>(_words: Words<'_>, number: u8, saving: Saving<'a>) -> Result<Sa
 fn medium_in(word: &[u8]) -> Option<Medium>
     ensures { result ≡ medium_of word.now }
 {
-    if is_word(word, "printer") {
-        Some(Medium::Printer)
-    } else if is_word(word, "punch") {
-        Some(Medium::Punch(None))
-    } else if is_word(word, "P1") {
-        Some(Medium::Punch(Some(PunchStacker::P1)))
-    } else if is_word(word, "P2") {
-        Some(Medium::Punch(Some(PunchStacker::P2)))
-    } else if is_word(word, "RP3") {
-        Some(Medium::Punch(Some(PunchStacker::Rp3)))
-    } else if is_word(word, "console") {
-        Some(Medium::Console)
-    } else if is_word(word, "tape0") {
-        Some(Medium::Tape0)
-    } else if is_word(word, "tape1") {
-        Some(Medium::Tape1)
-    } else {
-        None
+    read_word! { word, None;
+        "printer" => Medium::Printer;
+        "punch" => Medium::Punch(None);
+        "P1" => Medium::Punch(Some(PunchStacker::P1));
+        "P2" => Medium::Punch(Some(PunchStacker::P2));
+        "RP3" => Medium::Punch(Some(PunchStacker::Rp3));
+        "console" => Medium::Console;
+        "tape0" => Medium::Tape0;
+        "tape1" => Medium::Tape1;
     }
 }
 
@@ -68,39 +59,5 @@ fn medium_in(word: &[u8]) -> Option<Medium>
 fn name_in(line: &[u8]) -> &[u8]
     ensures { result.now ≡ name_in line.now }
 {
-    from_other(from_blank(from_other(from_blank(from_other(line)))))
-}
-
-/// A line from its first byte on that is no blank.
-fn from_other(line: &[u8]) -> &[u8]
-    ensures { result.now ≡ from_first (λ b. not (nat_eq b 32)) line.now }
-{
-    match first_other(line) {
-        Some(at) => &line[at..],
-        None => &[],
-    }
-}
-
-/// A line from its first blank on.
-fn from_blank(line: &[u8]) -> &[u8]
-    ensures { result.now ≡ from_first (λ b. nat_eq b 32) line.now }
-{
-    match first_blank(line) {
-        Some(at) => &line[at..],
-        None => &[],
-    }
-}
-
-/// Where the first byte stands that is no blank.
-fn first_other(line: &[u8]) -> Option<usize>
-    ensures { result ≡ position (λ b. not (nat_eq b 32)) line.now }
-{
-    line.iter().position(|byte| *byte != b' ')
-}
-
-/// Where the first blank stands.
-fn first_blank(line: &[u8]) -> Option<usize>
-    ensures { result ≡ position (λ b. nat_eq b 32) line.now }
-{
-    line.iter().position(|byte| *byte == b' ')
+    from_word(behind_word(behind_word(line)))
 }
