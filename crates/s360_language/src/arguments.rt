@@ -25,7 +25,9 @@ fn hexadecimal_in(word: &[u8], most: usize) -> Option<u32>
     ensures value { result ≡ hex_number most word.now }
     ensures below { IfSome result (λ n. n < 16 ^ most) }
 {
-    let number = number_in(16, word, most)?;
+    let Some(number) = number_in(16, word, most) else {
+        return None;
+    };
     Some(number as u32)
 }
 

@@ -1,5 +1,5 @@
 //! The lines of the language of scripts.
-ghost use Rattle.std.specs.Prelude.{◌≡◌, ◌≤◌, IfSome, take, length, MatchOption, Some, None};
+ghost use Rattle.std.specs.Prelude.{◌≡◌, ◌≤◌, [], IfSome, take, length, MatchOption, Some, None};
 ghost use Rattle.s360_language.specs.Lines.{kind, text, two};
 ghost use Rattle.s360_language.specs.Reading.{Reads, address, bytes_in, commands, ebcdic_text, patches, reading_of, shows};
 
