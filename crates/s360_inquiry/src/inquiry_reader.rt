@@ -9,8 +9,8 @@ ghost use Rattle.s360_inquiry.specs.Reading.{inquiries, inquiry_of, mark_of};
 use crate::inquiry::{Inquiry, Mark};
 use crate::why::MOST_DEPTH;
 use s360_language::{
-    LineFault, MOST_COUNT, address_in, count_in, finish, if_known, next_place, read_line, read_word,
-    words_in,
+    LineFault, MOST_COUNT, address_in, count_in, finish, if_known, next_place, read_line,
+    read_word, words_in,
 };
 use s360_store::GREATEST_SIZE;
 

@@ -25,9 +25,7 @@ fn hexadecimal_in(word: &[u8], most: usize) -> Option<u32>
     ensures value { result ≡ hex_number most word.now }
     ensures below { IfSome result (λ n. n < 16 ^ most) }
 {
-    let Some(number) = number_in(16, word, most) else {
-        return None;
-    };
+    let number = number_in(16, word, most)?;
     Some(number as u32)
 }
 
