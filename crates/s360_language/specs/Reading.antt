@@ -9,12 +9,15 @@ use Rattle.s360_store.specs.declared.place.Place.{Place}
 use Rattle.s360_store.specs.declared.place.Place.TheVariants.{Psw, Register, Byte, Key as key_place, Run as run_place, External, UnitState, UnitMedia}
 use Rattle.s360_word.specs.declared.unit.Unit.{Unit as UnitAddress}
 use Rattle.s360_print.specs.Signs.{ebcdic_of}
-use Rattle.s360_machine.specs.declared.event.Patch.TheVariants.{Bytes as bytes_patch, Register as register_patch, StorageKey as storage_key_patch, FetchBit as fetch_patch, Psw as psw_patch}
+use Rattle.s360_machine.specs.declared.event.Patch.TheVariants.{Bytes as bytes_patch, Register as register_patch, StorageKey as storage_key_patch}
+use Rattle.s360_machine.specs.declared.event.Patch.TheVariants.{FetchBit as fetch_patch, Psw as psw_patch}
 use Rattle.s360_machine.specs.declared.operator.Key.{Key as OperatorKey}
 use Rattle.s360_machine.specs.declared.operator.Key.TheVariants.{Start, Stop, Reset, Interrupt, EndOfFile, Request, Enter, Load}
 use Rattle.s360_language.specs.declared.command.Command.{Command}
-use Rattle.s360_language.specs.declared.command.Command.TheVariants.{Step, Channel, Tick, Key, Patch, Back, Standing, Last, Show, Break, Clear, Until, Run, Withdraw}
-use Rattle.s360_language.specs.declared.command.Shown.TheVariants.{Registers, Psw as psw, Storage, StorageKey, External as external, UnitState as unit_state, Device as device, Item as item, Image as image}
+use Rattle.s360_language.specs.declared.command.Command.TheVariants.{Step, Channel, Tick, Key, Patch, Back, Standing, Last, Show, Break, Clear, Until}
+use Rattle.s360_language.specs.declared.command.Command.TheVariants.{Run, Withdraw}
+use Rattle.s360_language.specs.declared.command.Shown.TheVariants.{Registers, Psw as psw, Storage, StorageKey, External as external}
+use Rattle.s360_language.specs.declared.command.Shown.TheVariants.{UnitState as unit_state, Device as device, Item as item, Image as image}
 use Rattle.s360_language.specs.declared.command.LineFault.{LineFault}
 use Rattle.s360_language.specs.declared.command.LineFault.TheVariants.{Memory}
 use Rattle.s360_language.specs.Digits.{hex_number, doubleword_of, count_of}
