@@ -43,5 +43,5 @@ inquiries =
     line (codes "where") (makes Where) ∷
     []
 
-abbrev pub inquiry_of : List ℕ → Option Asked
+unfoldable pub inquiry_of : List ℕ → Option Asked
 inquiry_of bytes = if_known (judged inquiries bytes)

@@ -22,6 +22,7 @@ const DEPTH: u32 = 5;
 
 /// The inquiry of a line, or why it is none; nothing of a line that begins with no word of an inquiry, or is too long. It
 /// takes no memory.
+#[tactic(auto, unfolding(crate::specs::Reading::inquiry_of))]
 pub fn read_inquiry(line: &[u8]) -> Option<Result<Inquiry, LineFault>>
     ensures { result ≡ inquiry_of line.now }
 {

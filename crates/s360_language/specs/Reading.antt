@@ -128,7 +128,7 @@ commands behind =
     line (codes "show") (kind shows) ∷
     []
 
-abbrev pub reading_of : List ℕ → Reading
+unfoldable pub reading_of : List ℕ → Reading
 reading_of bytes = judged (commands (text_behind bytes)) bytes
 
 -- the command holds bytes of its line, which want memory: a text that is entered, or bytes of storage

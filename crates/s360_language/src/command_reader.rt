@@ -23,6 +23,7 @@ pub const MOST_COUNT: u32 = 10_000_000;
 
 /// The command of a line, without its line end. A fault is answered whatever memory there is, and only a
 /// line that enters a text or patches storage wants memory. A line of blanks alone is `Unknown`.
+#[tactic(auto, unfolding(crate::specs::Reading::reading_of))]
 pub fn read_command(alloc: Global, line: &[u8]) -> Result<Command, LineFault>
     ensures { Reads (reading_of line.now) result }
 {

@@ -36,5 +36,5 @@ savings behind =
     line (codes "save!") (takes medium_of (λ what. text file_name behind (λ name. record { what = what; name = name; over = true }))) ∷
     []
 
-abbrev pub saving_of : List ℕ → Option (Result Asked LineFault)
+unfoldable pub saving_of : List ℕ → Option (Result Asked LineFault)
 saving_of bytes = if_known (judged (savings (name_in bytes)) bytes)

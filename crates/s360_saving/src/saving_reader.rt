@@ -11,6 +11,7 @@ use s360_language::{
 
 /// What a line asks to be saved, or why it asks for nothing; nothing of a line that begins with no word that saves, or is too
 /// long. It takes no memory.
+#[tactic(auto, unfolding(crate::specs::Reading::saving_of))]
 pub fn read_saving(line: &[u8]) -> Option<Result<Saving<'_>, LineFault>>
     ensures { result ≡ saving_of line.now }
 {
