@@ -114,11 +114,9 @@ ends_with p at e = Waiting (record { key = p.key; address = next_ccw_address at;
 
 -- a channel check ends the program: it moves no byte, leaves the device as it was, and has residual count 0 (own profile)
 abbrev pub after_check : Program → ℕ → ChannelStatus → Execution
-after_check p at status = record {
-  stores = None;
-  state = ends_with p at (record { unit = no_unit_status; channel = status; residual = 0 });
-  ending = None;
-}
+after_check p at status =
+    let state : UnitState = ends_with p at (record { unit = no_unit_status; channel = status; residual = 0 })
+    in record { stores = None; state = state; ending = None }
 
 -- where bytes move, one outside storage is a program check, and else a protected one a protection check
 abbrev pub unless_checked : WordAtHand → Checked → Execution → Execution
@@ -168,11 +166,9 @@ output_transfer c n = transfer_with c n (nat_lt n c.count)
 
 -- the record goes on after a transfer, or the command ends with these bytes of output
 abbrev pub conclusion_of : WordAtHand → Transfer → Conclusion
-conclusion_of w t = record {
-  unit = ended_unit w.exception;
-  channel = record no_channel_status { incorrect_length = t.incorrect_length };
-  residual = t.residual;
-}
+conclusion_of w t =
+    let channel : ChannelStatus = record no_channel_status { incorrect_length = t.incorrect_length }
+    in record { unit = ended_unit w.exception; channel = channel; residual = t.residual }
 
 abbrev pub after_transfer : WordAtHand → Transfer → Progress → List ℕ → Execution
 after_transfer w t progress output =

@@ -1,8 +1,7 @@
 -- The bytes that the words of an output gather, each word's after those of the words before it.
-use Rattle.std.specs.Prelude.{ℕ, Option, Some, None, List, [], ◌++◌, ◌+◌, option_copied, reverse, take, unwrap_or}
+use Rattle.std.specs.Prelude.{ℕ, Option, Some, None, List, [], ◌++◌, ◌+◌, option_copied, reverse}
 use Rattle.s360_channel.specs.declared.gathered.Backward.{Backward}
 use Rattle.s360_channel.specs.declared.gathered.Parts.{Parts, First, After'}
-use Rattle.s360_channel.specs.declared.gathering.OutputBytes.{OutputBytes}
 
 -- those of the last word
 abbrev pub part_of : Parts → List ℕ
@@ -30,7 +29,3 @@ words_before (Some parts) = words_of parts
 -- what is left from the last to the first
 abbrev pub left_of : Backward → List ℕ
 left_of b = reverse (bytes_before (option_copied b.before) ++ b.part.now)
-
--- those of the words before with those of one more, of which the device takes no more than its limit
-abbrev pub output_of : OutputBytes → List ℕ
-output_of o = take o.limit (unwrap_or (option_copied o.before) [] ++ o.fetched.now)

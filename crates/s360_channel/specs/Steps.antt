@@ -1,5 +1,5 @@
 -- What the code answers of a channel event: a step, and what is stored; and how they are those of the event's execution.
-use Rattle.std.specs.Prelude.{◌≡◌, ◌<◌, ◌≤◌, ◌+◌, IfSome, Option, Some, None, List, length}
+use Rattle.std.specs.Prelude.{◌≡◌, ◌<◌, ◌≤◌, ◌+◌, ℕ, IfSome, Option, Some, None, List, [], ◌++◌, length, option_copied, take, unwrap_or}
 use Rattle.s360_model.specs.Core.{Core}
 use Rattle.s360_model.specs.Storage.{Storage}
 use Rattle.s360_store.specs.declared.place.Cell.{Cell}
@@ -7,16 +7,18 @@ use Rattle.s360_store.specs.Plans.{IsPlanOf}
 use Rattle.s360_device.specs.declared.device.Device.{Ghosts}
 use Rattle.s360_device.specs.Transfers.{MovesBytes}
 use Rattle.s360_channel.specs.declared.command_word.CommandWord.{CommandWord}
+use Rattle.s360_channel.specs.declared.csw.ChannelStatus.{ChannelStatus}
 use Rattle.s360_channel.specs.declared.engine.ChannelStep.{ChannelStep}
 use Rattle.s360_channel.specs.declared.engine.ChannelStep.TheVariants.{NotYet, GoesOn, Ends}
 use Rattle.s360_channel.specs.declared.engine.Executed.{Executed}
 use Rattle.s360_channel.specs.declared.fetching.Fetched.{Fetched}
 use Rattle.s360_channel.specs.declared.fetching.Fetched.TheVariants.{Broken, Whole}
+use Rattle.s360_channel.specs.declared.gathering.OutputBytes.{OutputBytes}
 use Rattle.s360_channel.specs.declared.program.Program.{Program}
 use Rattle.s360_channel.specs.declared.unit_state.UnitState.{UnitState}
 use Rattle.s360_channel.specs.declared.unit_state.UnitState.TheVariants.{Active, Waiting}
 use Rattle.s360_channel.specs.Execution.{DeviceView, Ending, Execution, Run, WordAtHand}
-use Rattle.s360_channel.specs.Execution.{channel_execution, command_with, core_with_run, word_with}
+use Rattle.s360_channel.specs.Execution.{after_check, channel_execution, command_with, core_with_run, word_with}
 use Rattle.s360_channel.specs.Programs.{next_ccw}
 
 -- a device as its channel sees it, and the word at hand that the code has, by the device's contract
@@ -25,6 +27,14 @@ device_view g d = record { begin = g.begin_of d; input = g.input_of d; exception
 
 abbrev pub at_hand : {D C : Type 0} → Ghosts D C → CommandWord D → WordAtHand
 at_hand g w = word_with (device_view g w.device.now) w.program.now w.at w.ccw w.command
+
+-- the bytes of an output that it has: no more than the device's limit
+abbrev pub output_of : OutputBytes → List ℕ
+output_of o = take o.limit (unwrap_or (option_copied o.before) [] ++ o.fetched.now)
+
+-- whatever follows, the word meets a check of this status
+abbrev pub MeetsCheck : (Execution → Execution) → WordAtHand → ChannelStatus → Type 0
+MeetsCheck unless w status = (e : Execution) → unless e ≡ after_check w.program w.at status
 
 -- a run has bytes, no more than a count counts, and lies in storage
 abbrev pub LiesIn : Storage → Run → Type 0

@@ -5,12 +5,12 @@ ghost use Rattle.std.specs.Prelude.{Some, None, [], IfErr, IfNone, IfOk, IfSome,
 ghost use Rattle.s360_store.specs.declared.protection.Checked.TheVariants.{Clear};
 ghost use Rattle.s360_device.specs.Transfers.{CanEndWith, IsOutput, MovesBytes};
 ghost use Rattle.s360_device.specs.declared.device.Begin.TheVariants.{Input, Output};
-ghost use Rattle.s360_channel.specs.Execution.{Execution, WordAtHand, after_check, after_conclusion, after_input};
+ghost use Rattle.s360_channel.specs.Execution.{Execution, WordAtHand, after_input};
 ghost use Rattle.s360_channel.specs.Execution.{after_output, command_ends, conclusion_of, ended_unit};
 ghost use Rattle.s360_channel.specs.Execution.{execute_begun, execute_input, execute_output, moves_nothing};
 ghost use Rattle.s360_channel.specs.Execution.{refused_unit, storing, unless_checked};
-ghost use Rattle.s360_channel.specs.Gathered.{output_of};
 ghost use Rattle.s360_channel.specs.Steps.{EventMovesBytes, ExecutesEvent, ExecutesWord, IsChangeOf, LiesIn};
+ghost use Rattle.s360_channel.specs.Steps.{MeetsCheck, output_of};
 ghost use Rattle.s360_channel.specs.Steps.{PlansEvent, StepsWord, at_hand, change_of_step, device_view};
 ghost use Rattle.s360_channel.specs.Steps.{state_after_step};
 
@@ -99,7 +99,7 @@ fn execute_control<D: Device>(
 ) -> Result<ChannelStep<D::Change>, AllocError>
     requires can { CanEndWith (at_hand D.Device word.now).begin [] }
     ensures memory { OnErr result (IsOutput (at_hand D.Device word.now).begin) }
-    ensures step { IfOk result (StepsWord D.Device word.now (moves_nothing (at_hand D.Device word.now) (ended_unit (at_hand D.Device word.now).exception))) }
+    ensures step { let w = at_hand D.Device word.now in IfOk result (StepsWord D.Device word.now (moves_nothing w (ended_unit w.exception))) }
 {
     let (change, exception) = change_of(word, &[])?;
     Ok(end_without_bytes(word, ended_unit(exception), change))
@@ -124,7 +124,7 @@ fn end_of<D: Device>(
     output: &[u8],
 ) -> Result<ChannelStep<D::Change>, AllocError>
     requires can { CanEndWith (at_hand D.Device word.now).begin output.now }
-    ensures { IfOk result (StepsWord D.Device word.now (command_ends (at_hand D.Device word.now) (conclusion_of (at_hand D.Device word.now) transfer.now) output.now)) }
+    ensures { let w = at_hand D.Device word.now in IfOk result (StepsWord D.Device word.now (command_ends w (conclusion_of w transfer.now) output.now)) }
 {
     let (change, exception) = change_of(word, output)?;
     let conclusion = Conclusion {
@@ -141,7 +141,7 @@ fn end_of<D: Device>(
 /// The channel status of the check that an access meets, if it meets one: then nothing else is executed.
 fn status_of_check(met: Checked) -> Option<ChannelStatus>
     ensures clear { IfNone result (met ≡ Clear) }
-    ensures check { IfSome result (λ status. (w : WordAtHand) (e : Execution) → unless_checked w met e ≡ after_check w.program w.at status) }
+    ensures check { IfSome result (λ status. (w : WordAtHand) → MeetsCheck (unless_checked w met) w status) }
 {
     match met {
         Checked::Clear => None,
@@ -159,7 +159,7 @@ fn run_to_store<D: Device>(
     requires short { length bytes.items ≤ 65535 }
     ensures run { IfOk result (λ run. (e : Execution) → storing storage.now (at_hand D.Device word.now) bytes.items e ≡ record e { stores = run }) }
     ensures inside { IfOk result (λ run. IfSome run (λ r. LiesIn storage.now r)) }
-    ensures check { IfErr result (λ status. (e : Execution) → storing storage.now (at_hand D.Device word.now) bytes.items e ≡ after_check word.now.program.now word.now.at status) }
+    ensures check { let w = at_hand D.Device word.now in IfErr result (MeetsCheck (storing storage.now w bytes.items) w) }
 {
     let backward = reads_backward(word.command);
     let count = bytes.as_slice().len() as u16;
@@ -270,7 +270,7 @@ fn execute_word<D: Device>(
 ) -> Result<Executed<D::Change>, AllocError>
     ensures memory { OnErr result (MovesBytes (at_hand D.Device word.now).begin) }
     ensures stored { IfOk result (λ x. IsSome x.stores → MovesBytes (at_hand D.Device word.now).begin) }
-    ensures executes { IfOk result (ExecutesWord D.Device storage.now word.now (execute_begun storage.now (at_hand D.Device word.now) (at_hand D.Device word.now).begin)) }
+    ensures executes { let w = at_hand D.Device word.now in IfOk result (ExecutesWord D.Device storage.now word.now (execute_begun storage.now w w.begin)) }
 {
     let executed = match word.device.begin(word.command) {
         Begin::Input(total) => execute_input(alloc, storage, word, total)?,

@@ -3,8 +3,7 @@
 ghost use Rattle.std.specs.Prelude.{◌≡◌, ◌≤◌, ◌<◌, ◌+◌, ◌-◌, ◌^◌, ◌⊎◌, IfOk, length, take, drop};
 ghost use Rattle.std.specs.List.{slice_range};
 ghost use Rattle.s360_channel.specs.Execution.{stored_bytes};
-ghost use Rattle.s360_channel.specs.Gathered.{output_of};
-ghost use Rattle.s360_channel.specs.Steps.{at_hand};
+ghost use Rattle.s360_channel.specs.Steps.{at_hand, output_of};
 
 use crate::ccw::reads_backward;
 use crate::command_word::CommandWord;
