@@ -26,7 +26,7 @@ use Rattle.s360_channel.specs.Programs.{next_ccw}
 use Rattle.s360_channel.specs.Words.{device_has_ended, meets_program_check, no_channel_status, no_unit_status, reads_backward}
 use Rattle.s360_channel.specs.Execution.{DeviceView, Run, Ending, Execution, WordAtHand}
 use Rattle.s360_channel.specs.Execution as new
-use Rattle.std.proofs.Common.{◌∙◌, ap, sym, arith}
+use Rattle.std.proofs.Common.{◌∙◌, ap, sym, arith, suc, zero}
 use Rattle.std.proofs.lemmas.List.{length-take, length-drop}
 
 -- scratch
@@ -218,15 +218,18 @@ unless w x y Clear e = e
 unless w x y Addressing e = refl
 unless w x y Protection e = refl
 
+abbrev choose : Bool → Execution → Execution → Execution
+choose b x y = if b then x else y
+
 transfers : (b : Bool) (run : Option Run) (x y : UnitState) (e : Ending)
-    → record { stores = run; state = if b then x else y; ending = if b then None else Some e }
-    ≡ record (if b then record { stores = None; state = x; ending = None } else record { stores = None; state = y; ending = Some e }) { stores = run }
+    → ◌≡◌ {A = Execution} (record { stores = run; state = if b then x else y; ending = if b then None else Some e })
+    (record (choose b (record { stores = None; state = x; ending = None }) (record { stores = None; state = y; ending = Some e })) { stores = run })
 transfers true run x y e = refl
 transfers false run x y e = refl
 
 transfers-none : (b : Bool) (x y : UnitState) (e : Ending)
-    → record { stores = None; state = if b then x else y; ending = if b then None else Some e }
-    ≡ (if b then record { stores = None; state = x; ending = None } else record { stores = None; state = y; ending = Some e })
+    → ◌≡◌ {A = Execution} (record { stores = None; state = if b then x else y; ending = if b then None else Some e })
+    (choose b (record { stores = None; state = x; ending = None }) (record { stores = None; state = y; ending = Some e }))
 transfers-none true x y e = refl
 transfers-none false x y e = refl
 

@@ -93,10 +93,10 @@ StoresRun s plan run = (m : Core) → m.storage ≡ s → IsPlanOf m plan (core_
 
 -- the plan puts what the channel event stores into any such core, in no more cells than a count has bytes, and the step
 -- is the event's
-pub record PlansEvent {D C : Type 0} (g : Ghosts D C) (d : D) (s : Storage) (p : Program) (plan : List Cell) (step : ChannelStep C) : Type 0 where
+pub record PlansEvent {D C : Type 0} (g : Ghosts D C) (d : D) (s : Storage) (p : Program) (plan : List Cell) (x : ChannelStep C) : Type 0 where
   pub stores : StoresRun s plan (channel_execution (device_view g d) s p).stores
   pub few : length plan ≤ 65535
-  pub step : IsStepOf g d p (channel_execution (device_view g d) s p) step
+  pub step : IsStepOf g d p (channel_execution (device_view g d) s p) x
 
 -- the word with which a program goes on moves bytes, by how its device begins the command; one that meets a program
 -- check moves none

@@ -272,14 +272,22 @@ fn execute_word<D: Device>(
     ensures stored { IfOk result (λ x. IsSome x.stores → MovesBytes (at_hand D.Device word.now).begin) }
     ensures executes { let w = at_hand D.Device word.now in IfOk result (ExecutesWord D.Device storage.now word.now (execute_begun storage.now w w.begin)) }
 {
-    let executed = match word.device.begin(word.command) {
-        Begin::Input(total) => execute_input(alloc, storage, word, total)?,
-        Begin::Output(limit) => without_stores(execute_output(alloc, storage, word, limit)?),
-        Begin::Control => without_stores(execute_control(word)?),
-        Begin::Refused(_) => without_stores(execute_refused(word)?),
-        Begin::NotYet => without_stores(ChannelStep::NotYet),
-    };
-    Ok(executed)
+    match word.device.begin(word.command) {
+        Begin::Input(total) => execute_input(alloc, storage, word, total),
+        Begin::Output(limit) => {
+            let step = execute_output(alloc, storage, word, limit)?;
+            Ok(without_stores(step))
+        }
+        Begin::Control => {
+            let step = execute_control(word)?;
+            Ok(without_stores(step))
+        }
+        Begin::Refused(_) => {
+            let step = execute_refused(word)?;
+            Ok(without_stores(step))
+        }
+        Begin::NotYet => Ok(without_stores(ChannelStep::NotYet)),
+    }
 }
 
 /// Executes one channel event of a unit that executes a program: it answers the step and what is stored. Storage and
