@@ -27,7 +27,7 @@ use Rattle.s360_channel.specs.Words.{device_has_ended, meets_program_check, no_c
 use Rattle.s360_channel.specs.Execution.{DeviceView, Run, Ending, Execution, WordAtHand}
 use Rattle.s360_channel.specs.Execution as new
 use Rattle.std.proofs.Common.{◌∙◌, ap, sym, arith, suc, zero}
-use Rattle.std.proofs.lemmas.List.{length-take, length-drop}
+use Rattle.std.proofs.lemmas.List.{length-take, length-drop, take_all}
 
 -- scratch
 pub record Conclusion : Type 0 where
@@ -233,13 +233,9 @@ transfers-none : (b : Bool) (x y : UnitState) (e : Ending)
 transfers-none true x y e = refl
 transfers-none false x y e = refl
 
-all-of : (n : ℕ) (f : List ℕ) → length f ≤ n → take n f ≡ f
-all-of n [] h = refl
-all-of zero (x ∷ f) h = absurd (omega (arith, h))
-all-of (suc n) (x ∷ f) h = ap (λ (ys : List ℕ). x ∷ ys) (all-of n f (omega (arith, h)))
-
 within : (limit : ℕ) (g f : List ℕ) → length f ≤ limit - length g → take limit g ++ f ≡ take limit (g ++ f)
-within limit [] f h = sym (all-of limit f (omega (arith, h)))
+within zero [] f h = sym (take_all zero f (omega (arith, h)))
+within (suc n) [] f h = sym (take_all (suc n) f (omega (arith, h)))
 within zero (x ∷ g) [] h = refl
 within zero (x ∷ g) (y ∷ f) h = absurd (omega (arith, h))
 within (suc n) (x ∷ g) f h = ap (λ (ys : List ℕ). x ∷ ys) (within n g f (omega (arith, h)))
