@@ -3,4 +3,3 @@ pub mod DifferenceLemmas
 pub mod UnitChangeLemmas
 pub mod KnownChannels
 mod KnownTapes
-mod OldExecution

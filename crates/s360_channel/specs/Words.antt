@@ -1,6 +1,6 @@
 -- The three words of a channel (GA22-6821, "Input/Output Operations", channel address word, channel command word
 -- and channel status word). Bits are numbered from 0 at the left.
-use Rattle.std.specs.Prelude.{ℕ, ◌+◌, ◌*◌, ◌/◌, ◌%◌, ◌^◌, Bool, true, false, ◌&&◌, nat_eq, if◌then◌else◌}
+use Rattle.std.specs.Prelude.{ℕ, ◌+◌, ◌*◌, ◌/◌, ◌%◌, ◌^◌, Bool, true, ◌&&◌, nat_eq, if◌then◌else◌}
 use Rattle.s360_channel.specs.declared.caw.Caw.{Caw}
 use Rattle.s360_channel.specs.declared.ccw.Ccw.{Ccw}
 use Rattle.s360_channel.specs.declared.ccw.CcwFlags.{CcwFlags}
