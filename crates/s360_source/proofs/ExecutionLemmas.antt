@@ -17,7 +17,6 @@ use Rattle.s360_channel.specs.declared.program.Progress.{Progress}
 use Rattle.s360_channel.specs.declared.program.Progress.TheVariants.{First, Loading, CommandChained, InputChained, OutputChained}
 use Rattle.s360_channel.specs.declared.unit_state.UnitState.{UnitState}
 use Rattle.s360_channel.specs.declared.unit_state.UnitState.TheVariants.{Waiting}
-use Rattle.s360_channel.specs.declared.conclusion.Conclusion.{Conclusion}
 use Rattle.s360_channel.specs.declared.transfer.Transfer.{Transfer}
 use Rattle.s360_channel.specs.Execution.{DeviceView, Execution, Run, WordAtHand, access_of, after_check, after_input, after_output, after_transfer, command_ends, command_with, conclusion_of}
 use Rattle.s360_channel.specs.Execution.{ends_with, execute_begun, execute_fetched, execute_input, execute_output, gathered_before, goes_on_after, input_transfer, is_clean}
@@ -146,7 +145,7 @@ pub transfer-ends : (w : WordAtHand) (n : ℕ) (wrong : Bool) (progress : Progre
     → is_checked (state_shape (after_transfer w (transfer_with w.ccw n wrong) progress output).state) ≡ false
 transfer-ends w n wrong progress output =
     let t : Transfer = transfer_with w.ccw n wrong
-    in let e : Conclusion = conclusion_of w t
+    in let e = conclusion_of w t
     in if-ends t.goes_on (going_on w progress) (command_ends w e output) refl
     (if-state (w.ccw.flags.chain_command && (not w.ccw.flags.chain_data && is_clean e)) (goes_on_after w.program w.at CommandChained) (ends_with w.program w.at e) refl refl)
 
