@@ -31,8 +31,8 @@ Agrees needed user = (i j : ℕ) → nat_lt j (needed i) ≡ nat_lt (user j) i
 
 lt-same : (a b c d : ℕ) → (a < b → c < d) → (b ≤ a → d ≤ c) → nat_lt a b ≡ nat_lt c d
 lt-same a b c d less more = elim (cases_Bool (nat_lt a b)) [
-  | inl yes ↦ rw yes (sym (nat_lt-yes c d (less (ltb-true _ _ yes))))
-  | inr no ↦ rw no (sym (nat_lt-no c d (more (ltb-false _ _ no))))
+  | inl below ↦ rw below (sym (nat_lt-yes c d (less (ltb-true _ _ below))))
+  | inr above ↦ rw above (sym (nat_lt-no c d (more (ltb-false _ _ above))))
 ]
 
 pub packed-agrees : Agrees (fetched_before packed) (first_user Pack)
@@ -80,13 +80,13 @@ state-next d s needed n x agrees h =
       fetched = fun_ext (λ j. elim (cases_Bool (nat_lt (first_user d.row j) (suc n))) [
         | inl before ↦
             let early : nat_lt j (needed (suc n)) ≡ true = agrees (suc n) j ∙ before
-            in let no : nat_lt n (first_user d.row j) ≡ false = nat_lt-no n (first_user d.row j) (let l : first_user d.row j < suc n = ltb-true _ _ before in omega (arith, l))
-            in rw (early, no) (ap (λ (f : ℕ → ℕ). f j) h.fetched)
+            in let not_past : nat_lt n (first_user d.row j) ≡ false = nat_lt-no n (first_user d.row j) (let l : first_user d.row j < suc n = ltb-true _ _ before in omega (arith, l))
+            in rw (early, not_past) (ap (λ (f : ℕ → ℕ). f j) h.fetched)
         | inr now ↦
             let late : nat_lt j (needed (suc n)) ≡ false = agrees (suc n) j ∙ now
-            in let yes : nat_lt n (first_user d.row j) ≡ true = nat_lt-yes n (first_user d.row j) (let l : suc n ≤ first_user d.row j = ltb-false _ _ now in omega (arith, l))
+            in let past : nat_lt n (first_user d.row j) ≡ true = nat_lt-yes n (first_user d.row j) (let l : suc n ≤ first_user d.row j = ltb-false _ _ now in omega (arith, l))
             in let here : nat_lt n (suc n) ≡ true = nat_lt-yes n (suc n) (omega arith)
-            in rw (late, yes) (ap (λ (t : Storage). byte_from_right d.second t j) (rw here at after))
+            in rw (late, past) (ap (λ (t : Storage). byte_from_right d.second t j) (rw here at after))
       ]);
       stored = after;
     }
