@@ -85,8 +85,8 @@ AreFetched bytes v =
 
 -- an instruction ends as the definition's does, with its next address and its length, and its puts make the
 -- definition's core
-pub record PutsInstruction {S : Type 0} (p : Ghosts S) (puts : S) (m : Core) (i : Instruction) (planned : PlannedInstruction) : Type 0 where
-  pub puts : PutsOutcome p puts (record { core = m; next_address = i.next_address; instruction_length = i.instruction_length }) i.outcome planned.ended
+pub record PutsInstruction {S : Type 0} (p : Ghosts S) (taken : S) (m : Core) (i : Instruction) (planned : PlannedInstruction) : Type 0 where
+  pub puts : PutsOutcome p taken (record { core = m; next_address = i.next_address; instruction_length = i.instruction_length }) i.outcome planned.ended
   pub next : planned.next_address ≡ i.next_address
   pub length : planned.instruction_length ≡ i.instruction_length
 

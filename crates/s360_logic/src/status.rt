@@ -1,6 +1,6 @@
 //! Status switching: the PSW and its masks, the storage keys and the supervisor call. Source:
 //! GA22-6821, "Status Switching", and "System Structure", protection feature.
-ghost use Rattle.std.specs.Prelude.{◌≡◌, ◌<◌, IfErr, IfNone, IfOk, None, Some};
+ghost use Rattle.std.specs.Prelude.{◌≡◌, ◌<◌, IfErr, IfNone, IfOk, None, OnOk, Some};
 ghost use Rattle.s360_model.specs.Psw.{current_psw};
 ghost use Rattle.s360_model.specs.Storage.{doubleword_at, key_limit};
 ghost use Rattle.s360_store.specs.Plans.{HasBlock, HasBytes};

@@ -23,15 +23,15 @@ loop-i-preserved c =
     in let d : DigitMove = digit_move c.args.row c.args.zone (field_of c.args.operand.now) c.args.second
     in let inside : o.address + length o.bytes ≤ length o.storage.bytes = rw (i.address, i.count, i.storage) (omega (arith, c.len-count.ensures.inside, c.len-count.ensures.len))
     in rw (c.set.ensures, i.n) (record {
-      made = HasMade-next d (stored_in c.args.operand.now) c.loop-i.i c.loop-i.held c.next_byte.result o (omega (arith, c.len-count.ensures.len)) i.count i.address inside c.next_byte.ensures i.made;
+      made = HasMade-next d (stored_in c.args.operand.now) c.loop-i.i c.loop-i.held c.next_byte-next.result o (omega (arith, c.len-count.ensures.len)) i.count i.address inside c.next_byte-next.ensures i.made;
       storage = i.storage;
       address = i.address;
-      count = length-set o.bytes _ c.next_byte.result.byte ∙ i.count;
+      count = length-set o.bytes _ c.next_byte-next.result.byte ∙ i.count;
       n = refl;
     })
 
 pub returns-clause-stored : goal.returns-clause-stored
 returns-clause-stored c =
     let d : DigitMove = digit_move c.args.row c.args.zone (field_of c.args.operand.now) c.args.second
-    in c.loop-i.invariant.made.stored
-    ∙ ap (λ k. storage_before d (stored_in c.args.operand.now) k k) (omega (arith, c.loop-i.invariant.n))
+    in let all : c.loop-i.i ≡ d.first.count = omega (arith, c.loop-i.invariant.n)
+    in c.loop-i.invariant.made.stored ∙ ap (λ k. storage_before d (stored_in c.args.operand.now) k k) all
