@@ -1,7 +1,7 @@
 -- What is made of operands that share no byte: nothing that is stored is fetched later.
-use Rattle.std.proofs.Common.{◌≡◌, ◌≢◌, ◌<◌, ◌≤◌, ◌+◌, ◌∙◌, ℕ, zero, suc, length, arith, rules, refl, ap, sym, nat_eq, nat_lt, true, false, inl, inr, get_or-set_other, get_or-set_same, length-set}
+use Rattle.std.proofs.Common.{◌≡◌, ◌≢◌, ◌<◌, ◌≤◌, ◌+◌, ◌∙◌, ℕ, zero, suc, length, arith, rules, refl, ap, nat_eq, nat_lt, true, inl, inr, get_or-set_other, get_or-set_same, length-set}
 use Rattle.std.proofs.Math.Path.{fun_ext}
-use Rattle.std.proofs.lemmas.Bool.{cases_Bool, eqb-true, eqb-false, ltb-true, ltb-false}
+use Rattle.std.proofs.lemmas.Bool.{cases_Bool, eqb-true, eqb-false, ltb-true}
 use Rattle.s360_model.specs.Storage.{Storage}
 use Rattle.s360_logic.specs.declared.field.Field.{Field}
 use Rattle.s360_logic.specs.Bytes.{byte_at, with_byte}

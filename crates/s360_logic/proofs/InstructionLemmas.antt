@@ -1,5 +1,5 @@
 -- The instruction that was fetched.
-use Rattle.std.proofs.Common.{◌≡◌, ◌∙◌, length, ℕ, Bool, true, false, refl, Option, Some, None, ap, arith, sym, is_none}
+use Rattle.std.proofs.Common.{◌≡◌, ◌∙◌, ℕ, Bool, true, false, refl, Option, Some, None, ap, arith, sym, is_none}
 use Rattle.s360_model.specs.Core.{Core}
 use Rattle.s360_model.specs.Psw.{instruction_address_of}
 use Rattle.s360_store.specs.declared.puts.Puts.{Ghosts}
@@ -14,7 +14,7 @@ use Rattle.s360_psw.specs.declared.instruction_length.InstructionLength.TheVaria
 use Rattle.s360_fixed.specs.Fetching.{instruction_bytes}
 use Rattle.s360_fixed.specs.Plans.{PutsOutcome}
 use Rattle.s360_fixed.specs.ProgramCodes.{Conditions, no_conditions, program_code}
-use Rattle.s360_fixed.specs.Table.{form_of, instruction_length}
+use Rattle.s360_fixed.specs.Table.{form_of}
 use Rattle.s360_fixed.specs.View.{Outcome, View}
 use Rattle.s360_logic.specs.Instruction.{Fetched, IsFetched, PutsInstruction, conditions_at, fetched_outcome, instruction, instruction_at, instruction_of, view_at}
 
