@@ -2,6 +2,7 @@
 use Rattle.std.proofs.Common.{◌≡◌, ◌∙◌, ℕ, Bool, true, false, List, refl, ap, subst, sym, if◌then◌else◌}
 use Rattle.std.specs.Option.{option_map}
 use Rattle.std.specs.Prelude.{Option, Some, None}
+use Rattle.s360_model.specs.Core.{Core}
 use Rattle.s360_model.specs.Storage.{Storage}
 use Rattle.s360_device.specs.Commands.{command_of}
 use Rattle.s360_device.specs.declared.device_with.DeviceChange.{DeviceChange}
@@ -29,7 +30,7 @@ use Rattle.s360_channel.specs.UnitChanges.{IsUnitsChangeTo}
 use Rattle.s360_channel.specs.ConfiguredUnits.{HasEachUnit, Units}
 use Rattle.s360_machine.specs.ChannelEvents.{ExecutesProgram, IsAlterationOf, StepsTo, after_ending, execution_at, execution_of, execution_with, media_after, view_of}
 use Rattle.s360_channel.specs.declared.configured_unit.ConfiguredUnit.{ConfiguredUnit}
-use Rattle.s360_machine.specs.Machine.{Spare, Whole, WithRoom, seen, seen_media}
+use Rattle.s360_machine.specs.Machine.{Control, Spare, Whole, WholeMedia, WithRoom, seen, seen_media}
 use Rattle.s360_machine.specs.Planned.{ExecutesAt, IsControlChangeTo, IsMediaChangeTo}
 use Rattle.s360_channel.specs.ConfiguredUnits.{control_of, with_control_of}
 use Rattle.s360_channel.proofs.UnitChangeLemmas.{IsUnitsChangeTo-one}
