@@ -1,5 +1,5 @@
 -- The instructions of the format SI follow their sources.
-use Rattle.std.proofs.Common.{◌≡◌, ◌/◌, ◌∙◌, ℕ, false, List, [], ◌∷◌, refl, ap, nat_eq, pos, bit_and, bit_or, bit_xor}
+use Rattle.std.proofs.Common.{◌≡◌, ◌/◌, ◌∙◌, ℕ, false, List, [], ◌∷◌, refl, ap, nat_eq, pos, bit_and, bit_or, bit_xor, Option, None, Some}
 use Rattle.std.specs.Prelude.{slice_index}
 use Rattle.std.proofs.lemmas.List.{length-set}
 use Rattle.s360_model.specs.ConditionCodes.{order_code}
