@@ -6,11 +6,12 @@ use Rattle.s360_model.specs.Core.{Core}
 use Rattle.s360_model.specs.Storage.{Storage}
 use Rattle.s360_psw.specs.declared.instruction_length.InstructionLength.{InstructionLength}
 use Rattle.s360_store.specs.declared.place.Place.{Place}
+use Rattle.s360_store.specs.declared.protection.Access.TheVariants.{Store}
 use Rattle.s360_fixed.specs.declared.operation.Operation.{Operation}
 use Rattle.s360_fixed.specs.Outcomes.{unless_met}
-use Rattle.s360_fixed.specs.ProgramCodes.{Conditions}
-use Rattle.s360_logic.specs.declared.row.DigitRow.TheVariants.{MoveWithOffset, Pack, Unpack}
-use Rattle.s360_logic.specs.Bytes.{completed_with, with_byte}
+use Rattle.s360_fixed.specs.View.{Outcome}
+use Rattle.s360_logic.specs.declared.row.DigitRow.TheVariants.{Pack, Unpack}
+use Rattle.s360_logic.specs.Bytes.{completed_with, fields_conditions, with_byte}
 use Rattle.s360_logic.specs.RightToLeft.{DigitMove, address_from_right, byte_from_right, digits_stored, first_user, made_byte, result_byte, source_byte, storage_before}
 use Rattle.s360_source.specs.declared.digits.DigitRow.TheVariants.{Pack as packed, Unpack as unpacked}
 use Rattle.s360_source.specs.DigitSources.{fetched_before}
@@ -101,7 +102,10 @@ pub digits-are : (d : DigitMove) (s : Storage) (needed : ℕ → ℕ) → Agrees
 digits-are d s needed agrees = (state-is d s needed agrees d.first.count).stored
 
 -- and an instruction that is completed with the one follows its sources as one that is completed with the other
-pub stored-as : (operation : Operation) (c d : Conditions) (m n : Core) (next : ℕ) (il : InstructionLength) (s t u w : Storage) (sources : Sources) (p : Place) → s ≡ u → t ≡ w
-    → FollowsSources operation m n (unless_met c m (completed_with (seen m next il) None s)) (unless_met d n (completed_with (seen n next il) None t)) sources p
-    → FollowsSources operation m n (unless_met c m (completed_with (seen m next il) None u)) (unless_met d n (completed_with (seen n next il) None w)) sources p
-stored-as o c d m n next il s t u w sources p e f h = rw (← e, ← f) h
+abbrev outcome_with : Core → ℕ → InstructionLength → DigitMove → Storage → Outcome
+outcome_with m next il d s = unless_met (fields_conditions (seen m next il) Store d.first d.second) m (completed_with (seen m next il) None s)
+
+pub stored-as : (operation : Operation) (m n : Core) (next : ℕ) (il : InstructionLength) (d e : DigitMove) (s t u w : Storage) (sources : Sources) (p : Place) → s ≡ u → t ≡ w
+    → FollowsSources operation m n (outcome_with m next il d s) (outcome_with n next il e t) sources p
+    → FollowsSources operation m n (outcome_with m next il d u) (outcome_with n next il e w) sources p
+stored-as o m n next il d e s t u w sources p f g h = rw (← f, ← g) h

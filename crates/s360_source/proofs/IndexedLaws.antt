@@ -1,5 +1,5 @@
 -- The instructions of the format RX follow their sources.
-use Rattle.std.proofs.Common.{◌≡◌, ◌+◌, ◌∙◌, ◌||◌, ℕ, false, List, [], ◌∷◌, refl, ap, is_none, Some, Option, bit_and, bit_or, bit_xor, ◌/◌, ◌*◌, ◌%◌}
+use Rattle.std.proofs.Common.{◌≡◌, ◌+◌, ◌∙◌, ◌||◌, ℕ, false, List, [], ◌∷◌, refl, ap, is_none, Some, Option, bit_and, bit_or, bit_xor, ◌/◌, ◌*◌, ◌%◌, pos}
 use Rattle.std.specs.Int.{bytes_high_first}
 use Rattle.std.specs.Prelude.{slice_index}
 use Rattle.s360_model.specs.Arithmetic.{absolute_value, logical_difference, logical_sum, negative_absolute_value, signed_complement, signed_difference, signed_sum, word_of}

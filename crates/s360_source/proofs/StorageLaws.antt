@@ -1,5 +1,5 @@
 -- The instructions of the format SS follow their sources.
-use Rattle.std.proofs.Common.{◌≡◌, ◌<◌, ◌+◌, ◌-◌, ◌*◌, ◌/◌, ◌%◌, ◌∙◌, ℕ, zero, suc, false, List, [], ◌∷◌, refl, ap, sym, arith, length, min, take, drop, nat_eq, bit_and, bit_or, bit_xor, ◌++◌, inl, inr, Option, None, Some}
+use Rattle.std.proofs.Common.{◌≡◌, ◌<◌, ◌+◌, ◌-◌, ◌*◌, ◌/◌, ◌%◌, ◌∙◌, ℕ, zero, suc, false, List, [], ◌∷◌, refl, ap, sym, arith, length, min, take, drop, nat_eq, bit_and, bit_or, bit_xor, ◌++◌, inl, inr, Option, None}
 use Rattle.std.specs.Prelude.{if◌then◌else◌}
 use Rattle.std.proofs.lemmas.Bool.{cases_Bool}
 use Rattle.std.proofs.lemmas.List.{ext_get_or, get_or-drop, get_or-take, length-drop, length-take}
@@ -14,6 +14,7 @@ use Rattle.s360_store.specs.Spans.{byte_places}
 use Rattle.s360_fixed.specs.declared.form.Form.TheVariants.{Ss}
 use Rattle.s360_fixed.specs.declared.operation.Operation.{Operation}
 use Rattle.s360_fixed.specs.declared.operation.Operation.TheVariants.{Move, MoveNumerics, MoveZones, And, Or, ExclusiveOr, CompareLogical, Translate, TranslateAndTest, MoveWithOffset, Pack, Unpack}
+use Rattle.s360_fixed.specs.Alterations.{set_to}
 use Rattle.s360_fixed.specs.Outcomes.{unless_met}
 use Rattle.s360_fixed.specs.ProgramCodes.{Conditions}
 use Rattle.s360_fixed.specs.View.{Outcome}
@@ -22,12 +23,12 @@ use Rattle.s360_logic.specs.LeftToRight.{comparison_code, function_address, left
 use Rattle.s360_logic.specs.Logic.{address_of, row_outcome}
 use Rattle.s360_logic.specs.declared.row.DigitRow.{DigitRow}
 use Rattle.s360_logic.specs.declared.row.DigitRow.TheVariants.{MoveWithOffset as move_with_offset, Pack as pack, Unpack as unpack}
-use Rattle.s360_logic.specs.RightToLeft.{DigitMove, byte_from_right, digit_move, digits, exchanged, zone_of}
+use Rattle.s360_logic.specs.RightToLeft.{DigitMove, byte_from_right, digit_move, digits, digits_stored, exchanged, zone_of}
 use Rattle.s360_source.specs.Agreement.{AreAlike, HaveAllSame, HaveSame, KeepsSizes}
 use Rattle.s360_source.specs.declared.digits.DigitRow.TheVariants.{MoveWithOffset as with_offset, Pack as packed, Unpack as unpacked}
 use Rattle.s360_source.specs.declared.digits.Digits.{Digits}
 use Rattle.s360_source.specs.declared.digits.Field.{Field}
-use Rattle.s360_source.specs.DigitSources.{fetched_before, from_right}
+use Rattle.s360_source.specs.DigitSources.{digit_sources, fetched_before, from_right}
 use Rattle.s360_source.proofs.DigitStates.{digits-are, packed-agrees, stored-as, unpacked-agrees}
 use Rattle.s360_source.specs.InstructionSources.{combination_in_storage, digits_of, ss_sources}
 use Rattle.s360_source.specs.Laws.{FollowsSources}
@@ -255,7 +256,8 @@ ss-law TranslateAndTest m n next length l b1 d1 b2 d2 p alike d e = search-row m
 ss-law MoveWithOffset m n next length l b1 d1 b2 d2 p alike d e =
     let o : Digits = digits_of with_offset l (at m next length b1 d1) (at m next length b2 d2)
     in let first : Field = o.first
-    in stored-as MoveWithOffset _ _ m n next length _ _ _ _ _ p
+    in stored-as MoveWithOffset m n next length (moved move_with_offset m next length l b1 d1 b2 d2) (moved move_with_offset n next length l b1 d1 b2 d2) _ _
+    (digits_stored (moved move_with_offset m next length l b1 d1 b2 d2) m.storage) (digits_stored (moved move_with_offset n next length l b1 d1 b2 d2) n.storage) (digit_sources o) p
     (digits-are (moved move_with_offset m next length l b1 d1 b2 d2) m.storage (fetched_before with_offset) (λ i j. refl))
     (digits-are (moved move_with_offset n next length l b1 d1 b2 d2) n.storage (fetched_before with_offset) (λ i j. refl))
     (digits-row MoveWithOffset m n next length o (offset_byte first.address first.count m.storage) (offset_byte (at n next length b1 d1) first.count n.storage) (at n next length b1 d1) (at n next length b2 d2) p refl alike d e
@@ -264,13 +266,15 @@ ss-law MoveWithOffset m n next length l b1 d1 b2 d2 p alike d e =
     (λ r. rightmost-same m n first r ∙ ap (λ q. byte_from_right (record { address = q; count = first.count }) n.storage 0) d) x y fetched i same h))
 ss-law Pack m n next length l b1 d1 b2 d2 p alike d e =
     let o : Digits = digits_of packed l (at m next length b1 d1) (at m next length b2 d2)
-    in stored-as Pack _ _ m n next length _ _ _ _ _ p
+    in stored-as Pack m n next length (moved pack m next length l b1 d1 b2 d2) (moved pack n next length l b1 d1 b2 d2) _ _
+    (digits_stored (moved pack m next length l b1 d1 b2 d2) m.storage) (digits_stored (moved pack n next length l b1 d1 b2 d2) n.storage) (digit_sources o) p
     (digits-are (moved pack m next length l b1 d1 b2 d2) m.storage (fetched_before packed) packed-agrees)
     (digits-are (moved pack n next length l b1 d1 b2 d2) n.storage (fetched_before packed) packed-agrees)
     (digits-row Pack m n next length o packed_byte packed_byte (at n next length b1 d1) (at n next length b2 d2) p refl alike d e (packed-made m n o.first o.second))
 ss-law Unpack m n next length l b1 d1 b2 d2 p alike d e =
     let o : Digits = digits_of unpacked l (at m next length b1 d1) (at m next length b2 d2)
-    in stored-as Unpack _ _ m n next length _ _ _ _ _ p
+    in stored-as Unpack m n next length (moved unpack m next length l b1 d1 b2 d2) (moved unpack n next length l b1 d1 b2 d2) _ _
+    (digits_stored (moved unpack m next length l b1 d1 b2 d2) m.storage) (digits_stored (moved unpack n next length l b1 d1 b2 d2) n.storage) (digit_sources o) p
     (digits-are (moved unpack m next length l b1 d1 b2 d2) m.storage (fetched_before unpacked) unpacked-agrees)
     (digits-are (moved unpack n next length l b1 d1 b2 d2) n.storage (fetched_before unpacked) unpacked-agrees)
     (digits-row Unpack m n next length o (unpacked_byte m.psw) (unpacked_byte n.psw) (at n next length b1 d1) (at n next length b2 d2) p refl alike d e (unpacked-made m n o.first o.second))
