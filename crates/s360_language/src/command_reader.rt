@@ -1,6 +1,6 @@
 //! The lines of the language of scripts.
 ghost use Rattle.std.specs.Prelude.{◌≡◌, ◌≤◌, [], IfSome, take, length, MatchOption, Some, None};
-ghost use Rattle.s360_language.specs.Lines.{kind, text, two};
+ghost use Rattle.s360_language.specs.Lines.{kind, named, text, two};
 ghost use Rattle.s360_language.specs.Reading.{Reads, address, bytes_in, commands, ebcdic_text, patches, reading_of, shows};
 
 use crate::arguments::{
@@ -27,13 +27,20 @@ pub const MOST_COUNT: u32 = 10_000_000;
 pub fn read_command(alloc: Global, line: &[u8]) -> Result<Command, LineFault>
     ensures { Reads (reading_of line.now) result }
 {
-    let mut words = words_in(line)?;
+    let words = words_in(line)?;
+    read_words(alloc, words, text_behind(line))
+}
+
+/// The command of these words, behind the first of which a line has this text.
+fn read_words(alloc: Global, mut words: Words<'_>, behind: &[u8]) -> Result<Command, LineFault>
+    ensures { Reads (named LineFault.Unknown (commands behind.now) 0 words.entry) result }
+{
     read_line! { words, 0, finish, LineFault::Unknown;
         "step" () => Command::Step;
         "channel" (unit: unit_in) => Command::Channel(unit);
         "tick" () => Command::Tick;
         "key" (key: key_in) => Command::Key(key);
-        "enter" [read_enter(alloc, text_behind(line))];
+        "enter" [read_enter(alloc, behind)];
         "load" (unit: unit_in) => Command::Key(Key::Load(unit));
         "patch" [read_patch(alloc, words)];
         "run" (most: count_in(MOST_COUNT)) => Command::Run { most };
