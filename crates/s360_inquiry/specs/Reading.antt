@@ -3,7 +3,7 @@ use Rattle.std.specs.Prelude.{ℕ, Option, Result, List, [], ◌∷◌, codes}
 use Rattle.std.specs.Option.{option_map, option_or}
 use Rattle.s360_language.specs.declared.command.LineFault.{LineFault}
 use Rattle.s360_language.specs.Digits.{count_of}
-use Rattle.s360_language.specs.Lines.{Line, if_known, judged, kind, line, makes, may_take, one, one_of, part, two}
+use Rattle.s360_language.specs.Lines.{Line, if_known, judged, line, makes, may_take, one, one_of, part, two}
 use Rattle.s360_language.specs.Reading.{address, most_count, places}
 use Rattle.s360_inquiry.specs.Causes.{most_depth}
 use Rattle.s360_inquiry.specs.declared.inquiry.Inquiry.{Inquiry}

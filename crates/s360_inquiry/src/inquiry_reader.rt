@@ -2,14 +2,14 @@
 ghost use Rattle.std.specs.Prelude.{◌≡◌};
 ghost use Rattle.std.specs.Option.{option_map};
 ghost use Rattle.s360_language.specs.Digits.{count_of};
-ghost use Rattle.s360_language.specs.Lines.{judged};
+ghost use Rattle.s360_language.specs.Lines.{named};
 ghost use Rattle.s360_language.specs.Reading.{most_count};
 ghost use Rattle.s360_inquiry.specs.Reading.{inquiries, inquiry_of, mark_of};
 
 use crate::inquiry::{Inquiry, Mark};
 use crate::why::MOST_DEPTH;
 use s360_language::{
-    LineFault, MOST_COUNT, address_in, count_in, finish, if_known, next_place, read_line,
+    LineFault, MOST_COUNT, Words, address_in, count_in, finish, if_known, next_place, read_line,
     read_word, words_in,
 };
 use s360_store::GREATEST_SIZE;
@@ -26,14 +26,16 @@ const DEPTH: u32 = 5;
 pub fn read_inquiry(line: &[u8]) -> Option<Result<Inquiry, LineFault>>
     ensures { result ≡ inquiry_of line.now }
 {
-    if_known(reading_of(line))
+    match words_in(line) {
+        Ok(words) => if_known(read_words(words)),
+        Err(_) => None,
+    }
 }
 
-/// The inquiry of a line, or why it is none.
-fn reading_of(line: &[u8]) -> Result<Inquiry, LineFault>
-    ensures { result ≡ judged inquiries line.now }
+/// The inquiry of these words, or why they are none.
+fn read_words(mut words: Words<'_>) -> Result<Inquiry, LineFault>
+    ensures { result ≡ named LineFault.Unknown inquiries 0 words.entry }
 {
-    let mut words = words_in(line)?;
     read_line! { words, 0, finish, LineFault::Unknown;
         "who" (place: [next_place]) => Inquiry::Who(place);
         "why" (place: [next_place], depth: count_in(MOST_DEPTH) or DEPTH) => Inquiry::Why { place, depth };
