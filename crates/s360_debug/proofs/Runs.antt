@@ -6,7 +6,7 @@ use Rattle.s360_journal.specs.Recorded.{Recorded}
 use Rattle.s360_language.specs.Reading.{reading_of}
 use Rattle.s360_debug.specs.Debugger.{Debugger}
 use Rattle.s360_debug.specs.Lines.{lines_from, lines_of, is_skipped, without_return}
-use Rattle.s360_debug.specs.Script.{answer_to_reading, state_after_reading, answer_to_line, state_after_line, answers_to_lines, state_after_lines, command_lines, StandsAfterReading, IsStopped, IsCut, AreCarriedOut}
+use Rattle.s360_debug.specs.Script.{answer_to_reading, state_after_reading, answer_to_line, state_after_line, answers_to_lines, state_after_lines, command_lines, StandsAfterReading, IsStopped, IsCut, WasCut, AreCarriedOut}
 use Rattle.s360_text.specs.Writing.{IsPartWritten}
 use Rattle.s360_text.proofs.Writes.{Appends-join, Appends-nothing}
 use Rattle.s360_debug.proofs.Readings.{unmoved}
@@ -153,10 +153,10 @@ IsStopped-unread old (Some text) d =
       stands = unmoved (reading_of first.next) d;
     }
 
-pub AreCarriedOut-cut : (old new remaining : Option (List ℕ)) (d : Debugger) (s : Recorded)
-    → IfSome remaining (λ text. IsCut old new d s (lines_of text)) → IfSome remaining (λ text. AreCarriedOut d s (lines_of text))
-AreCarriedOut-cut old new None d s h = tt
-AreCarriedOut-cut old new (Some text) d s h = record {
+pub AreCarriedOut-cut : (old new remaining : Option (List ℕ)) (r t : Recorded)
+    → IfSome remaining (λ text. WasCut old new r t text) → IfSome remaining (λ text. AreCarriedOut r t text)
+AreCarriedOut-cut old new None r t h = tt
+AreCarriedOut-cut old new (Some text) r t h = record {
   done = h.done ++ h.next ∷ [];
   left = h.left;
   split = h.split ∙ sym (append_assoc h.done (h.next ∷ []) h.left);

@@ -105,6 +105,9 @@ abbrev pub accepted_of_offer : Standing → Option Event → List Event
 accepted_of_offer s (Some e) = unless_refused (refusal_in s e) e
 accepted_of_offer s None = []
 
+abbrev pub after_offer : Recorded → Event → Recorded
+after_offer r e = after_events r (accepted_of_offer (session_of r) (Some e))
+
 -- of the events that a command offers, those that are accepted, up to where it stops
 abbrev pub accepted_events : Debugger → Command → List Event
 accepted_events d (Run most) = (run_at d.breaks (session_of d.session) most).events

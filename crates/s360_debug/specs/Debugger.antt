@@ -7,6 +7,9 @@ pub record Debugger : Type 0 where
   pub session : Recorded
   pub breaks : List ℕ
 
+abbrev pub debugger : Recorded → List ℕ → Debugger
+debugger r breaks = record { session = r; breaks = breaks }
+
 -- before the first line no breakpoint is set
 abbrev pub new_debugger : Recorded → Debugger
-new_debugger r = record { session = r; breaks = [] }
+new_debugger r = debugger r []

@@ -70,9 +70,23 @@ pub record IsCut (old new : Option (List ℕ)) (d : Debugger) (r : Recorded) (li
   pub written : Appends old new (answers_to_lines d done ++ take count (answer_to_line (state_after_lines d done) next))
   pub stands : r ≡ (state_after_lines d (done ++ next ∷ [])).session
 
+-- the answers to a script, and where its session is after it
+abbrev pub AreAnswered : Option (List ℕ) → Option (List ℕ) → Recorded → List ℕ → Type 0
+AreAnswered old new r text = Appends old new (answers_of r text)
+
+abbrev pub session_after : Recorded → List ℕ → Recorded
+session_after r text = (state_after_lines (new_debugger r) (lines_of text)).session
+
+-- the same of a script that was carried out in part
+abbrev pub HasStopped : Option (List ℕ) → Option (List ℕ) → Recorded → Recorded → List ℕ → Type 0
+HasStopped old new r t text = IsStopped old new (new_debugger r) t (lines_of text)
+
+abbrev pub WasCut : Option (List ℕ) → Option (List ℕ) → Recorded → Recorded → List ℕ → Type 0
+WasCut old new r t text = IsCut old new (new_debugger r) t (lines_of text)
+
 -- what stands is as after some first lines
-pub record AreCarriedOut (d : Debugger) (r : Recorded) (lines : List (List ℕ)) : Type 0 where
+pub record AreCarriedOut (r t : Recorded) (text : List ℕ) : Type 0 where
   pub done : List (List ℕ)
   pub left : List (List ℕ)
-  pub split : lines ≡ done ++ left
-  pub stands : r ≡ (state_after_lines d done).session
+  pub split : lines_of text ≡ done ++ left
+  pub stands : t ≡ (state_after_lines (new_debugger r) done).session

@@ -38,7 +38,9 @@ pub record IsCarriedOut (line : List ℕ) (d t : Driven) (said : List ℕ) : Typ
 
 -- some first ones of the events stand that it would run, or it was carried out and its text is lost
 abbrev pub IsLineCut : List ℕ → Driven → Driven → Type 0
-IsLineCut line d t = (StandsAfterReading (reading_of line) (debugger_of d) t.recorded × (t ≡ record d { recorded = t.recorded })) ⊎ (t ≡ after_line d line)
+IsLineCut line d t =
+    (StandsAfterReading (reading_of line) (debugger_of d) t.recorded × (t ≡ record d { recorded = t.recorded }))
+    ⊎ (t ≡ after_line d line)
 
 -- after want of memory
 pub record IsLineBegun (line : List ℕ) (d t : Driven) : Type 0 where

@@ -59,7 +59,10 @@ was_in_vain None r = true
 
 -- all that was recorded stands, and the event whose turn it is was the last and altered nothing: it would alter nothing again
 abbrev pub is_at_rest : Recorded → Bool
-is_at_rest r = nat_eq r.standing (length r.events) && was_in_vain (last_of (standing_events r)) r && is_turn_of (last_kind_of (standing_events r)) (next_event (machine_of (session_of r)))
+is_at_rest r =
+    nat_eq r.standing (length r.events)
+    && was_in_vain (last_of (standing_events r)) r
+    && is_turn_of (last_kind_of (standing_events r)) (next_event (machine_of (session_of r)))
 
 -- where it is at rest nothing more is run
 abbrev pub resumed : Points → Reach → Recorded → Moved

@@ -1,5 +1,6 @@
 -- The packets that are sent to gdb (gdb manual, "Packets", "Stop Reply Packets").
-use Rattle.std.specs.Prelude.{ℕ, ◌+◌, Bool, true, false, nat_eq, nat_lt, if◌then◌else◌, List, [], ◌∷◌, ◌++◌, codes, length, slice_range, Option, Some, None}
+use Rattle.std.specs.Prelude.{◌≡◌, ℕ, ◌+◌, Bool, true, false, nat_eq, nat_lt, if◌then◌else◌}
+use Rattle.std.specs.Prelude.{List, [], ◌∷◌, ◌++◌, codes, length, slice_range, Option, Some, None}
 use Rattle.s360_machine.specs.declared.event_kind.EventKind.{EventKind}
 use Rattle.s360_machine.specs.declared.event_kind.EventKind.TheVariants.{Channel}
 use Rattle.s360_machine.specs.Machine.{Machine}
@@ -23,6 +24,10 @@ use Rattle.s360_journal.specs.declared.running.Pause.TheVariants.{Refused, Watch
 use Rattle.s360_journal.specs.declared.running.Reach.{Reach}
 use Rattle.s360_journal.specs.declared.running.Reach.TheVariants.{Step}
 use Rattle.s360_journal.specs.declared.running.Reach.TheVariants as reach
+
+-- packets of this kind are sent after those before
+abbrev pub Adds : (List ℕ → Type 0) → List ℕ → List ℕ → Type 0
+Adds P old new = (packets : List ℕ) × P packets × (new ≡ old ++ packets)
 
 abbrev pub packet_of : Answer → List ℕ
 packet_of a = framed (answer_text a)

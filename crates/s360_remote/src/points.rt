@@ -1,12 +1,12 @@
 //! Where gdb asks the machine to stop. Source: gdb manual, "Packets", `Z0` to `Z2`.
-ghost use Rattle.std.specs.Prelude.{◌≡◌, ◌<◌, ◌+◌, ◌^◌, [], ◌≤◌, not, drop, length, nat_eq, slice_get, vec_capacity, IfOk, OnErr, OnOk, SomeIff};
+ghost use Rattle.std.specs.Prelude.{◌≡◌, ◌<◌, ◌+◌, ◌^◌, [], ◌≤◌, not, drop, length, nat_eq};
+ghost use Rattle.std.specs.Prelude.{slice_get, vec_capacity, IfOk, OnErr, OnOk, SomeIff};
 ghost use Rattle.std.specs.List.{filter, list_any, range_with_len};
 ghost use Rattle.s360_journal.specs.Breakpoints.{has_room_for};
 ghost use Rattle.s360_journal.specs.Recorded.{session_of};
 ghost use Rattle.s360_machine.specs.Machine.{seen};
 ghost use Rattle.s360_condition.specs.Evaluation.{holds};
-ghost use Rattle.s360_model.specs.Psw.{instruction_address_of};
-ghost use Rattle.s360_remote.specs.Points.{is_passed, stops_of, target_of, with_break, without_break, without_conditions};
+ghost use Rattle.s360_remote.specs.Points.{is_passed, is_passed_in, no_points, stops_of, target_of, with_break, without_break, without_conditions};
 ghost use Rattle.s360_remote.specs.Points.{are_any, byte_altered_by, bytes_altered, last_change_at};
 ghost use Rattle.s360_remote.specs.Points.{has_byte, has_room_for_watch, is_watched, with_altered, with_watch, without_watch};
 
@@ -214,7 +214,7 @@ impl Model for Points {
 impl Points {
     /// None. It takes no memory.
     pub fn new(alloc: Global) -> Points
-        ensures { result ≡ record { breaks = []; conditional = []; watches = [] } }
+        ensures { result ≡ no_points }
     {
         Points {
             breaks: Breaks::new(),
@@ -282,7 +282,7 @@ impl Points {
 
     /// Whether the breakpoint at the next instruction has conditions of which none holds.
     fn is_passed(&self, machine: &Machine) -> bool
-        ensures { result ≡ list_any (λ c. is_passed (target_of (seen machine.now.whole)) (instruction_address_of (seen machine.now.whole).core.psw) c) self.now.conditional }
+        ensures { result ≡ is_passed_in (seen machine.now.whole) self.now.conditional }
     {
         if self.conditional.is_empty() {
             return false;

@@ -1,12 +1,12 @@
 //! The target: a machine whose events are recorded, with the points at which gdb asks it to stop. Source: gdb manual,
 //! "Reverse Execution".
-ghost use Rattle.std.specs.Prelude.{◌≡◌, ◌≤◌, ℕ, [], length, take, None, IfOk, OnErr, OnOk};
+ghost use Rattle.std.specs.Prelude.{◌≡◌, ◌≤◌, ℕ, length, IfOk, OnErr, OnOk};
 ghost use Rattle.s360_machine.specs.Machine.{seen, storage_size};
 ghost use Rattle.s360_journal.specs.Rerun.{AreAccepted};
 ghost use Rattle.s360_journal.specs.Standing.{machine_of};
-ghost use Rattle.s360_journal.specs.Recorded.{after_events, session_of};
-ghost use Rattle.s360_remote.specs.Driven.{come_to, nothing_untold};
-ghost use Rattle.s360_remote.specs.Moving.{altered_if, gone_back, is_at_rest, is_turn_of, resumed, run_on};
+ghost use Rattle.s360_journal.specs.Recorded.{session_of};
+ghost use Rattle.s360_remote.specs.Driven.{come_to, gone_partly, new_target, noting};
+ghost use Rattle.s360_remote.specs.Moving.{altered_if, gone_back, is_at_rest, is_turn_of, resumed};
 
 use crate::points::{Altered, Points};
 use crate::untold::Untold;
@@ -42,7 +42,7 @@ impl Model for Target {
 impl Target {
     /// A target over a session, with no points.
     pub fn new(alloc: Global, session: Session) -> Target
-        ensures { result ≡ record { recorded = session; points = record { breaks = []; conditional = []; watches = [] }; own = []; stood = None; untold = nothing_untold } }
+        ensures { result ≡ new_target session }
     {
         Target {
             session,
@@ -68,7 +68,7 @@ impl Target {
     pub fn go_on(&mut self, reach: Reach) -> Result<Pause, AllocError>
         ensures pause { IfOk result (λ pause. pause ≡ (resumed self.old.points reach self.old.recorded).why) }
         ensures state { OnOk result (self.new ≡ come_to self.old (resumed self.old.points reach self.old.recorded)) }
-        ensures memory { OnErr result ((n : ℕ) × (self.new ≡ record self.old { recorded = after_events self.old.recorded (take n (run_on self.old.points reach self.old.recorded).events) })) }
+        ensures memory { OnErr result ((n : ℕ) × (self.new ≡ gone_partly self.old reach n)) }
     {
         let pause = if self.is_at_rest() {
             Pause::Idle
@@ -94,7 +94,7 @@ impl Target {
 
     /// Notes the watched bytes that the last change altered, if that is why the machine pauses.
     fn note_altered(&mut self, pause: Pause)
-        ensures { self.new ≡ come_to self.old (record { recorded = self.old.recorded; why = pause; altered = altered_if pause self.old.points self.old.recorded }) }
+        ensures { self.new ≡ noting self.old (altered_if pause self.old.points self.old.recorded) }
     {
         self.untold.altered = match pause {
             Pause::Watch => self.points.bytes_altered(&self.session),

@@ -1,11 +1,8 @@
 //! What the program does once its command line is read. Faults are found in the order of the steps.
 ghost use Rattle.std.specs.Prelude.{◌≡◌, ◌≢◌, ◌≤◌, true, false, length};
 ghost use Rattle.std.specs.Prelude.{IfErr, IfOk, IfSome, OnOk, Err};
-ghost use Rattle.std.specs.Io.KnownBytes.{Appends};
 ghost use Rattle.s360_model.specs.Storage.{is_storage_size};
-ghost use Rattle.s360_debug.specs.Debugger.{new_debugger};
-ghost use Rattle.s360_debug.specs.Lines.{lines_of};
-ghost use Rattle.s360_debug.specs.Script.{answers_of, state_after_lines};
+ghost use Rattle.s360_debug.specs.Script.{AreAnswered, session_after};
 ghost use Rattle.s360_setup.specs.Failures.{IsScriptFailure, IsAnsweringFailure};
 ghost use Rattle.s360dbg.specs.Failures.{IsRunFailure};
 ghost use Rattle.s360_setup.specs.declared.failure.Failure.TheVariants.{StorageSize};
@@ -59,8 +56,8 @@ fn answer<R: Read, W: Write + Drop>(
     writer: W,
 ) -> Result<W, Failure>
     ensures length { OnOk result (IfSome (R.remaining reader.old) (λ text. length text ≤ 1048576)) }
-    ensures answers { IfOk result (λ w. IfSome (R.remaining reader.old) (λ text. Appends (W.contents writer) (W.contents w) (answers_of session.old text))) }
-    ensures state { OnOk result (IfSome (R.remaining reader.old) (λ text. session.new ≡ (state_after_lines (new_debugger session.old) (lines_of text)).session)) }
+    ensures answers { IfOk result (λ w. IfSome (R.remaining reader.old) (AreAnswered (W.contents writer) (W.contents w) session.old)) }
+    ensures state { OnOk result (IfSome (R.remaining reader.old) (λ text. session.new ≡ session_after session.old text)) }
     ensures failure { IfErr result IsScriptFailure }
 {
     Ok(carry_out(alloc, session, reader, writer)?)

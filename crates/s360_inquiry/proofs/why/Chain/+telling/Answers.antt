@@ -5,7 +5,7 @@ use Rattle.s360_journal.specs.Recorded.{Recorded, with_standing}
 use Rattle.s360_inquiry.specs.declared.cause.Cause.{Cause}
 use Rattle.s360_inquiry.specs.Causes.{IsTold, cause_line, cause_lines, decided_lines}
 use Rattle.s360_inquiry.proofs.WhyLemmas.{making-told, told-full}
-use Rattle.s360_inquiry.proofs.why.+telling.Goals as goal
+use Rattle.s360_inquiry.proofs.why.Chain.+telling.Goals as goal
 
 pub tell-returns-then-is_full-clause-told : goal.tell-returns-then-is_full-clause-told
 tell-returns-then-is_full-clause-told t c = λ lines told. told-full lines _ c.args.telling.now (c.is_full.ensures.0 (search rules)) told

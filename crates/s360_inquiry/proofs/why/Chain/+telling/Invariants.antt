@@ -3,7 +3,7 @@ use Rattle.std.specs.List.{flat_map}
 use Rattle.s360_journal.specs.Recorded.{with_standing}
 use Rattle.s360_inquiry.specs.declared.cause.Cause.{Cause}
 use Rattle.s360_inquiry.specs.Causes.{IsTold, cause_lines}
-use Rattle.s360_inquiry.proofs.why.+telling.Given as goal
+use Rattle.s360_inquiry.proofs.why.Chain.+telling.Given as goal
 
 abbrev pub decreases-tell : goal.decreases-tell
 decreases-tell l = 2 * l.depth + 1
