@@ -51,12 +51,15 @@ pub runs-again : (r t : Recorded) → AreAccepted (seen r.start) r.events → le
 runs-again r t accepted few less is =
     let one : IsThere r.events r.standing = there r.standing r.events less
     in let more : r.standing + 1 ≡ suc r.standing = omega arith
-    in (one.event, record {
-      next = one.next;
-      accepted = allowed r one accepted few less;
-      state = is ∙ sym (after_next r one.event one.next);
-      stands = ap (λ (k : Recorded). session_of k) is ∙ ap (λ n. record (session_of r) { events = take n r.events }) more ∙ ap (λ (es : List Event). record (session_of r) { events = es }) one.one;
-    })
+    in (
+      one.event,
+      record {
+        next = one.next;
+        accepted = allowed r one accepted few less;
+        state = is ∙ sym (after_next r one.event one.next);
+        stands = ap (λ (k : Recorded). session_of k) is ∙ ap (λ n. record (session_of r) { events = take n r.events }) more ∙ ap (λ (es : List Event). record (session_of r) { events = es }) one.one;
+      },
+    )
 
 -- and that event alone
 none-dropped : (n : ℕ) (e : Event) → slice_get (drop n []) 0 ≡ Some e → ⊥

@@ -59,7 +59,6 @@ pub(crate) fn note_of<'a>(
 
 impl Noted<'_> {
     /// An event that is equal to it.
-    #[inline(always)]
     pub(crate) fn event(self) -> Result<Event, AllocError>
         ensures { IfOk result (λ event. event ≡ event_noted self.entry) }
     {

@@ -360,12 +360,15 @@ impl Session {
         ensures state { OnOk result (self.new ≡ with_standing self.old (min (self.old.standing + 1) (length self.old.events))) }
         ensures err { OnErr result (self.new ≡ self.old) }
     {
-        match self.timeline.next()? {
-            None => return Ok(false),
-            // So the compiler has the most frequent event for itself.
-            Some(Event::Cpu) => self.make_again(Event::Cpu)?,
-            Some(event) => self.make_again(event)?,
+        // The most frequent event is run with no copy of it.
+        if self.timeline.is_cpu_next() {
+            self.make_again(Event::Cpu)?;
+            return Ok(true);
         }
+        let Some(event) = self.timeline.next()? else {
+            return Ok(false);
+        };
+        self.make_again(event)?;
         Ok(true)
     }
 
