@@ -1,6 +1,6 @@
 -- The session that stands, as the record goes on and back.
 use Rattle.std.proofs.Common.{◌≡◌, ◌≢◌, ◌≤◌, ◌+◌, ◌-◌, ◌∙◌, ℕ, zero, suc, nat_eq, Bool, List, [], ◌∷◌, Option, Some, None, true, false, refl, ap, sym, arith, length, take}
-use Rattle.std.proofs.lemmas.Bool.{eqb-eq, true≢false}
+use Rattle.std.proofs.lemmas.Bool.{eqb-true, true≢false}
 use Rattle.std.proofs.lemmas.List.{length-take-le}
 use Rattle.std.specs.Bool.{then_some}
 use Rattle.std.specs.Cmp.{both_ways}
@@ -97,7 +97,7 @@ unfolding back_of
 taken-none stops reach r none = record { back = λ n. rw none refl; kept = refl; within = omega arith }
 
 some-stand : (n : ℕ) → n ≢ 0 → nat_eq n 0 ≡ false
-some-stand n some = both_ways (nat_eq n 0) false (λ h. absurd (some (eqb-eq n 0 h))) (λ h. absurd (true≢false (sym h)))
+some-stand n some = both_ways (nat_eq n 0) false (λ h. absurd (some (eqb-true n 0 h))) (λ h. absurd (true≢false (sym h)))
 
 -- the last one altered what is watched
 pub taken-watch : (stops : WhereToStop) (reach : Reach) (r : Recorded) → r.standing ≢ 0 → stops.altered (session_of r) ≡ true → IsTakenBack stops reach r (Some Watch) r

@@ -1,10 +1,10 @@
 -- A run, turn by turn.
-use Rattle.std.proofs.Common.{◌≡◌, ◌≢◌, ◌≤◌, ◌<◌, ◌+◌, ◌-◌, ◌++◌, ◌∷◌, ◌∙◌, [], ℕ, zero, suc, List, Option, Some, None, is_some, Bool, true, false, not, ◌&&◌, nat_eq, refl, sym, ap, subst, append_assoc, arith, drop, length, length-append, take, Ok, Err, IsOkUnless}
+use Rattle.std.proofs.Common.{◌≡◌, ◌≢◌, ◌≤◌, ◌<◌, ◌+◌, ◌-◌, ◌++◌, ◌∷◌, ◌∙◌, [], ℕ, zero, suc, List, Option, Some, None, is_some, Bool, true, false, not, nat_eq, refl, sym, ap, subst, append_assoc, arith, drop, length, length-append, take, Ok, Err, IsOkUnless}
 use Rattle.std.specs.Prelude.{◌↔◌, IsTrue, MatchOption, OnErr, Result}
 use Rattle.std.specs.Cmp.{both_ways}
 use Rattle.std.specs.List.{slice_get}
 use Rattle.std.specs.Option.{option_map, option_map_or, unwrap_or}
-use Rattle.std.proofs.lemmas.Bool.{eq-eqb, eqb-eq, true≢false}
+use Rattle.std.proofs.lemmas.Bool.{eq-eqb, eqb-true, true≢false}
 use Rattle.std.proofs.lemmas.List.{append-nil, length-take}
 use Rattle.std.proofs.Math.Seq.{take-append_seam}
 use Rattle.s360_store.specs.declared.place.Place.{Place}
@@ -22,8 +22,8 @@ use Rattle.s360_journal.specs.declared.running.Pause.TheVariants.{Refused, Done}
 use Rattle.s360_journal.specs.declared.running.Reach.{Reach}
 use Rattle.s360_journal.specs.declared.running.Turn.{Turn}
 use Rattle.s360_journal.specs.declared.running.Turn.TheVariants.{New, Next}
-use Rattle.s360_journal.specs.Offers.{with_events}
-use Rattle.s360_journal.specs.Running.{IsAccepted, IsTurn, Run, WhereToStop, event_of_turn, events_of_turn, is_cpu, is_end, is_idle, is_reached, next_event, pause_after, pause_of_turn, pause_with, rest_in, run_by, run_in, run_of}
+use Rattle.s360_journal.specs.Offers.{unless_refused, with_events}
+use Rattle.s360_journal.specs.Running.{IsAccepted, IsTurn, Run, WhereToStop, event_of_turn, events_of_turn, is_cpu, is_end, is_idle, is_reached, next_event, pause_after, pause_of_turn, pause_with, refused_or, rest_in, run_by, run_in, run_of}
 use Rattle.s360_journal.specs.Timelines.{is_first}
 use Rattle.s360_journal.proofs.SessionLemmas.{last-there}
 
@@ -74,8 +74,8 @@ drop-past (suc n) (e ∷ es) h = drop-past n es (omega (arith, h))
 
 drop-more : (n : ℕ) (es : List Event) → drop (n + 1) es ≡ drop 1 (drop n es)
 drop-more zero es = refl
-drop-more (suc n) [] = refl
-drop-more (suc n) (e ∷ es) = drop-more n es
+drop-more (suc n) [] = let more : suc n + 1 ≡ suc (n + 1) = omega arith in ap (λ k. drop k []) more
+drop-more (suc n) (e ∷ es) = let more : suc n + 1 ≡ suc (n + 1) = omega arith in ap (λ k. drop k (e ∷ es)) more ∙ drop-more n es
 
 length-drop : (n : ℕ) (es : List Event) → length (drop n es) ≡ length es - n
 length-drop zero es = omega arith
@@ -93,11 +93,16 @@ turn-accepted : (stops : WhereToStop) (turn : Turn) (reach : Reach) (r t : Recor
     → refusal_in (session_of r) e ≡ None → t ≡ after_event r e → IsAfter (session_of t) (session_of r) e → pause ≡ pause_after stops reach (session_of r) rest e → rest_in turn t ≡ drop 1 rest
     → IsTurn stops turn reach r pause t
 unfolding pause_of_turn events_of_turn
-turn-accepted stops turn reach r t pause rest e left first accepted state stands why next = record {
-  why = rw (left, first, accepted) why;
-  ran = rw (left, first, accepted) (AreRun-one r t e state stands);
-  rest = next ∙ ap (λ es. drop 1 es) (sym left);
-}
+turn-accepted stops turn reach r t pause rest e left first accepted state stands why next =
+    let s : Standing = session_of r
+    in record {
+      why = why ∙ ap (λ o. refused_or o (pause_after stops reach s rest e)) (sym accepted)
+          ∙ ap (λ x. refused_or (refusal_in s x) (pause_after stops reach s rest x)) (sym first)
+          ∙ ap (λ es. pause_of_turn stops reach s es) (sym left);
+      ran = subst (λ es. AreRun r es t)
+          (ap (λ o. unless_refused o e) (sym accepted) ∙ ap (λ x. unless_refused (refusal_in s x) x) (sym first) ∙ ap (λ es. events_of_turn s es) (sym left)) (AreRun-one r t e state stands);
+      rest = next ∙ ap (λ es. drop 1 es) (sym left);
+    }
 
 -- the next of the record was run again
 pub turn-again : (stops : WhereToStop) (reach : Reach) (r t : Recorded) (e : Event) (pause : Option Pause) → IsRunAgain r t e → t ≡ with_standing r (r.standing + 1) → r.standing < length r.events
@@ -108,8 +113,8 @@ turn-again stops reach r t e pause ran is less why =
       stands = ran.stands;
       met = ap (λ o. is_some o) (sym ran.next);
       ended = both_ways (nat_eq t.standing (length t.events)) (nat_eq (length (rest_of r)) 1)
-          (λ h. eq-eqb (length (rest_of r)) 1 (omega (arith, length-drop r.standing r.events, eqb-eq t.standing (length t.events) h, ap (λ (k : Recorded). k.standing) is, ap (λ (k : Recorded). length k.events) is)))
-          (λ h. eq-eqb t.standing (length t.events) (omega (arith, length-drop r.standing r.events, eqb-eq (length (rest_of r)) 1 h, ap (λ (k : Recorded). k.standing) is, ap (λ (k : Recorded). length k.events) is, less)));
+          (λ h. eq-eqb (length (rest_of r)) 1 (omega (arith, length-drop r.standing r.events, eqb-true t.standing (length t.events) h, ap (λ (k : Recorded). k.standing) is, ap (λ (k : Recorded). length k.events) is)))
+          (λ h. eq-eqb t.standing (length t.events) (omega (arith, length-drop r.standing r.events, eqb-true (length (rest_of r)) 1 h, ap (λ (k : Recorded). k.standing) is, ap (λ (k : Recorded). length k.events) is, less)));
     }
     in turn-accepted stops Next reach r t pause (rest_of r) e refl first ran.accepted ran.state ran.stands (why (session_of r) (rest_of r) e accepted)
     (ap (λ (k : Recorded). rest_of k) is ∙ drop-more r.standing r.events)
@@ -136,8 +141,13 @@ pub turn-refused : (stops : WhereToStop) (turn : Turn) (reach : Reach) (r t : Re
     → refusal_in (session_of r) e ≡ Some refusal → t ≡ r → IsTurn stops turn reach r (Some (Refused refusal)) t
 unfolding pause_of_turn events_of_turn
 turn-refused stops turn reach r t e refusal none is refused same =
-    let no : refusal_in (session_of r) (next_event (machine_of (session_of r))) ≡ Some refusal = rw is at refused
-    in rw same (record { why = rw (none, no) refl; ran = rw (none, no) (AreRun-none r); rest = none ∙ ap (λ es. drop 1 es) (sym none) })
+    let s : Standing = session_of r
+    in let no : refusal_in s (event_of_turn s []) ≡ Some refusal = ap (λ x. refusal_in s x) (sym is) ∙ refused
+    in record {
+      why = ap (λ o. refused_or o (pause_after stops reach s [] (event_of_turn s []))) (sym no) ∙ ap (λ es. pause_of_turn stops reach s es) (sym none);
+      ran = subst (λ es. AreRun r es t) (ap (λ o. unless_refused o (event_of_turn s [])) (sym no) ∙ ap (λ es. events_of_turn s es) (sym none)) (subst (λ x. AreRun r [] x) (sym same) (AreRun-none r));
+      rest = ap (λ (k : Recorded). rest_in turn k) same ∙ none ∙ ap (λ es. drop 1 es) (sym none);
+    }
 
 -- ---- why the machine pauses
 
@@ -155,13 +165,25 @@ idle-again : (rest : List Event) (ps : List Place) → true ≡ is_some (slice_g
 idle-again [] ps h = absurd (true≢false h)
 idle-again (e ∷ rest) ps h = refl
 
-pub idle-of : (again idle : Bool) (rest : List Event) (ps : List Place) → again ≡ is_some (slice_get rest 0) → IsTrue idle ↔ (ps ≡ []) → is_idle rest ps ≡ (not again && idle)
-idle-of true idle rest ps met is = idle-again rest ps met
-idle-of false idle rest ps met is = rw (none-there rest met) (sym (idle-new idle ps is))
+-- where the event was recorded, or altered something
+pub idle-recorded : (again : Bool) (rest : List Event) (ps : List Place) → again ≡ true → again ≡ is_some (slice_get rest 0) → is_idle rest ps ≡ false
+idle-recorded again rest ps is met = idle-again rest ps (sym is ∙ met)
+
+pub idle-none : (again idle : Bool) (rest : List Event) (ps : List Place) → again ≡ is_some (slice_get rest 0) → IsTrue idle ↔ (ps ≡ []) → idle ≡ false → is_idle rest ps ≡ false
+idle-none true idle rest ps met is h = idle-again rest ps met
+idle-none false idle rest ps met is h = rw (none-there rest met) (sym (idle-new idle ps is) ∙ h)
+
+pub idle-some : (again idle : Bool) (rest : List Event) (ps : List Place) → again ≡ false → again ≡ is_some (slice_get rest 0) → IsTrue idle ↔ (ps ≡ []) → idle ≡ true → is_idle rest ps ≡ true
+idle-some true idle rest ps new met is h = absurd (true≢false new)
+idle-some false idle rest ps new met is h = rw (none-there rest met) (sym (idle-new idle ps is) ∙ h)
 
 pub pause-of : (idle altered reached ended : Bool) (stops : WhereToStop) (reach : Reach) (s : Standing) (rest : List Event) (e : Event) → is_idle rest (alteration s e) ≡ idle → stops.altered (with_events s (e ∷ [])) ≡ altered
     → is_reached stops reach (with_events s (e ∷ [])) e ≡ reached → is_end rest ≡ ended → pause_with idle altered reached ended reach ≡ pause_after stops reach s rest e
-pause-of idle altered reached ended stops reach s rest e h i k l = rw (h, i, k, l) refl
+pause-of idle altered reached ended stops reach s rest e h i k l =
+    ap (λ x. pause_with x altered reached ended reach) (sym h)
+    ∙ ap (λ x. pause_with (is_idle rest (alteration s e)) x reached ended reach) (sym i)
+    ∙ ap (λ x. pause_with (is_idle rest (alteration s e)) (stops.altered (with_events s (e ∷ []))) x ended reach) (sym k)
+    ∙ ap (λ x. pause_with (is_idle rest (alteration s e)) (stops.altered (with_events s (e ∷ []))) (is_reached stops reach (with_events s (e ∷ [])) e) x reach) (sym l)
 
 -- the last event, as its kind alone
 kind-cpu : (e : Event) → kind_of_event e ≡ cpu_kind → is_cpu e ≡ true

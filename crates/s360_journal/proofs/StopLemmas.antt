@@ -3,7 +3,7 @@ use Rattle.std.proofs.Common.{◌≡◌, ◌≤◌, ◌<◌, ◌+◌, ◌-◌, �
 use Rattle.std.specs.Option.{unwrap_or}
 use Rattle.std.proofs.Math.Nat.{pos_of_ne-zero}
 use Rattle.std.proofs.lemmas.List.{length-take-le}
-use Rattle.std.proofs.lemmas.Bool.{eq-eqb, eqb-eq, true≢false}
+use Rattle.std.proofs.lemmas.Bool.{eq-eqb, eqb-true, true≢false}
 use Rattle.s360_machine.specs.declared.event.Event.{Event}
 use Rattle.s360_machine.specs.Machine.{Machine, seen}
 use Rattle.s360_machine.specs.Step.{after}
@@ -47,7 +47,7 @@ back-stops breaks zero r within h = let none : r.standing ≡ 0 = omega (arith, 
 back-stops breaks (suc n) r within h =
     let start : (b : Bool) → nat_eq r.standing 0 ≡ b → (back_of (stops_at breaks) Stop r (suc n)).standing ≡ stop_of (seen r.start) (standing_events r) breaks
     = λ b. elim b as (λ x. nat_eq r.standing 0 ≡ x → (back_of (stops_at breaks) Stop r (suc n)).standing ≡ stop_of (seen r.start) (standing_events r) breaks) [
-      | true ↦ λ is. let none : r.standing ≡ 0 = eqb-eq r.standing 0 is in rw none refl
+      | true ↦ λ is. let none : r.standing ≡ 0 = eqb-true r.standing 0 is in rw none refl
       | false ↦ λ is.
           let some : 0 < r.standing = pos_of_ne-zero (λ no. true≢false (sym (eq-eqb r.standing 0 no) ∙ is))
           in let t : Recorded = one_back r

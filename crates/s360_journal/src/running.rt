@@ -1,11 +1,11 @@
 //! Runs: events one after another, until the machine is to pause; and the way back.
-ghost use Rattle.std.specs.Prelude.{◌≡◌, ◌≤◌, ℕ, List, IfOk, OnOk, OnErr, take};
+ghost use Rattle.std.specs.Prelude.{◌≡◌, ◌≤◌, ◌&&◌, ℕ, List, IfOk, OnOk, OnErr, false, length, nat_eq, take};
 ghost use Rattle.s360_machine.specs.Machine.{seen};
 ghost use Rattle.s360_machine.specs.declared.event.Event.{Event as Happening};
 ghost use Rattle.s360_journal.specs.Recorded.{AreRun, session_of, standing_events, with_standing};
 ghost use Rattle.s360_journal.specs.Returning.{IsTakenBack, back_of, is_cpu_last};
-ghost use Rattle.s360_journal.specs.Running.{IsAccepted, IsTurn, WhereToStop, next_event, pause_after, pause_of, run_in};
-ghost use Rattle.s360_journal.specs.Standing.{Standing};
+ghost use Rattle.s360_journal.specs.Running.{IsAccepted, IsTurn, WhereToStop, is_reached, next_event, pause_after, pause_with, run_in};
+ghost use Rattle.s360_journal.specs.Standing.{IsAfter, Standing};
 
 use crate::session::Session;
 use s360_machine::{Event, EventKind, Machine, Refusal};
@@ -64,18 +64,6 @@ pub enum Pause {
     Done,
 }
 
-impl Reach {
-    /// Why the machine pauses where it is reached.
-    fn pause(self) -> Pause
-        ensures { result ≡ pause_of self }
-    {
-        match self {
-            Reach::Step => Pause::Stepped,
-            Reach::Stop => Pause::Break,
-        }
-    }
-}
-
 impl Session {
     /// Runs at most so many events, and answers why the machine pauses. After want of memory some first ones of them stand.
     pub fn run<S: Stops>(
@@ -108,7 +96,8 @@ impl Session {
         ensures taken { IfOk result (λ pause. IsTurn (S.stops_of stops.now) turn reach self.old pause self.new) }
         ensures memory { OnErr result (self.new ≡ self.old) }
     {
-        if turn == Turn::Next && self.standing() < self.recorded() && self.again()? {
+        if turn == Turn::Next && self.standing() < self.recorded() {
+            self.run_next()?;
             return Ok(self.pause_after(stops, reach, true));
         }
         let event = next_event(self.machine());
@@ -130,15 +119,30 @@ impl Session {
         if stops.is_altered(self) {
             return Some(Pause::Watch);
         }
-        let is_reached = match reach {
+        pause_with(
+            self.is_reached(stops, reach),
+            self.is_at_end(is_again),
+            reach,
+        )
+    }
+
+    /// Whether the last event is as far as was asked.
+    #[inline(always)]
+    fn is_reached<S: Stops>(&self, stops: &S, reach: Reach) -> bool
+        ensures { (s : Standing) (e : Happening) → IsAfter (session_of self.now) s e → result ≡ is_reached (S.stops_of stops.now) reach (session_of self.now) e }
+    {
+        match reach {
             Reach::Step => self.is_cpu_last(),
             Reach::Stop => stops.is_at_stop(self.machine()),
-        };
-        let is_end = is_again && self.standing() == self.recorded();
-        if is_end && (!is_reached || reach == Reach::Step) {
-            return Some(Pause::RecordEnd);
         }
-        is_reached.then_some(reach.pause())
+    }
+
+    /// Whether an event that was run again is the last of the record.
+    #[inline(always)]
+    fn is_at_end(&self, is_again: bool) -> bool
+        ensures { result ≡ (is_again && nat_eq self.now.standing (length self.now.events)) }
+    {
+        is_again && self.standing() == self.recorded()
     }
 
     /// Takes at most so many changes back, whose events stay in the record, and answers why the machine pauses. It takes no
@@ -164,16 +168,21 @@ impl Session {
         if self.standing() == 0 {
             return Some(Pause::RecordStart);
         }
-        if stops.is_altered(self) {
+        let is_altered = stops.is_altered(self);
+        if is_altered {
             return Some(Pause::Watch);
         }
-        let is_cpu = reach == Reach::Step && self.is_cpu_last();
-        let _taken = self.step_back();
-        let is_far_enough = match reach {
-            Reach::Step => is_cpu,
-            Reach::Stop => stops.is_at_stop(self.machine()),
-        };
-        is_far_enough.then_some(reach.pause())
+        match reach {
+            Reach::Step => {
+                let is_cpu = self.is_cpu_last();
+                let _taken = self.step_back();
+                is_cpu.then_some(Pause::Stepped)
+            }
+            Reach::Stop => {
+                let _taken = self.step_back();
+                stops.is_at_stop(self.machine()).then_some(Pause::Break)
+            }
+        }
     }
 
     /// Whether the last event that stands is one of the CPU.
@@ -181,6 +190,20 @@ impl Session {
         ensures { result ≡ is_cpu_last (standing_events self.now) }
     {
         matches!(self.last_event(), Some(EventKind::Cpu))
+    }
+}
+
+/// Why the machine pauses after an event that altered something, but nothing that is watched.
+#[inline(always)]
+fn pause_with(is_reached: bool, is_end: bool, reach: Reach) -> Option<Pause>
+    ensures { result ≡ pause_with false false is_reached is_end reach }
+{
+    match reach {
+        Reach::Step if is_end => Some(Pause::RecordEnd),
+        Reach::Step if is_reached => Some(Pause::Stepped),
+        Reach::Stop if is_reached => Some(Pause::Break),
+        Reach::Stop if is_end => Some(Pause::RecordEnd),
+        _ => None,
     }
 }
 

@@ -360,16 +360,28 @@ impl Session {
         ensures state { OnOk result (self.new ≡ with_standing self.old (min (self.old.standing + 1) (length self.old.events))) }
         ensures err { OnErr result (self.new ≡ self.old) }
     {
+        if self.standing() == self.recorded() {
+            return Ok(false);
+        }
+        self.run_next()?;
+        Ok(true)
+    }
+
+    /// Runs the next event of the record again, where there is one. Want of memory changes nothing.
+    pub(crate) fn run_next(&mut self) -> Result<(), AllocError>
+        requires { self.old.standing < length self.old.events }
+        ensures event { OnOk result ((e : AnEvent) × IsRunAgain self.old self.new e) }
+        ensures state { OnOk result (self.new ≡ with_standing self.old (self.old.standing + 1)) }
+        ensures err { OnErr result (self.new ≡ self.old) }
+    {
         // The most frequent event is run with no copy of it.
         if self.timeline.is_cpu_next() {
-            self.make_again(Event::Cpu)?;
-            return Ok(true);
+            return self.make_again(Event::Cpu);
         }
-        let Some(event) = self.timeline.next()? else {
-            return Ok(false);
-        };
-        self.make_again(event)?;
-        Ok(true)
+        match self.timeline.next()? {
+            Some(event) => self.make_again(event),
+            None => unreachable!(),
+        }
     }
 
     /// Makes the change of the event that comes next in the record, which then stands. Want of memory changes nothing.

@@ -1,6 +1,6 @@
-use Rattle.std.proofs.Common.{◌≡◌, ◌+◌, ◌-◌, ◌∙◌, sym, subst, take, arith, None, Some}
+use Rattle.std.proofs.Common.{◌≡◌, ◌+◌, ◌-◌, sym, subst, take, arith}
 use Rattle.s360_journal.specs.Recorded.{AreRun, Recorded}
-use Rattle.s360_journal.specs.Running.{IsTurn, run_in}
+use Rattle.s360_journal.specs.Running.{run_in}
 use Rattle.s360_journal.proofs.RunningLemmas.{IsRunning-start, IsRunning-more, IsRunning-ended, IsRunning-all, IsRunning-part, OnErr-from}
 use Rattle.s360_journal.proofs.session.Session.run.Goals as goal
 
@@ -29,4 +29,4 @@ returns t c =
 pub returns-in_err-pause-clause-memory : goal.returns-in_err-pause-clause-memory
 returns-in_err-pause-clause-memory t c =
     let part = IsRunning-part _ c.args.turn c.args.reach c.args.self.now c.loop-event.self c.args.most _ c.loop-event.invariant
-    in OnErr-from c.from_residual.result _ (part.0, subst (λ (r : Recorded). AreRun c.args.self.now (take part.0 (run_in _ c.args.turn c.args.reach c.args.self.now c.args.most).events) r) (sym c.in_err-pause.ensures.memory) part.1)
+    in OnErr-from c.from_residual.result _ (part.0, subst (λ (r : Recorded). AreRun c.args.self.now (take part.0 (run_in (t.S.Stops.stops_of c.args.stops.now) c.args.turn c.args.reach c.args.self.now c.args.most).events) r) (sym c.in_err-pause.ensures.memory) part.1)
