@@ -67,7 +67,7 @@ unfolding answer_to_line state_after_line
 Answered-more old mid new s t u all left line n a h w e =
     Answered-line old mid new s t u all left line n (n + 1) a (rw h w) (rw h e) (rw h refl)
 
-pub Answered-stop : (old new : Option (List ℕ)) (s t : Debugger) (u : Standing) (all left : List (List ℕ)) (line : List ℕ) (n : ℕ)
+pub Answered-stop : (old new : Option (List ℕ)) (s t : Debugger) (u : Recorded) (all left : List (List ℕ)) (line : List ℕ) (n : ℕ)
     → Answered old new s t all (line ∷ left) n → StandsAfterReading (reading_of line) t u → IsStopped old new s u all
 Answered-stop old new s t u all left line n a h = record {
   done = a.done;

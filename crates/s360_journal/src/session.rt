@@ -378,10 +378,10 @@ impl Session {
         if self.timeline.is_cpu_next() {
             return self.make_again(Event::Cpu);
         }
-        match self.timeline.next()? {
-            Some(event) => self.make_again(event),
-            None => unreachable!(),
-        }
+        let Some(event) = self.timeline.next()? else {
+            unreachable!()
+        };
+        self.make_again(event)
     }
 
     /// Makes the change of the event that comes next in the record, which then stands. Want of memory changes nothing.
