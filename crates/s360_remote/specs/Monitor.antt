@@ -33,7 +33,7 @@ monitor_text d line = answer_to_line (debugger_of d) line ++ dropped_text (after
 
 -- the line was carried out; `help` changes nothing, and tells the lines
 pub record IsCarriedOut (line : List ℕ) (d t : Driven) (said : List ℕ) : Type 0 where
-  pub line : line ≢ codes "help" → (said ≡ monitor_text d line) × (t ≡ after_line d line)
+  pub done : line ≢ codes "help" → (said ≡ monitor_text d line) × (t ≡ after_line d line)
   pub help : line ≡ codes "help" → (said ≡ HELP.now) × (t ≡ d)
 
 -- some first ones of the events stand that it would run, or it was carried out and its text is lost
@@ -44,7 +44,7 @@ IsLineCut line d t =
 
 -- after want of memory
 pub record IsLineBegun (line : List ℕ) (d t : Driven) : Type 0 where
-  pub line : line ≢ codes "help" → IsLineCut line d t
+  pub done : line ≢ codes "help" → IsLineCut line d t
   pub help : line ≡ codes "help" → t ≡ d
 
 -- what a line asks of: the recording, and where it stood before

@@ -3,10 +3,10 @@
 ghost use Rattle.std.specs.Prelude.{◌≡◌, ◌≤◌, ℕ, length, IfOk, OnErr, OnOk};
 ghost use Rattle.s360_machine.specs.Machine.{seen, storage_size};
 ghost use Rattle.s360_journal.specs.Rerun.{AreAccepted};
-ghost use Rattle.s360_journal.specs.Standing.{machine_of};
-ghost use Rattle.s360_journal.specs.Recorded.{session_of};
+ghost use Rattle.s360_journal.specs.Standing.{last_of, machine_of};
+ghost use Rattle.s360_journal.specs.Recorded.{session_of, standing_events};
 ghost use Rattle.s360_remote.specs.Driven.{come_to, gone_partly, new_target, noting};
-ghost use Rattle.s360_remote.specs.Moving.{altered_if, gone_back, is_at_rest, is_turn_of, resumed};
+ghost use Rattle.s360_remote.specs.Moving.{altered_if, gone_back, is_at_rest, is_turn_of, resumed, was_in_vain};
 
 use crate::points::{Altered, Points};
 use crate::untold::Untold;
@@ -107,8 +107,16 @@ impl Target {
         ensures { result ≡ is_at_rest self.now.recorded }
     {
         self.standing() == self.session.recorded()
-            && self.session.is_idle()
+            && self.is_last_in_vain()
             && is_turn_of(self.session.last_event(), next_event(self.machine()))
+    }
+
+    /// Whether the last change altered nothing, or none stands.
+    fn is_last_in_vain(&self) -> bool
+        requires { self.now.recorded.standing ≤ length self.now.recorded.events }
+        ensures { result ≡ was_in_vain (last_of (standing_events self.now.recorded)) self.now.recorded }
+    {
+        self.session.is_idle()
     }
 
     /// The number of changes that stand.
