@@ -7,10 +7,9 @@ ghost use Rattle.s360_setup.specs.Failures.{IsScriptFailure, IsAnsweringFailure}
 ghost use Rattle.s360dbg.specs.Failures.{IsRunFailure};
 ghost use Rattle.s360_setup.specs.declared.failure.Failure.TheVariants.{StorageSize};
 
-use s360_beginning::set_up;
 use s360_debug::carry_out;
 use s360_journal::Session;
-use s360_setup::{Failure, LIMIT, Options, Part, Program, open, tell};
+use s360_setup::{Failure, LIMIT, Options, Part, Program, open, set_up, tell};
 use std::alloc::Global;
 use std::io::{self, Input, IsTerminal, Read, Write};
 

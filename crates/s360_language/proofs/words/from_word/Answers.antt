@@ -1,5 +1,5 @@
-use Rattle.s360_saving.proofs.NameLemmas.{from_first-at, from_first-none}
-use Rattle.s360_saving.proofs.saving_reader.from_blank.Goals as goal
+use Rattle.s360_language.proofs.WordLemmas.{from_first-at, from_first-none}
+use Rattle.s360_language.proofs.words.from_word.Goals as goal
 
 pub returns-in-Some : goal.returns-in-Some
 returns-in-Some c = from_first-at _ c.args.line.now c.in-Some.at c.in-Some.ensures

@@ -2,12 +2,14 @@
 ghost use Rattle.std.specs.Prelude.{◌≡◌, true, false, IfOk, IfErr, OnOk, Err};
 ghost use Rattle.s360_model.specs.Storage.{is_storage_size};
 ghost use Rattle.s360_machine.specs.Machine.{seen};
-ghost use Rattle.s360_beginning.specs.Beginning.{IsBeginning};
+ghost use Rattle.s360_setup.specs.Beginning.{IsBeginning};
 ghost use Rattle.s360_setup.specs.Failures.{IsSetUpFailure};
 ghost use Rattle.s360_setup.specs.declared.failure.Failure.TheVariants.{StorageSize};
 
+use crate::arguments::Options;
+use crate::failure::{Failure, Part};
+use crate::images::{read_deck, read_tape};
 use s360_machine::Machine;
-use s360_setup::{Failure, Options, Part, read_deck, read_tape};
 use std::alloc::Global;
 
 /// The machine that the options ask for.
