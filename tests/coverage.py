@@ -23,6 +23,7 @@ import tempfile
 from concurrent.futures import ThreadPoolExecutor, ProcessPoolExecutor
 from typing import NamedTuple
 
+import lines
 import packet_rows
 import rows
 from packet_fuzz import FETCH, Connection, deck_of
@@ -51,16 +52,8 @@ COMMANDS = {
     "console": [0x01, 0x09, 0x0A, 0x0B],
     TAPE: [0x01, 0x1F, 0x17, 0x02, 0x0C, 0x37, 0x27, 0x3F, 0x2F, 0x07, 0x0F],
 }
-# The lines of docs/reference/debugger.md: the first word, with each second word that makes it
-# another line.
-LINES = {
-    "key": ["start", "stop", "reset", "interrupt", "request", "eof"],
-    "patch": ["s", "r", "k", "f", "p"],
-    "last": ["s", "r", "k", "u", "d", "p", "run", "ext"],
-    "show": ["regs", "psw", "s", "k", "ext", "u", "d", "m", "image"],
-}
-OTHER_LINES = ["step", "channel", "tick", "load", "enter", "run", "back", "until", "break", "clear"]
-OTHER_LINES += ["standing", "withdraw"]
+# The lines of docs/reference/debugger.md: their words that are no arguments.
+LINES = lines.names()
 # The requests of docs/reference/gdb.md: what their data is, or begins with.
 REQUESTS = ["?", "g", "G", "p", "P", "m", "M", "X", "s", "c", "bs", "bc"]
 REQUESTS += [f"{letter}{point}," for letter in "Zz" for point in range(3)]
@@ -92,7 +85,7 @@ def request(data):
 
 def line_named(words):
     """The line of the table that these words are."""
-    return "line " + " ".join(words[:2] if words[0] in LINES else words[:1])
+    return "line " + next(name for n in (2, 1) if (name := " ".join(words[:n])) in LINES)
 
 
 def wanted():
@@ -100,8 +93,7 @@ def wanted():
     yield from map(instruction, INSTRUCTIONS)
     for device, codes in COMMANDS.items():
         yield from (command(device, code) for code in (*OF_ALL_UNITS, *codes))
-    yield from (line_named([word, other]) for word, others in LINES.items() for other in others)
-    yield from (line_named([word]) for word in OTHER_LINES)
+    yield from (f"line {name}" for name in LINES)
     yield from map(request_named, REQUESTS)
 
 

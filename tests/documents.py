@@ -10,6 +10,7 @@
   docs/proof/promises.md stands in the file or the crate that its row names.
   docs/proof/definitions.md has each file of definitions once. In docs/develop/layers.md each crate
   stands on what crates.txt says.
+- The helps and the tables of docs/reference tell the lines that their definitions have (lines.py).
 - README.md has at most 100 lines, and all pages have no more words than they may.
 - What README.md, docs/guide.md and docs/reference/media.md let a reader type prints what they print, as typed.py says.
 - Each example says its command line in its first comment, which gives its answers.
@@ -25,6 +26,7 @@ import re
 import sys
 import tempfile
 
+import lines
 import typed
 
 TOP = pathlib.Path(__file__).resolve().parent.parent
@@ -197,6 +199,7 @@ def main():
         ("definitions", faults_of_map(TOP / "docs/proof/definitions.md")),
         ("layers", faults_of_layers(TOP / "docs/develop/layers.md")),
         ("lengths", faults_of_lengths()),
+        ("lines", lines.faults()),
     ]
     if not options.unproved:
         programs = [program.resolve() for program in options.programs]

@@ -1,6 +1,7 @@
 -- The units of the machine: the card reader 00C, the card punch 00D, the printer 00E and the console 01F on channel 0,
 -- and the magnetic tapes 180 and 181 on channel 1 (own profile).
-use Rattle.std.specs.Prelude.{◌≡◌, ℕ, ◌/◌, Bool, false, ◌&&◌, nat_eq, if◌then◌else◌, is_some, Option, Some, None, List, [], ◌∷◌, length, map, slice_index_or, slice_set}
+use Rattle.std.specs.Prelude.{◌≡◌, ℕ, ◌/◌, nat_eq, Bool, false, ◌&&◌, if◌then◌else◌, Option, Some, None, is_some}
+use Rattle.std.specs.Prelude.{List, [], ◌∷◌, length, map, slice_index_or, slice_set}
 use Rattle.std.specs.Option.{option_map, option_map_or}
 use Rattle.std.specs.List.{find}
 use Rattle.s360_model.specs.Psw.{channel_mask_of}
@@ -53,6 +54,11 @@ Units = List UnitControl
 
 abbrev pub HasEachUnit : Units → Type 0
 HasEachUnit us = length us ≡ 6
+
+-- what several units become at once: how all stand, and which of them stand otherwise
+pub record SeveralUnits : Type 0 where
+  pub units : Units
+  pub altered : List ConfiguredUnit
 
 -- nothing is done for any of them, and none asks for anything
 abbrev pub idle_units : Units

@@ -1,8 +1,12 @@
 -- Whether a unit is in the same state twice, as a test (ours): two active units are alike where their programs are at
--- the same point.
-use Rattle.std.specs.Prelude.{Bool, true, false, ◌&&◌, nat_eq}
+-- the same point. And the places of the units that differ.
+use Rattle.std.specs.Prelude.{Bool, true, false, not, ◌&&◌, nat_eq, List, map}
 use Rattle.std.specs.Bool.{beq}
+use Rattle.std.specs.List.{filter}
 use Rattle.std.specs.Str.{bytes_eq}
+use Rattle.s360_store.specs.declared.place.Place.{Place}
+use Rattle.s360_store.specs.declared.place.Place.TheVariants.{UnitState as state_of_unit}
+use Rattle.s360_channel.specs.declared.configured_unit.ConfiguredUnit.{ConfiguredUnit}
 use Rattle.s360_channel.specs.declared.csw.Csw.{Csw}
 use Rattle.s360_channel.specs.declared.csw.UnitStatus.{UnitStatus}
 use Rattle.s360_channel.specs.declared.csw.ChannelStatus.{ChannelStatus}
@@ -12,6 +16,7 @@ use Rattle.s360_channel.specs.declared.program.Progress.TheVariants.{First, Load
 use Rattle.s360_channel.specs.declared.unit_control.UnitControl.{UnitControl}
 use Rattle.s360_channel.specs.declared.unit_state.UnitState.{UnitState}
 use Rattle.s360_channel.specs.declared.unit_state.UnitState.TheVariants.{Idle, Active, Waiting}
+use Rattle.s360_channel.specs.ConfiguredUnits.{Units, address_of_unit, configured_units, control_of}
 
 abbrev pub same_unit_status : UnitStatus → UnitStatus → Bool
 same_unit_status s t =
@@ -58,3 +63,13 @@ same_state s t = false
 
 abbrev pub same_unit : UnitControl → UnitControl → Bool
 same_unit u v = same_state u.state v.state && beq u.attention v.attention
+
+-- the units that stand otherwise, and their places
+abbrev pub altered_units : Units → Units → List ConfiguredUnit
+altered_units us vs = filter (λ u. not (same_unit (control_of us u) (control_of vs u))) configured_units
+
+abbrev pub state_place : ConfiguredUnit → Place
+state_place u = state_of_unit (record { 0 = address_of_unit u })
+
+abbrev pub unit_differences : Units → Units → List Place
+unit_differences us vs = map (λ u. state_place u) (altered_units us vs)

@@ -1,6 +1,7 @@
--- The execution of one channel command word over a device (GA22-6821, "Input/Output Operations", execution of
--- input/output operations, chaining, and conclusion of input/output operations).
-use Rattle.std.specs.Prelude.{ℕ, ◌+◌, ◌-◌, ◌%◌, ◌^◌, Bool, true, false, not, ◌&&◌, nat_eq, nat_le, nat_lt, if◌then◌else◌, Option, Some, None, List, [], ◌++◌, length, slice_range, take, drop, reverse, min}
+-- One channel event: the execution of one channel command word over a device (GA22-6821, "Input/Output Operations",
+-- execution of input/output operations, chaining, and conclusion of input/output operations).
+use Rattle.std.specs.Prelude.{ℕ, ◌+◌, ◌-◌, ◌%◌, ◌^◌, nat_eq, nat_le, nat_lt, min, Bool, true, false, not, ◌&&◌, if◌then◌else◌}
+use Rattle.std.specs.Prelude.{Option, Some, None, List, [], ◌++◌, length, slice_range, take, drop, reverse}
 use Rattle.s360_model.specs.Core.{Core, core_with_bytes}
 use Rattle.s360_model.specs.Storage.{Storage}
 use Rattle.s360_store.specs.Protection.{access}
@@ -11,10 +12,9 @@ use Rattle.s360_store.specs.declared.protection.Checked.TheVariants.{Clear, Addr
 use Rattle.s360_device.specs.declared.device.Begin.{Begin}
 use Rattle.s360_device.specs.declared.device.Begin.TheVariants.{Input, Output, Control, NotYet, Refused}
 use Rattle.s360_channel.specs.declared.ccw.Ccw.{Ccw}
-use Rattle.s360_channel.specs.declared.ccw.CcwFlags.{CcwFlags}
 use Rattle.s360_channel.specs.declared.csw.ChannelStatus.{ChannelStatus}
-use Rattle.s360_channel.specs.declared.conclusion.Conclusion.{Conclusion}
 use Rattle.s360_channel.specs.declared.csw.UnitStatus.{UnitStatus}
+use Rattle.s360_channel.specs.declared.conclusion.Conclusion.{Conclusion}
 use Rattle.s360_channel.specs.declared.fetching.Fetched.{Fetched}
 use Rattle.s360_channel.specs.declared.fetching.Fetched.TheVariants.{Broken, Whole}
 use Rattle.s360_channel.specs.declared.program.Program.{Program}
@@ -24,9 +24,10 @@ use Rattle.s360_channel.specs.declared.transfer.Transfer.{Transfer}
 use Rattle.s360_channel.specs.declared.unit_state.UnitState.{UnitState}
 use Rattle.s360_channel.specs.declared.unit_state.UnitState.TheVariants.{Active, Waiting}
 use Rattle.s360_channel.specs.Programs.{next_ccw}
-use Rattle.s360_channel.specs.Words.{device_has_ended, meets_program_check, no_channel_status, no_unit_status, reads_backward}
+use Rattle.s360_channel.specs.Words.{device_has_ended, meets_program_check, meets_protection_check}
+use Rattle.s360_channel.specs.Words.{no_channel_status, no_unit_status, reads_backward}
 
--- a device as a channel sees it: how it begins a command, the bytes that it gives, and whether it ends it with unit
+-- a device as its channel sees it: how it begins a command, the bytes that it gives, and whether it ends it with unit
 -- exception
 pub record DeviceView : Type 0 where
   pub begin : ℕ → Begin
@@ -43,8 +44,8 @@ pub record Ending : Type 0 where
   pub command : ℕ
   pub output : List ℕ
 
--- what the word does: what is stored, the state of the unit afterwards, and the command that ends at the device,
--- which is as it was where none does
+-- what a word does: what is stored, the state of the unit afterwards, and the command that ends at the device, which is
+-- as it was where none does
 pub record Execution : Type 0 where
   pub stores : Option Run
   pub state : UnitState
@@ -61,77 +62,118 @@ command_with (InputChained command moved) c = command
 command_with (OutputChained command gathered) c = command
 command_with other c = c.command
 
--- the bytes of the record that were moved, and those that were gathered for it, by the words before
+-- of the record the words before have moved so many bytes of an input, or gathered these of an output
 abbrev pub moved_before : Progress → ℕ
 moved_before (InputChained command moved) = moved
 moved_before other = 0
-
--- none where there are no words before
-abbrev pub gathered_if : Option (List ℕ) → List ℕ
-gathered_if None = []
-gathered_if (Some bytes) = bytes
 
 abbrev pub gathered_before : Progress → List ℕ
 gathered_before (OutputChained command gathered) = gathered
 gathered_before other = []
 
--- the address after a word: addresses are of 24 bits, and wrap
-abbrev pub address_after : ℕ → ℕ
-address_after at = (at + 8) % 2 ^ 24
+-- the word at hand: its program, its address and itself; the command of its record, and the bytes of the record that the
+-- words before have moved or gathered; and what the device answers to the command
+pub record WordAtHand : Type 0 where
+  pub program : Program
+  pub at : ℕ
+  pub ccw : Ccw
+  pub command : ℕ
+  pub moved : ℕ
+  pub gathered : List ℕ
+  pub begin : Begin
+  pub input : List ℕ
+  pub exception : Bool
 
--- the program where it goes on with the word after the one at an address
+abbrev pub word_with : DeviceView → Program → ℕ → Ccw → ℕ → WordAtHand
+word_with d p at c command = record {
+  program = p;
+  at = at;
+  ccw = c;
+  command = command;
+  moved = moved_before p.progress;
+  gathered = gathered_before p.progress;
+  begin = d.begin command;
+  input = d.input command;
+  exception = d.exception command;
+}
+
+abbrev pub word_at_hand : DeviceView → Program → ℕ → Ccw → WordAtHand
+word_at_hand d p at c = word_with d p at c (command_with p.progress c)
+
+-- the address of the next word: addresses are of 24 bits, and wrap
+abbrev pub next_ccw_address : ℕ → ℕ
+next_ccw_address at = (at + 8) % 2 ^ 24
+
+-- the program goes on with the word after the one at an address
 abbrev pub goes_on_after : Program → ℕ → Progress → UnitState
-goes_on_after p at progress = Active (record { key = p.key; address = address_after at; progress = progress })
+goes_on_after p at progress = Active (record { key = p.key; address = next_ccw_address at; progress = progress })
 
--- the program has ended with the word at an address
-abbrev pub ends_with : Program → ℕ → UnitStatus → ChannelStatus → ℕ → UnitState
-ends_with p at unit channel count = Waiting (record { key = p.key; address = address_after at; unit = unit; channel = channel; count = count })
+-- the program has ended with the word at an address, and its status word waits
+abbrev pub ends_with : Program → ℕ → Conclusion → UnitState
+ends_with p at e = Waiting (record { key = p.key; address = next_ccw_address at; unit = e.unit; channel = e.channel; count = e.residual })
 
--- a channel check moves no byte, leaves the device as it was, and has residual count 0 (own profile)
+-- a channel check ends the program: it moves no byte, leaves the device as it was, and has residual count 0 (own profile)
 abbrev pub after_check : Program → ℕ → ChannelStatus → Execution
-after_check p at status = record { stores = None; state = ends_with p at no_unit_status status 0; ending = None }
+after_check p at status =
+    let state : UnitState = ends_with p at (record { unit = no_unit_status; channel = status; residual = 0 })
+    in record { stores = None; state = state; ending = None }
 
-abbrev pub meets_protection_check : ChannelStatus
-meets_protection_check = record no_channel_status { protection_check = true }
+-- where bytes move, one outside storage is a program check, and else a protected one a protection check
+abbrev pub unless_checked : WordAtHand → Checked → Execution → Execution
+unless_checked w Clear e = e
+unless_checked w Addressing e = after_check w.program w.at meets_program_check
+unless_checked w Protection e = after_check w.program w.at meets_protection_check
 
--- channel end and device end alone, and nothing wrong with the length
+-- a command ends: after channel end and device end alone, and no incorrect length, another follows where commands are
+-- chained and data are not; else the status word waits
 abbrev pub is_clean : Conclusion → Bool
-is_clean e = not e.unit.unit_check && (not e.unit.unit_exception && not e.incorrect_length)
+is_clean e = not e.unit.unit_check && (not e.unit.unit_exception && not e.channel.incorrect_length)
 
--- after a clean end another command follows where commands are chained and data are not; else the status word waits
-abbrev pub after_conclusion : Program → ℕ → Ccw → Conclusion → UnitState
-after_conclusion p at c e =
-    if c.flags.chain_command && (not c.flags.chain_data && is_clean e) then goes_on_after p at CommandChained
-    else ends_with p at e.unit (record no_channel_status { incorrect_length = e.incorrect_length }) e.residual
+abbrev pub after_conclusion : WordAtHand → Conclusion → UnitState
+after_conclusion w e =
+    if w.ccw.flags.chain_command && (not w.ccw.flags.chain_data && is_clean e) then goes_on_after w.program w.at CommandChained
+    else ends_with w.program w.at e
 
--- channel end and device end, with unit exception where the device says so
-abbrev pub ended_unit : Bool → UnitStatus
-ended_unit exception = record device_has_ended { unit_exception = exception }
+abbrev pub command_ends : WordAtHand → Conclusion → List ℕ → Execution
+command_ends w e output = record { stores = None; state = after_conclusion w e; ending = Some (record { command = w.command; output = output }) }
 
--- the device refuses the command: unit check alone
+-- the device refuses it: unit check alone
 abbrev pub refused_unit : UnitStatus
 refused_unit = record no_unit_status { unit_check = true }
 
--- how many bytes a word moves of those that are left, whether the record goes on with the next word, and else how the
--- command ends. A wrong length is told, but where suppress length indication is one and data are not chained
-abbrev pub tells_length : CcwFlags → Bool → Bool
-tells_length f wrong = wrong && not (f.suppress_length && not f.chain_data)
+-- the device has ended it: channel end and device end, with unit exception where the device says so
+abbrev pub ended_unit : Bool → UnitStatus
+ended_unit exception = record device_has_ended { unit_exception = exception }
 
+-- a word moves of the n bytes that are left as many as its count, at most. Where data are chained and n is no less than
+-- the count, the record goes on with the next word. Else the command ends, and what is left of the count is the residual
+-- count. A wrong length is told, but where suppress length indication is one and data are not chained
 abbrev pub transfer_with : Ccw → ℕ → Bool → Transfer
-transfer_with c left wrong = record {
-  count = min left c.count;
-  goes_on = c.flags.chain_data && nat_le c.count left;
-  residual = c.count - min left c.count;
-  incorrect_length = tells_length c.flags wrong;
+transfer_with c n wrong = record {
+  count = min n c.count;
+  goes_on = c.flags.chain_data && nat_le c.count n;
+  residual = c.count - min n c.count;
+  incorrect_length = wrong && not (c.flags.suppress_length && not c.flags.chain_data);
 }
 
--- input: a length is wrong that differs from the count. Output: a count that exceeds what the device takes (own
+-- the length of an input is wrong where n differs from the count, that of an output where the count exceeds n (own
 -- profile)
 abbrev pub input_transfer : Ccw → ℕ → Transfer
-input_transfer c left = transfer_with c left (not (nat_eq left c.count))
+input_transfer c n = transfer_with c n (not (nat_eq n c.count))
 
 abbrev pub output_transfer : Ccw → ℕ → Transfer
-output_transfer c left = transfer_with c left (nat_lt left c.count)
+output_transfer c n = transfer_with c n (nat_lt n c.count)
+
+-- the record goes on after a transfer, or the command ends with these bytes of output
+abbrev pub conclusion_of : WordAtHand → Transfer → Conclusion
+conclusion_of w t =
+    let channel : ChannelStatus = record no_channel_status { incorrect_length = t.incorrect_length }
+    in record { unit = ended_unit w.exception; channel = channel; residual = t.residual }
+
+abbrev pub after_transfer : WordAtHand → Transfer → Progress → List ℕ → Execution
+after_transfer w t progress output =
+    if t.goes_on then record { stores = None; state = goes_on_after w.program w.at progress; ending = None }
+    else command_ends w (conclusion_of w t) output
 
 -- the lowest address of so many bytes, which rise from the data address, or fall from it; none where they fall below
 -- address 0
@@ -139,87 +181,63 @@ abbrev pub lowest_address : Bool → ℕ → ℕ → Option ℕ
 lowest_address false address count = Some address
 lowest_address true address count = if nat_lt address (count - 1) then None else Some (address - (count - 1))
 
--- what the bytes meet that move: a byte outside storage comes before a protected one, and where none moves nothing is
--- met
+-- what so many bytes meet, from their lowest address on: where there are none, nothing
 abbrev pub access_of : Storage → ℕ → Access → ℕ → Option ℕ → Checked
 access_of s key kind count None = Addressing
 access_of s key kind count (Some at) = if nat_eq count 0 then Clear else access s at count kind key
 
--- an input's bytes in the order of their addresses
+-- an input's bytes in the order of their addresses, and the run of them, if there are any
 abbrev pub in_order : Bool → List ℕ → List ℕ
-in_order false bytes = bytes
-in_order true bytes = reverse bytes
+in_order backward bytes = if backward then reverse bytes else bytes
 
--- what is stored; nothing where skip is one
 abbrev pub run_of : Option ℕ → List ℕ → Option Run
 run_of None bytes = None
 run_of (Some at) bytes = if nat_eq (length bytes) 0 then None else Some (record { at = at; bytes = bytes })
 
--- unless the bytes meet a check
-abbrev pub unless_checked : Program → ℕ → Checked → Execution → Execution
-unless_checked p at Clear e = e
-unless_checked p at Addressing e = after_check p at meets_program_check
-unless_checked p at Protection e = after_check p at meets_protection_check
+abbrev pub storing : Storage → WordAtHand → List ℕ → Execution → Execution
+storing s w bytes e =
+    let lowest : Option ℕ = lowest_address (reads_backward w.command) w.ccw.address (length bytes)
+    in unless_checked w (access_of s w.program.key Store (length bytes) lowest) (record e { stores = run_of lowest bytes })
 
--- the command goes on with the next word, or ends with these bytes of output
-abbrev pub after_transfer : DeviceView → Program → ℕ → Ccw → Transfer → Option Run → Progress → Ending → Execution
-after_transfer d p at c t stores progress ending = record {
-  stores = stores;
-  state = if t.goes_on then goes_on_after p at progress else after_conclusion p at c (record { unit = ended_unit (d.exception ending.command); incorrect_length = t.incorrect_length; residual = t.residual });
-  ending = if t.goes_on then None else Some ending;
-}
+-- input: n is the record less the bytes moved before; the word stores what it moves, but nothing where skip is one
+abbrev pub stored_bytes : WordAtHand → ℕ → List ℕ
+stored_bytes w count = if w.ccw.flags.skip then [] else in_order (reads_backward w.command) (take count (drop w.moved w.input))
 
--- the bytes of an input that a word stores: none where skip is one
-abbrev pub stored_bytes : List ℕ → Progress → Ccw → ℕ → Transfer → List ℕ
-stored_bytes input progress c command t =
-    if c.flags.skip then [] else in_order (reads_backward command) (take t.count (drop (moved_before progress) input))
+abbrev pub after_input : WordAtHand → Transfer → Execution
+after_input w t = after_transfer w t (InputChained w.command (w.moved + t.count)) []
 
-abbrev pub input_with : DeviceView → Storage → Program → ℕ → Ccw → ℕ → Transfer → List ℕ → Execution
-input_with d s p at c command t bytes =
-    let lowest = lowest_address (reads_backward command) c.address (length bytes)
-    in unless_checked p at (access_of s p.key Store (length bytes) lowest)
-    (after_transfer d p at c t (run_of lowest bytes) (InputChained command (moved_before p.progress + t.count)) (record { command = command; output = [] }))
+abbrev pub execute_input : Storage → WordAtHand → ℕ → Execution
+execute_input s w total =
+    let t : Transfer = input_transfer w.ccw (total - w.moved)
+    in storing s w (stored_bytes w t.count) (after_input w t)
 
-abbrev pub execute_input : DeviceView → Storage → Program → ℕ → Ccw → ℕ → ℕ → Execution
-execute_input d s p at c command total =
-    let t = input_transfer c (total - moved_before p.progress)
-    in input_with d s p at c command t (stored_bytes (d.input command) p.progress c command t)
+-- output: n is the limit less the bytes gathered before; the word gathers what it fetches, whatever skip is, and the
+-- device takes no more than its limit
+abbrev pub after_output : WordAtHand → Transfer → List ℕ → Execution
+after_output w t output = after_transfer w t (OutputChained w.command output) output
 
--- the bytes gathered by the words before, for a device that takes at most so many: they are no more than those
-abbrev pub gathered_within : ℕ → Progress → List ℕ
-gathered_within limit progress = take limit (gathered_before progress)
+abbrev pub execute_output : Storage → WordAtHand → ℕ → Execution
+execute_output s w limit =
+    let t : Transfer = output_transfer w.ccw (limit - length w.gathered)
+    in let fetched : List ℕ = slice_range s.bytes w.ccw.address (w.ccw.address + t.count)
+    in unless_checked w (access_of s w.program.key Fetch t.count (Some w.ccw.address)) (after_output w t (take limit (w.gathered ++ fetched)))
 
--- an output fetches its bytes, and skip is ignored
-abbrev pub output_with : DeviceView → Storage → Program → ℕ → Ccw → ℕ → Transfer → List ℕ → Execution
-output_with d s p at c command t gathered =
-    unless_checked p at (access_of s p.key Fetch t.count (Some c.address))
-    (after_transfer d p at c t None (OutputChained command gathered) (record { command = command; output = gathered }))
+-- control, and a command that is refused: nothing moves, and the count is left
+abbrev pub moves_nothing : WordAtHand → UnitStatus → Execution
+moves_nothing w unit = command_ends w (record { unit = unit; channel = no_channel_status; residual = w.ccw.count }) []
 
-abbrev pub execute_output : DeviceView → Storage → Program → ℕ → Ccw → ℕ → ℕ → Execution
-execute_output d s p at c command limit =
-    let t = output_transfer c (limit - length (gathered_within limit p.progress))
-    in output_with d s p at c command t (gathered_within limit p.progress ++ slice_range s.bytes c.address (c.address + t.count))
+-- by how the device begins the command: where it cannot begin it yet, nothing happens
+abbrev pub execute_begun : Storage → WordAtHand → Begin → Execution
+execute_begun s w (Input total) = execute_input s w total
+execute_begun s w (Output limit) = execute_output s w limit
+execute_begun s w Control = moves_nothing w (ended_unit w.exception)
+execute_begun s w (Refused sense) = moves_nothing w refused_unit
+execute_begun s w NotYet = record { stores = None; state = Active w.program; ending = None }
 
--- a command that moves nothing: the count is left
-abbrev pub execute_without_bytes : Program → ℕ → Ccw → ℕ → UnitStatus → Execution
-execute_without_bytes p at c command unit = record {
-  stores = None;
-  state = after_conclusion p at c (record { unit = unit; incorrect_length = false; residual = c.count });
-  ending = Some (record { command = command; output = [] });
-}
-
--- by how the device begins the command
-abbrev pub execute_begun : DeviceView → Storage → Program → ℕ → Ccw → ℕ → Begin → Execution
-execute_begun d s p at c command (Input total) = execute_input d s p at c command total
-execute_begun d s p at c command (Output limit) = execute_output d s p at c command limit
-execute_begun d s p at c command Control = execute_without_bytes p at c command (ended_unit (d.exception command))
-execute_begun d s p at c command (Refused sense) = execute_without_bytes p at c command refused_unit
-execute_begun d s p at c command NotYet = record { stores = None; state = Active p; ending = None }
-
-abbrev pub execute_word : DeviceView → Storage → Program → Fetched → Execution
-execute_word d s p (Broken last) = after_check p last meets_program_check
-execute_word d s p (Whole at c) = execute_begun d s p at c (command_with p.progress c) (d.begin (command_with p.progress c))
+abbrev pub execute_fetched : DeviceView → Storage → Program → Fetched → Execution
+execute_fetched d s p (Broken last) = after_check p last meets_program_check
+execute_fetched d s p (Whole at c) = execute_begun s (word_at_hand d p at c) (d.begin (command_with p.progress c))
 
 -- one channel event of a unit that executes a program
 unfoldable pub channel_execution : DeviceView → Storage → Program → Execution
-channel_execution d s p = execute_word d s p (next_ccw s p)
+channel_execution d s p = execute_fetched d s p (next_ccw s p)

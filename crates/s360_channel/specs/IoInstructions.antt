@@ -37,12 +37,12 @@ abbrev pub csw_location : ℕ
 csw_location = 64
 
 -- a condition code alone
-abbrev pub condition_alone : ℕ → IoResult
-condition_alone code = record { condition = code; stores = Nothing; unit = None }
+abbrev pub with_code : ℕ → IoResult
+with_code code = record { condition = code; stores = Nothing; unit = None }
 
 -- a unit, or a channel, that is not there
 abbrev pub not_operational : IoResult
-not_operational = condition_alone 3
+not_operational = with_code 3
 
 -- an instruction of a unit, by its address
 abbrev pub at_unit : (ConfiguredUnit → IoResult) → UnitAddress → IoResult
@@ -84,7 +84,7 @@ start_idle s u false = start_program s u
 -- START I/O of a unit, where another program of its channel may be executed that runs one at a time
 abbrev pub start_unit : Storage → Bool → ConfiguredUnit → UnitControl → IoResult
 start_unit s occupied u control =
-    if is_active control.state || (is_waiting control.state || occupied) then condition_alone 2
+    if is_active control.state || (is_waiting control.state || occupied) then with_code 2
     else start_idle s u control.attention
 
 abbrev pub start_io : Storage → Units → UnitAddress → IoResult
@@ -92,11 +92,11 @@ start_io s us = at_unit (λ u. start_unit s (is_occupied us u) u (control_of us 
 
 -- TEST I/O of it: its condition is taken, and its status word stored whole
 abbrev pub take_condition : ConfiguredUnit → Option Condition → IoResult
-take_condition u None = condition_alone 0
+take_condition u None = with_code 0
 take_condition u (Some c) = record { condition = 1; stores = whole c.csw; unit = becomes u c.unit }
 
 abbrev pub test_unit : Bool → ConfiguredUnit → UnitControl → IoResult
-test_unit occupied u control = if is_active control.state || occupied then condition_alone 2 else take_condition u (condition_of control)
+test_unit occupied u control = if is_active control.state || occupied then with_code 2 else take_condition u (condition_of control)
 
 abbrev pub test_io : Units → UnitAddress → IoResult
 test_io us = at_unit (λ u. test_unit (is_occupied us u) u (control_of us u))
@@ -116,7 +116,7 @@ abbrev pub halt_unit : ConfiguredUnit → UnitControl → IoResult
 halt_unit u control = of_state control.state where
   of_state : UnitState → IoResult
   of_state (Active p) = result_of_halt (kind_of u) (becomes u (record control { state = Waiting (csw_of_halted p) }))
-  of_state other = condition_alone 0
+  of_state other = with_code 0
 
 -- the unit whose program HALT I/O ends: itself where it is active, or else the other tape where that one is
 abbrev pub halted_unit : Units → ConfiguredUnit → ConfiguredUnit
@@ -132,8 +132,8 @@ has_tape test us = test (control_of us Tape0).state || test (control_of us Tape1
 
 abbrev pub test_channel : Units → ℕ → IoResult
 test_channel us channel =
-    if nat_eq channel 0 then condition_alone 0
-    else if nat_eq channel 1 then condition_alone (if has_tape is_active us then 2 else (if has_tape is_waiting us then 1 else 0))
+    if nat_eq channel 0 then with_code 0
+    else if nat_eq channel 1 then with_code (if has_tape is_active us then 2 else (if has_tape is_waiting us then 1 else 0))
     else not_operational
 
 -- the units after it

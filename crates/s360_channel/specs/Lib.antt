@@ -7,5 +7,4 @@ pub mod Execution
 pub mod Steps
 pub mod Differences
 pub mod ConfiguredUnits
-pub mod SeveralUnits
 pub mod UnitChanges

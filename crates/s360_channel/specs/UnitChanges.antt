@@ -1,15 +1,13 @@
 -- What an event alters of the units: it is exchanged with what stands there, and the same exchange done again takes it
 -- back. A change alone tells which units it alters.
-use Rattle.std.specs.Prelude.{◌≡◌, not, Option, Some, None, List, [], ◌∷◌, map}
-use Rattle.std.specs.List.{filter}
+use Rattle.std.specs.Prelude.{◌≡◌, Option, Some, None, List, [], ◌∷◌, map}
 use Rattle.s360_model.specs.Exchanges.{CanIfAny, after_if_any}
 use Rattle.s360_store.specs.declared.place.Place.{Place}
-use Rattle.s360_store.specs.declared.place.Place.TheVariants.{UnitState as state_of_unit}
 use Rattle.s360_channel.specs.declared.configured_unit.ConfiguredUnit.{ConfiguredUnit}
 use Rattle.s360_channel.specs.declared.unit_change.UnitChange.{UnitChange}
 use Rattle.s360_channel.specs.declared.unit_change.UnitChange.TheVariants.{One, Attention, Several}
-use Rattle.s360_channel.specs.Differences.{same_unit}
-use Rattle.s360_channel.specs.ConfiguredUnits.{Units, HasEachUnit, address_of_unit, configured_units, control_of, with_control_of}
+use Rattle.s360_channel.specs.ConfiguredUnits.{Units, HasEachUnit, control_of, with_control_of}
+use Rattle.s360_channel.specs.Differences.{state_place, unit_differences}
 
 -- it can be exchanged with the units
 abbrev pub CanSwapUnits : Units → UnitChange → Type 0
@@ -28,10 +26,7 @@ unit_change_after_swap us (One u v) = One u (control_of us u)
 unit_change_after_swap us (Attention u asks) = Attention u (control_of us u).attention
 unit_change_after_swap us (Several x) = Several (record x { units = us })
 
--- the place of a unit on its channel, and the places that a change alters
-abbrev pub state_place : ConfiguredUnit → Place
-state_place u = state_of_unit (record { 0 = address_of_unit u })
-
+-- the units that it alters, and their places
 abbrev pub altered_by : UnitChange → List ConfiguredUnit
 altered_by (One u v) = u ∷ []
 altered_by (Attention u asks) = u ∷ []
@@ -40,13 +35,6 @@ altered_by (Several x) = x.altered
 abbrev pub places_of_units : Option UnitChange → List Place
 places_of_units None = []
 places_of_units (Some x) = map (λ u. state_place u) (altered_by x)
-
--- the units that stand otherwise, and their places
-abbrev pub altered_units : Units → Units → List ConfiguredUnit
-altered_units us vs = filter (λ u. not (same_unit (control_of us u) (control_of vs u))) configured_units
-
-abbrev pub unit_differences : Units → Units → List Place
-unit_differences us vs = map (λ u. state_place u) (altered_units us vs)
 
 -- the change makes the second units of the first, and is just that of the units that differ
 pub record IsUnitsChangeTo (us : Units) (x : Option UnitChange) (vs : Units) : Type 0 where

@@ -1,6 +1,6 @@
 -- The three words of a channel (GA22-6821, "Input/Output Operations", channel address word, channel command word
 -- and channel status word). Bits are numbered from 0 at the left.
-use Rattle.std.specs.Prelude.{ℕ, ◌+◌, ◌*◌, ◌/◌, ◌%◌, ◌^◌, Bool, true, false, ◌&&◌, nat_eq, if◌then◌else◌}
+use Rattle.std.specs.Prelude.{ℕ, ◌+◌, ◌*◌, ◌/◌, ◌%◌, ◌^◌, Bool, true, ◌&&◌, nat_eq, if◌then◌else◌}
 use Rattle.s360_channel.specs.declared.caw.Caw.{Caw}
 use Rattle.s360_channel.specs.declared.ccw.Ccw.{Ccw}
 use Rattle.s360_channel.specs.declared.ccw.CcwFlags.{CcwFlags}
@@ -110,21 +110,12 @@ csw_of doubleword = record {
   count = doubleword % 2 ^ 16;
 }
 
--- nothing to tell
+-- nothing to tell: all bits are zero
 abbrev pub no_unit_status : UnitStatus
-no_unit_status = record {
-  attention = false;
-  status_modifier = false;
-  control_unit_end = false;
-  busy = false;
-  channel_end = false;
-  device_end = false;
-  unit_check = false;
-  unit_exception = false;
-}
+no_unit_status = unit_status_of 0
 
 abbrev pub no_channel_status : ChannelStatus
-no_channel_status = record { program_controlled = false; incorrect_length = false; program_check = false; protection_check = false }
+no_channel_status = channel_status_of 0
 
 -- channel and device have done their parts: channel end and device end
 abbrev pub device_has_ended : UnitStatus
@@ -137,3 +128,7 @@ asks_attention = record no_unit_status { attention = true }
 -- the channel program is not well formed
 abbrev pub meets_program_check : ChannelStatus
 meets_program_check = record no_channel_status { program_check = true }
+
+-- a protected byte would be stored, or fetched
+abbrev pub meets_protection_check : ChannelStatus
+meets_protection_check = record no_channel_status { protection_check = true }

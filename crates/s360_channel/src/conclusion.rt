@@ -1,7 +1,7 @@
 //! How a command ends. Source: GA22-6821, "Input/Output Operations", conclusion of input/output operations.
 ghost use Rattle.std.specs.Prelude.{◌≡◌};
-ghost use Rattle.s360_channel.specs.Execution.{address_after, ended_unit, is_clean, refused_unit};
-ghost use Rattle.s360_channel.specs.Execution.{meets_protection_check};
+ghost use Rattle.s360_channel.specs.Execution.{ended_unit, is_clean, next_ccw_address, refused_unit};
+ghost use Rattle.s360_channel.specs.Words.{meets_protection_check};
 
 use crate::csw::{ChannelStatus, UnitStatus};
 
@@ -10,8 +10,8 @@ use crate::csw::{ChannelStatus, UnitStatus};
 pub(crate) struct Conclusion {
     /// Channel end and device end, with unit exception or without it, or unit check alone.
     pub(crate) unit: UnitStatus,
-    /// Whether an incorrect length is told.
-    pub(crate) incorrect_length: bool,
+    /// A check, or whether an incorrect length is told.
+    pub(crate) channel: ChannelStatus,
     /// The residual count.
     pub(crate) residual: u16,
 }
@@ -46,9 +46,9 @@ pub(crate) fn protection_check() -> ChannelStatus
     }
 }
 
-/// The address after a word.
-pub(crate) fn address_after(at: u32) -> u32
-    ensures { result ≡ address_after at }
+/// The address of the next word.
+pub(crate) fn next_ccw_address(at: u32) -> u32
+    ensures { result ≡ next_ccw_address at }
 {
     at.wrapping_add(8) % (1 << 24)
 }
@@ -58,6 +58,6 @@ impl Conclusion {
     pub(crate) fn is_clean(&self) -> bool
         ensures { result ≡ is_clean self.now }
     {
-        !self.unit.unit_check && !self.unit.unit_exception && !self.incorrect_length
+        !self.unit.unit_check && !self.unit.unit_exception && !self.channel.incorrect_length
     }
 }

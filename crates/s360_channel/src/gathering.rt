@@ -1,52 +1,53 @@
 //! The bytes of a command's input that go to storage, and those of its output that come from there.
 //! Source: GA22-6821, "Input/Output Operations", read, read backward, write, and skipping.
-ghost use Rattle.std.specs.Prelude.{◌≡◌, ◌≤◌, ◌<◌, ◌+◌, ◌-◌, ◌^◌, ◌++◌, ◌⊎◌, IfOk, length, take, drop};
+ghost use Rattle.std.specs.Prelude.{◌≡◌, ◌≤◌, ◌<◌, ◌+◌, ◌-◌, ◌^◌, ◌⊎◌, IfOk, length, take, drop};
 ghost use Rattle.std.specs.List.{slice_range};
-ghost use Rattle.std.specs.Option.{option_copied};
-ghost use Rattle.s360_channel.specs.Execution.{gathered_if, in_order};
-ghost use Rattle.s360_channel.specs.Words.{reads_backward};
+ghost use Rattle.s360_channel.specs.Execution.{stored_bytes};
+ghost use Rattle.s360_channel.specs.Steps.{at_hand, output_of};
 
 use crate::ccw::reads_backward;
+use crate::command_word::CommandWord;
 use crate::gathered::Gathered;
 use s360_device::Device;
 use s360_store::Storage;
 use std::alloc::{AllocError, Global};
 
-/// So many bytes of a command's input, from the first of them on.
+/// So many bytes of an input, from the first on that the words before have not moved.
 fn input_bytes<D: Device>(
     alloc: Global,
-    device: &D,
-    command: u8,
-    first: u32,
+    word: &CommandWord<'_, D>,
     count: u16,
 ) -> Result<Vec<u8>, AllocError>
-    requires inside { count ≤ length (D.input_of device.now command) - first }
-    requires short { length (D.input_of device.now command) < 2 ^ 32 }
-    ensures { IfOk result (λ bytes. bytes.items ≡ take count (drop first (D.input_of device.now command))) }
+    requires inside { count ≤ length (at_hand D.Device word.now).input - (at_hand D.Device word.now).moved }
+    requires short { length (at_hand D.Device word.now).input < 2 ^ 32 }
+    ensures { IfOk result (λ bytes. bytes.items ≡ take count (drop (at_hand D.Device word.now).moved (at_hand D.Device word.now).input)) }
 {
     if count == 0 {
         return Ok(Vec::new(alloc));
     }
     let mut bytes = vec![in alloc; 0u8; usize::from(count)]?;
-    device.input_bytes(command, first, bytes.as_mut_slice());
+    let first = word.program.progress.moved_before();
+    word.device
+        .input_bytes(word.command, first, bytes.as_mut_slice());
     Ok(bytes)
 }
 
-/// The same in the order of their addresses.
-pub(crate) fn input_in_order<D: Device>(
+/// The bytes of an input that a word stores which moves so many, in the order of their addresses.
+pub(crate) fn stored_bytes<D: Device>(
     alloc: Global,
-    device: &D,
-    command: u8,
-    first: u32,
+    word: &CommandWord<'_, D>,
     count: u16,
 ) -> Result<Vec<u8>, AllocError>
-    requires inside { count ≤ length (D.input_of device.now command) - first }
-    requires short { length (D.input_of device.now command) < 2 ^ 32 }
-    ensures bytes { IfOk result (λ bytes. bytes.items ≡ in_order (reads_backward command) (take count (drop first (D.input_of device.now command)))) }
-    ensures count { IfOk result (λ bytes. length bytes.items ≤ count) }
+    requires inside { count ≤ length (at_hand D.Device word.now).input - (at_hand D.Device word.now).moved }
+    requires short { length (at_hand D.Device word.now).input < 2 ^ 32 }
+    ensures bytes { IfOk result (λ bytes. bytes.items ≡ stored_bytes (at_hand D.Device word.now) count) }
+    ensures few { IfOk result (λ bytes. length bytes.items ≤ count) }
 {
-    let mut bytes = input_bytes(alloc, device, command, first, count)?;
-    if reads_backward(command) {
+    if word.ccw.flags.skip {
+        return Ok(Vec::new(alloc));
+    }
+    let mut bytes = input_bytes(alloc, word, count)?;
+    if reads_backward(word.command) {
         bytes.reverse();
     }
     Ok(bytes)
@@ -55,8 +56,7 @@ pub(crate) fn input_in_order<D: Device>(
 /// So many bytes of storage from an address on. Where there are none, the address may be outside.
 pub(crate) fn fetched(storage: &Storage, address: u32, count: u16) -> &[u8]
     requires inside { (count ≡ 0) ⊎ (address + count ≤ length storage.now.bytes) }
-    ensures bytes { result.now ≡ slice_range storage.now.bytes address (address + count) }
-    ensures few { length result.now ≤ 65535 }
+    ensures { result.now ≡ slice_range storage.now.bytes address (address + count) }
 {
     if count == 0 {
         &[]
@@ -65,38 +65,42 @@ pub(crate) fn fetched(storage: &Storage, address: u32, count: u16) -> &[u8]
     }
 }
 
-/// The bytes of an output: the first of those gathered before, at most so many, and one word's.
-pub(crate) fn output_of(
-    alloc: Global,
-    before: Option<&Gathered>,
-    limit: u32,
-    bytes: &[u8],
-) -> Result<Vec<u8>, AllocError>
-    ensures { IfOk result (λ output. output.items ≡ take limit (gathered_if (option_copied before.entry)) ++ bytes.now) }
-{
-    let mut output = match before {
-        Some(gathered) => gathered.to_vec(alloc)?,
-        None => Vec::with_capacity(alloc, bytes.len())?,
-    };
-    output.truncate(limit as usize);
-    output.extend_from_slice(bytes)?;
-    Ok(output)
+/// The bytes of an output: those gathered before, and then those that a word has fetched. The device takes no more than
+/// its limit.
+#[derive(Drop)]
+pub(crate) struct OutputBytes<'a> {
+    /// What the words before have gathered, if there are any.
+    pub(crate) before: Option<&'a Gathered>,
+    /// What the word has fetched.
+    pub(crate) fetched: &'a [u8],
+    /// The device's limit.
+    pub(crate) limit: u32,
 }
 
-/// The same where the output goes on, at the cost of that word's bytes.
-pub(crate) fn gathered_with(
-    alloc: Global,
-    before: Option<&Gathered>,
-    limit: u32,
-    bytes: &[u8],
-) -> Result<Gathered, AllocError>
-    requires few { length bytes.now ≤ 65535 }
-    ensures { IfOk result (λ gathered. gathered ≡ take limit (gathered_if (option_copied before.entry)) ++ bytes.now) }
-{
-    match before {
-        Some(gathered) if gathered.count() <= limit as usize => {
-            gathered.followed_by(alloc, bytes.to_vec(alloc)?)
+impl OutputBytes<'_> {
+    /// The bytes in memory of their own.
+    pub(crate) fn to_vec(&self, alloc: Global) -> Result<Vec<u8>, AllocError>
+        ensures { IfOk result (λ bytes. bytes.items ≡ output_of self.now) }
+    {
+        let mut bytes = match self.before {
+            Some(gathered) => gathered.to_vec(alloc)?,
+            None => Vec::with_capacity(alloc, self.fetched.len())?,
+        };
+        bytes.extend_from_slice(self.fetched)?;
+        bytes.truncate(self.limit as usize);
+        Ok(bytes)
+    }
+
+    /// The same gathered for the next word, at the cost of the bytes that were fetched.
+    pub(crate) fn gathered(&self, alloc: Global) -> Result<Gathered, AllocError>
+        ensures { IfOk result (λ gathered. gathered ≡ output_of self.now) }
+    {
+        let (limit, more) = (self.limit as usize, self.fetched.len());
+        match self.before {
+            Some(before) if before.count() <= limit && more <= limit - before.count() => {
+                before.followed_by(alloc, self.fetched.to_vec(alloc)?)
+            }
+            _ => Gathered::first(alloc, self.to_vec(alloc)?),
         }
-        _ => Gathered::first(alloc, output_of(alloc, before, limit, bytes)?),
     }
 }

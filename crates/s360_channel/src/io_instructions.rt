@@ -2,7 +2,7 @@
 //! word, and which unit becomes what; none takes memory. Source: GA22-6821, "Input/Output
 //! Operations", START I/O, TEST I/O, HALT I/O and TEST CHANNEL.
 ghost use Rattle.std.specs.Prelude.{◌≡◌};
-ghost use Rattle.s360_channel.specs.IoInstructions.{becomes, condition_alone, halt_io, halt_unit, halted_unit};
+ghost use Rattle.s360_channel.specs.IoInstructions.{becomes, with_code, halt_io, halt_unit, halted_unit};
 ghost use Rattle.s360_channel.specs.IoInstructions.{is_immediate, not_operational, result_of_halt, start_io};
 ghost use Rattle.s360_channel.specs.IoInstructions.{start_program, start_unit, test_channel, test_io, test_unit};
 ghost use Rattle.s360_channel.specs.IoInstructions.{with_status};
@@ -56,8 +56,8 @@ pub struct IoResult {
 
 impl IoResult {
     /// A condition code alone.
-    fn condition_alone(condition: Cc) -> IoResult
-        ensures { result ≡ condition_alone condition }
+    fn with_code(condition: Cc) -> IoResult
+        ensures { result ≡ with_code condition }
     {
         IoResult {
             condition,
@@ -81,7 +81,7 @@ impl IoResult {
     fn not_operational() -> IoResult
         ensures { result ≡ not_operational }
     {
-        IoResult::condition_alone(Cc::new(3))
+        IoResult::with_code(Cc::new(3))
     }
 }
 
@@ -149,7 +149,7 @@ fn start_unit(
     ensures { result ≡ start_unit storage.now occupied unit control.now }
 {
     if control.state.is_active() || control.state.is_waiting() || occupied {
-        return IoResult::condition_alone(Cc::new(2));
+        return IoResult::with_code(Cc::new(2));
     }
     if control.attention {
         let status = UnitStatus {
@@ -177,7 +177,7 @@ fn test_unit(occupied: bool, unit: ConfiguredUnit, control: &UnitControl) -> IoR
     ensures { result ≡ test_unit occupied unit control.now }
 {
     if control.state.is_active() || occupied {
-        return IoResult::condition_alone(Cc::new(2));
+        return IoResult::with_code(Cc::new(2));
     }
     match control.condition() {
         Some(condition) => IoResult {
@@ -185,7 +185,7 @@ fn test_unit(occupied: bool, unit: ConfiguredUnit, control: &UnitControl) -> IoR
             stores: CswStore::Csw(condition.csw),
             unit: becomes(unit, condition.unit),
         },
-        None => IoResult::condition_alone(Cc::new(0)),
+        None => IoResult::with_code(Cc::new(0)),
     }
 }
 
@@ -220,7 +220,7 @@ fn halt_unit(unit: ConfiguredUnit, control: &UnitControl) -> IoResult
     ensures { result ≡ halt_unit unit control.now }
 {
     let UnitState::Active(program) = &control.state else {
-        return IoResult::condition_alone(Cc::new(0));
+        return IoResult::with_code(Cc::new(0));
     };
     let csw = Csw {
         key: program.key,
@@ -273,5 +273,5 @@ pub fn test_channel(units: &Units, channel: u16) -> IoResult
         1 => 0,
         _ => return IoResult::not_operational(),
     };
-    IoResult::condition_alone(Cc::new(condition))
+    IoResult::with_code(Cc::new(condition))
 }

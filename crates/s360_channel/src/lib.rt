@@ -6,6 +6,7 @@
 
 mod caw;
 mod ccw;
+mod command_word;
 mod conclusion;
 mod configured_unit;
 mod csw;

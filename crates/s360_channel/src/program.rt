@@ -1,17 +1,16 @@
 //! A channel program: what a channel keeps of it from one command word to the next. Source:
 //! GA22-6821, "Input/Output Operations", execution of input/output operations, and "System Control Panel",
 //! initial program loading.
-ghost use Rattle.std.specs.Prelude.{◌≡◌, ◌≤◌, None, length};
+ghost use Rattle.std.specs.Prelude.{◌≡◌, ◌-◌, None, [], length, unwrap_or};
 ghost use Rattle.std.specs.Option.{option_copied};
-ghost use Rattle.s360_channel.specs.Execution.{after_check, after_conclusion, command_with, ends_with};
-ghost use Rattle.s360_channel.specs.Execution.{gathered_before, gathered_if, gathered_within, goes_on_after};
-ghost use Rattle.s360_channel.specs.Execution.{moved_before};
+ghost use Rattle.s360_channel.specs.Execution.{after_check, command_with, ends_with, gathered_before};
+ghost use Rattle.s360_channel.specs.Execution.{goes_on_after, moved_before};
 ghost use Rattle.s360_channel.specs.Programs.{goes_on_with_record, is_first, is_loading, loading_program};
 ghost use Rattle.s360_channel.specs.Steps.{change_of_step, state_after_step};
 ghost use Rattle.s360_channel.specs.declared.unit_state.UnitState.TheVariants.{Active, Waiting};
 
 use crate::ccw::Ccw;
-use crate::conclusion::{Conclusion, address_after};
+use crate::conclusion::{Conclusion, next_ccw_address};
 use crate::csw::{ChannelStatus, Csw, UnitStatus};
 use crate::engine::ChannelStep;
 use crate::gathered::Gathered;
@@ -82,7 +81,7 @@ impl Progress {
 
     /// What the words before have gathered for the output, if there are any.
     pub(crate) fn gathered_before(&self) -> Option<&Gathered>
-        ensures { gathered_if (option_copied result) ≡ gathered_before self.now }
+        ensures { unwrap_or (option_copied result) [] ≡ gathered_before self.now }
     {
         match self {
             Progress::OutputChained { gathered, .. } => Some(gathered),
@@ -90,13 +89,12 @@ impl Progress {
         }
     }
 
-    /// How many bytes that is, for a device that takes at most so many.
-    pub fn count_within(&self, limit: u32) -> u32
-        ensures count { result ≡ length (gathered_within limit self.now) }
-        ensures few { result ≤ limit }
+    /// How many bytes more an output takes, of a device that takes at most so many.
+    pub fn left_within(&self, limit: u32) -> u32
+        ensures { result ≡ limit - length (gathered_before self.now) }
     {
         let count = self.gathered_before().map_or(0, Gathered::count);
-        count.min(limit as usize) as u32
+        (limit as usize).saturating_sub(count) as u32
     }
 }
 
@@ -154,21 +152,21 @@ impl Program {
     {
         Program {
             key: self.key,
-            address: address_after(at),
+            address: next_ccw_address(at),
             progress,
         }
     }
 
     /// The status word where the program has ended with the word at an address.
-    fn csw(&self, at: u32, unit: UnitStatus, channel: ChannelStatus, count: u16) -> Csw
-        ensures { Waiting result ≡ ends_with self.now at unit channel count }
+    pub(crate) fn csw(&self, at: u32, conclusion: &Conclusion) -> Csw
+        ensures { Waiting result ≡ ends_with self.now at conclusion.now }
     {
         Csw {
             key: self.key,
-            address: address_after(at),
-            unit,
-            channel,
-            count,
+            address: next_ccw_address(at),
+            unit: conclusion.unit,
+            channel: conclusion.channel,
+            count: conclusion.residual,
         }
     }
 
@@ -177,33 +175,14 @@ impl Program {
         ensures state { state_after_step self.now result ≡ (after_check self.now at status).state }
         ensures change { change_of_step result ≡ None }
     {
+        let conclusion = Conclusion {
+            unit: UnitStatus::none(),
+            channel: status,
+            residual: 0,
+        };
         ChannelStep::Ends {
-            csw: self.csw(at, UnitStatus::none(), status, 0),
+            csw: self.csw(at, &conclusion),
             change: None,
         }
-    }
-
-    /// The step where a command has ended with the word at an address, with the device's change.
-    pub(crate) fn concluded<C: Drop>(
-        &self,
-        at: u32,
-        ccw: &Ccw,
-        conclusion: &Conclusion,
-        change: Option<C>,
-    ) -> ChannelStep<C>
-        ensures state { state_after_step self.now result ≡ after_conclusion self.now at ccw.now conclusion.now }
-        ensures change { change_of_step result ≡ change }
-    {
-        let flags = &ccw.flags;
-        if flags.chain_command && !flags.chain_data && conclusion.is_clean() {
-            let program = self.going_on_after(at, Progress::CommandChained);
-            return ChannelStep::GoesOn { program, change };
-        }
-        let channel = ChannelStatus {
-            incorrect_length: conclusion.incorrect_length,
-            ..ChannelStatus::none()
-        };
-        let csw = self.csw(at, conclusion.unit, channel, conclusion.residual);
-        ChannelStep::Ends { csw, change }
     }
 }

@@ -2,9 +2,9 @@
 //! "Input/Output Operations", data chaining, incorrect length, and program and protection check.
 ghost use Rattle.std.specs.Prelude.{◌≡◌};
 ghost use Rattle.s360_channel.specs.Execution.{access_of, input_transfer, lowest_address};
-ghost use Rattle.s360_channel.specs.Execution.{output_transfer, tells_length, transfer_with};
+ghost use Rattle.s360_channel.specs.Execution.{output_transfer, transfer_with};
 
-use crate::ccw::{Ccw, CcwFlags};
+use crate::ccw::Ccw;
 use s360_store::{Access, Checked, Storage};
 use s360_word::ProtectionKey;
 
@@ -21,24 +21,17 @@ pub struct Transfer {
     pub incorrect_length: bool,
 }
 
-/// Whether a wrong length is told.
-fn tells_length(flags: &CcwFlags, wrong: bool) -> bool
-    ensures { result ≡ tells_length flags.now wrong }
-{
-    wrong && !(flags.suppress_length && !flags.chain_data)
-}
-
 /// What a word moves of the bytes that are left, which may be of a wrong length.
 fn transfer_with(ccw: &Ccw, left: u32, wrong: bool) -> Transfer
     ensures { result ≡ transfer_with ccw.now left wrong }
 {
-    let limit = ccw.count;
+    let (flags, limit) = (&ccw.flags, ccw.count);
     let count = left.min(u32::from(limit)) as u16;
     Transfer {
         count,
-        goes_on: ccw.flags.chain_data && u32::from(limit) <= left,
+        goes_on: flags.chain_data && u32::from(limit) <= left,
         residual: limit - count,
-        incorrect_length: tells_length(&ccw.flags, wrong),
+        incorrect_length: wrong && !(flags.suppress_length && !flags.chain_data),
     }
 }
 

@@ -44,7 +44,7 @@ struct Parts {
 
 impl Model for SeveralUnits {
     ghost use Rattle.std.specs.Prelude.{box_value};
-    ghost use Rattle.s360_channel.specs.SeveralUnits.{SeveralUnits as Contents};
+    ghost use Rattle.s360_channel.specs.ConfiguredUnits.{SeveralUnits as Contents};
 
     ghost Value = { Contents };
 

@@ -5,4 +5,3 @@ pub mod StandingLemmas
 pub mod ReportLemmas
 pub mod Readings
 pub mod Runs
-mod Limits

@@ -2,11 +2,11 @@
 use Rattle.std.proofs.Common.{◌≡◌, ◌≤◌, ◌+◌, ◌++◌, ◌∷◌, [], ℕ, List, refl, sym, ap, ◌∙◌, Option, Some, None, Bool, true, false, nat_eq, length, append_assoc, add_assoc, arith, if◌then◌else◌, IfSome}
 use Rattle.std.proofs.lemmas.List.{append-nil, length-append}
 use Rattle.std.specs.Io.KnownBytes.{Appends}
-use Rattle.s360_journal.specs.Standing.{Standing}
+use Rattle.s360_journal.specs.Recorded.{Recorded}
 use Rattle.s360_language.specs.Reading.{reading_of}
 use Rattle.s360_debug.specs.Debugger.{Debugger}
 use Rattle.s360_debug.specs.Lines.{lines_from, lines_of, is_skipped, without_return}
-use Rattle.s360_debug.specs.Script.{answer_to_reading, state_after_reading, answer_to_line, state_after_line, answers_to_lines, state_after_lines, command_lines, StandsAfterReading, IsStopped, IsCut, AreCarriedOut}
+use Rattle.s360_debug.specs.Script.{answer_to_reading, state_after_reading, answer_to_line, state_after_line, answers_to_lines, state_after_lines, command_lines, StandsAfterReading, IsStopped, IsCut, WasCut, AreCarriedOut}
 use Rattle.s360_text.specs.Writing.{IsPartWritten}
 use Rattle.s360_text.proofs.Writes.{Appends-join, Appends-nothing}
 use Rattle.s360_debug.proofs.Readings.{unmoved}
@@ -67,7 +67,7 @@ unfolding answer_to_line state_after_line
 Answered-more old mid new s t u all left line n a h w e =
     Answered-line old mid new s t u all left line n (n + 1) a (rw h w) (rw h e) (rw h refl)
 
-pub Answered-stop : (old new : Option (List ℕ)) (s t : Debugger) (u : Standing) (all left : List (List ℕ)) (line : List ℕ) (n : ℕ)
+pub Answered-stop : (old new : Option (List ℕ)) (s t : Debugger) (u : Recorded) (all left : List (List ℕ)) (line : List ℕ) (n : ℕ)
     → Answered old new s t all (line ∷ left) n → StandsAfterReading (reading_of line) t u → IsStopped old new s u all
 Answered-stop old new s t u all left line n a h = record {
   done = a.done;
@@ -153,10 +153,10 @@ IsStopped-unread old (Some text) d =
       stands = unmoved (reading_of first.next) d;
     }
 
-pub AreCarriedOut-cut : (old new remaining : Option (List ℕ)) (d : Debugger) (s : Standing)
-    → IfSome remaining (λ text. IsCut old new d s (lines_of text)) → IfSome remaining (λ text. AreCarriedOut d s (lines_of text))
-AreCarriedOut-cut old new None d s h = tt
-AreCarriedOut-cut old new (Some text) d s h = record {
+pub AreCarriedOut-cut : (old new remaining : Option (List ℕ)) (r t : Recorded)
+    → IfSome remaining (λ text. WasCut old new r t text) → IfSome remaining (λ text. AreCarriedOut r t text)
+AreCarriedOut-cut old new None r t h = tt
+AreCarriedOut-cut old new (Some text) r t h = record {
   done = h.done ++ h.next ∷ [];
   left = h.left;
   split = h.split ∙ sym (append_assoc h.done (h.next ∷ []) h.left);

@@ -1,6 +1,6 @@
 -- What a command answers, and what stands afterwards (own profile). Each line of an answer is ended by one
 -- line feed.
-use Rattle.std.specs.Prelude.{◌≡◌, ℕ, ◌+◌, Bool, true, false, if◌then◌else◌, nat_lt, Option, Some, None, List, [], ◌∷◌, ◌++◌, codes, length, take, ◌-◌}
+use Rattle.std.specs.Prelude.{◌≡◌, ℕ, ◌+◌, Bool, true, false, if◌then◌else◌, nat_lt, Option, Some, None, List, [], ◌∷◌, ◌++◌, codes, length, take}
 use Rattle.s360_model.specs.Text.{decimal}
 use Rattle.s360_store.specs.declared.place.Place.{Place}
 use Rattle.s360_machine.specs.declared.event.Event.{Event}
@@ -13,9 +13,10 @@ use Rattle.s360_journal.specs.Rerun.{last_change_of}
 use Rattle.s360_journal.specs.Standing.{Standing, machine_of, refusal_in, alteration, last_kind_of}
 use Rattle.s360_journal.specs.Breakpoints.{has_room_for, with_address, without_address}
 use Rattle.s360_journal.specs.Stops.{stop_of}
-use Rattle.s360_journal.specs.Offers.{unless_refused, with_events}
-use Rattle.s360_journal.specs.Running.{run_of}
-use Rattle.s360_journal.specs.Withdrawals.{is_standing, without_event}
+use Rattle.s360_journal.specs.Offers.{unless_refused}
+use Rattle.s360_journal.specs.Recorded.{Recorded, after_events, session_of, standing_events, with_standing, without_change}
+use Rattle.s360_journal.specs.Returning.{one_back}
+use Rattle.s360_journal.specs.Withdrawals.{is_standing}
 use Rattle.s360_language.specs.declared.command.Command.{Command}
 use Rattle.s360_language.specs.declared.command.Command.TheVariants.{Back, Standing as standing, Last, Show, Break, Clear, Until, Run, Withdraw}
 use Rattle.s360_language.specs.declared.command.LineFault.{LineFault}
@@ -24,7 +25,7 @@ use Rattle.s360_language.specs.Commands.{event_of}
 use Rattle.s360_language.specs.Names.{place_name, event_name, refused_text}
 use Rattle.s360_language.specs.Shown.{shown_text}
 use Rattle.s360_debug.specs.Debugger.{Debugger}
-use Rattle.s360_debug.specs.Running.{run_text}
+use Rattle.s360_debug.specs.Running.{run_at, run_text}
 
 -- the names of places, each after a blank
 abbrev pub place_names : List Place → List ℕ
@@ -77,50 +78,53 @@ break_text breaks at = if has_room_for breaks at then breaks_text (with_address 
 
 -- how many of the events stand after going back to the last stop at a breakpoint
 abbrev pub stop_in : Debugger → ℕ
-stop_in d = stop_of (seen d.session.start) d.session.events d.breaks
+stop_in d = stop_of (seen d.session.start) (standing_events d.session) d.breaks
 
--- a withdrawal, and the events that it leaves
+-- a withdrawal, and what it leaves
 abbrev pub withdrawal_text : ℕ → Bool → List ℕ
 withdrawal_text number true = codes "withdrawn " ++ decimal number ++ codes "\n"
 withdrawal_text number false = codes "no such change" ++ codes "\n"
 
-abbrev pub events_left : ℕ → List Event → List Event
-events_left number es = if is_standing number es then without_event number es else es
+abbrev pub withdrawn : ℕ → Recorded → Recorded
+withdrawn number r = if is_standing number (standing_events r) then without_change r number else r
 
 -- a command's answer; each that has no row of its own offers an event
 unfoldable pub answer_to : Debugger → Command → List ℕ
-answer_to d Back = back_text (length d.session.events) (last_kind_of d.session.events)
-answer_to d standing = codes "standing " ++ decimal (length d.session.events) ++ codes "\n"
-answer_to d (Last place) = last_text (last_change_of (seen d.session.start) d.session.events place)
-answer_to d (Show shown) = shown_text (machine_of d.session) shown
+answer_to d Back = back_text d.session.standing (last_kind_of (standing_events d.session))
+answer_to d standing = codes "standing " ++ decimal d.session.standing ++ codes "\n"
+answer_to d (Last place) = last_text (last_change_of (seen d.session.start) (standing_events d.session) place)
+answer_to d (Show shown) = shown_text (machine_of (session_of d.session)) shown
 answer_to d (Break at) = break_text d.breaks at
 answer_to d (Clear at) = breaks_text (without_address d.breaks at)
 answer_to d Until = codes "until " ++ decimal (stop_in d) ++ codes "\n"
-answer_to d (Withdraw number) = withdrawal_text number (is_standing number d.session.events)
-answer_to d (Run most) = run_text (length (run_of d.breaks d.session most).events) (run_of d.breaks d.session most).why
-answer_to d command = text_of_offer d.session (event_of command)
+answer_to d (Withdraw number) = withdrawal_text number (is_standing number (standing_events d.session))
+answer_to d (Run most) = let run = run_at d.breaks (session_of d.session) most in run_text (length run.events) run.why
+answer_to d command = text_of_offer (session_of d.session) (event_of command)
 
 abbrev pub accepted_of_offer : Standing → Option Event → List Event
 accepted_of_offer s (Some e) = unless_refused (refusal_in s e) e
 accepted_of_offer s None = []
 
+abbrev pub after_offer : Recorded → Event → Recorded
+after_offer r e = after_events r (accepted_of_offer (session_of r) (Some e))
+
 -- of the events that a command offers, those that are accepted, up to where it stops
 abbrev pub accepted_events : Debugger → Command → List Event
-accepted_events d (Run most) = (run_of d.breaks d.session most).events
-accepted_events d command = accepted_of_offer d.session (event_of command)
+accepted_events d (Run most) = (run_at d.breaks (session_of d.session) most).events
+accepted_events d command = accepted_of_offer (session_of d.session) (event_of command)
 
--- what stands after a command; each that has no row of its own adds the events that are accepted
+-- what the debugger keeps after a command; each that has no row of its own adds the events that are accepted
 unfoldable pub state_after : Debugger → Command → Debugger
-state_after d Back = record d { session = record d.session { events = take (length d.session.events - 1) d.session.events } }
+state_after d Back = record d { session = one_back d.session }
 state_after d (Break at) = record d { breaks = with_address d.breaks at }
 state_after d (Clear at) = record d { breaks = without_address d.breaks at }
-state_after d Until = record d { session = record d.session { events = take (stop_in d) d.session.events } }
-state_after d (Withdraw number) = record d { session = record d.session { events = events_left number d.session.events } }
-state_after d command = record d { session = with_events d.session (accepted_events d command) }
+state_after d Until = record d { session = with_standing d.session (stop_in d) }
+state_after d (Withdraw number) = record d { session = withdrawn number d.session }
+state_after d command = record d { session = after_events d.session (accepted_events d command) }
 
 -- after want of memory the first n of the accepted events are added, for some n
-abbrev pub StandsPartly : Debugger → Command → Standing → Type 0
-StandsPartly d command s = (n : ℕ) × (s ≡ with_events d.session (take n (accepted_events d command)))
+abbrev pub StandsPartly : Debugger → Command → Recorded → Type 0
+StandsPartly d command r = (n : ℕ) × (r ≡ after_events d.session (take n (accepted_events d command)))
 
 -- what a faulty line answers; want of memory is no fault of the line
 abbrev pub fault_text : LineFault → List ℕ

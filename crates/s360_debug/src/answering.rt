@@ -1,18 +1,19 @@
 //! What a command answers. Each command has its row in `answer`; those that offer an event share one.
-ghost use Rattle.s360_journal.specs.Recorded.{session_of};
-ghost use Rattle.std.specs.Prelude.{◌≡◌, ◌≢◌, ◌⊎◌, ◌++◌, length, take, ◌-◌, IfOk, OnErr, OnOk, Some, codes};
+ghost use Rattle.s360_journal.specs.Recorded.{session_of, standing_events, with_standing};
+ghost use Rattle.s360_journal.specs.Returning.{one_back};
+ghost use Rattle.std.specs.Prelude.{◌≡◌, ◌≢◌, ◌⊎◌, ◌++◌, take, IfOk, OnErr, OnOk, codes};
 ghost use Rattle.s360_model.specs.Text.{decimal};
 ghost use Rattle.s360_journal.specs.Breakpoints.{with_address, without_address};
 ghost use Rattle.s360_journal.specs.Standing.{last_kind_of};
 ghost use Rattle.s360_language.specs.declared.command.LineFault.TheVariants.{Memory};
 ghost use Rattle.s360_debug.specs.Answers.{answer_to, state_after, StandsPartly};
-ghost use Rattle.s360_debug.specs.Answers.{text_of_event, accepted_of_offer};
+ghost use Rattle.s360_debug.specs.Answers.{after_offer, text_of_event};
+ghost use Rattle.s360_debug.specs.Debugger.{debugger};
 ghost use Rattle.s360_debug.specs.Answers.{break_text, breaks_text, stop_in};
-ghost use Rattle.s360_journal.specs.Offers.{with_events};
 ghost use Rattle.s360_debug.specs.Answers.{text_of_report};
 ghost use Rattle.s360_debug.specs.Answers.{back_text, last_text};
 ghost use Rattle.s360_debug.specs.Answers.{place_names, fault_text, changed_after};
-ghost use Rattle.s360_debug.specs.Answers.{events_left, withdrawal_text};
+ghost use Rattle.s360_debug.specs.Answers.{withdrawal_text, withdrawn};
 ghost use Rattle.s360_journal.specs.Withdrawals.{is_standing};
 
 use crate::open_line::OpenLine;
@@ -35,9 +36,9 @@ pub fn answer(
     breaks: &mut Breaks,
     command: Command,
 ) -> Result<Text, AllocError>
-    ensures text { IfOk result (λ text. text ≡ answer_to (record { session = session_of session.old; breaks = breaks.old }) command) }
-    ensures state { OnOk result (record { session = session_of session.new; breaks = breaks.new } ≡ state_after (record { session = session_of session.old; breaks = breaks.old }) command) }
-    ensures memory { OnErr result (StandsPartly (record { session = session_of session.old; breaks = breaks.old }) command (session_of session.new)) }
+    ensures text { IfOk result (λ text. text ≡ answer_to (debugger session.old breaks.old) command) }
+    ensures state { OnOk result (debugger session.new breaks.new ≡ state_after (debugger session.old breaks.old) command) }
+    ensures memory { OnErr result (StandsPartly (debugger session.old breaks.old) command session.new) }
     ensures memory_breaks { OnErr result (breaks.new ≡ breaks.old) }
 {
     match command {
@@ -60,8 +61,8 @@ pub fn answer(
 /// Offers an event, and answers its report or its refusal.
 fn answer_event(alloc: Global, session: &mut Session, event: Event) -> Result<Text, AllocError>
     ensures text { IfOk result (λ text. text ≡ text_of_event (session_of session.old) event) }
-    ensures state { OnOk result (session_of session.new ≡ with_events (session_of session.old) (accepted_of_offer (session_of session.old) (Some event))) }
-    ensures memory { OnErr result ((session.new ≡ session.old) ⊎ (session_of session.new ≡ with_events (session_of session.old) (accepted_of_offer (session_of session.old) (Some event)))) }
+    ensures state { OnOk result (session.new ≡ after_offer session.old event) }
+    ensures memory { OnErr result ((session.new ≡ session.old) ⊎ (session.new ≡ after_offer session.old event)) }
 {
     match session.forward(event) {
         Ok(report) => {
@@ -116,8 +117,8 @@ fn push_places(text: &mut Text, places: &Places, count: u32) -> Result<(), Alloc
 
 /// Takes the last change back. Its text is made first, so that want of memory leaves it standing.
 fn answer_back(alloc: Global, session: &mut Session) -> Result<Text, AllocError>
-    ensures text { IfOk result (λ text. text ≡ back_text (length (session_of session.old).events) (last_kind_of (session_of session.old).events)) }
-    ensures state { OnOk result (session_of session.new ≡ record (session_of session.old) { events = take (length (session_of session.old).events - 1) (session_of session.old).events }) }
+    ensures text { IfOk result (λ text. text ≡ back_text session.old.standing (last_kind_of (standing_events session.old))) }
+    ensures state { OnOk result (session.new ≡ one_back session.old) }
     ensures memory { OnErr result (session.new ≡ session.old) }
 {
     let text = text_of_back(alloc, session.standing(), session.last_event())?;
@@ -181,8 +182,8 @@ fn answer_clear(alloc: Global, breaks: &mut Breaks, at: u32) -> Result<Text, All
 /// Goes back to the last stop at a breakpoint. Room for its text is made first, so that want of memory
 /// leaves all changes standing.
 fn answer_until(alloc: Global, session: &mut Session, breaks: &Breaks) -> Result<Text, AllocError>
-    ensures text { IfOk result (λ text. text ≡ codes "until " ++ decimal (stop_in (record { session = session_of session.old; breaks = breaks.now })) ++ codes "\n") }
-    ensures state { OnOk result (session_of session.new ≡ record (session_of session.old) { events = take (stop_in (record { session = session_of session.old; breaks = breaks.now })) (session_of session.old).events }) }
+    ensures text { IfOk result (λ text. text ≡ codes "until " ++ decimal (stop_in (debugger session.old breaks.now)) ++ codes "\n") }
+    ensures state { OnOk result (session.new ≡ with_standing session.old (stop_in (debugger session.old breaks.now))) }
     ensures memory { OnErr result (session.new ≡ session.old) }
 {
     let line = OpenLine::new(alloc, "until ")?;
@@ -191,8 +192,8 @@ fn answer_until(alloc: Global, session: &mut Session, breaks: &Breaks) -> Result
 
 /// Withdraws a change. Room for its text is made first, so that want of memory leaves all changes standing.
 fn answer_withdraw(alloc: Global, session: &mut Session, number: u32) -> Result<Text, AllocError>
-    ensures text { IfOk result (λ text. text ≡ withdrawal_text number (is_standing number (session_of session.old).events)) }
-    ensures state { OnOk result (session_of session.new ≡ record (session_of session.old) { events = events_left number (session_of session.old).events }) }
+    ensures text { IfOk result (λ text. text ≡ withdrawal_text number (is_standing number (standing_events session.old))) }
+    ensures state { OnOk result (session.new ≡ withdrawn number session.old) }
     ensures memory { OnErr result (session.new ≡ session.old) }
 {
     let line = OpenLine::new(alloc, "withdrawn ")?;

@@ -1,12 +1,9 @@
 //! A script, read whole and then answered line by line.
-ghost use Rattle.s360_journal.specs.Recorded.{session_of};
 ghost use Rattle.std.specs.Prelude.{◌≡◌, ◌≢◌, ◌⊎◌, ◌≤◌, ◌<◌, length, IfOk, IfSome, OnOk, OnErr, Err};
-ghost use Rattle.std.specs.Io.KnownBytes.{Appends};
 ghost use Rattle.s360_language.specs.Reading.{reading_of};
-ghost use Rattle.s360_debug.specs.Debugger.{new_debugger};
-ghost use Rattle.s360_debug.specs.Lines.{lines_of};
+ghost use Rattle.s360_debug.specs.Debugger.{debugger};
 ghost use Rattle.s360_debug.specs.Script.{answer_to_reading, state_after_reading, StandsAfterReading};
-ghost use Rattle.s360_debug.specs.Script.{answers_of, lines_of_script, state_after_lines, IsStopped, IsCut};
+ghost use Rattle.s360_debug.specs.Script.{AreAnswered, HasStopped, WasCut, lines_of_script, session_after};
 ghost use Rattle.s360_text.specs.declared.script_fault.ScriptFault.TheVariants.{Read as read_failed, TooLong, Memory};
 ghost use Rattle.s360_text.specs.declared.script_fault.ScriptFault.TheVariants.{Write as write_failed};
 
@@ -31,15 +28,14 @@ pub fn run_script<R: Read, W: Write>(
     writer: &mut W,
 ) -> Result<u32, ScriptFault>
     ensures length { IfOk result (λ n. IfSome (R.remaining reader.old) (λ text. length text ≤ 1048576)) }
-    ensures answers { IfOk result (λ n. IfSome (R.remaining reader.old) (λ text. Appends (W.contents writer.old) (W.contents writer.new) (answers_of (session_of session.old) text))) }
+    ensures answers { IfOk result (λ n. IfSome (R.remaining reader.old) (AreAnswered (W.contents writer.old) (W.contents writer.new) session.old)) }
     ensures lines { IfOk result (λ n. IfSome (R.remaining reader.old) (λ text. n ≡ lines_of_script text)) }
-    ensures state { IfOk result (λ n. IfSome (R.remaining reader.old) (λ text. session_of session.new ≡ (state_after_lines (new_debugger (session_of session.old)) (lines_of text)).session)) }
-    ensures limit { OnOk result ((session_of session.new).limit ≡ (session_of session.old).limit) }
+    ensures state { IfOk result (λ n. IfSome (R.remaining reader.old) (λ text. session.new ≡ session_after session.old text)) }
     ensures unread_session { (result ≡ Err read_failed) ⊎ (result ≡ Err TooLong) → session.new ≡ session.old }
     ensures unread_writer { (result ≡ Err read_failed) ⊎ (result ≡ Err TooLong) → writer.new ≡ writer.old }
     ensures too_long { result ≡ Err TooLong → IfSome (R.remaining reader.old) (λ text. 1048576 < length text) }
-    ensures memory { result ≡ Err Memory → IfSome (R.remaining reader.old) (λ text. IsStopped (W.contents writer.old) (W.contents writer.new) (new_debugger (session_of session.old)) (session_of session.new) (lines_of text)) }
-    ensures write { result ≡ Err write_failed → IfSome (R.remaining reader.old) (λ text. IsCut (W.contents writer.old) (W.contents writer.new) (new_debugger (session_of session.old)) (session_of session.new) (lines_of text)) }
+    ensures memory { result ≡ Err Memory → IfSome (R.remaining reader.old) (HasStopped (W.contents writer.old) (W.contents writer.new) session.old session.new) }
+    ensures write { result ≡ Err write_failed → IfSome (R.remaining reader.old) (WasCut (W.contents writer.old) (W.contents writer.new) session.old session.new) }
 {
     let script = read_whole(alloc, reader, LONGEST_SCRIPT)?;
     answer_script(alloc, session, &script, writer)
@@ -53,11 +49,11 @@ fn answer_script<W: Write>(
     writer: &mut W,
 ) -> Result<u32, ScriptFault>
     requires { length script.now ≤ 1048576 }
-    ensures answers { OnOk result (Appends (W.contents writer.old) (W.contents writer.new) (answers_of (session_of session.old) script.now)) }
+    ensures answers { OnOk result (AreAnswered (W.contents writer.old) (W.contents writer.new) session.old script.now) }
     ensures lines { IfOk result (λ n. n ≡ lines_of_script script.now) }
-    ensures state { OnOk result (session_of session.new ≡ (state_after_lines (new_debugger (session_of session.old)) (lines_of script.now)).session) }
-    ensures memory { result ≡ Err Memory → IsStopped (W.contents writer.old) (W.contents writer.new) (new_debugger (session_of session.old)) (session_of session.new) (lines_of script.now) }
-    ensures write { result ≡ Err write_failed → IsCut (W.contents writer.old) (W.contents writer.new) (new_debugger (session_of session.old)) (session_of session.new) (lines_of script.now) }
+    ensures state { OnOk result (session.new ≡ session_after session.old script.now) }
+    ensures memory { result ≡ Err Memory → HasStopped (W.contents writer.old) (W.contents writer.new) session.old session.new script.now }
+    ensures write { result ≡ Err write_failed → WasCut (W.contents writer.old) (W.contents writer.new) session.old session.new script.now }
     ensures read { result ≢ Err read_failed }
     ensures too_long { result ≢ Err TooLong }
 {
@@ -82,9 +78,9 @@ pub fn answer_line(
     breaks: &mut Breaks,
     line: &[u8],
 ) -> Result<Text, AllocError>
-    ensures text { IfOk result (λ text. text ≡ answer_to_reading (record { session = session_of session.old; breaks = breaks.old }) (reading_of line.now)) }
-    ensures state { OnOk result (record { session = session_of session.new; breaks = breaks.new } ≡ state_after_reading (record { session = session_of session.old; breaks = breaks.old }) (reading_of line.now)) }
-    ensures memory { OnErr result (StandsAfterReading (reading_of line.now) (record { session = session_of session.old; breaks = breaks.old }) (session_of session.new)) }
+    ensures text { IfOk result (λ text. text ≡ answer_to_reading (debugger session.old breaks.old) (reading_of line.now)) }
+    ensures state { OnOk result (debugger session.new breaks.new ≡ state_after_reading (debugger session.old breaks.old) (reading_of line.now)) }
+    ensures memory { OnErr result (StandsAfterReading (reading_of line.now) (debugger session.old breaks.old) session.new) }
     ensures memory_breaks { OnErr result (breaks.new ≡ breaks.old) }
 {
     match read_command(alloc, line) {

@@ -1,11 +1,9 @@
 //! The line of a run.
-ghost use Rattle.s360_journal.specs.Recorded.{session_of};
+ghost use Rattle.s360_journal.specs.Recorded.{after_events, session_of};
 ghost use Rattle.std.specs.Prelude.{◌≡◌, ℕ, ◌++◌, IfOk, OnOk, OnErr, length, take};
-ghost use Rattle.s360_journal.specs.Offers.{with_events};
-ghost use Rattle.s360_journal.specs.Running.{run_of};
-ghost use Rattle.s360_debug.specs.Running.{end_text, run_text};
+ghost use Rattle.s360_debug.specs.Running.{end_text, run_at, run_text};
 
-use s360_journal::{Breaks, RunEnd, Session};
+use s360_journal::{Breaks, Pause, Reach, Session, Turn};
 use s360_language::push_refusal;
 use s360_text::Text;
 use std::alloc::{AllocError, Global};
@@ -18,17 +16,17 @@ pub(crate) fn answer_run(
     breaks: &Breaks,
     most: u32,
 ) -> Result<Text, AllocError>
-    ensures text { IfOk result (λ text. text ≡ run_text (length (run_of breaks.now (session_of session.old) most).events) (run_of breaks.now (session_of session.old) most).why) }
-    ensures state { OnOk result (session_of session.new ≡ with_events (session_of session.old) (run_of breaks.now (session_of session.old) most).events) }
-    ensures memory { OnErr result ((n : ℕ) × (session_of session.new ≡ with_events (session_of session.old) (take n (run_of breaks.now (session_of session.old) most).events))) }
+    ensures text { IfOk result (λ text. let run = run_at breaks.now (session_of session.old) most in text ≡ run_text (length run.events) run.why) }
+    ensures state { OnOk result (session.new ≡ after_events session.old (run_at breaks.now (session_of session.old) most).events) }
+    ensures memory { OnErr result ((n : ℕ) × (session.new ≡ after_events session.old (take n (run_at breaks.now (session_of session.old) most).events))) }
 {
     let before = session.standing();
-    let end = session.run(breaks, most)?;
+    let end = session.run(breaks, Turn::New, Reach::Stop, most)?;
     text_of_run(alloc, session.standing() - before, end)
 }
 
 /// The line of a run.
-fn text_of_run(alloc: Global, count: u32, end: RunEnd) -> Result<Text, AllocError>
+fn text_of_run(alloc: Global, count: u32, end: Pause) -> Result<Text, AllocError>
     ensures { IfOk result (λ text. text ≡ run_text count end) }
 {
     let mut text = Text::new(alloc);
@@ -40,13 +38,17 @@ fn text_of_run(alloc: Global, count: u32, end: RunEnd) -> Result<Text, AllocErro
 }
 
 /// Adds why a run ended, and the line's end.
-fn push_end(text: &mut Text, end: RunEnd) -> Result<(), AllocError>
+fn push_end(text: &mut Text, end: Pause) -> Result<(), AllocError>
     ensures { OnOk result (text.new ≡ text.old ++ end_text end) }
 {
     match end {
-        RunEnd::Refused(refusal) => push_refusal(text, refusal),
-        RunEnd::Idle => text.push_text("idle\n"),
-        RunEnd::Break => text.push_text("break\n"),
-        RunEnd::Done => text.push_text("done\n"),
+        Pause::Refused(refusal) => push_refusal(text, refusal),
+        Pause::Idle => text.push_text("idle\n"),
+        Pause::Watch => text.push_text("watch\n"),
+        Pause::Break => text.push_text("break\n"),
+        Pause::Stepped => text.push_text("step\n"),
+        Pause::RecordEnd => text.push_text("end of record\n"),
+        Pause::RecordStart => text.push_text("start of record\n"),
+        Pause::Done => text.push_text("done\n"),
     }
 }

@@ -1,11 +1,8 @@
 //! A script that is carried out over a machine, and its answers.
-ghost use Rattle.s360_journal.specs.Recorded.{session_of};
 ghost use Rattle.std.specs.Prelude.{◌≡◌, ◌⊎◌, ◌≤◌, ◌<◌, [], true, length, IfOk, IfSome, OnOk, Err, None};
-ghost use Rattle.std.specs.Io.KnownBytes.{Appends, Keeps};
+ghost use Rattle.std.specs.Io.KnownBytes.{Keeps};
 ghost use Rattle.std.specs.Io.Buffered.{writer_buffer, writer_contents};
-ghost use Rattle.s360_debug.specs.Debugger.{new_debugger};
-ghost use Rattle.s360_debug.specs.Lines.{lines_of};
-ghost use Rattle.s360_debug.specs.Script.{answers_of, state_after_lines, AreCarriedOut, IsStopped};
+ghost use Rattle.s360_debug.specs.Script.{AreAnswered, AreCarriedOut, HasStopped, session_after};
 ghost use Rattle.s360_text.specs.declared.script_fault.ScriptFault.TheVariants.{Read as read_failed, TooLong, Memory};
 ghost use Rattle.s360_text.specs.declared.script_fault.ScriptFault.TheVariants.{Write as write_failed};
 
@@ -25,13 +22,12 @@ pub fn carry_out<R: Read, W: Write + Drop>(
     writer: W,
 ) -> Result<W, ScriptFault>
     ensures length { OnOk result (IfSome (R.remaining reader.old) (λ text. length text ≤ 1048576)) }
-    ensures answers { IfOk result (λ w. IfSome (R.remaining reader.old) (λ text. Appends (W.contents writer) (W.contents w) (answers_of (session_of session.old) text))) }
-    ensures state { OnOk result (IfSome (R.remaining reader.old) (λ text. session_of session.new ≡ (state_after_lines (new_debugger (session_of session.old)) (lines_of text)).session)) }
-    ensures limit { OnOk result ((session_of session.new).limit ≡ (session_of session.old).limit) }
+    ensures answers { IfOk result (λ w. IfSome (R.remaining reader.old) (AreAnswered (W.contents writer) (W.contents w) session.old)) }
+    ensures state { OnOk result (IfSome (R.remaining reader.old) (λ text. session.new ≡ session_after session.old text)) }
     ensures unread { (result ≡ Err read_failed) ⊎ (result ≡ Err TooLong) → session.new ≡ session.old }
     ensures too_long { result ≡ Err TooLong → IfSome (R.remaining reader.old) (λ text. 1048576 < length text) }
-    ensures memory { result ≡ Err Memory → IfSome (R.remaining reader.old) (λ text. IsStopped None None (new_debugger (session_of session.old)) (session_of session.new) (lines_of text)) }
-    ensures write { result ≡ Err write_failed → IfSome (R.remaining reader.old) (λ text. AreCarriedOut (new_debugger (session_of session.old)) (session_of session.new) (lines_of text)) }
+    ensures memory { result ≡ Err Memory → IfSome (R.remaining reader.old) (HasStopped None None session.old session.new) }
+    ensures write { result ≡ Err write_failed → IfSome (R.remaining reader.old) (λ text. AreCarriedOut session.old session.new text) }
 {
     let Ok(mut buffered) = BufWriter::new(alloc, OneTry { writer }) else {
         return Err(ScriptFault::Memory);

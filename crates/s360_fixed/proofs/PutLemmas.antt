@@ -1,5 +1,5 @@
 -- What registers that are stored and loaded leave, one after another.
-use Rattle.std.proofs.Common.{◌≡◌, ◌≤◌, ◌<◌, ◌+◌, ◌*◌, ◌%◌, ◌++◌, ◌∙◌, [], zero, suc, ap, append-nil, drop, inl, inr, length, refl, sym, take, slice_index, ℕ, List, Bool, true, false, cond, nat_eq, arith}
+use Rattle.std.proofs.Common.{◌≡◌, ◌≤◌, ◌<◌, ◌+◌, ◌*◌, ◌%◌, ◌++◌, ◌∙◌, [], zero, suc, ap, append-nil, drop, inl, inr, length, refl, sym, take, slice_index, ℕ, List, Bool, true, false, cond, Option, None, Some, arith}
 use Rattle.std.proofs.Math.Seq.{drop-append-add}
 use Rattle.std.proofs.lemmas.Bool.{cases_lt}
 use Rattle.std.proofs.lemmas.List.{append_assoc, drop-drop, drop_all, length-append, length-take-le, take-append-drop, take_all, take_at}
@@ -8,14 +8,14 @@ use Rattle.std.specs.Int.{bytes_high_first}
 use Rattle.s360_model.specs.Core.{Core, core_with_bytes, core_with_psw, core_with_word}
 use Rattle.s360_model.specs.Psw.{fixed_point_overflow_mask_of}
 use Rattle.s360_model.specs.Storage.{with_run, word_at}
-use Rattle.s360_store.specs.declared.place.Place.{Place}
+use Rattle.s360_store.specs.declared.puts.Puts.{Ghosts}
 use Rattle.s360_store.specs.declared.place.Place.TheVariants.{Byte}
 use Rattle.s360_fixed.specs.declared.ended.Ended.TheVariants.{Done, Program}
 use Rattle.s360_fixed.specs.declared.program_code.ProgramCode.TheVariants.{FixedPointOverflow}
-use Rattle.s360_fixed.specs.declared.setting.Setting.{Setting}
-use Rattle.s360_fixed.specs.declared.setting.Setting.TheVariants.{Kept, Code, SignedCode}
-use Rattle.s360_fixed.specs.Plans.{MayFollow}
-use Rattle.s360_fixed.specs.Settings.{ended_with}
+use Rattle.s360_fixed.specs.declared.setting.CodeSetting.{CodeSetting}
+use Rattle.s360_fixed.specs.Alterations.{ended_by, with_words}
+use Rattle.s360_fixed.specs.Outcomes.{word_for}
+use Rattle.s360_fixed.specs.Plans.{MayFollow, words_for}
 use Rattle.s360_fixed.specs.Storing.{with_registers_loaded, with_registers_stored}
 
 -- a run, and a run after it
@@ -73,13 +73,18 @@ with_registers_loaded-psw bytes r1 address (suc count) p n =
     ap (λ m. core_with_word ((r1 + count) % 16) (word_at bytes (address + 4 * count)) m) (with_registers_loaded-psw bytes r1 address count p n)
 
 -- what may follow an instruction that has put the PSW and registers
-follows-if : (m : Core) (made : Core → Core) (may : Core → Type 0) (past : Place → Type 0) (count : ℕ) (b : Bool) → (made m).storage ≡ m.storage → ((a : ℕ) → past (Byte a))
-    → MayFollow m made may past count (cond b (Program FixedPointOverflow) Done)
-follows-if m made may past count true s b = (s, b)
-follows-if m made may past count false s b = tt
+follows-if : {S : Type 0} (p : Ghosts S) (puts : S) (m : Core) (b : Bool) → (p.made puts m).storage ≡ m.storage → ((a : ℕ) → p.past puts (Byte a))
+    → MayFollow p puts m (cond b (Program FixedPointOverflow) Done)
+follows-if p puts m true s b = (s, b)
+follows-if p puts m false s b = tt
 
-pub follows_effect : (m : Core) (made : Core → Core) (may : Core → Type 0) (past : Place → Type 0) (count psw : ℕ) (setting : Setting) → (made m).storage ≡ m.storage → ((a : ℕ) → past (Byte a))
-    → MayFollow m made may past count (ended_with psw setting)
-follows_effect m made may past count psw Kept s b = tt
-follows_effect m made may past count psw (Code code) s b = tt
-follows_effect m made may past count psw (SignedCode code) s b = follows-if m made may past count (nat_eq code 3 && fixed_point_overflow_mask_of psw) s b
+pub follows_effect : {S : Type 0} (p : Ghosts S) (puts : S) (m : Core) (setting : CodeSetting) (psw : ℕ) → (p.made puts m).storage ≡ m.storage → ((a : ℕ) → p.past puts (Byte a))
+    → MayFollow p puts m (ended_by setting psw)
+follows_effect p puts m setting psw s b = follows-if p puts m (setting.overflow && fixed_point_overflow_mask_of psw) s b
+
+-- the words of an effect
+pub with_words-for : (r1 : ℕ) (first second : Option ℕ) (registers : List ℕ) → with_words (word_for (r1 + 1) second) (with_words (word_for r1 first) registers) ≡ with_words (words_for r1 first second) registers
+with_words-for r1 None None registers = refl
+with_words-for r1 None (Some w) registers = refl
+with_words-for r1 (Some v) None registers = refl
+with_words-for r1 (Some v) (Some w) registers = refl

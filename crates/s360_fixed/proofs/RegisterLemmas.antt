@@ -5,7 +5,8 @@ use Rattle.std.proofs.lemmas.List.{ext_get_or}
 use Rattle.s360_model.specs.Core.{Core, core_with_word}
 use Rattle.s360_model.specs.Storage.{word_at}
 use Rattle.s360_store.specs.Plans.{HasRegisters}
-use Rattle.s360_fixed.specs.Storing.{register_distance, with_register_loaded, with_registers_loaded}
+use Rattle.s360_fixed.specs.Plans.{with_register_loaded}
+use Rattle.s360_fixed.specs.Storing.{register_distance, with_registers_loaded}
 
 -- the registers below a number have been loaded, those of them that are among so many from R1 on
 unfoldable pub loaded_below : List ℕ → ℕ → ℕ → ℕ → ℕ → Core → Core

@@ -2,7 +2,7 @@ pub mod Table
 pub mod ProgramCodes
 pub mod View
 pub mod Operands
-pub mod Settings
+pub mod Alterations
 pub mod Rows
 pub mod Outcomes
 pub mod Plans

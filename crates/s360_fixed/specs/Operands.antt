@@ -1,6 +1,7 @@
 -- The addresses of operands, their conditions and their values (GA22-6821, "System Structure",
 -- information positioning and address generation).
-use Rattle.std.specs.Prelude.{ℕ, ◌+◌, ◌%◌, ◌^◌, Bool, true, false, not, nat_eq, nat_lt, if◌then◌else◌, slice_index, List, Option, Some, None, Result, Ok, Err}
+use Rattle.std.specs.Prelude.{ℕ, ◌+◌, ◌%◌, ◌^◌, Bool, true, false, not, nat_eq, nat_lt, if◌then◌else◌, slice_index, List, Option, Some}
+use Rattle.std.specs.Prelude.{None, Result, Ok, Err}
 use Rattle.s360_model.specs.Core.{Core}
 use Rattle.s360_model.specs.Psw.{protection_key_of}
 use Rattle.s360_model.specs.Storage.{halfword_at, word_at}
@@ -14,6 +15,8 @@ use Rattle.s360_fixed.specs.declared.second_operand.SecondOperand.TheVariants.{I
 use Rattle.s360_fixed.specs.declared.second_operand.Width.{Width}
 use Rattle.s360_fixed.specs.declared.second_operand.Width.TheVariants.{Byte, Halfword, Word}
 use Rattle.s360_fixed.specs.ProgramCodes.{Conditions, no_conditions, program_code}
+use Rattle.s360_fixed.specs.Table.{displacement_at, high_digit, low_digit}
+use Rattle.s360_fixed.specs.View.{View}
 use Rattle.s360_fixed.specs.declared.program_code.ProgramCode.{ProgramCode}
 use Rattle.s360_fixed.specs.declared.program_code.ProgramCode.TheVariants.{Addressing as addressing_code, Protection as protection_code}
 
@@ -24,6 +27,13 @@ address_part registers r = if nat_eq r 0 then 0 else slice_index registers r
 -- base plus index plus displacement, modulo 2^24
 abbrev pub operand_address : List ℕ → ℕ → ℕ → ℕ → ℕ
 operand_address registers index base displacement = (address_part registers index + address_part registers base + displacement) % 2 ^ 24
+
+-- the address of the format RX, and the one that a base and a displacement make from a byte of an instruction on
+abbrev pub indexed_address : View → List ℕ → ℕ
+indexed_address v bytes = operand_address v.core.registers (low_digit bytes 1) (high_digit bytes 2) (displacement_at bytes 2)
+
+abbrev pub based_address : View → List ℕ → ℕ → ℕ
+based_address v bytes i = operand_address v.core.registers 0 (high_digit bytes i) (displacement_at bytes i)
 
 abbrev pub is_outside : Checked → Bool
 is_outside Addressing = true

@@ -2,9 +2,8 @@
 -- "Interruptions", program interruption; the order is own profile).
 use Rattle.std.specs.Prelude.{ℕ, Bool, false, if◌then◌else◌, Option, Some, None, List, [], ◌∷◌}
 use Rattle.s360_fixed.specs.declared.program_code.ProgramCode.{ProgramCode}
-use Rattle.s360_fixed.specs.declared.program_code.ProgramCode.TheVariants.{Operation, Privileged, Execute}
-use Rattle.s360_fixed.specs.declared.program_code.ProgramCode.TheVariants.{Protection, Addressing, Specification}
-use Rattle.s360_fixed.specs.declared.program_code.ProgramCode.TheVariants.{Data, FixedPointOverflow, FixedPointDivide}
+use Rattle.s360_fixed.specs.declared.program_code.ProgramCode.TheVariants.{Operation, Privileged, Execute, Protection, Addressing, Specification, Data}
+use Rattle.s360_fixed.specs.declared.program_code.ProgramCode.TheVariants.{FixedPointOverflow, FixedPointDivide}
 
 abbrev pub number_of_code : ProgramCode → ℕ
 number_of_code Operation = 1

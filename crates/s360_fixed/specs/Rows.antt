@@ -3,44 +3,22 @@
 use Rattle.std.specs.Prelude.{ℕ, ◌+◌, ◌*◌, ◌/◌, ◌%◌, Bool, not, int_lt, ℤ, pos, Option, None, Some, bit_and, bit_or, bit_xor}
 use Rattle.s360_model.specs.Numbers.{signed}
 use Rattle.s360_model.specs.ConditionCodes.{sign_code, signed_code, carry_code, bits_code}
-use Rattle.s360_model.specs.Arithmetic.{signed_sum, signed_difference, signed_complement, absolute_value}
-use Rattle.s360_model.specs.Arithmetic.{negative_absolute_value, logical_sum, logical_difference}
+use Rattle.s360_model.specs.Arithmetic.{signed_sum, signed_difference, signed_complement, absolute_value, negative_absolute_value, logical_sum}
+use Rattle.s360_model.specs.Arithmetic.{logical_difference}
 use Rattle.s360_model.specs.Pairs.{signed_pair_code}
 use Rattle.s360_model.specs.Products.{signed_product}
 use Rattle.s360_fixed.specs.declared.operation.Operation.{Operation}
-use Rattle.s360_fixed.specs.declared.operation.Operation.TheVariants.{Load, LoadHalfword}
-use Rattle.s360_fixed.specs.declared.operation.Operation.TheVariants.{LoadAndTest, LoadComplement}
-use Rattle.s360_fixed.specs.declared.operation.Operation.TheVariants.{LoadPositive, LoadNegative}
-use Rattle.s360_fixed.specs.declared.operation.Operation.TheVariants.{Add, AddHalfword, Subtract}
-use Rattle.s360_fixed.specs.declared.operation.Operation.TheVariants.{SubtractHalfword, AddLogical}
-use Rattle.s360_fixed.specs.declared.operation.Operation.TheVariants.{SubtractLogical, Compare}
-use Rattle.s360_fixed.specs.declared.operation.Operation.TheVariants.{CompareHalfword}
-use Rattle.s360_fixed.specs.declared.operation.Operation.TheVariants.{CompareLogical, And, Or}
-use Rattle.s360_fixed.specs.declared.operation.Operation.TheVariants.{ExclusiveOr, Multiply}
-use Rattle.s360_fixed.specs.declared.operation.Operation.TheVariants.{MultiplyHalfword, Divide}
-use Rattle.s360_fixed.specs.declared.operation.Operation.TheVariants.{StoreHalfword, Store}
-use Rattle.s360_fixed.specs.declared.operation.Operation.TheVariants.{StoreCharacter}
-use Rattle.s360_fixed.specs.declared.operation.Operation.TheVariants.{InsertCharacter, LoadAddress}
-use Rattle.s360_fixed.specs.declared.operation.Operation.TheVariants.{StoreMultiple, LoadMultiple}
-use Rattle.s360_fixed.specs.declared.operation.Operation.TheVariants.{ShiftRightSingleLogical}
-use Rattle.s360_fixed.specs.declared.operation.Operation.TheVariants.{ShiftLeftSingleLogical}
-use Rattle.s360_fixed.specs.declared.operation.Operation.TheVariants.{ShiftRightDoubleLogical}
-use Rattle.s360_fixed.specs.declared.operation.Operation.TheVariants.{ShiftLeftDoubleLogical}
-use Rattle.s360_fixed.specs.declared.operation.Operation.TheVariants.{ShiftRightSingle}
-use Rattle.s360_fixed.specs.declared.operation.Operation.TheVariants.{ShiftRightDouble}
-use Rattle.s360_fixed.specs.declared.operation.Operation.TheVariants.{ShiftLeftSingle}
-use Rattle.s360_fixed.specs.declared.operation.Operation.TheVariants.{ShiftLeftDouble}
-use Rattle.s360_fixed.specs.declared.operation.Operation.TheVariants.{BranchOnCondition}
-use Rattle.s360_fixed.specs.declared.operation.Operation.TheVariants.{BranchAndLink, BranchOnCount}
-use Rattle.s360_fixed.specs.declared.operation.Operation.TheVariants.{BranchOnIndexHigh}
+use Rattle.s360_fixed.specs.declared.operation.Operation.TheVariants.{Load, LoadHalfword, LoadAndTest, LoadComplement, LoadPositive, LoadNegative, Add}
+use Rattle.s360_fixed.specs.declared.operation.Operation.TheVariants.{AddHalfword, Subtract, SubtractHalfword, AddLogical, SubtractLogical, Compare}
+use Rattle.s360_fixed.specs.declared.operation.Operation.TheVariants.{CompareHalfword, CompareLogical, And, Or, ExclusiveOr, Multiply, MultiplyHalfword, Divide}
+use Rattle.s360_fixed.specs.declared.operation.Operation.TheVariants.{StoreHalfword, Store, StoreCharacter, InsertCharacter, LoadAddress, StoreMultiple}
+use Rattle.s360_fixed.specs.declared.operation.Operation.TheVariants.{LoadMultiple, ShiftRightSingleLogical, ShiftLeftSingleLogical, ShiftRightDoubleLogical}
+use Rattle.s360_fixed.specs.declared.operation.Operation.TheVariants.{ShiftLeftDoubleLogical, ShiftRightSingle, ShiftRightDouble, ShiftLeftSingle}
+use Rattle.s360_fixed.specs.declared.operation.Operation.TheVariants.{ShiftLeftDouble, BranchOnCondition, BranchAndLink, BranchOnCount, BranchOnIndexHigh}
 use Rattle.s360_fixed.specs.declared.operation.Operation.TheVariants.{BranchOnIndexLowOrEqual}
 use Rattle.s360_fixed.specs.declared.row.Combination.{Combination}
-use Rattle.s360_fixed.specs.declared.row.Combination.TheVariants.{Second, InsertedCharacter, Tested}
-use Rattle.s360_fixed.specs.declared.row.Combination.TheVariants.{Complement, Absolute}
-use Rattle.s360_fixed.specs.declared.row.Combination.TheVariants.{NegativeAbsolute, Sum, Difference}
-use Rattle.s360_fixed.specs.declared.row.Combination.TheVariants.{LogicalSum, LogicalDifference}
-use Rattle.s360_fixed.specs.declared.row.Combination.TheVariants.{Comparison, LogicalComparison}
-use Rattle.s360_fixed.specs.declared.row.Combination.TheVariants.{BitwiseAnd, BitwiseOr}
+use Rattle.s360_fixed.specs.declared.row.Combination.TheVariants.{Second, InsertedCharacter, Tested, Complement, Absolute, NegativeAbsolute, Sum, Difference}
+use Rattle.s360_fixed.specs.declared.row.Combination.TheVariants.{LogicalSum, LogicalDifference, Comparison, LogicalComparison, BitwiseAnd, BitwiseOr}
 use Rattle.s360_fixed.specs.declared.row.Combination.TheVariants.{BitwiseExclusiveOr, LowProduct}
 use Rattle.s360_fixed.specs.declared.row.PairCombination.TheVariants.{Product, Quotient}
 use Rattle.s360_fixed.specs.declared.row.Branch.TheVariants.{OnCondition, AndLink, OnCount}
@@ -48,89 +26,56 @@ use Rattle.s360_fixed.specs.declared.row.Shift.TheVariants.{LeftLogical, RightLo
 use Rattle.s360_fixed.specs.declared.row.IndexBranch.{IndexBranch}
 use Rattle.s360_fixed.specs.declared.row.IndexBranch.TheVariants.{High, LowOrEqual}
 use Rattle.s360_fixed.specs.declared.row.Row.{Row}
-use Rattle.s360_fixed.specs.declared.row.Row.TheVariants.{Combine, CombinePair, Branch, StoreBytes}
-use Rattle.s360_fixed.specs.declared.row.Row.TheVariants.{StoreRegisters, LoadRegisters, Shift}
-use Rattle.s360_fixed.specs.declared.row.Row.TheVariants.{ShiftPair, BranchOnIndex}
-use Rattle.s360_fixed.specs.declared.setting.Setting.{Setting}
-use Rattle.s360_fixed.specs.declared.setting.Setting.TheVariants.{Kept, Code, SignedCode}
+use Rattle.s360_fixed.specs.declared.row.Row.TheVariants.{Combine, CombinePair, Branch, StoreBytes, StoreRegisters, LoadRegisters, Shift, ShiftPair}
+use Rattle.s360_fixed.specs.declared.row.Row.TheVariants.{BranchOnIndex}
+use Rattle.s360_fixed.specs.declared.setting.CodeSetting.{CodeSetting}
+use Rattle.s360_fixed.specs.Alterations.{set_by_signed, set_to, unchanged}
 use Rattle.s360_fixed.specs.declared.second_operand.SecondOperand.TheVariants.{InStorage, Address}
 use Rattle.s360_fixed.specs.declared.second_operand.Width.TheVariants.{Byte, Halfword, Word}
 
 -- the kinds of results
 pub data Meaning : Type 0 where
   -- a word of R1 and the second operand, of which the condition code is set
-  word_result : (ℕ → ℕ → ℕ) → (ℕ → Setting) → Meaning
+  word_result : (ℕ → ℕ → ℕ) → (ℕ → CodeSetting) → Meaning
   -- the word of an exact signed number
-  signed_result : (ℕ → ℕ → ℤ) → (ℤ → Setting) → Meaning
+  signed_result : (ℕ → ℕ → ℤ) → (ℤ → CodeSetting) → Meaning
   -- the low 32 bits of an exact unsigned number
-  logical_result : (ℕ → ℕ → ℕ) → (ℕ → Setting) → Meaning
+  logical_result : (ℕ → ℕ → ℕ) → (ℕ → CodeSetting) → Meaning
   -- none: R1 is compared with the second operand, both read in one way
   comparison : (ℕ → ℤ) → Meaning
 
--- the kinds of condition code
-abbrev pub kept : ℤ → Setting
-kept n = Kept
+-- the condition code of an exact signed number: by its sign, and where an overflow is told, of a word or of a pair
+abbrev pub by_sign : ℤ → CodeSetting
+by_sign n = set_to (sign_code n)
 
-abbrev pub by_sign : ℤ → Setting
-by_sign n = Code (sign_code n)
+abbrev pub by_sign_or_overflow : ℤ → CodeSetting
+by_sign_or_overflow n = set_by_signed (signed_code n)
 
-abbrev pub by_sign_or_overflow : ℤ → Setting
-by_sign_or_overflow n = SignedCode (signed_code n)
+abbrev pub by_sign_or_pair_overflow : ℤ → CodeSetting
+by_sign_or_pair_overflow n = set_by_signed (signed_pair_code n)
 
-abbrev pub by_sign_or_pair_overflow : ℤ → Setting
-by_sign_or_pair_overflow n = SignedCode (signed_pair_code n)
+-- of the bits of a word
+abbrev pub by_bits : ℕ → CodeSetting
+by_bits word = set_to (bits_code word)
 
-abbrev pub kept_word : ℕ → Setting
-kept_word word = Kept
-
-abbrev pub by_sign_of_word : ℕ → Setting
-by_sign_of_word word = Code (sign_code (signed word))
-
-abbrev pub by_carry : ℕ → Setting
-by_carry sum = Code (carry_code sum)
-
-abbrev pub by_bits : ℕ → Setting
-by_bits word = Code (bits_code word)
-
--- results of the second operand alone
-abbrev pub second_operand : ℕ → ℕ → ℕ
-second_operand first second = second
-
-abbrev pub complement_of_second : ℕ → ℕ → ℤ
-complement_of_second first second = signed_complement second
-
-abbrev pub absolute_value_of_second : ℕ → ℕ → ℤ
-absolute_value_of_second first second = absolute_value second
-
-abbrev pub negative_absolute_value_of_second : ℕ → ℕ → ℤ
-negative_absolute_value_of_second first second = negative_absolute_value second
-
--- a byte in place of the low eight bits
-abbrev pub inserted_character : ℕ → ℕ → ℕ
-inserted_character first second = first / 256 * 256 + second % 256
-
--- a word read as an unsigned number
-abbrev pub unsigned : ℕ → ℤ
-unsigned word = pos word
-
--- what is made of R1 and the second operand
+-- what is made of R1 and the second operand. A character that is inserted is a byte in place of the low eight bits
 abbrev pub meaning_of : Combination → Meaning
-meaning_of Second = word_result second_operand kept_word
-meaning_of InsertedCharacter = word_result inserted_character kept_word
-meaning_of Tested = word_result second_operand by_sign_of_word
-meaning_of Complement = signed_result complement_of_second by_sign_or_overflow
-meaning_of Absolute = signed_result absolute_value_of_second by_sign_or_overflow
-meaning_of NegativeAbsolute = signed_result negative_absolute_value_of_second by_sign
+meaning_of Second = word_result (λ first second. second) (λ word. unchanged)
+meaning_of InsertedCharacter = word_result (λ first second. first / 256 * 256 + second % 256) (λ word. unchanged)
+meaning_of Tested = word_result (λ first second. second) (λ word. by_sign (signed word))
+meaning_of Complement = signed_result (λ first second. signed_complement second) by_sign_or_overflow
+meaning_of Absolute = signed_result (λ first second. absolute_value second) by_sign_or_overflow
+meaning_of NegativeAbsolute = signed_result (λ first second. negative_absolute_value second) by_sign
 meaning_of Sum = signed_result signed_sum by_sign_or_overflow
 meaning_of Difference = signed_result signed_difference by_sign_or_overflow
-meaning_of LogicalSum = logical_result logical_sum by_carry
-meaning_of LogicalDifference = logical_result logical_difference by_carry
+meaning_of LogicalSum = logical_result logical_sum (λ sum. set_to (carry_code sum))
+meaning_of LogicalDifference = logical_result logical_difference (λ sum. set_to (carry_code sum))
 meaning_of Comparison = comparison signed
-meaning_of LogicalComparison = comparison unsigned
+meaning_of LogicalComparison = comparison pos
 meaning_of BitwiseAnd = word_result bit_and by_bits
 meaning_of BitwiseOr = word_result bit_or by_bits
 meaning_of BitwiseExclusiveOr = word_result bit_xor by_bits
-meaning_of LowProduct = signed_result signed_product kept
+meaning_of LowProduct = signed_result signed_product (λ product. unchanged)
 
 -- when a branch on index is taken, by the sum and the comparand
 abbrev pub is_taken : IndexBranch → ℤ → ℤ → Bool

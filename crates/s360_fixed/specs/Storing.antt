@@ -1,17 +1,17 @@
 -- The rows that store registers and load several of them (GA22-6821, "Fixed-Point Arithmetic" and "Logical
 -- Operations").
-use Rattle.std.specs.Prelude.{◌≤◌, ℕ, zero, suc, ◌+◌, ◌-◌, ◌*◌, ◌%◌, nat_lt, if◌then◌else◌, List, length, slice_index}
+use Rattle.std.specs.Prelude.{ℕ, zero, suc, ◌+◌, ◌-◌, ◌*◌, ◌%◌, List, length, slice_index}
 use Rattle.std.specs.Int.{bytes_high_first}
 use Rattle.s360_model.specs.Core.{Core, core_with_bytes, core_with_psw, core_with_word}
 use Rattle.s360_model.specs.Psw.{with_instruction_address}
 use Rattle.s360_model.specs.Storage.{word_at}
+use Rattle.s360_store.specs.declared.protection.Access.{Access}
 use Rattle.s360_store.specs.declared.protection.Access.TheVariants.{Fetch, Store}
-use Rattle.s360_store.specs.Plans.{HasBytes}
-use Rattle.s360_fixed.specs.declared.register_words.RegisterWords.{RegisterWords}
 use Rattle.s360_fixed.specs.declared.ended.Ended.TheVariants.{Done}
 use Rattle.s360_fixed.specs.declared.second_operand.Width.{Width}
 use Rattle.s360_fixed.specs.Operands.{access_conditions, bytes_of_width}
 use Rattle.s360_fixed.specs.Outcomes.{unless_met}
+use Rattle.s360_fixed.specs.ProgramCodes.{Conditions}
 use Rattle.s360_fixed.specs.View.{View, Outcome, register_of}
 
 -- the PSW after an instruction that sets no condition code and does not branch
@@ -52,21 +52,16 @@ with_registers_loaded bytes r1 address zero m = m
 with_registers_loaded bytes r1 address (suc n) m =
     core_with_word ((r1 + n) % 16) (word_at bytes (address + 4 * n)) (with_registers_loaded bytes r1 address n m)
 
--- the core with a register's word, if it is among so many from R1 on
-abbrev pub with_register_loaded : List ℕ → ℕ → ℕ → ℕ → ℕ → Core → Core
-with_register_loaded bytes r1 address count r m =
-    if nat_lt (register_distance r1 r) count then core_with_word r (word_at bytes (address + 4 * register_distance r1 r)) m else m
+-- what keeps the words of registers R1 up to R3 from being used: they begin on the boundary of a word
+abbrev pub words_conditions : View → ℕ → ℕ → ℕ → Access → Conditions
+words_conditions v r1 r3 address kind = access_conditions v.core address 4 (4 * register_count r1 r3) kind
 
 abbrev pub store_multiple_outcome : View → ℕ → ℕ → ℕ → Outcome
 store_multiple_outcome v r1 r3 address =
-    unless_met (access_conditions v.core address 4 (4 * register_count r1 r3) Store) v.core
+    unless_met (words_conditions v r1 r3 address Store) v.core
     (completed v (with_registers_stored v.core.registers r1 address (register_count r1 r3) v.core))
 
 abbrev pub load_multiple_outcome : View → ℕ → ℕ → ℕ → Outcome
 load_multiple_outcome v r1 r3 address =
-    unless_met (access_conditions v.core address 4 (4 * register_count r1 r3) Fetch) v.core
+    unless_met (words_conditions v r1 r3 address Fetch) v.core
     (completed v (with_registers_loaded v.core.storage.bytes r1 address (register_count r1 r3) v.core))
-
--- the core has the words of so many registers, which are at most all
-abbrev pub HasWords : Core → RegisterWords → Type 0
-HasWords m w = HasBytes w.address (4 * w.count) m × (w.count ≤ 16)

@@ -1,47 +1,20 @@
 -- The operation codes: the format and the operation of each (GA22-6821, "Operation Codes"), and the
 -- fields of the formats ("System Structure", program execution).
-use Rattle.std.specs.Prelude.{ℕ, ◌+◌, ◌*◌, ◌/◌, ◌%◌, nat_lt, if◌then◌else◌, Option, Some, None, List, [], ◌∷◌, slice_index}
+use Rattle.std.specs.Prelude.{ℕ, ◌+◌, ◌*◌, ◌/◌, ◌%◌, nat_lt, if◌then◌else◌, Option, List, [], ◌∷◌, slice_index}
+use Rattle.std.specs.Option.{option_map}
 use Rattle.s360_model.specs.Tables.{entry_in}
 use Rattle.s360_fixed.specs.declared.operation.Operation.{Operation}
-use Rattle.s360_fixed.specs.declared.operation.Operation.TheVariants.{SetProgramMask, BranchAndLink}
-use Rattle.s360_fixed.specs.declared.operation.Operation.TheVariants.{BranchOnCount}
-use Rattle.s360_fixed.specs.declared.operation.Operation.TheVariants.{BranchOnCondition}
-use Rattle.s360_fixed.specs.declared.operation.Operation.TheVariants.{SetStorageKey}
-use Rattle.s360_fixed.specs.declared.operation.Operation.TheVariants.{InsertStorageKey}
-use Rattle.s360_fixed.specs.declared.operation.Operation.TheVariants.{SupervisorCall, LoadPositive}
-use Rattle.s360_fixed.specs.declared.operation.Operation.TheVariants.{LoadNegative, LoadAndTest}
-use Rattle.s360_fixed.specs.declared.operation.Operation.TheVariants.{LoadComplement, And}
-use Rattle.s360_fixed.specs.declared.operation.Operation.TheVariants.{CompareLogical, Or}
-use Rattle.s360_fixed.specs.declared.operation.Operation.TheVariants.{ExclusiveOr, Load, Compare}
-use Rattle.s360_fixed.specs.declared.operation.Operation.TheVariants.{Add, Subtract, Multiply}
-use Rattle.s360_fixed.specs.declared.operation.Operation.TheVariants.{Divide, AddLogical}
-use Rattle.s360_fixed.specs.declared.operation.Operation.TheVariants.{SubtractLogical}
-use Rattle.s360_fixed.specs.declared.operation.Operation.TheVariants.{StoreHalfword, LoadAddress}
-use Rattle.s360_fixed.specs.declared.operation.Operation.TheVariants.{StoreCharacter}
-use Rattle.s360_fixed.specs.declared.operation.Operation.TheVariants.{InsertCharacter, Execute}
-use Rattle.s360_fixed.specs.declared.operation.Operation.TheVariants.{LoadHalfword, CompareHalfword}
-use Rattle.s360_fixed.specs.declared.operation.Operation.TheVariants.{AddHalfword, SubtractHalfword}
-use Rattle.s360_fixed.specs.declared.operation.Operation.TheVariants.{MultiplyHalfword}
-use Rattle.s360_fixed.specs.declared.operation.Operation.TheVariants.{ConvertToDecimal}
-use Rattle.s360_fixed.specs.declared.operation.Operation.TheVariants.{ConvertToBinary, Store}
-use Rattle.s360_fixed.specs.declared.operation.Operation.TheVariants.{SetSystemMask, LoadPsw}
-use Rattle.s360_fixed.specs.declared.operation.Operation.TheVariants.{BranchOnIndexHigh}
-use Rattle.s360_fixed.specs.declared.operation.Operation.TheVariants.{BranchOnIndexLowOrEqual}
-use Rattle.s360_fixed.specs.declared.operation.Operation.TheVariants.{ShiftRightSingleLogical}
-use Rattle.s360_fixed.specs.declared.operation.Operation.TheVariants.{ShiftLeftSingleLogical}
-use Rattle.s360_fixed.specs.declared.operation.Operation.TheVariants.{ShiftRightSingle}
-use Rattle.s360_fixed.specs.declared.operation.Operation.TheVariants.{ShiftLeftSingle}
-use Rattle.s360_fixed.specs.declared.operation.Operation.TheVariants.{ShiftRightDoubleLogical}
-use Rattle.s360_fixed.specs.declared.operation.Operation.TheVariants.{ShiftLeftDoubleLogical}
-use Rattle.s360_fixed.specs.declared.operation.Operation.TheVariants.{ShiftRightDouble}
-use Rattle.s360_fixed.specs.declared.operation.Operation.TheVariants.{ShiftLeftDouble}
-use Rattle.s360_fixed.specs.declared.operation.Operation.TheVariants.{StoreMultiple, TestUnderMask}
-use Rattle.s360_fixed.specs.declared.operation.Operation.TheVariants.{Move, TestAndSet}
-use Rattle.s360_fixed.specs.declared.operation.Operation.TheVariants.{LoadMultiple, StartIo, TestIo}
-use Rattle.s360_fixed.specs.declared.operation.Operation.TheVariants.{HaltIo, TestChannel}
-use Rattle.s360_fixed.specs.declared.operation.Operation.TheVariants.{MoveNumerics, MoveZones}
-use Rattle.s360_fixed.specs.declared.operation.Operation.TheVariants.{Translate, TranslateAndTest}
-use Rattle.s360_fixed.specs.declared.operation.Operation.TheVariants.{MoveWithOffset, Pack, Unpack}
+use Rattle.s360_fixed.specs.declared.operation.Operation.TheVariants.{SetProgramMask, BranchAndLink, BranchOnCount, BranchOnCondition, SetStorageKey}
+use Rattle.s360_fixed.specs.declared.operation.Operation.TheVariants.{InsertStorageKey, SupervisorCall, LoadPositive, LoadNegative, LoadAndTest, LoadComplement}
+use Rattle.s360_fixed.specs.declared.operation.Operation.TheVariants.{And, CompareLogical, Or, ExclusiveOr, Load, Compare, Add, Subtract, Multiply, Divide}
+use Rattle.s360_fixed.specs.declared.operation.Operation.TheVariants.{AddLogical, SubtractLogical, StoreHalfword, LoadAddress, StoreCharacter, InsertCharacter}
+use Rattle.s360_fixed.specs.declared.operation.Operation.TheVariants.{Execute, LoadHalfword, CompareHalfword, AddHalfword, SubtractHalfword, MultiplyHalfword}
+use Rattle.s360_fixed.specs.declared.operation.Operation.TheVariants.{ConvertToDecimal, ConvertToBinary, Store, SetSystemMask, LoadPsw, BranchOnIndexHigh}
+use Rattle.s360_fixed.specs.declared.operation.Operation.TheVariants.{BranchOnIndexLowOrEqual, ShiftRightSingleLogical, ShiftLeftSingleLogical}
+use Rattle.s360_fixed.specs.declared.operation.Operation.TheVariants.{ShiftRightSingle, ShiftLeftSingle, ShiftRightDoubleLogical, ShiftLeftDoubleLogical}
+use Rattle.s360_fixed.specs.declared.operation.Operation.TheVariants.{ShiftRightDouble, ShiftLeftDouble, StoreMultiple, TestUnderMask, Move, TestAndSet}
+use Rattle.s360_fixed.specs.declared.operation.Operation.TheVariants.{LoadMultiple, StartIo, TestIo, HaltIo, TestChannel, MoveNumerics, MoveZones, Translate}
+use Rattle.s360_fixed.specs.declared.operation.Operation.TheVariants.{TranslateAndTest, MoveWithOffset, Pack, Unpack}
 use Rattle.s360_fixed.specs.declared.form.Format.{Format}
 use Rattle.s360_fixed.specs.declared.form.Format.TheVariants.{Rr, Rx, Rs, Si, Ss}
 use Rattle.s360_fixed.specs.declared.form.Entry.{Entry}
@@ -180,7 +153,4 @@ form_with Ss op bytes = ss op (slice_index bytes 1) (high_digit bytes 2) (displa
 
 -- the instruction that bytes are; none where their first is no operation code
 abbrev pub form_of : List ℕ → Option Form
-form_of bytes = with_fields (entry_of (slice_index bytes 0)) where
-  with_fields : Option Entry → Option Form
-  with_fields None = None
-  with_fields (Some e) = Some (form_with e.format e.operation bytes)
+form_of bytes = option_map (λ (e : Entry). form_with e.format e.operation bytes) (entry_of (slice_index bytes 0))

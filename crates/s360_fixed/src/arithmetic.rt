@@ -1,12 +1,11 @@
 //! What instructions with a first operand in a register and a second operand make of the two.
 //! Source: GA22-6821, "Fixed-Point Arithmetic" and "Logical Operations".
-ghost use Rattle.std.specs.Prelude.{◌≡◌, IfOk, IsNone};
-ghost use Rattle.s360_store.specs.Puts.{HasNoPuts};
-ghost use Rattle.s360_fixed.specs.Plans.{PutsOutcome};
-ghost use Rattle.s360_fixed.specs.Outcomes.{combination_outcome, effect_of, pair_outcome, single};
+ghost use Rattle.std.specs.Prelude.{◌≡◌, IfOk, None, Some};
+ghost use Rattle.s360_fixed.specs.Plans.{PutsNothing, PutsOutcome};
+ghost use Rattle.s360_fixed.specs.Outcomes.{combination_outcome, pair_outcome, result_of};
+ghost use Rattle.s360_fixed.specs.Alterations.{set_by_signed, set_to};
 ghost use Rattle.s360_fixed.specs.Operands.{word_operand};
 ghost use Rattle.s360_model.specs.ConditionCodes.{bits_code};
-ghost use Rattle.s360_fixed.specs.declared.setting.Setting.TheVariants.{Code, SignedCode};
 ghost use Rattle.s360_fixed.specs.Rows.{meaning_of};
 ghost use Rattle.s360_fixed.specs.declared.row.PairCombination.TheVariants.{Product, Quotient};
 
@@ -15,7 +14,7 @@ use crate::ended::Ended;
 use crate::program_code::ProgramCode;
 use crate::registers::odd_partner;
 use crate::row::{Combination, PairCombination};
-use crate::setting::Setting;
+use crate::setting::CodeSetting;
 use crate::view::View;
 use s360_store::Puts;
 use s360_word::{
@@ -26,37 +25,37 @@ use std::alloc::AllocError;
 
 /// A word, with a condition code of which 3 is an overflow.
 fn signed(outcome: (Word, Cc)) -> Effect
-    ensures { result ≡ single outcome.0 (SignedCode outcome.1) }
+    ensures { result ≡ record { first = Some outcome.0; second = None; setting = set_by_signed outcome.1 } }
 {
-    Effect::single(outcome.0, Setting::SignedCode(outcome.1))
+    Effect::single(outcome.0, CodeSetting::by_signed(outcome.1))
 }
 
 /// A word and its condition code.
 fn coded(outcome: (Word, Cc)) -> Effect
-    ensures { result ≡ single outcome.0 (Code outcome.1) }
+    ensures { result ≡ record { first = Some outcome.0; second = None; setting = set_to outcome.1 } }
 {
-    Effect::single(outcome.0, Setting::Code(outcome.1))
+    Effect::single(outcome.0, CodeSetting::to(outcome.1))
 }
 
 /// A word, and the condition code of its bits.
 fn bits(word: Word) -> Effect
-    ensures { result ≡ single word (Code (bits_code word)) }
+    ensures { result ≡ record { first = Some word; second = None; setting = set_to (bits_code word) } }
 {
-    Effect::single(word, Setting::Code(bits_condition(word)))
+    Effect::single(word, CodeSetting::to(bits_condition(word)))
 }
 
 /// What is made of the word in R1 and the second operand.
 #[inline(always)]
 fn effect_on(combination: Combination, first: Word, second: Word) -> Effect
-    ensures effect { result ≡ effect_of (meaning_of combination) first second }
-    ensures single { IsNone result.second }
+    ensures made { (result.first, result.setting) ≡ result_of (meaning_of combination) first second }
+    ensures single { result.second ≡ None }
 {
     match combination {
-        Combination::Second => Effect::single(second, Setting::Kept),
+        Combination::Second => Effect::single(second, CodeSetting::unchanged()),
         Combination::InsertedCharacter => {
-            Effect::single(first / 256 * 256 + second % 256, Setting::Kept)
+            Effect::single(first / 256 * 256 + second % 256, CodeSetting::unchanged())
         }
-        Combination::Tested => Effect::single(second, Setting::Code(test(second))),
+        Combination::Tested => Effect::single(second, CodeSetting::to(test(second))),
         Combination::Complement => signed(complement(second)),
         Combination::Absolute => signed(absolute(second)),
         Combination::NegativeAbsolute => coded(negative_absolute(second)),
@@ -69,7 +68,10 @@ fn effect_on(combination: Combination, first: Word, second: Word) -> Effect
         Combination::BitwiseAnd => bits(first & second),
         Combination::BitwiseOr => bits(first | second),
         Combination::BitwiseExclusiveOr => bits(first ^ second),
-        Combination::LowProduct => Effect::single(multiply(first, second).1, Setting::Kept),
+        Combination::LowProduct => Effect::single(
+            multiply(first, second).1,
+            CodeSetting::unchanged(),
+        ),
     }
 }
 
@@ -82,8 +84,8 @@ pub fn put_combined<P: Puts>(
     second: Word,
     puts: &mut P,
 ) -> Result<Ended, AllocError>
-    requires none { HasNoPuts view.now.core (P.made puts.old) (P.may puts.old) (P.past puts.old) (P.count puts.old) }
-    ensures { IfOk result (PutsOutcome view.now.core (P.made puts.new) (P.may puts.new) (P.past puts.new) (P.count puts.new) (combination_outcome combination view.now r1 (word_operand second))) }
+    requires none { PutsNothing P.Puts puts.old view.now }
+    ensures { IfOk result (PutsOutcome P.Puts puts.new view.now (combination_outcome combination view.now r1 (word_operand second))) }
 {
     effect_on(combination, view.register(r1), second).put_next(view, r1, puts)
 }
@@ -95,14 +97,14 @@ fn put_product<P: Puts>(
     second: Word,
     puts: &mut P,
 ) -> Result<Ended, AllocError>
-    requires none { HasNoPuts view.now.core (P.made puts.old) (P.may puts.old) (P.past puts.old) (P.count puts.old) }
-    ensures { IfOk result (PutsOutcome view.now.core (P.made puts.new) (P.may puts.new) (P.past puts.new) (P.count puts.new) (pair_outcome Product view.now r1 (word_operand second))) }
+    requires none { PutsNothing P.Puts puts.old view.now }
+    ensures { IfOk result (PutsOutcome P.Puts puts.new view.now (pair_outcome Product view.now r1 (word_operand second))) }
 {
     let Some(next) = odd_partner(r1) else {
         return Ok(Ended::Program(ProgramCode::Specification));
     };
     let words = multiply(view.register(next), second);
-    Effect::double(words, Setting::Kept).put_next(view, r1, puts)
+    Effect::double(words, CodeSetting::unchanged()).put_next(view, r1, puts)
 }
 
 /// Puts the division of the pair by the second operand: the remainder for R1, the quotient for the
@@ -113,15 +115,15 @@ fn put_quotient<P: Puts>(
     second: Word,
     puts: &mut P,
 ) -> Result<Ended, AllocError>
-    requires none { HasNoPuts view.now.core (P.made puts.old) (P.may puts.old) (P.past puts.old) (P.count puts.old) }
-    ensures { IfOk result (PutsOutcome view.now.core (P.made puts.new) (P.may puts.new) (P.past puts.new) (P.count puts.new) (pair_outcome Quotient view.now r1 (word_operand second))) }
+    requires none { PutsNothing P.Puts puts.old view.now }
+    ensures { IfOk result (PutsOutcome P.Puts puts.new view.now (pair_outcome Quotient view.now r1 (word_operand second))) }
 {
     let Some(next) = odd_partner(r1) else {
         return Ok(Ended::Program(ProgramCode::Specification));
     };
     match divide(view.register(r1), view.register(next), second) {
         Some((quotient, remainder)) => {
-            Effect::double((remainder, quotient), Setting::Kept).put_next(view, r1, puts)
+            Effect::double((remainder, quotient), CodeSetting::unchanged()).put_next(view, r1, puts)
         }
         None => Ok(Ended::Program(ProgramCode::FixedPointDivide)),
     }
@@ -135,8 +137,8 @@ pub fn put_pair<P: Puts>(
     second: Word,
     puts: &mut P,
 ) -> Result<Ended, AllocError>
-    requires none { HasNoPuts view.now.core (P.made puts.old) (P.may puts.old) (P.past puts.old) (P.count puts.old) }
-    ensures { IfOk result (PutsOutcome view.now.core (P.made puts.new) (P.may puts.new) (P.past puts.new) (P.count puts.new) (pair_outcome pair view.now r1 (word_operand second))) }
+    requires none { PutsNothing P.Puts puts.old view.now }
+    ensures { IfOk result (PutsOutcome P.Puts puts.new view.now (pair_outcome pair view.now r1 (word_operand second))) }
 {
     match pair {
         PairCombination::Product => put_product(view, r1, second, puts),

@@ -2,17 +2,16 @@
 //! GA22-6821, "Branching".
 ghost use Rattle.std.specs.Prelude.{◌≡◌, IfOk};
 ghost use Rattle.s360_model.specs.Numbers.{signed};
-ghost use Rattle.s360_fixed.specs.Branching.{address_after, branch_outcome, comparand_of};
+ghost use Rattle.s360_fixed.specs.Branching.{address_after_branch, branch_outcome, comparand_of};
 ghost use Rattle.s360_fixed.specs.Branching.{index_outcome, is_selected, link_of, register_target};
-ghost use Rattle.s360_store.specs.Puts.{HasNoPuts};
-ghost use Rattle.s360_fixed.specs.Plans.{PutsOutcome};
+ghost use Rattle.s360_fixed.specs.Plans.{PutsNothing, PutsOutcome};
 ghost use Rattle.s360_fixed.specs.Rows.{is_taken};
 
 use crate::effect::Effect;
 use crate::ended::Ended;
 use crate::registers::odd_partner;
 use crate::row::{Branch, IndexBranch};
-use crate::setting::Setting;
+use crate::setting::CodeSetting;
 use crate::view::View;
 use s360_store::Puts;
 use s360_word::{Cc, RegisterNumber, Word, add_signed, compare_signed};
@@ -31,8 +30,8 @@ pub fn register_target(view: &View, r2: RegisterNumber) -> Option<u32>
 }
 
 /// Where the program goes on.
-fn address_after(view: &View, is_taken: bool, target: Option<u32>) -> u32
-    ensures { result ≡ address_after view.now is_taken target }
+fn address_after_branch(view: &View, is_taken: bool, target: Option<u32>) -> u32
+    ensures { result ≡ address_after_branch view.now is_taken target }
 {
     match target {
         Some(target) if is_taken => target,
@@ -64,18 +63,21 @@ pub fn put_branch<P: Puts>(
     target: Option<u32>,
     puts: &mut P,
 ) -> Result<Ended, AllocError>
-    requires none { HasNoPuts view.now.core (P.made puts.old) (P.may puts.old) (P.past puts.old) (P.count puts.old) }
-    ensures { IfOk result (PutsOutcome view.now.core (P.made puts.new) (P.may puts.new) (P.past puts.new) (P.count puts.new) (branch_outcome branch view.now r1 target)) }
+    requires none { PutsNothing P.Puts puts.old view.now }
+    ensures { IfOk result (PutsOutcome P.Puts puts.new view.now (branch_outcome branch view.now r1 target)) }
 {
     let (effect, is_taken) = match branch {
         Branch::OnCondition => (Effect::none(), is_selected(r1, view.psw().condition_code())),
-        Branch::AndLink => (Effect::single(link_of(view), Setting::Kept), true),
+        Branch::AndLink => (
+            Effect::single(link_of(view), CodeSetting::unchanged()),
+            true,
+        ),
         Branch::OnCount => {
             let count = view.register(r1).wrapping_sub(1);
-            (Effect::single(count, Setting::Kept), count != 0)
+            (Effect::single(count, CodeSetting::unchanged()), count != 0)
         }
     };
-    effect.put_alone(view, r1, address_after(view, is_taken, target), puts)
+    effect.put_alone(view, r1, address_after_branch(view, is_taken, target), puts)
 }
 
 /// The comparand of a branch on index: in R3 where its number is odd, else in the next register.
@@ -108,11 +110,11 @@ pub fn put_branch_on_index<P: Puts>(
     address: u32,
     puts: &mut P,
 ) -> Result<Ended, AllocError>
-    requires none { HasNoPuts view.now.core (P.made puts.old) (P.may puts.old) (P.past puts.old) (P.count puts.old) }
-    ensures { IfOk result (PutsOutcome view.now.core (P.made puts.new) (P.may puts.new) (P.past puts.new) (P.count puts.new) (index_outcome branch view.now r1 r3 address)) }
+    requires none { PutsNothing P.Puts puts.old view.now }
+    ensures { IfOk result (PutsOutcome P.Puts puts.new view.now (index_outcome branch view.now r1 r3 address)) }
 {
     let (sum, _) = add_signed(view.register(r1), view.register(r3));
     let is_taken = is_taken(branch, sum, comparand_of(view, r3));
-    let next_address = address_after(view, is_taken, Some(address));
-    Effect::single(sum, Setting::Kept).put_alone(view, r1, next_address, puts)
+    let next_address = address_after_branch(view, is_taken, Some(address));
+    Effect::single(sum, CodeSetting::unchanged()).put_alone(view, r1, next_address, puts)
 }

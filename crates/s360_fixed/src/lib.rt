@@ -43,6 +43,6 @@ pub use program_code::ProgramCode;
 pub use puts::put_next_psw;
 pub use row::{Branch, Combination, IndexBranch, PairCombination, Shift};
 pub use second_operand::{SecondOperand, Width};
-pub use setting::Setting;
+pub use setting::{CodeSetting, psw_with};
 pub use shifts::{put_pair_shift, put_shift};
 pub use view::View;

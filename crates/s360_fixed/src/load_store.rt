@@ -1,14 +1,13 @@
 //! Operands in storage: fetching one, and storing and loading registers. Source: GA22-6821,
 //! "Fixed-Point Arithmetic" and "Logical Operations".
 ghost use Rattle.std.specs.Prelude.{◌≡◌, ◌≤◌, ◌<◌, ◌+◌, ◌*◌, IfOk, IsOk, Err, MatchOption, length};
-ghost use Rattle.s360_store.specs.Puts.{HasNoPuts};
 ghost use Rattle.s360_store.specs.declared.protection.Access.{Access};
-ghost use Rattle.s360_fixed.specs.Operands.{access_conditions, bytes_of_width, extended_halfword};
+ghost use Rattle.s360_fixed.specs.Operands.{bytes_of_width, extended_halfword};
 ghost use Rattle.s360_fixed.specs.Operands.{fetched, storage_operand, word_in};
-ghost use Rattle.s360_fixed.specs.Plans.{PutsOutcome};
+ghost use Rattle.s360_fixed.specs.Plans.{HasWords, PutsNothing, PutsOutcome};
 ghost use Rattle.s360_fixed.specs.ProgramCodes.{program_code};
 ghost use Rattle.s360_fixed.specs.Storing.{bytes_outcome, load_multiple_outcome, register_count};
-ghost use Rattle.s360_fixed.specs.Storing.{HasWords, store_multiple_outcome, store_outcome};
+ghost use Rattle.s360_fixed.specs.Storing.{store_multiple_outcome, store_outcome, words_conditions};
 
 use crate::ended::Ended;
 use crate::operand::operand_exception;
@@ -66,10 +65,10 @@ pub fn put_store<P: Puts>(
     bytes: &[u8],
     puts: &mut P,
 ) -> Result<Ended, AllocError>
-    requires none { HasNoPuts view.now.core (P.made puts.old) (P.may puts.old) (P.past puts.old) (P.count puts.old) }
+    requires none { PutsNothing P.Puts puts.old view.now }
     requires some { 0 < length bytes.now }
     requires few { length bytes.now ≤ 8 }
-    ensures { IfOk result (PutsOutcome view.now.core (P.made puts.new) (P.may puts.new) (P.past puts.new) (P.count puts.new) (bytes_outcome bytes.now view.now address)) }
+    ensures { IfOk result (PutsOutcome P.Puts puts.new view.now (bytes_outcome bytes.now view.now address)) }
 {
     let count = bytes.len() as u32;
     if let Some(code) = operand_exception(view, address, count, count, Access::Store) {
@@ -89,8 +88,8 @@ pub fn put_register<P: Puts>(
     address: u32,
     puts: &mut P,
 ) -> Result<Ended, AllocError>
-    requires none { HasNoPuts view.now.core (P.made puts.old) (P.may puts.old) (P.past puts.old) (P.count puts.old) }
-    ensures { IfOk result (PutsOutcome view.now.core (P.made puts.new) (P.may puts.new) (P.past puts.new) (P.count puts.new) (store_outcome width view.now r1 address)) }
+    requires none { PutsNothing P.Puts puts.old view.now }
+    ensures { IfOk result (PutsOutcome P.Puts puts.new view.now (store_outcome width view.now r1 address)) }
 {
     let [first, second, third, low] = view.register(r1).to_be_bytes();
     match width {
@@ -116,7 +115,7 @@ fn register_words(
     address: u32,
     kind: Access,
 ) -> Result<RegisterWords, ProgramCode>
-    ensures code { MatchOption (program_code (access_conditions view.now.core address 4 (4 * register_count r1 r3) kind)) (IsOk result) (λ code. result ≡ Err code) }
+    ensures code { MatchOption (program_code (words_conditions view.now r1 r3 address kind)) (IsOk result) (λ code. result ≡ Err code) }
     ensures words { IfOk result (λ words. words ≡ record { r1 = r1; count = register_count r1 r3; address = address }) }
     ensures within { IfOk result (λ words. HasWords view.now.core words) }
 {
@@ -135,8 +134,8 @@ pub fn put_loads<P: Puts>(
     address: u32,
     puts: &mut P,
 ) -> Result<Ended, AllocError>
-    requires none { HasNoPuts view.now.core (P.made puts.old) (P.may puts.old) (P.past puts.old) (P.count puts.old) }
-    ensures { IfOk result (PutsOutcome view.now.core (P.made puts.new) (P.may puts.new) (P.past puts.new) (P.count puts.new) (load_multiple_outcome view.now r1 r3 address)) }
+    requires none { PutsNothing P.Puts puts.old view.now }
+    ensures { IfOk result (PutsOutcome P.Puts puts.new view.now (load_multiple_outcome view.now r1 r3 address)) }
 {
     match register_words(view, r1, r3, address, Access::Fetch) {
         Ok(words) => put_loaded(view, &words, puts),
@@ -152,8 +151,8 @@ pub fn put_stores<P: Puts>(
     address: u32,
     puts: &mut P,
 ) -> Result<Ended, AllocError>
-    requires none { HasNoPuts view.now.core (P.made puts.old) (P.may puts.old) (P.past puts.old) (P.count puts.old) }
-    ensures { IfOk result (PutsOutcome view.now.core (P.made puts.new) (P.may puts.new) (P.past puts.new) (P.count puts.new) (store_multiple_outcome view.now r1 r3 address)) }
+    requires none { PutsNothing P.Puts puts.old view.now }
+    ensures { IfOk result (PutsOutcome P.Puts puts.new view.now (store_multiple_outcome view.now r1 r3 address)) }
 {
     match register_words(view, r1, r3, address, Access::Store) {
         Ok(words) => put_stored(view, &words, puts),

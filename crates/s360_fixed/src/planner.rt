@@ -1,13 +1,8 @@
 //! What a fixed-point, branch or shift instruction makes, its puts, and its plan. Source: GA22-6821,
 //! "Fixed-Point Arithmetic", "Logical Operations" and "Branching".
 ghost use Rattle.std.specs.Prelude.{◌≡◌, [], IfOk, IfSome, IsSome, is_some};
-ghost use Rattle.s360_fixed.specs.Fixed.{fixed_outcome, rr_outcome, rs_outcome, rx_outcome};
-ghost use Rattle.s360_fixed.specs.Operands.{storage_operand};
-ghost use Rattle.s360_fixed.specs.Outcomes.{combination_outcome, pair_outcome};
-ghost use Rattle.s360_fixed.specs.Plans.{PlansOutcome, PutsOutcome};
-ghost use Rattle.s360_store.specs.Puts.{HasNoPuts};
-ghost use Rattle.s360_fixed.specs.declared.second_operand.SecondOperand.TheVariants.{InStorage};
-ghost use Rattle.s360_fixed.specs.declared.second_operand.Width.TheVariants.{Word};
+ghost use Rattle.s360_fixed.specs.Fixed.{combination_rx, fixed_outcome, pair_rx, rr_outcome, rs_outcome, rx_outcome};
+ghost use Rattle.s360_fixed.specs.Plans.{PlansOutcome, PutsNothing, PutsOutcome};
 
 use crate::address::operand_address;
 use crate::arithmetic::{put_combined, put_pair};
@@ -35,8 +30,8 @@ pub fn put_combined_at<P: Puts>(
     address: u32,
     puts: &mut P,
 ) -> Result<Ended, AllocError>
-    requires none { HasNoPuts view.now.core (P.made puts.old) (P.may puts.old) (P.past puts.old) (P.count puts.old) }
-    ensures { IfOk result (PutsOutcome view.now.core (P.made puts.new) (P.may puts.new) (P.past puts.new) (P.count puts.new) (combination_outcome combination view.now r1 (storage_operand view.now.core second address))) }
+    requires none { PutsNothing P.Puts puts.old view.now }
+    ensures { IfOk result (PutsOutcome P.Puts puts.new view.now (combination_rx second combination view.now r1 address)) }
 {
     match fetch(view, second, address) {
         Ok(second) => put_combined(view, combination, r1, second, puts),
@@ -53,8 +48,8 @@ pub fn put_pair_at<P: Puts>(
     address: u32,
     puts: &mut P,
 ) -> Result<Ended, AllocError>
-    requires none { HasNoPuts view.now.core (P.made puts.old) (P.may puts.old) (P.past puts.old) (P.count puts.old) }
-    ensures { IfOk result (PutsOutcome view.now.core (P.made puts.new) (P.may puts.new) (P.past puts.new) (P.count puts.new) (pair_outcome pair view.now r1 (storage_operand view.now.core (InStorage Word) address))) }
+    requires none { PutsNothing P.Puts puts.old view.now }
+    ensures { IfOk result (PutsOutcome P.Puts puts.new view.now (pair_rx pair view.now r1 address)) }
 {
     if odd_partner(r1).is_none() {
         return Ok(Ended::Program(ProgramCode::Specification));
@@ -74,8 +69,8 @@ fn put_rr<P: Puts>(
     puts: &mut P,
 ) -> Result<Ended, AllocError>
     requires has { IsSome (rr_outcome row) }
-    requires none { HasNoPuts view.now.core (P.made puts.old) (P.may puts.old) (P.past puts.old) (P.count puts.old) }
-    ensures { IfSome (rr_outcome row) (λ outcome. IfOk result (PutsOutcome view.now.core (P.made puts.new) (P.may puts.new) (P.past puts.new) (P.count puts.new) (outcome view.now r1 r2))) }
+    requires none { PutsNothing P.Puts puts.old view.now }
+    ensures { IfSome (rr_outcome row) (λ outcome. IfOk result (PutsOutcome P.Puts puts.new view.now (outcome view.now r1 r2))) }
 {
     match row {
         Row::Combine(_, combination) => {
@@ -96,8 +91,8 @@ fn put_rx<P: Puts>(
     puts: &mut P,
 ) -> Result<Ended, AllocError>
     requires has { IsSome (rx_outcome row) }
-    requires none { HasNoPuts view.now.core (P.made puts.old) (P.may puts.old) (P.past puts.old) (P.count puts.old) }
-    ensures { IfSome (rx_outcome row) (λ outcome. IfOk result (PutsOutcome view.now.core (P.made puts.new) (P.may puts.new) (P.past puts.new) (P.count puts.new) (outcome view.now r1 address))) }
+    requires none { PutsNothing P.Puts puts.old view.now }
+    ensures { IfSome (rx_outcome row) (λ outcome. IfOk result (PutsOutcome P.Puts puts.new view.now (outcome view.now r1 address))) }
 {
     match row {
         Row::Combine(second, combination) => {
@@ -120,8 +115,8 @@ fn put_rs<P: Puts>(
     puts: &mut P,
 ) -> Result<Ended, AllocError>
     requires has { IsSome (rs_outcome row) }
-    requires none { HasNoPuts view.now.core (P.made puts.old) (P.may puts.old) (P.past puts.old) (P.count puts.old) }
-    ensures { IfSome (rs_outcome row) (λ outcome. IfOk result (PutsOutcome view.now.core (P.made puts.new) (P.may puts.new) (P.past puts.new) (P.count puts.new) (outcome view.now r1 r3 address))) }
+    requires none { PutsNothing P.Puts puts.old view.now }
+    ensures { IfSome (rs_outcome row) (λ outcome. IfOk result (PutsOutcome P.Puts puts.new view.now (outcome view.now r1 r3 address))) }
 {
     let count = (address % 64) as u8;
     match row {
@@ -167,8 +162,8 @@ pub fn is_fixed(form: &Form) -> bool
 /// Puts a fixed-point, branch or shift instruction, and says how it ends.
 pub fn put_fixed<P: Puts>(form: &Form, view: &View, puts: &mut P) -> Result<Ended, AllocError>
     requires fixed { IsSome (fixed_outcome form.now) }
-    requires none { HasNoPuts view.now.core (P.made puts.old) (P.may puts.old) (P.past puts.old) (P.count puts.old) }
-    ensures { IfSome (fixed_outcome form.now) (λ outcome. IfOk result (PutsOutcome view.now.core (P.made puts.new) (P.may puts.new) (P.past puts.new) (P.count puts.new) (outcome view.now))) }
+    requires none { PutsNothing P.Puts puts.old view.now }
+    ensures { IfSome (fixed_outcome form.now) (λ outcome. IfOk result (PutsOutcome P.Puts puts.new view.now (outcome view.now))) }
 {
     match *form {
         Form::Rr { operation, r1, r2 } => { put_rr(view, operation.row().unwrap(), r1, r2, puts) }

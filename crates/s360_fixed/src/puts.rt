@@ -5,8 +5,10 @@ ghost use Rattle.s360_store.specs.Order.{IsBefore};
 ghost use Rattle.s360_store.specs.Plans.{HasBytes, HasRegisters};
 ghost use Rattle.s360_store.specs.declared.place.Place.{Place};
 ghost use Rattle.s360_store.specs.declared.place.Place.TheVariants.{Byte, Register};
-ghost use Rattle.s360_fixed.specs.Outcomes.{core_with_register};
-ghost use Rattle.s360_fixed.specs.Storing.{next_psw, register_distance, with_register_loaded, with_registers_loaded, with_registers_stored};
+ghost use Rattle.s360_fixed.specs.Alterations.{core_with_words};
+ghost use Rattle.s360_fixed.specs.Outcomes.{word_for};
+ghost use Rattle.s360_fixed.specs.Plans.{word_loaded, words_loaded, words_stored};
+ghost use Rattle.s360_fixed.specs.Storing.{next_psw, register_distance};
 
 use crate::register_words::RegisterWords;
 use crate::registers::{distance, register_after};
@@ -27,7 +29,7 @@ pub(crate) fn put_if_some<P: Puts>(
     requires may { P.may puts.old core.now }
     requires few { P.count puts.old < 1000000 }
     requires past { (q : Place) → P.past puts.old q }
-    ensures made { OnOk result (P.made puts.new core.now ≡ core_with_register register word (P.made puts.old core.now)) }
+    ensures made { OnOk result (P.made puts.new core.now ≡ core_with_words (word_for register word) (P.made puts.old core.now)) }
     ensures may { OnOk result (P.may puts.new core.now) }
     ensures past { OnOk result ((q : Place) → IsBefore (Register register) q → P.past puts.new q) }
     ensures few { OnOk result (P.count puts.new ≤ P.count puts.old + 1) }
@@ -50,7 +52,7 @@ pub(crate) fn put_next_if_some<P: Puts>(
     requires may { P.may puts.old core.now }
     requires few { P.count puts.old < 1000000 }
     requires past { (q : Place) → IsBefore (Register register) q → P.past puts.old q }
-    ensures made { OnOk result (P.made puts.new core.now ≡ core_with_register (register + 1) word (P.made puts.old core.now)) }
+    ensures made { OnOk result (P.made puts.new core.now ≡ core_with_words (word_for (register + 1) word) (P.made puts.old core.now)) }
     ensures may { OnOk result (P.may puts.new core.now) }
     ensures bytes { OnOk result ((a : ℕ) → P.past puts.new (Byte a)) }
     ensures few { OnOk result (P.count puts.new ≤ P.count puts.old + 1) }
@@ -89,7 +91,7 @@ fn put_loaded<P: Puts>(
     requires may { P.may puts.old view.now.core }
     requires few { P.count puts.old < 1000000 }
     requires past { (k : ℕ) → register ≤ k → P.past puts.old (Register k) }
-    ensures made { OnOk result (P.made puts.new view.now.core ≡ with_register_loaded view.now.core.storage.bytes words.now.r1 words.now.address words.now.count register (P.made puts.old view.now.core)) }
+    ensures made { OnOk result (P.made puts.new view.now.core ≡ word_loaded view.now words.now register (P.made puts.old view.now.core)) }
     ensures may { OnOk result (P.may puts.new view.now.core) }
     ensures past { OnOk result ((k : ℕ) → register < k → P.past puts.new (Register k)) }
     ensures few { OnOk result (P.count puts.new ≤ P.count puts.old + 1) }
@@ -130,7 +132,7 @@ pub(crate) fn put_registers<P: Puts>(
     requires few { P.count puts.old + 16 ≤ 1000000 }
     requires past { (q : Place) → P.past puts.old q }
     requires sixteen { HasRegisters (P.made puts.old view.now.core) }
-    ensures made { OnOk result (P.made puts.new view.now.core ≡ with_registers_loaded view.now.core.storage.bytes words.now.r1 words.now.address words.now.count (P.made puts.old view.now.core)) }
+    ensures made { OnOk result (P.made puts.new view.now.core ≡ words_loaded view.now words.now (P.made puts.old view.now.core)) }
     ensures may { OnOk result (P.may puts.new view.now.core) }
     ensures few { OnOk result (P.count puts.new ≤ P.count puts.old + 16) }
 {
@@ -157,7 +159,7 @@ pub(crate) fn put_words<P: Puts>(
     requires may { P.may puts.old view.now.core }
     requires few { P.count puts.old + 4 * words.now.count ≤ 1000000 }
     requires past { (q : Place) → P.past puts.old q }
-    ensures made { OnOk result (P.made puts.new view.now.core ≡ with_registers_stored view.now.core.registers words.now.r1 words.now.address words.now.count (P.made puts.old view.now.core)) }
+    ensures made { OnOk result (P.made puts.new view.now.core ≡ words_stored view.now words.now (P.made puts.old view.now.core)) }
     ensures may { OnOk result (P.may puts.new view.now.core) }
     ensures few { OnOk result (P.count puts.new ≤ P.count puts.old + 4 * words.now.count) }
 {

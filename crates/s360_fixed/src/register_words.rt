@@ -2,9 +2,8 @@
 //! and STORE MULTIPLE.
 ghost use Rattle.std.specs.Prelude.{◌≤◌, ◌*◌, IfOk};
 ghost use Rattle.s360_store.specs.Plans.{HasBytes};
-ghost use Rattle.s360_store.specs.Puts.{HasNoPuts};
-ghost use Rattle.s360_fixed.specs.Plans.{PutsOutcome};
-ghost use Rattle.s360_fixed.specs.Storing.{completed, with_registers_loaded, with_registers_stored};
+ghost use Rattle.s360_fixed.specs.Plans.{PutsNothing, PutsOutcome, words_loaded, words_stored};
+ghost use Rattle.s360_fixed.specs.Storing.{completed};
 
 use crate::ended::Ended;
 use crate::puts::{put_next_psw, put_registers, put_words};
@@ -32,8 +31,8 @@ pub(crate) fn put_stored<P: Puts>(
 ) -> Result<Ended, AllocError>
     requires inside { HasBytes words.now.address (4 * words.now.count) view.now.core }
     requires count { words.now.count ≤ 16 }
-    requires none { HasNoPuts view.now.core (P.made puts.old) (P.may puts.old) (P.past puts.old) (P.count puts.old) }
-    ensures { IfOk result (PutsOutcome view.now.core (P.made puts.new) (P.may puts.new) (P.past puts.new) (P.count puts.new) (completed view.now (with_registers_stored view.now.core.registers words.now.r1 words.now.address words.now.count view.now.core))) }
+    requires none { PutsNothing P.Puts puts.old view.now }
+    ensures { IfOk result (PutsOutcome P.Puts puts.new view.now (completed view.now (words_stored view.now words.now view.now.core))) }
 {
     put_next_psw(view, puts)?;
     put_words(view, words, puts)?;
@@ -48,8 +47,8 @@ pub(crate) fn put_loaded<P: Puts>(
 ) -> Result<Ended, AllocError>
     requires inside { HasBytes words.now.address (4 * words.now.count) view.now.core }
     requires count { words.now.count ≤ 16 }
-    requires none { HasNoPuts view.now.core (P.made puts.old) (P.may puts.old) (P.past puts.old) (P.count puts.old) }
-    ensures { IfOk result (PutsOutcome view.now.core (P.made puts.new) (P.may puts.new) (P.past puts.new) (P.count puts.new) (completed view.now (with_registers_loaded view.now.core.storage.bytes words.now.r1 words.now.address words.now.count view.now.core))) }
+    requires none { PutsNothing P.Puts puts.old view.now }
+    ensures { IfOk result (PutsOutcome P.Puts puts.new view.now (completed view.now (words_loaded view.now words.now view.now.core))) }
 {
     // Looked at, since its clauses have that there are sixteen registers.
     let _ = view.register(words.r1);

@@ -1,17 +1,15 @@
 //! Shifts of a register or of a pair. Source: GA22-6821, "Fixed-Point Arithmetic" and "Logical
 //! Operations".
-ghost use Rattle.std.specs.Prelude.{◌≡◌, ◌<◌, IfOk, IsNone};
-ghost use Rattle.s360_fixed.specs.Shifting.{pair_shift_effect, pair_shift_outcome, shift_effect};
-ghost use Rattle.s360_fixed.specs.Shifting.{shift_outcome};
-ghost use Rattle.s360_store.specs.Puts.{HasNoPuts};
-ghost use Rattle.s360_fixed.specs.Plans.{PutsOutcome};
+ghost use Rattle.std.specs.Prelude.{◌≡◌, ◌<◌, IfOk, None, Some};
+ghost use Rattle.s360_fixed.specs.Shifting.{pair_shift_outcome, shift_outcome, shifted_word, shifted_words};
+ghost use Rattle.s360_fixed.specs.Plans.{PutsNothing, PutsOutcome};
 
 use crate::effect::Effect;
 use crate::ended::Ended;
 use crate::program_code::ProgramCode;
 use crate::registers::odd_partner;
 use crate::row::Shift;
-use crate::setting::Setting;
+use crate::setting::CodeSetting;
 use crate::view::View;
 use s360_store::Puts;
 use s360_word::{
@@ -25,19 +23,26 @@ use std::alloc::AllocError;
 #[inline(always)]
 fn shifted(shift: Shift, word: Word, count: u8) -> Effect
     requires count { count < 64 }
-    ensures effect { result ≡ shift_effect shift word count }
-    ensures single { IsNone result.second }
+    ensures word { result.first ≡ Some (shifted_word shift word count).0 }
+    ensures single { result.second ≡ None }
+    ensures setting { result.setting ≡ (shifted_word shift word count).1 }
 {
     match shift {
-        Shift::LeftLogical => Effect::single(shift_logical_left(word, count), Setting::Kept),
-        Shift::RightLogical => Effect::single(shift_logical_right(word, count), Setting::Kept),
+        Shift::LeftLogical => Effect::single(
+            shift_logical_left(word, count),
+            CodeSetting::unchanged(),
+        ),
+        Shift::RightLogical => Effect::single(
+            shift_logical_right(word, count),
+            CodeSetting::unchanged(),
+        ),
         Shift::Left => {
             let (word, code) = shift_left(word, count);
-            Effect::single(word, Setting::SignedCode(code))
+            Effect::single(word, CodeSetting::by_signed(code))
         }
         Shift::Right => {
             let (word, code) = shift_right(word, count);
-            Effect::single(word, Setting::Code(code))
+            Effect::single(word, CodeSetting::to(code))
         }
     }
 }
@@ -52,8 +57,8 @@ pub fn put_shift<P: Puts>(
     puts: &mut P,
 ) -> Result<Ended, AllocError>
     requires count { count < 64 }
-    requires none { HasNoPuts view.now.core (P.made puts.old) (P.may puts.old) (P.past puts.old) (P.count puts.old) }
-    ensures { IfOk result (PutsOutcome view.now.core (P.made puts.new) (P.may puts.new) (P.past puts.new) (P.count puts.new) (shift_outcome shift view.now r1 count)) }
+    requires none { PutsNothing P.Puts puts.old view.now }
+    ensures { IfOk result (PutsOutcome P.Puts puts.new view.now (shift_outcome shift view.now r1 count)) }
 {
     shifted(shift, view.register(r1), count).put_next(view, r1, puts)
 }
@@ -61,22 +66,30 @@ pub fn put_shift<P: Puts>(
 /// A pair of words shifted by a count of 0 to 63.
 fn pair_shifted(shift: Shift, high: Word, low: Word, count: u8) -> Effect
     requires count { count < 64 }
-    ensures { result ≡ pair_shift_effect shift high low count }
+    ensures first { result.first ≡ Some (shifted_words shift high low count).0.0 }
+    ensures second { result.second ≡ Some (shifted_words shift high low count).0.1 }
+    ensures setting { result.setting ≡ (shifted_words shift high low count).1 }
 {
     match shift {
         Shift::LeftLogical => {
-            Effect::double(shift_logical_left_double(high, low, count), Setting::Kept)
+            Effect::double(
+                shift_logical_left_double(high, low, count),
+                CodeSetting::unchanged(),
+            )
         }
         Shift::RightLogical => {
-            Effect::double(shift_logical_right_double(high, low, count), Setting::Kept)
+            Effect::double(
+                shift_logical_right_double(high, low, count),
+                CodeSetting::unchanged(),
+            )
         }
         Shift::Left => {
             let (words, code) = shift_left_double(high, low, count);
-            Effect::double(words, Setting::SignedCode(code))
+            Effect::double(words, CodeSetting::by_signed(code))
         }
         Shift::Right => {
             let (words, code) = shift_right_double(high, low, count);
-            Effect::double(words, Setting::Code(code))
+            Effect::double(words, CodeSetting::to(code))
         }
     }
 }
@@ -90,8 +103,8 @@ pub fn put_pair_shift<P: Puts>(
     puts: &mut P,
 ) -> Result<Ended, AllocError>
     requires count { count < 64 }
-    requires none { HasNoPuts view.now.core (P.made puts.old) (P.may puts.old) (P.past puts.old) (P.count puts.old) }
-    ensures { IfOk result (PutsOutcome view.now.core (P.made puts.new) (P.may puts.new) (P.past puts.new) (P.count puts.new) (pair_shift_outcome shift view.now r1 count)) }
+    requires none { PutsNothing P.Puts puts.old view.now }
+    ensures { IfOk result (PutsOutcome P.Puts puts.new view.now (pair_shift_outcome shift view.now r1 count)) }
 {
     let Some(next) = odd_partner(r1) else {
         return Ok(Ended::Program(ProgramCode::Specification));

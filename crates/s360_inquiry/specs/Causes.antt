@@ -137,6 +137,10 @@ pub record IsTold (lines : List (List ℕ)) (t : Telling) : Type 0 where
   pub text : t.text ≡ first_lines lines
   pub count : t.lines ≡ min (length lines) (most_lines + 1)
 
+-- the lines of a cause at this level, followed so deep, are told after those before
+abbrev pub TellsCause : Recorded → Cause → ℕ → ℕ → Telling → Telling → Type 0
+TellsCause r c level depth old new = (lines : List (List ℕ)) → IsTold lines old → IsTold (lines ++ cause_lines level depth r c c.origin) new
+
 -- why a place has its value. It is followed, whatever place it is
 abbrev pub first_cause : Recorded → Place → Cause
 first_cause r place = cause_with r (extent_of place) (origin_of r place)

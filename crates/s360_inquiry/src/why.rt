@@ -1,11 +1,12 @@
 //! Why a place has its value: the chain of causes. The recording goes back once, from each change that is followed to the next
 //! before it, and notes what it made; then the chain is told.
-ghost use Rattle.std.specs.Prelude.{◌≡◌, ◌≤◌, ◌<◌, ◌+◌, ◌++◌, ◌∷◌, ◌↔◌, [], All, IfOk, IfSome, List, OnErr, OnOk, codes, ℕ};
+ghost use Rattle.std.specs.Prelude.{◌≡◌, ◌≤◌, ◌<◌, ◌+◌, ◌++◌, ◌∷◌, ◌↔◌, [], All, IfOk, IfSome, List};
+ghost use Rattle.std.specs.Prelude.{OnErr, OnOk, codes, ℕ};
 ghost use Rattle.std.specs.Bool.{IsTrue};
 ghost use Rattle.std.specs.List.{IsAmong};
 ghost use Rattle.s360_model.specs.Text.{decimal};
 ghost use Rattle.s360_journal.specs.Recorded.{with_standing};
-ghost use Rattle.s360_inquiry.specs.Causes.{IsMaking, IsOf, IsTold, cause_line, cause_lines, decided_line, decided_lines};
+ghost use Rattle.s360_inquiry.specs.Causes.{IsMaking, IsOf, IsTold, TellsCause, cause_line, decided_line, decided_lines};
 ghost use Rattle.s360_inquiry.specs.Causes.{indent, told_lines, why_text};
 
 use crate::cause::{Cause, Making, Origin, first_cause, making_of};
@@ -132,85 +133,82 @@ fn noted(makings: &[Making], number: u32, extent: Extent) -> Option<&Making>
     makings.iter().find(|making| making.number == number && making.extent == extent)
 }
 
-/// Tells a cause, and so deep what decided its change and what that made it of, while lines may be told. What was not noted of a change is looked at
-/// now. The recording is left at some change.
-#[cycle(telling)]
-fn tell(
+/// What a chain is told from.
+#[derive(Clone, Copy)]
+struct Chain<'a> {
     alloc: Global,
-    recording: &mut Session,
-    makings: &[Making],
-    telling: &mut Telling,
-    level: u32,
-    depth: u32,
-    cause: &Cause,
-) -> Result<(), AllocError>
-    requires makings { All (IsMaking (with_standing recording.old 0)) makings.now }
-    requires deep { level + depth ≤ 100 }
-    ensures told { OnOk result ((lines : List (List ℕ)) → IsTold lines telling.old → IsTold (lines ++ cause_lines level depth (with_standing recording.old 0) cause.now cause.now.origin) telling.new) }
-    ensures state { recording.new ≡ with_standing recording.old recording.new.standing }
-{
-    if telling.is_full() {
-        return Ok(());
-    }
-    let number = match cause.origin {
-        Origin::NotFollowed => return telling.push_cause(alloc, level, cause, b""),
-        Origin::Start => return telling.push_cause(alloc, level, cause, b" from the start"),
-        Origin::Change(number) => number,
-    };
-    if depth == 0 {
-        let made = made_by(alloc, number)?;
-        return telling.push_cause(alloc, level, cause, made.as_bytes());
-    }
-    match noted(makings, number, cause.extent) {
-        Some(making) => tell_making(
-            alloc, recording, makings, telling, level, depth, cause, making,
-        ),
-        None => {
-            let making = making_of(alloc, recording, number, cause.extent)?;
-            tell_making(
-                alloc, recording, makings, telling, level, depth, cause, &making,
-            )
-        }
-    }
+    /// What was noted of changes.
+    makings: &'a [Making],
 }
 
-/// Tells a cause, what decided its change, and what that made it of, which is this.
-#[cycle(telling)]
-fn tell_making(
-    alloc: Global,
-    recording: &mut Session,
-    makings: &[Making],
-    telling: &mut Telling,
-    level: u32,
-    depth: u32,
-    cause: &Cause,
-    making: &Making,
-) -> Result<(), AllocError>
-    requires makings { All (IsMaking (with_standing recording.old 0)) makings.now }
-    requires making { IsMaking (with_standing recording.old 0) making.now }
-    requires of { IsOf cause.now making.now }
-    requires some { 0 < depth }
-    requires deep { level + depth ≤ 100 }
-    ensures told { OnOk result ((lines : List (List ℕ)) → IsTold lines telling.old → IsTold (lines ++ cause_lines level depth (with_standing recording.old 0) cause.now cause.now.origin) telling.new) }
-    ensures state { recording.new ≡ with_standing recording.old recording.new.standing }
-{
-    let mut made = Text::new(alloc);
-    made.push_text(" by ")?;
-    made.push_bytes(making.words.as_bytes())?;
-    telling.push_cause(alloc, level, cause, made.as_bytes())?;
-    telling.push_decided(alloc, level + 1, making.decided.as_bytes())?;
-    for source in making.causes.iter() {
-        tell(
-            alloc,
-            recording,
-            makings,
-            telling,
-            level + 1,
-            depth - 1,
-            source,
-        )?;
+impl Chain<'_> {
+    /// Tells a cause, and so deep what decided its change and what that made it of, while lines may be told. What was not noted of
+    /// a change is looked at now. The recording is left at some change.
+    #[cycle(telling)]
+    fn tell(
+        self,
+        recording: &mut Session,
+        telling: &mut Telling,
+        level: u32,
+        depth: u32,
+        cause: &Cause,
+    ) -> Result<(), AllocError>
+        requires makings { All (IsMaking (with_standing recording.old 0)) self.makings.now }
+        requires deep { level + depth ≤ 100 }
+        ensures told { OnOk result (TellsCause (with_standing recording.old 0) cause.now level depth telling.old telling.new) }
+        ensures state { recording.new ≡ with_standing recording.old recording.new.standing }
+    {
+        let alloc = self.alloc;
+        if telling.is_full() {
+            return Ok(());
+        }
+        let number = match cause.origin {
+            Origin::NotFollowed => return telling.push_cause(alloc, level, cause, b""),
+            Origin::Start => return telling.push_cause(alloc, level, cause, b" from the start"),
+            Origin::Change(number) => number,
+        };
+        if depth == 0 {
+            let made = made_by(alloc, number)?;
+            return telling.push_cause(alloc, level, cause, made.as_bytes());
+        }
+        match noted(self.makings, number, cause.extent) {
+            Some(making) => self.tell_making(recording, telling, level, depth, cause, making),
+            None => {
+                let making = making_of(alloc, recording, number, cause.extent)?;
+                self.tell_making(recording, telling, level, depth, cause, &making)
+            }
+        }
     }
-    Ok(())
+
+    /// Tells a cause, what decided its change, and what that made it of, which is this.
+    #[cycle(telling)]
+    fn tell_making(
+        self,
+        recording: &mut Session,
+        telling: &mut Telling,
+        level: u32,
+        depth: u32,
+        cause: &Cause,
+        making: &Making,
+    ) -> Result<(), AllocError>
+        requires makings { All (IsMaking (with_standing recording.old 0)) self.makings.now }
+        requires making { IsMaking (with_standing recording.old 0) making.now }
+        requires of { IsOf cause.now making.now }
+        requires some { 0 < depth }
+        requires deep { level + depth ≤ 100 }
+        ensures told { OnOk result (TellsCause (with_standing recording.old 0) cause.now level depth telling.old telling.new) }
+        ensures state { recording.new ≡ with_standing recording.old recording.new.standing }
+    {
+        let mut made = Text::new(self.alloc);
+        made.push_text(" by ")?;
+        made.push_bytes(making.words.as_bytes())?;
+        telling.push_cause(self.alloc, level, cause, made.as_bytes())?;
+        telling.push_decided(self.alloc, level + 1, making.decided.as_bytes())?;
+        for source in making.causes.iter() {
+            self.tell(recording, telling, level + 1, depth - 1, source)?;
+        }
+        Ok(())
+    }
 }
 
 /// That the change of a number made a value, where it is not followed.
@@ -315,15 +313,8 @@ pub(crate) fn answer_why(
         text: Text::new(alloc),
         lines: 0,
     };
-    tell(
-        alloc,
-        recording,
-        makings.as_slice(),
-        &mut telling,
-        0,
-        depth,
-        &first,
-    )?;
+    let makings = makings.as_slice();
+    Chain { alloc, makings }.tell(recording, &mut telling, 0, depth, &first)?;
     go_to(recording, standing)?;
     telling.finish()
 }

@@ -1,22 +1,16 @@
 -- The session that stands, as the record goes on and back.
-use Rattle.std.proofs.Common.{◌≡◌, ◌≤◌, ◌<◌, ◌-◌, ◌++◌, ◌∙◌, ℕ, zero, suc, List, [], ◌∷◌, true, false, refl, ap, sym, arith, length, take}
-use Rattle.std.proofs.lemmas.List.{append-nil, length-take-le}
-use Rattle.std.specs.Prelude.{Bool, Err, Ok, OnErr, OnOk, Result}
+use Rattle.std.proofs.Common.{◌≡◌, ◌≢◌, ◌≤◌, ◌+◌, ◌-◌, ◌∙◌, ℕ, zero, suc, nat_eq, Bool, List, [], ◌∷◌, Option, Some, None, true, false, refl, ap, sym, arith, length, take}
+use Rattle.std.proofs.lemmas.Bool.{eqb-true, true≢false}
+use Rattle.std.proofs.lemmas.List.{length-take-le}
+use Rattle.std.specs.Bool.{then_some}
+use Rattle.std.specs.Cmp.{both_ways}
 use Rattle.s360_machine.specs.declared.event.Event.{Event}
-use Rattle.s360_machine.specs.Machine.{Machine, seen}
-use Rattle.s360_journal.specs.Breakpoints.{is_at_breakpoint}
 use Rattle.s360_journal.specs.Recorded.{Recorded, session_of, standing_events, with_standing}
-use Rattle.s360_journal.specs.Standing.{machine_of}
-use Rattle.s360_journal.specs.Stops.{stop_of}
-use Rattle.s360_journal.specs.declared.session.NothingStands.{NothingStands}
-use Rattle.s360_journal.proofs.StopLemmas.{GoesBack, GoesBack-passed, stop-found}
-
--- so many events and the next one are one more
-first-one : (n : ℕ) (es : List Event) → n < length es → (e : Event) × (take (suc n) es ≡ take n es ++ e ∷ [])
-first-one zero [] h = absurd (omega (arith, h))
-first-one (suc n) [] h = absurd (omega (arith, h))
-first-one zero (x ∷ es) h = (x, refl)
-first-one (suc n) (x ∷ es) h = let more : (e : Event) × (take (suc n) es ≡ take n es ++ e ∷ []) = first-one n es (omega (arith, h)) in (more.0, ap (λ l. x ∷ l) more.1)
+use Rattle.s360_journal.specs.Returning.{IsTakenBack, Paused, back_of, is_reached_back, one_back, paused_or}
+use Rattle.s360_journal.specs.Running.{WhereToStop, pause_of}
+use Rattle.s360_journal.specs.declared.running.Pause.{Pause}
+use Rattle.s360_journal.specs.declared.running.Pause.TheVariants.{Done, RecordStart, Watch}
+use Rattle.s360_journal.specs.declared.running.Reach.{Reach}
 
 first-of-first : (k n : ℕ) (es : List Event) → k ≤ n → take k es ≡ take k (take n es)
 first-of-first zero n es h = refl
@@ -39,50 +33,93 @@ session_of-back old new within is =
     ap (λ (r : Recorded). session_of r) is
     ∙ ap (λ es. record (session_of old) { events = es }) (first-fewer old.standing old.events within)
 
--- ---- changes are taken back to a stop
-
-taken-one : (r : Recorded) (n : ℕ) → n < length r.events → (e : Event) × (session_of (with_standing r (suc n)) ≡ record (session_of (with_standing r n)) { events = take n r.events ++ e ∷ [] })
-taken-one r n inside =
-    let one : (e : Event) × (take (suc n) r.events ≡ take n r.events ++ e ∷ []) = first-one n r.events inside
-    in (one.0, ap (λ es. record (session_of r) { events = es }) one.1)
-
--- a recording whose changes were taken back to a number of them, and passed no stop
-abbrev pub IsBackAt : Recorded → ℕ → List ℕ → Type 0
-IsBackAt r n breaks = GoesBack (session_of r) (session_of (with_standing r n)) breaks
-
-pub IsBackAt-start : (r : Recorded) (breaks : List ℕ) → IsBackAt r r.standing breaks
-IsBackAt-start r breaks = record { dropped = []; kept = ap (λ es. record (session_of r) { events = es }) (sym (append-nil (standing_events r))); stop = refl }
-
-pub IsBackAt-passed : (r : Recorded) (n : ℕ) (breaks : List ℕ) → 0 < n → n ≤ length r.events → IsBackAt r n breaks
-    → is_at_breakpoint (machine_of (session_of (with_standing r (n - 1)))) breaks ≡ false → IsBackAt r (n - 1) breaks
-IsBackAt-passed r zero breaks some inside back here = absurd (omega (arith, some))
-IsBackAt-passed r (suc n) breaks some inside back here =
-    let less : suc n - 1 ≡ n = omega arith
-    in let one : (e : Event) × (session_of (with_standing r (suc n)) ≡ record (session_of (with_standing r n)) { events = take n r.events ++ e ∷ [] }) = taken-one r n (omega (arith, inside))
-    in rw less (GoesBack-passed (session_of r) (session_of (with_standing r (suc n))) (session_of (with_standing r n)) breaks one.0 back one.1 (rw less at here))
-
-pub stop-at : (r : Recorded) (n : ℕ) (breaks : List ℕ) → 0 < n → n ≤ length r.events → IsBackAt r n breaks
-    → is_at_breakpoint (machine_of (session_of (with_standing r (n - 1)))) breaks ≡ true → n - 1 ≡ stop_of (seen r.start) (standing_events r) breaks
-stop-at r zero breaks some inside back here = absurd (omega (arith, some))
-stop-at r (suc n) breaks some inside back here =
-    let less : suc n - 1 ≡ n = omega arith
-    in let one : (e : Event) × (session_of (with_standing r (suc n)) ≡ record (session_of (with_standing r n)) { events = take n r.events ++ e ∷ [] }) = taken-one r n (omega (arith, inside))
-    in less ∙ sym (length-take-le n r.events (omega (arith, inside)))
-    ∙ stop-found (session_of r) (session_of (with_standing r (suc n))) (session_of (with_standing r n)) breaks one.0 back one.1 (rw less at here)
-
 -- the session of so many first changes
 pub session_of-first : (old new : Recorded) (k : ℕ) → k ≤ old.standing → new ≡ with_standing old k → session_of new ≡ record (session_of old) { events = take k (standing_events old) }
 session_of-first old new k within is =
     ap (λ (r : Recorded). session_of r) is ∙ ap (λ es. record (session_of old) { events = es }) (first-of-first k old.standing old.events within)
 
--- a change is taken back where one stands
-pub back-one : (start now new : Recorded) (n : ℕ) (result : Result (Unit {0}) NothingStands) → now ≡ with_standing start n → 0 < n
-    → OnOk result (new ≡ with_standing now (now.standing - 1)) → OnErr result (now.standing ≡ 0) → new ≡ with_standing start (n - 1)
-back-one start now new n (Ok x) kept some is none = is ∙ ap (λ (r : Recorded). with_standing r (r.standing - 1)) kept
-back-one start now new n (Err e) kept some is none = absurd (omega (arith, some, none, ap (λ (r : Recorded). r.standing) kept))
+-- ---- the way back
 
--- whether the CPU is at a breakpoint then
-pub stops-back : (start new : Recorded) (n : ℕ) (m : Machine) (breaks : List ℕ) (stops : Bool) → new ≡ with_standing start n → m ≡ machine_of (session_of new)
-    → stops ≡ is_at_breakpoint m breaks → is_at_breakpoint (machine_of (session_of (with_standing start n))) breaks ≡ stops
-stops-back start new n m breaks stops is machine answer =
-    sym (answer ∙ ap (λ x. is_at_breakpoint x breaks) machine ∙ ap (λ (r : Recorded). is_at_breakpoint (machine_of (session_of r)) breaks) is)
+-- so many turns are left of a way back
+pub record IsReturning (stops : WhereToStop) (reach : Reach) (start now : Recorded) (most left : ℕ) : Type 0 where
+  pub kept : now ≡ with_standing start now.standing
+  pub within : now.standing ≤ start.standing
+  pub back : back_of stops reach start most ≡ back_of stops reach now left
+
+pub IsReturning-start : (stops : WhereToStop) (reach : Reach) (r : Recorded) (most : ℕ) → IsReturning stops reach r r most most
+IsReturning-start stops reach r most = record { kept = refl; within = omega arith; back = refl }
+
+kept-on : (start now next : Recorded) → now ≡ with_standing start now.standing → next ≡ with_standing now next.standing → next ≡ with_standing start next.standing
+kept-on start now next a b = b ∙ ap (λ (r : Recorded). with_standing r next.standing) a
+
+pub IsReturning-more : (stops : WhereToStop) (reach : Reach) (start now next : Recorded) (most n m : ℕ) → n ≡ m + 1 → IsReturning stops reach start now most n
+    → IsTakenBack stops reach now None next → IsReturning stops reach start next most m
+IsReturning-more stops reach start now next most n m count i t =
+    let left : n ≡ suc m = omega arith
+    in record {
+      kept = kept-on start now next i.kept t.kept;
+      within = omega (arith, i.within, t.within);
+      back = i.back ∙ ap (λ k. back_of stops reach now k) left ∙ t.back m;
+    }
+
+-- where the machine pauses
+pub record IsReturned (stops : WhereToStop) (reach : Reach) (start : Recorded) (most : ℕ) (why : Pause) (now : Recorded) : Type 0 where
+  pub pause : why ≡ (back_of stops reach start most).why
+  pub state : now ≡ with_standing start (back_of stops reach start most).standing
+  pub within : now.standing ≤ start.standing
+
+pub IsReturning-ended : (stops : WhereToStop) (reach : Reach) (start now next : Recorded) (most n m : ℕ) (why : Pause) → n ≡ m + 1 → IsReturning stops reach start now most n
+    → IsTakenBack stops reach now (Some why) next → IsReturned stops reach start most why next
+IsReturning-ended stops reach start now next most n m why count i t =
+    let left : n ≡ suc m = omega arith
+    in let is : back_of stops reach start most ≡ record { standing = next.standing; why = why } = i.back ∙ ap (λ k. back_of stops reach now k) left ∙ t.back m
+    in record {
+      pause = sym (ap (λ (p : Paused). p.why) is);
+      state = kept-on start now next i.kept t.kept ∙ ap (λ n. with_standing start n) (sym (ap (λ (p : Paused). p.standing) is));
+      within = omega (arith, i.within, t.within);
+    }
+
+pub IsReturning-all : (stops : WhereToStop) (reach : Reach) (start now : Recorded) (most n : ℕ) → n ≡ 0 → IsReturning stops reach start now most n → IsReturned stops reach start most Done now
+unfolding back_of
+IsReturning-all stops reach start now most n none i =
+    let is : back_of stops reach start most ≡ record { standing = now.standing; why = Done } = i.back ∙ ap (λ k. back_of stops reach now k) none
+    in record {
+      pause = sym (ap (λ (p : Paused). p.why) is);
+      state = i.kept ∙ ap (λ n. with_standing start n) (sym (ap (λ (p : Paused). p.standing) is));
+      within = i.within;
+    }
+
+-- ---- one change is taken back
+
+-- none stands
+pub taken-none : (stops : WhereToStop) (reach : Reach) (r : Recorded) → r.standing ≡ 0 → IsTakenBack stops reach r (Some RecordStart) r
+unfolding back_of
+taken-none stops reach r none = record { back = λ n. rw none refl; kept = refl; within = omega arith }
+
+some-stand : (n : ℕ) → n ≢ 0 → nat_eq n 0 ≡ false
+some-stand n some = both_ways (nat_eq n 0) false (λ h. absurd (some (eqb-true n 0 h))) (λ h. absurd (true≢false (sym h)))
+
+-- the last one altered what is watched
+pub taken-watch : (stops : WhereToStop) (reach : Reach) (r : Recorded) → r.standing ≢ 0 → stops.altered (session_of r) ≡ true → IsTakenBack stops reach r (Some Watch) r
+unfolding back_of
+taken-watch stops reach r some altered =
+    let count : nat_eq r.standing 0 ≡ false = some-stand r.standing some
+    in record { back = λ n. rw (count, altered) refl; kept = refl; within = omega arith }
+
+-- or it was taken back
+pub taken-one : (stops : WhereToStop) (reach : Reach) (r t : Recorded) (reached : Bool) (pause : Option Pause) → r.standing ≢ 0 → stops.altered (session_of r) ≡ false
+    → is_reached_back stops reach r ≡ reached → pause ≡ then_some reached (pause_of reach) → t ≡ one_back r → IsTakenBack stops reach r pause t
+unfolding back_of
+taken-one stops reach r t reached pause some altered is told back =
+    let count : nat_eq r.standing 0 ≡ false = some-stand r.standing some
+    in let standing : t.standing ≡ r.standing - 1 = ap (λ (k : Recorded). k.standing) back
+    in let by : (b : Bool) → is_reached_back stops reach r ≡ b → (n : ℕ) → back_of stops reach r (suc n) ≡ paused_or (then_some b (pause_of reach)) t.standing (back_of stops reach t n)
+    = λ b. elim b as (λ x. is_reached_back stops reach r ≡ x → (n : ℕ) → back_of stops reach r (suc n) ≡ paused_or (then_some x (pause_of reach)) t.standing (back_of stops reach t n)) [
+      | true ↦ λ h n. rw (count, altered, h) (ap (λ k. record { standing = k; why = pause_of reach }) (sym standing))
+      | false ↦ λ h n. rw (count, altered, h) (ap (λ (k : Recorded). back_of stops reach k n) (sym back))
+    ]
+    in record {
+      back = λ n. by reached is n ∙ ap (λ p. paused_or p t.standing (back_of stops reach t n)) (sym told);
+      kept = back ∙ ap (λ k. with_standing r k) (sym standing);
+      within = omega (arith, standing);
+    }

@@ -1,3 +1,4 @@
+pub mod AgainLemmas
 pub mod HistoryLemmas
 pub mod SessionLemmas
 pub mod IndexLemmas

@@ -1,5 +1,5 @@
 -- A session as it is seen: what stands of the record, and how the record goes on and back.
-use Rattle.std.proofs.Common.{◌≡◌, ◌≤◌, ◌<◌, ◌+◌, ◌-◌, ◌++◌, ◌∙◌, ℕ, List, [], ◌∷◌, Bool, true, false, Some, None, Ok, refl, ap, sym, subst, append_assoc, arith, cond, drop, length, length-append, min, take}
+use Rattle.std.proofs.Common.{◌≡◌, ◌≤◌, ◌<◌, ◌+◌, ◌-◌, ◌++◌, ◌∙◌, ℕ, List, [], ◌∷◌, Bool, true, false, Some, None, Ok, refl, ap, sym, subst, append_assoc, arith, cond, drop, length, length-append, take}
 use Rattle.std.proofs.Math.Nat.{pos_of_ne-zero}
 use Rattle.std.proofs.Math.Seq.{drop-append_seam, take-append_seam}
 use Rattle.std.proofs.lemmas.List.{append-nil}
@@ -177,14 +177,12 @@ after-keeps r e =
 -- as it is found there
 pub inside-on : (w v : Whole) (st rest st2 rest2 : List Event) (xs ys : List Change) (limit dropped : ℕ) (r : Recorded) (e : Event) → Inside w st rest xs limit dropped r
     → LeadsOn (record { whole = w; changes = xs }) e (record { whole = v; changes = ys }) → Some e ≡ slice_get rest 0 → st2 ≡ st ++ take 1 rest → rest2 ≡ drop 1 rest
-    → Inside v st2 rest2 ys limit dropped (with_standing r (min (r.standing + 1) (length r.events)))
+    → Inside v st2 rest2 ys limit dropped (with_standing r (r.standing + 1))
 inside-on w v st rest st2 rest2 xs ys limit dropped r e i leads first more left =
     let parts : rest ≡ e ∷ drop 1 rest = first-there rest e first
     in let next : rest ≡ e ∷ rest2 = parts ∙ ap (λ es. e ∷ es) (sym left)
     in let one : st2 ≡ st ++ e ∷ [] = more ∙ ap (λ es. st ++ take 1 es) parts
-    in let count : r.standing + 1 ≡ min (r.standing + 1) (length r.events)
-    = omega (arith, ap (λ (k : Recorded). k.standing) i.view, ap (λ (k : Recorded). length k.events) i.view, length-append st rest, ap (λ (es : List Event). length es) next)
-    in subst (λ n. Inside v st2 rest2 ys limit dropped (with_standing r n)) count (inside-again w v st rest st2 rest2 xs ys limit dropped r e i leads next one)
+    in inside-again w v st rest st2 rest2 xs ys limit dropped r e i leads next one
 
 -- another, which cuts the rest
 inside-cut : (w v : Whole) (st rest st2 rest2 : List Event) (xs ys : List Change) (limit dropped dropped2 : ℕ) (r : Recorded) (e : Event) → Inside w st rest xs limit dropped r

@@ -6,18 +6,20 @@ use Rattle.std.specs.List.{slice_get}
 use Rattle.std.specs.declared.alloc.AllocError.{AllocError}
 use Rattle.s360_machine.specs.declared.event.Event.{Event}
 use Rattle.s360_journal.specs.declared.calls.Call.{Call}
-use Rattle.s360_journal.specs.declared.calls.Call.TheVariants.{Forward, Advance, Preview, Run, Back, StepBack, BackUntil, BackTo, Again, AgainTo, Withdraw}
+use Rattle.s360_journal.specs.declared.calls.Call.TheVariants.{Forward, Advance, Preview, Run, Back, StepBack, RunBack, BackUntil, BackTo, Again, AgainTo, Withdraw}
 use Rattle.s360_journal.specs.declared.calls.Answer.{Answer}
-use Rattle.s360_journal.specs.declared.calls.Answer.TheVariants.{Forwarded, Advanced, Previewed, Ran, TookBack, SteppedBack, WentBack, RanAgain, WentOn, Withdrew}
+use Rattle.s360_journal.specs.declared.calls.Answer.TheVariants.{Forwarded, Advanced, Previewed, Ran, TookBack, SteppedBack, RanBack, WentBack, RanAgain, WentOn, Withdrew}
 use Rattle.std.specs.Prelude.{IfOk, IsOkUnless, MatchOption, OnErr, OnOk, ⊤, min}
 use Rattle.s360_machine.specs.declared.refusal.Refusal.{Refusal}
 use Rattle.s360_machine.specs.declared.refusal.Refusal.TheVariants.{Memory}
 use Rattle.s360_journal.specs.declared.report.Report.{Report}
 use Rattle.s360_journal.specs.Reports.{IsReport}
-use Rattle.s360_journal.specs.declared.running.RunEnd.{RunEnd}
+use Rattle.s360_journal.specs.declared.running.Pause.{Pause}
+use Rattle.s360_journal.specs.declared.running.Reach.{Reach}
+use Rattle.s360_journal.specs.declared.running.Turn.{Turn}
 use Rattle.s360_journal.specs.Recorded.{AreRun, Recorded, after_event, after_events, session_of, standing_events, without_last}
 use Rattle.s360_journal.proofs.RecordedLemmas.{after-keeps}
-use Rattle.s360_journal.specs.Running.{run_of}
+use Rattle.s360_journal.specs.Running.{run_in, stops_at}
 use Rattle.s360_journal.specs.Standing.{Standing, alteration, last_of, refusal_in}
 use Rattle.s360_journal.specs.Calls.{IsAnswer, IsRun, state_after, state_after_all}
 use Rattle.s360_journal.specs.declared.session.NothingStands.{NothingStands}
@@ -41,9 +43,10 @@ start-events r (e ∷ es) = start-events (after_event r e) es ∙ start-event r 
 start-call : (r : Recorded) (c : Call) (a : Answer) → (state_after r c a).start ≡ r.start
 start-call r (Forward e) (Forwarded (Ok report)) = start-event r e
 start-call r (Advance e) (Advanced (Ok done)) = start-event r e
-start-call r (Run breaks most) (Ran accepted end) = start-events r (take accepted (run_of breaks (session_of r) most).events)
+start-call r (Run breaks turn reach most) (Ran accepted end) = start-events r (take accepted (run_in (stops_at breaks) turn reach r most).events)
 start-call r Back (TookBack (Ok e)) = refl
 start-call r StepBack (SteppedBack (Ok done)) = refl
+start-call r (RunBack breaks reach most) (RanBack k why) = refl
 start-call r (BackUntil breaks) (WentBack k) = refl
 start-call r (BackTo n) (WentBack k) = refl
 start-call r Again (RanAgain (Ok ran)) = refl
@@ -92,15 +95,15 @@ IsAnswer-back r t (Err n) one last err nothing = (nothing, err)
 added : (r t : Recorded) (es : List Event) (before after : ℕ) → before ≡ length (standing_events r) → after ≡ length (standing_events t) → AreRun r es t → after - before ≡ length es
 added r t es before after first last h = omega (arith, first, last, ap (λ (x : Standing). length x.events) h.stands, length-append (standing_events r) es)
 
-pub IsAnswer-run : (r t : Recorded) (breaks : List ℕ) (most before after : ℕ) (result : Result RunEnd AllocError) → before ≡ length (standing_events r) → after ≡ length (standing_events t)
-    → IfOk result (λ end. end ≡ (run_of breaks (session_of r) most).why) → OnOk result (AreRun r (run_of breaks (session_of r) most).events t)
-    → OnErr result ((n : ℕ) × AreRun r (take n (run_of breaks (session_of r) most).events) t) → IsAnswer r (Run breaks most) (Ran (after - before) result) t
-IsAnswer-run r t breaks most before after (Ok end) first last why ok err =
-    let es : List Event = (run_of breaks (session_of r) most).events
+pub IsAnswer-run : (r t : Recorded) (breaks : List ℕ) (turn : Turn) (reach : Reach) (most before after : ℕ) (result : Result Pause AllocError) → before ≡ length (standing_events r) → after ≡ length (standing_events t)
+    → IfOk result (λ end. end ≡ (run_in (stops_at breaks) turn reach r most).why) → OnOk result (AreRun r (run_in (stops_at breaks) turn reach r most).events t)
+    → OnErr result ((n : ℕ) × AreRun r (take n (run_in (stops_at breaks) turn reach r most).events) t) → IsAnswer r (Run breaks turn reach most) (Ran (after - before) result) t
+IsAnswer-run r t breaks turn reach most before after (Ok end) first last why ok err =
+    let es : List Event = (run_in (stops_at breaks) turn reach r most).events
     in let count : after - before ≡ length es = added r t es before after first last ok
     in ((why, count), ok.record_of ∙ ap (λ fs. after_events r fs) (sym (ap (λ k. take k es) count ∙ take-length es)))
-IsAnswer-run r t breaks most before after (Err e) first last why ok err =
-    let es : List Event = (run_of breaks (session_of r) most).events
+IsAnswer-run r t breaks turn reach most before after (Err e) first last why ok err =
+    let es : List Event = (run_in (stops_at breaks) turn reach r most).events
     in let count : after - before ≡ min err.0 (length es) = added r t (take err.0 es) before after first last err.1 ∙ length-take err.0 es
     in let same : take err.0 es ≡ take (after - before) es = sym (ap (λ k. take k es) count ∙ take_min err.0 es)
     in (omega (arith, count), err.1.record_of ∙ ap (λ fs. after_events r fs) same)

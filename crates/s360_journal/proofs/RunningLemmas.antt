@@ -1,19 +1,31 @@
 -- A run, turn by turn.
-use Rattle.std.proofs.Common.{◌≡◌, ◌≢◌, ◌+◌, ◌++◌, ◌∷◌, ◌∙◌, [], ℕ, suc, List, Option, Some, None, Bool, true, false, refl, sym, ap, subst, append_assoc, arith, if◌then◌else◌, length, take, Ok, Err, IsOkUnless}
+use Rattle.std.proofs.Common.{◌≡◌, ◌≢◌, ◌≤◌, ◌<◌, ◌+◌, ◌-◌, ◌++◌, ◌∷◌, ◌∙◌, [], ℕ, zero, suc, List, Option, Some, None, is_some, Bool, true, false, not, nat_eq, refl, sym, ap, subst, append_assoc, arith, drop, length, length-append, take, Ok, Err, IsOkUnless}
 use Rattle.std.specs.Prelude.{◌↔◌, IsTrue, MatchOption, OnErr, Result}
-use Rattle.std.proofs.lemmas.List.{append-nil}
+use Rattle.std.specs.Cmp.{both_ways}
+use Rattle.std.specs.List.{slice_get}
+use Rattle.std.specs.Option.{option_map, option_map_or, unwrap_or}
+use Rattle.std.proofs.lemmas.Bool.{eq-eqb, eqb-true, true≢false}
+use Rattle.std.proofs.lemmas.List.{append-nil, length-take}
 use Rattle.std.proofs.Math.Seq.{take-append_seam}
 use Rattle.s360_store.specs.declared.place.Place.{Place}
+use Rattle.s360_machine.specs.EventKinds.{kind_of_event}
 use Rattle.s360_machine.specs.declared.event.Event.{Event}
+use Rattle.s360_machine.specs.declared.event.Event.TheVariants.{Cpu, Channel, Tick, Key, Patch as patch}
+use Rattle.s360_machine.specs.declared.event_kind.EventKind.TheVariants.{Cpu as cpu_kind}
 use Rattle.s360_machine.specs.declared.refusal.Refusal.{Refusal}
 use Rattle.s360_machine.specs.declared.refusal.Refusal.TheVariants.{Memory}
-use Rattle.s360_journal.specs.Breakpoints.{is_at_breakpoint}
-use Rattle.s360_journal.specs.Recorded.{AreRun, Recorded, after_event, after_events, session_of}
+use Rattle.s360_journal.specs.Recorded.{AreRun, IsRunAgain, Recorded, after_event, after_events, rest_of, session_of, standing_events, with_standing}
+use Rattle.s360_journal.specs.Returning.{is_cpu_last}
 use Rattle.s360_journal.specs.Standing.{IsAfter, Standing, machine_of, refusal_in, alteration}
-use Rattle.s360_journal.specs.declared.running.RunEnd.{RunEnd}
-use Rattle.s360_journal.specs.declared.running.RunEnd.TheVariants.{Refused, Break, Done}
+use Rattle.s360_journal.specs.declared.running.Pause.{Pause}
+use Rattle.s360_journal.specs.declared.running.Pause.TheVariants.{Refused, Done}
+use Rattle.s360_journal.specs.declared.running.Reach.{Reach}
+use Rattle.s360_journal.specs.declared.running.Turn.{Turn}
+use Rattle.s360_journal.specs.declared.running.Turn.TheVariants.{New, Next}
 use Rattle.s360_journal.specs.Offers.{unless_refused, with_events}
-use Rattle.s360_journal.specs.Running.{end_of_turn, end_with, next_event, run_of}
+use Rattle.s360_journal.specs.Running.{IsAccepted, IsTurn, Run, WhereToStop, event_of_turn, events_of_turn, is_cpu, is_end, is_idle, is_reached, next_event, pause_after, pause_of_turn, pause_with, refused_or, rest_in, run_by, run_in, run_of}
+use Rattle.s360_journal.specs.Timelines.{is_first}
+use Rattle.s360_journal.proofs.SessionLemmas.{last-there}
 
 pub with_events-none : (s : Standing) → with_events s [] ≡ s
 with_events-none s = ap (λ (es : List Event). record s { events = es }) (append-nil s.events)
@@ -45,29 +57,7 @@ pub accepted-None : {X : Type 0} (o : Option Refusal) (x : X) (result : Result X
 accepted-None None x result e h = refl
 accepted-None (Some r) x result e h = absurd (cc)
 
--- an event after which the session is not idle altered something
-pub not-idle : (idle : Bool) (ps : List Place) → idle ≡ false → (IsTrue idle ↔ (ps ≡ [])) → ps ≢ []
-not-idle idle ps is h = λ none. let both : false ≡ true = rw is at (h.1 none) in cc
-
--- what is reported of an accepted event
-pub end-changed : (ps : List Place) (stops : Bool) → ps ≢ [] → end_with None ps stops ≡ (if stops then Some Break else None)
-end-changed [] stops h = absurd (h refl)
-end-changed (p ∷ ps) true h = refl
-end-changed (p ∷ ps) false h = refl
-
--- a turn, by what its event is answered
-pub turn-accepted : (breaks : List ℕ) (s t : Standing) (e : Event) (end : Option RunEnd) → refusal_in s e ≡ None → t ≡ with_events s (e ∷ [])
-    → end ≡ end_with None (alteration s e) (is_at_breakpoint (machine_of t) breaks) → end ≡ end_of_turn breaks s e
-unfolding end_of_turn
-turn-accepted breaks s t e end h is k =
-    k ∙ ap (λ (u : Standing). end_with None (alteration s e) (is_at_breakpoint (machine_of u) breaks)) is ∙ rw h refl
-
-pub turn-refused : (breaks : List ℕ) (s : Standing) (e : Event) (r : Refusal) → refusal_in s e ≡ Some r → Some (Refused r) ≡ end_of_turn breaks s e
-unfolding end_of_turn
-turn-refused breaks s e r h = rw h refl
-
-pub refused-runs : (r : Recorded) (e : Event) (refusal : Refusal) → refusal_in (session_of r) e ≡ Some refusal → AreRun r (unless_refused (refusal_in (session_of r) e) e) r
-refused-runs r e refusal h = rw h (AreRun-none r)
+-- ---- one turn
 
 pub refused-Some : {X : Type 0} (o : Option Refusal) (result : Result X Refusal) (r : Refusal) → result ≡ Err r → r ≢ Memory
     → MatchOption o (IsOkUnless result Memory) (λ q. result ≡ Err q) → o ≡ Some r
@@ -75,86 +65,226 @@ refused-Some None (Ok x) r is not h = absurd (cc)
 refused-Some None (Err q) r is not h = absurd (not (cc))
 refused-Some (Some q) result r is not h = let same : q ≡ r = cc in ap (λ (x : Refusal). Some x) same
 
--- an event with which no run ends is accepted
-accepted : (o : Option Refusal) (ps : List Place) (stops : Bool) (e : Event) → end_with o ps stops ≡ None → unless_refused o e ≡ e ∷ []
-accepted (Some r) ps stops e h = absurd (cc)
-accepted None ps stops e h = refl
+-- what is left of the record then
+drop-past : (n : ℕ) (es : List Event) → length es ≤ n → drop n es ≡ []
+drop-past zero [] h = refl
+drop-past (suc n) [] h = refl
+drop-past zero (e ∷ es) h = absurd (omega (arith, h))
+drop-past (suc n) (e ∷ es) h = drop-past n es (omega (arith, h))
 
-turn-accepts : (breaks : List ℕ) (s : Standing) (e : Event) → end_of_turn breaks s e ≡ None → unless_refused (refusal_in s e) e ≡ e ∷ []
-unfolding end_of_turn
-turn-accepts breaks s e h = accepted (refusal_in s e) (alteration s e) _ e h
+drop-more : (n : ℕ) (es : List Event) → drop (n + 1) es ≡ drop 1 (drop n es)
+drop-more zero es = refl
+drop-more (suc n) [] = let more : suc n + 1 ≡ suc (n + 1) = omega arith in ap (λ k. drop k []) more
+drop-more (suc n) (e ∷ es) = let more : suc n + 1 ≡ suc (n + 1) = omega arith in ap (λ k. drop k (e ∷ es)) more ∙ drop-more n es
+
+length-drop : (n : ℕ) (es : List Event) → length (drop n es) ≡ length es - n
+length-drop zero es = omega arith
+length-drop (suc n) [] = omega arith
+length-drop (suc n) (e ∷ es) = omega (arith, length-drop n es)
+
+rest-after : (r : Recorded) (e : Event) → rest_of r ≡ [] → rest_of (after_event r e) ≡ []
+rest-after r e none =
+    let first : is_first (rest_of r) e ≡ false = rw none refl
+    in let count : length (standing_events r ++ e ∷ []) ≤ r.standing + 1 = omega (arith, length-append (standing_events r) (e ∷ []), length-take r.standing r.events)
+    in rw first (drop-past (r.standing + 1) (standing_events r ++ e ∷ []) count)
+
+-- an event was accepted
+turn-accepted : (stops : WhereToStop) (turn : Turn) (reach : Reach) (r t : Recorded) (pause : Option Pause) (rest : List Event) (e : Event) → rest_in turn r ≡ rest → event_of_turn (session_of r) rest ≡ e
+    → refusal_in (session_of r) e ≡ None → t ≡ after_event r e → IsAfter (session_of t) (session_of r) e → pause ≡ pause_after stops reach (session_of r) rest e → rest_in turn t ≡ drop 1 rest
+    → IsTurn stops turn reach r pause t
+unfolding pause_of_turn events_of_turn
+turn-accepted stops turn reach r t pause rest e left first accepted state stands why next =
+    let s : Standing = session_of r
+    in record {
+      why = why ∙ ap (λ o. refused_or o (pause_after stops reach s rest e)) (sym accepted)
+          ∙ ap (λ x. refused_or (refusal_in s x) (pause_after stops reach s rest x)) (sym first)
+          ∙ ap (λ es. pause_of_turn stops reach s es) (sym left);
+      ran = subst (λ es. AreRun r es t)
+          (ap (λ o. unless_refused o e) (sym accepted) ∙ ap (λ x. unless_refused (refusal_in s x) x) (sym first) ∙ ap (λ es. events_of_turn s es) (sym left)) (AreRun-one r t e state stands);
+      rest = next ∙ ap (λ es. drop 1 es) (sym left);
+    }
+
+-- the next of the record was run again
+pub turn-again : (stops : WhereToStop) (reach : Reach) (r t : Recorded) (e : Event) (pause : Option Pause) → IsRunAgain r t e → t ≡ with_standing r (r.standing + 1) → r.standing < length r.events
+    → ((s : Standing) (rest : List Event) (f : Event) → IsAccepted t s rest f true → pause ≡ pause_after stops reach s rest f) → IsTurn stops Next reach r pause t
+turn-again stops reach r t e pause ran is less why =
+    let first : event_of_turn (session_of r) (rest_of r) ≡ e = ap (λ o. unwrap_or o (next_event (machine_of (session_of r)))) ran.next
+    in let accepted : IsAccepted t (session_of r) (rest_of r) e true = record {
+      stands = ran.stands;
+      met = ap (λ o. is_some o) (sym ran.next);
+      ended = both_ways (nat_eq t.standing (length t.events)) (nat_eq (length (rest_of r)) 1)
+          (λ h. eq-eqb (length (rest_of r)) 1 (omega (arith, length-drop r.standing r.events, eqb-true t.standing (length t.events) h, ap (λ (k : Recorded). k.standing) is, ap (λ (k : Recorded). length k.events) is)))
+          (λ h. eq-eqb t.standing (length t.events) (omega (arith, length-drop r.standing r.events, eqb-true (length (rest_of r)) 1 h, ap (λ (k : Recorded). k.standing) is, ap (λ (k : Recorded). length k.events) is, less)));
+    }
+    in turn-accepted stops Next reach r t pause (rest_of r) e refl first ran.accepted ran.state ran.stands (why (session_of r) (rest_of r) e accepted)
+    (ap (λ (k : Recorded). rest_of k) is ∙ drop-more r.standing r.events)
+
+-- nothing of the record is taken
+pub none-in : (turn : Turn) (r : Recorded) → (turn ≡ Next → length r.events ≤ r.standing) → rest_in turn r ≡ []
+none-in New r h = refl
+none-in Next r h = drop-past r.standing r.events (h refl)
+
+none-after : (turn : Turn) (r : Recorded) (e : Event) → rest_in turn r ≡ [] → rest_in turn (after_event r e) ≡ []
+none-after New r e h = refl
+none-after Next r e h = rest-after r e h
+
+-- a new event was run
+pub turn-new : (stops : WhereToStop) (turn : Turn) (reach : Reach) (r t : Recorded) (e : Event) (pause : Option Pause) → rest_in turn r ≡ [] → e ≡ next_event (machine_of (session_of r))
+    → refusal_in (session_of r) e ≡ None → t ≡ after_event r e → IsAfter (session_of t) (session_of r) e
+    → ((s : Standing) (rest : List Event) (f : Event) → IsAccepted t s rest f false → pause ≡ pause_after stops reach s rest f) → IsTurn stops turn reach r pause t
+turn-new stops turn reach r t e pause none is accepted state stands why =
+    turn-accepted stops turn reach r t pause [] e none (sym is) accepted state stands (why (session_of r) [] e (record { stands = stands; met = refl; ended = refl }))
+    (ap (λ (k : Recorded). rest_in turn k) state ∙ none-after turn r e none)
+
+-- or refused
+pub turn-refused : (stops : WhereToStop) (turn : Turn) (reach : Reach) (r t : Recorded) (e : Event) (refusal : Refusal) → rest_in turn r ≡ [] → e ≡ next_event (machine_of (session_of r))
+    → refusal_in (session_of r) e ≡ Some refusal → t ≡ r → IsTurn stops turn reach r (Some (Refused refusal)) t
+unfolding pause_of_turn events_of_turn
+turn-refused stops turn reach r t e refusal none is refused same =
+    let s : Standing = session_of r
+    in let no : refusal_in s (event_of_turn s []) ≡ Some refusal = ap (λ x. refusal_in s x) (sym is) ∙ refused
+    in record {
+      why = ap (λ o. refused_or o (pause_after stops reach s [] (event_of_turn s []))) (sym no) ∙ ap (λ es. pause_of_turn stops reach s es) (sym none);
+      ran = subst (λ es. AreRun r es t) (ap (λ o. unless_refused o (event_of_turn s [])) (sym no) ∙ ap (λ es. events_of_turn s es) (sym none)) (subst (λ x. AreRun r [] x) (sym same) (AreRun-none r));
+      rest = ap (λ (k : Recorded). rest_in turn k) same ∙ none ∙ ap (λ es. drop 1 es) (sym none);
+    }
+
+-- ---- why the machine pauses
+
+idle-new : (idle : Bool) (ps : List Place) → IsTrue idle ↔ (ps ≡ []) → idle ≡ is_idle [] ps
+idle-new true [] is = refl
+idle-new false [] is = absurd (true≢false (sym (is.1 refl)))
+idle-new true (p ∷ ps) is = absurd (let wrong : p ∷ ps ≡ [] = is.0 refl in cc)
+idle-new false (p ∷ ps) is = refl
+
+none-there : (rest : List Event) → false ≡ is_some (slice_get rest 0) → rest ≡ []
+none-there [] h = refl
+none-there (e ∷ rest) h = absurd (true≢false (sym h))
+
+idle-again : (rest : List Event) (ps : List Place) → true ≡ is_some (slice_get rest 0) → is_idle rest ps ≡ false
+idle-again [] ps h = absurd (true≢false h)
+idle-again (e ∷ rest) ps h = refl
+
+-- where the event was recorded, or altered something
+pub idle-recorded : (again : Bool) (rest : List Event) (ps : List Place) → again ≡ true → again ≡ is_some (slice_get rest 0) → is_idle rest ps ≡ false
+idle-recorded again rest ps is met = idle-again rest ps (sym is ∙ met)
+
+pub idle-none : (again idle : Bool) (rest : List Event) (ps : List Place) → again ≡ is_some (slice_get rest 0) → IsTrue idle ↔ (ps ≡ []) → idle ≡ false → is_idle rest ps ≡ false
+idle-none true idle rest ps met is h = idle-again rest ps met
+idle-none false idle rest ps met is h = rw (none-there rest met) (sym (idle-new idle ps is) ∙ h)
+
+pub idle-some : (again idle : Bool) (rest : List Event) (ps : List Place) → again ≡ false → again ≡ is_some (slice_get rest 0) → IsTrue idle ↔ (ps ≡ []) → idle ≡ true → is_idle rest ps ≡ true
+idle-some true idle rest ps new met is h = absurd (true≢false new)
+idle-some false idle rest ps new met is h = rw (none-there rest met) (sym (idle-new idle ps is) ∙ h)
+
+pub pause-of : (idle altered reached ended : Bool) (stops : WhereToStop) (reach : Reach) (s : Standing) (rest : List Event) (e : Event) → is_idle rest (alteration s e) ≡ idle → stops.altered (with_events s (e ∷ [])) ≡ altered
+    → is_reached stops reach (with_events s (e ∷ [])) e ≡ reached → is_end rest ≡ ended → pause_with idle altered reached ended reach ≡ pause_after stops reach s rest e
+pause-of idle altered reached ended stops reach s rest e h i k l =
+    ap (λ x. pause_with x altered reached ended reach) (sym h)
+    ∙ ap (λ x. pause_with (is_idle rest (alteration s e)) x reached ended reach) (sym i)
+    ∙ ap (λ x. pause_with (is_idle rest (alteration s e)) (stops.altered (with_events s (e ∷ []))) x ended reach) (sym k)
+    ∙ ap (λ x. pause_with (is_idle rest (alteration s e)) (stops.altered (with_events s (e ∷ []))) (is_reached stops reach (with_events s (e ∷ [])) e) x reach) (sym l)
+
+-- the last event, as its kind alone
+kind-cpu : (e : Event) → kind_of_event e ≡ cpu_kind → is_cpu e ≡ true
+kind-cpu Cpu h = refl
+kind-cpu (Channel u) h = absurd (cc)
+kind-cpu Tick h = absurd (cc)
+kind-cpu (Key k) h = absurd (cc)
+kind-cpu (patch p) h = absurd (cc)
+
+kind-other : (e : Event) → kind_of_event e ≢ cpu_kind → is_cpu e ≡ false
+kind-other Cpu h = absurd (h refl)
+kind-other (Channel u) h = refl
+kind-other Tick h = refl
+kind-other (Key k) h = refl
+kind-other (patch p) h = refl
+
+pub last-cpu : (o : Option Event) → option_map kind_of_event o ≡ Some cpu_kind → option_map_or is_cpu o false ≡ true
+last-cpu None h = absurd (cc)
+last-cpu (Some e) h = let same : kind_of_event e ≡ cpu_kind = cc in kind-cpu e same
+
+pub last-other : (o : Option Event) → option_map kind_of_event o ≢ Some cpu_kind → option_map_or is_cpu o false ≡ false
+last-other None h = refl
+last-other (Some e) h = kind-other e (λ same. h (ap (λ k. Some k) same))
+
+pub last-after : (now : Recorded) (s : Standing) (e : Event) → IsAfter (session_of now) s e → is_cpu_last (standing_events now) ≡ is_cpu e
+last-after now s e is =
+    let events : standing_events now ≡ s.events ++ e ∷ [] = ap (λ (x : Standing). x.events) is
+    in let place : length (s.events ++ e ∷ []) - 1 ≡ length s.events = omega (arith, length-append s.events (e ∷ []))
+    in ap (λ l. is_cpu_last l) events ∙ ap (λ n. option_map_or is_cpu (slice_get (s.events ++ e ∷ []) n) false) place
+    ∙ ap (λ o. option_map_or is_cpu o false) (last-there s.events e)
 
 -- ---- a run
 
 -- the turns of a run that are done, and that so many are left
-pub record IsRunning (breaks : List ℕ) (start now : Recorded) (most left : ℕ) : Type 0 where
+pub record IsRunning (stops : WhereToStop) (turn : Turn) (reach : Reach) (start now : Recorded) (most left : ℕ) : Type 0 where
   pub done : List Event
   pub ran : AreRun start done now
-  pub events : (run_of breaks (session_of start) most).events ≡ done ++ (run_of breaks (session_of now) left).events
-  pub why : (run_of breaks (session_of start) most).why ≡ (run_of breaks (session_of now) left).why
+  pub events : (run_in stops turn reach start most).events ≡ done ++ (run_in stops turn reach now left).events
+  pub why : (run_in stops turn reach start most).why ≡ (run_in stops turn reach now left).why
 
-pub IsRunning-start : (breaks : List ℕ) (r : Recorded) (most : ℕ) → IsRunning breaks r r most most
-IsRunning-start breaks r most = record { done = []; ran = AreRun-none r; events = refl; why = refl }
-
--- the turn that is next
-abbrev turn : Standing → Event
-turn s = next_event (machine_of s)
-
-abbrev turn_events : Standing → List Event
-turn_events s = unless_refused (refusal_in s (turn s)) (turn s)
+pub IsRunning-start : (stops : WhereToStop) (turn : Turn) (reach : Reach) (r : Recorded) (most : ℕ) → IsRunning stops turn reach r r most most
+IsRunning-start stops turn reach r most = record { done = []; ran = AreRun-none r; events = refl; why = refl }
 
 -- a turn more, with which the run does not end
-pub IsRunning-more : (breaks : List ℕ) (start now next : Recorded) (most n m : ℕ) → n ≡ m + 1 → IsRunning breaks start now most n
-    → end_of_turn breaks (session_of now) (turn (session_of now)) ≡ None → AreRun now (turn_events (session_of now)) next → IsRunning breaks start next most m
+pub IsRunning-more : (stops : WhereToStop) (turn : Turn) (reach : Reach) (start now next : Recorded) (most n m : ℕ) → n ≡ m + 1 → IsRunning stops turn reach start now most n
+    → IsTurn stops turn reach now None next → IsRunning stops turn reach start next most m
 unfolding run_of
-IsRunning-more breaks start now next most n m count r goes_on ran =
+IsRunning-more stops turn reach start now next most n m count r t =
     let s : Standing = session_of now
+    in let rest : List Event = rest_in turn now
     in let left : n ≡ suc m = omega arith
-    in let accepts : turn_events s ≡ turn s ∷ [] = turn-accepts breaks s (turn s) goes_on
-    in let is : session_of next ≡ with_events s (turn s ∷ []) = rw accepts at ran.stands
-    in let events : (run_of breaks (session_of start) most).events ≡ r.done ++ (run_of breaks s (suc m)).events = rw left at r.events
-    in let why : (run_of breaks (session_of start) most).why ≡ (run_of breaks s (suc m)).why = rw left at r.why
+    in let events : (run_in stops turn reach start most).events ≡ r.done ++ (run_of stops reach s rest (suc m)).events = rw left at r.events
+    in let why : (run_in stops turn reach start most).why ≡ (run_of stops reach s rest (suc m)).why = rw left at r.why
+    in let later : run_of stops reach (with_events s (events_of_turn s rest)) (drop 1 rest) m ≡ run_in stops turn reach next m
+    = ap (λ (x : Standing). run_of stops reach x (drop 1 rest) m) (sym t.ran.stands) ∙ ap (λ es. run_of stops reach (session_of next) es m) (sym t.rest)
+    in let on : run_of stops reach s rest (suc m) ≡ run_by (events_of_turn s rest) None (run_in stops turn reach next m)
+    = ap (λ x. run_by (events_of_turn s rest) x (run_of stops reach (with_events s (events_of_turn s rest)) (drop 1 rest) m)) (sym t.why)
+    ∙ ap (λ x. run_by (events_of_turn s rest) None x) later
     in record {
-      done = r.done ++ turn s ∷ [];
-      ran = AreRun-more start now next r.done (turn s ∷ []) r.ran (rw accepts at ran);
-      events = events ∙ rw (goes_on, accepts, is, append_assoc) refl;
-      why = why ∙ rw (goes_on, is) refl;
+      done = r.done ++ events_of_turn s rest;
+      ran = AreRun-more start now next r.done (events_of_turn s rest) r.ran t.ran;
+      events = events ∙ ap (λ (x : Run). r.done ++ x.events) on ∙ sym (append_assoc r.done (events_of_turn s rest) (run_in stops turn reach next m).events);
+      why = why ∙ ap (λ (x : Run). x.why) on;
     }
 
 -- what a run comes to: why it ends, and what was run
-pub record IsRunOf (breaks : List ℕ) (start : Recorded) (most : ℕ) (end : RunEnd) (now : Recorded) : Type 0 where
-  pub why : end ≡ (run_of breaks (session_of start) most).why
-  pub ran : AreRun start (run_of breaks (session_of start) most).events now
+pub record IsRunOf (stops : WhereToStop) (turn : Turn) (reach : Reach) (start : Recorded) (most : ℕ) (end : Pause) (now : Recorded) : Type 0 where
+  pub why : end ≡ (run_in stops turn reach start most).why
+  pub ran : AreRun start (run_in stops turn reach start most).events now
 
 -- a turn more, with which the run ends
-pub IsRunning-ended : (breaks : List ℕ) (start now next : Recorded) (most n m : ℕ) (why : RunEnd) → n ≡ m + 1 → IsRunning breaks start now most n
-    → end_of_turn breaks (session_of now) (turn (session_of now)) ≡ Some why → AreRun now (turn_events (session_of now)) next → IsRunOf breaks start most why next
+pub IsRunning-ended : (stops : WhereToStop) (turn : Turn) (reach : Reach) (start now next : Recorded) (most n m : ℕ) (why : Pause) → n ≡ m + 1 → IsRunning stops turn reach start now most n
+    → IsTurn stops turn reach now (Some why) next → IsRunOf stops turn reach start most why next
 unfolding run_of
-IsRunning-ended breaks start now next most n m why count r ends ran =
+IsRunning-ended stops turn reach start now next most n m why count r t =
     let s : Standing = session_of now
+    in let rest : List Event = rest_in turn now
     in let left : n ≡ suc m = omega arith
-    in let events : (run_of breaks (session_of start) most).events ≡ r.done ++ (run_of breaks s (suc m)).events = rw left at r.events
-    in let last : (run_of breaks s (suc m)).events ≡ turn_events s = rw ends refl
-    in let reason : (run_of breaks (session_of start) most).why ≡ (run_of breaks s (suc m)).why = rw left at r.why
+    in let events : (run_in stops turn reach start most).events ≡ r.done ++ (run_of stops reach s rest (suc m)).events = rw left at r.events
+    in let reason : (run_in stops turn reach start most).why ≡ (run_of stops reach s rest (suc m)).why = rw left at r.why
+    in let last : run_of stops reach s rest (suc m) ≡ record { events = events_of_turn s rest; why = why }
+    = ap (λ x. run_by (events_of_turn s rest) x (run_of stops reach (with_events s (events_of_turn s rest)) (drop 1 rest) m)) (sym t.why)
     in record {
-      why = sym (reason ∙ rw ends refl);
-      ran = subst (λ es. AreRun start es next) (sym (events ∙ ap (λ (es : List Event). r.done ++ es) last)) (AreRun-more start now next r.done (turn_events s) r.ran ran);
+      why = sym (reason ∙ ap (λ (x : Run). x.why) last);
+      ran = subst (λ es. AreRun start es next) (sym (events ∙ ap (λ (x : Run). r.done ++ x.events) last)) (AreRun-more start now next r.done (events_of_turn s rest) r.ran t.ran);
     }
 
 -- no turn is left
-pub IsRunning-all : (breaks : List ℕ) (start now : Recorded) (most n : ℕ) → n ≡ 0 → IsRunning breaks start now most n → IsRunOf breaks start most Done now
+pub IsRunning-all : (stops : WhereToStop) (turn : Turn) (reach : Reach) (start now : Recorded) (most n : ℕ) → n ≡ 0 → IsRunning stops turn reach start now most n → IsRunOf stops turn reach start most Done now
 unfolding run_of
-IsRunning-all breaks start now most n none r =
-    let events : (run_of breaks (session_of start) most).events ≡ r.done ++ [] = rw none at r.events
-    in let reason : (run_of breaks (session_of start) most).why ≡ Done = rw none at r.why
+IsRunning-all stops turn reach start now most n none r =
+    let events : (run_in stops turn reach start most).events ≡ r.done ++ [] = rw none at r.events
+    in let reason : (run_in stops turn reach start most).why ≡ Done = rw none at r.why
     in record { why = sym reason; ran = subst (λ es. AreRun start es now) (sym (events ∙ append-nil r.done)) r.ran }
 
 -- some first ones of the events were run
-pub IsRunning-part : (breaks : List ℕ) (start now : Recorded) (most left : ℕ) → IsRunning breaks start now most left
-    → (n : ℕ) × AreRun start (take n (run_of breaks (session_of start) most).events) now
-IsRunning-part breaks start now most left r = (
+pub IsRunning-part : (stops : WhereToStop) (turn : Turn) (reach : Reach) (start now : Recorded) (most left : ℕ) → IsRunning stops turn reach start now most left
+    → (n : ℕ) × AreRun start (take n (run_in stops turn reach start most).events) now
+IsRunning-part stops turn reach start now most left r = (
   length r.done,
-  subst (λ es. AreRun start es now) (sym (ap (take (length r.done)) r.events ∙ take-append_seam r.done (run_of breaks (session_of now) left).events)) r.ran,
+  subst (λ es. AreRun start es now) (sym (ap (take (length r.done)) r.events ∙ take-append_seam r.done (run_in stops turn reach now left).events)) r.ran,
 )
 
 -- what holds holds after an error

@@ -1,14 +1,21 @@
 -- The last stop at a breakpoint, looked for from the last event back.
-use Rattle.std.proofs.Common.{◌≡◌, ◌<◌, ◌+◌, ◌-◌, ◌++◌, ℕ, List, [], ◌∷◌, refl, ap, sym, ◌∙◌, append_assoc, length, length-append, take, min, arith, Bool, true, false, cond, Option, Some, None}
+use Rattle.std.proofs.Common.{◌≡◌, ◌≤◌, ◌<◌, ◌+◌, ◌-◌, ◌++◌, ℕ, zero, suc, nat_eq, List, [], ◌∷◌, refl, ap, sym, ◌∙◌, length, take, arith, Bool, true, false, cond, Option, Some, None}
 use Rattle.std.specs.Option.{unwrap_or}
+use Rattle.std.proofs.Math.Nat.{pos_of_ne-zero}
+use Rattle.std.proofs.lemmas.List.{length-take-le}
+use Rattle.std.proofs.lemmas.Bool.{eq-eqb, eqb-true, true≢false}
 use Rattle.s360_machine.specs.declared.event.Event.{Event}
 use Rattle.s360_machine.specs.Machine.{Machine, seen}
 use Rattle.s360_machine.specs.Step.{after}
 use Rattle.s360_journal.specs.Breakpoints.{is_at_breakpoint}
 use Rattle.s360_journal.specs.Rerun.{rerun, or_else}
-use Rattle.s360_journal.specs.Standing.{Standing, machine_of}
+use Rattle.s360_journal.specs.Recorded.{Recorded, session_of, standing_events}
+use Rattle.s360_journal.specs.Returning.{back_of, one_back}
+use Rattle.s360_journal.specs.Running.{stops_at}
+use Rattle.s360_journal.specs.Standing.{machine_of}
 use Rattle.s360_journal.specs.Stops.{last_stop_from, stop_of}
-use Rattle.s360_journal.proofs.SessionLemmas.{split-last}
+use Rattle.s360_journal.specs.declared.running.Reach.TheVariants.{Stop}
+use Rattle.s360_journal.proofs.AgainLemmas.{IsThere, there}
 
 -- one event more: the machine before it decides where the CPU operates at a breakpoint
 last_stop_from-push : (k : ℕ) (m : Machine) (es : List Event) (e : Event) (bs : List ℕ)
@@ -32,48 +39,30 @@ stop_of-push m es e bs true h =
 stop_of-push m es e bs false h =
     ap (λ o. unwrap_or o 0) (last_stop_from-push 0 m es e bs) ∙ ap (λ b. unwrap_or (cond b (Some (0 + length es)) (last_stop_from 0 m es bs)) 0) h
 
--- the session s went back to t and passed no stop: the first of its events stand, and the last stop is that of t
-pub record GoesBack (s t : Standing) (bs : List ℕ) : Type 0 where
-  pub dropped : List Event
-  pub kept : s ≡ record t { events = t.events ++ dropped }
-  pub stop : stop_of (seen s.start) s.events bs ≡ stop_of (seen t.start) t.events bs
-
--- where events stand, one stands last
-pub with-last : (t u : Standing) → 0 < length t.events → u ≡ record t { events = take (length t.events - 1) t.events } → (e : Event) × (t ≡ record u { events = u.events ++ e ∷ [] })
-with-last t u some is =
-    let parts : (e : Event) × (t.events ≡ take (length t.events - 1) t.events ++ e ∷ []) = split-last t.events (length t.events - 1) (omega (arith, some))
-    in (parts.0, rw is (ap (λ (es : List Event). record t { events = es }) parts.1))
-
-back_once : (s t u : Standing) (es : List Event) (e : Event) → s ≡ record t { events = t.events ++ es } → t ≡ record u { events = u.events ++ e ∷ [] }
-    → s ≡ record u { events = u.events ++ e ∷ es }
-back_once s t u es e h g =
-    h ∙ ap (λ (x : Standing). record x { events = x.events ++ es }) g ∙ ap (λ l. record u { events = l }) (append_assoc u.events (e ∷ []) es)
-
-pub GoesBack-passed : (s t u : Standing) (bs : List ℕ) (e : Event) → GoesBack s t bs → t ≡ record u { events = u.events ++ e ∷ [] }
-    → is_at_breakpoint (machine_of u) bs ≡ false → GoesBack s u bs
-GoesBack-passed s t u bs e h g here = record {
-  dropped = e ∷ h.dropped;
-  kept = back_once s t u h.dropped e h.kept g;
-  stop = h.stop ∙ ap (λ (x : Standing). stop_of (seen x.start) x.events bs) g ∙ stop_of-push (seen u.start) u.events e bs false here;
-}
-
-pub stop-found : (s t u : Standing) (bs : List ℕ) (e : Event) → GoesBack s t bs → t ≡ record u { events = u.events ++ e ∷ [] }
-    → is_at_breakpoint (machine_of u) bs ≡ true → length u.events ≡ stop_of (seen s.start) s.events bs
-stop-found s t u bs e h g here =
-    sym (h.stop ∙ ap (λ (x : Standing). stop_of (seen x.start) x.events bs) g ∙ stop_of-push (seen u.start) u.events e bs true here)
-
--- the session s went back to t, and not past a number of changes that stand
-pub record TakesBack (s t : Standing) (k : ℕ) : Type 0 where
-  pub dropped : List Event
-  pub kept : s ≡ record t { events = t.events ++ dropped }
-  pub least : min k (length s.events) ≡ min k (length t.events)
-
-pub TakesBack-once : (s t u : Standing) (k : ℕ) → TakesBack s t k → k < length t.events → u ≡ record t { events = take (length t.events - 1) t.events } → TakesBack s u k
-TakesBack-once s t u k h more is =
-    let last : (e : Event) × (t ≡ record u { events = u.events ++ e ∷ [] }) = with-last t u (omega (arith, more)) is
-    in let count : length t.events ≡ length u.events + 1 = omega (arith, ap (λ (x : Standing). length x.events) last.1, length-append u.events (last.0 ∷ []))
-    in record {
-      dropped = last.0 ∷ h.dropped;
-      kept = back_once s t u h.dropped last.0 h.kept last.1;
-      least = omega (arith, h.least, more, count);
-    }
+-- going back to a breakpoint, with no end but the start
+pub back-stops : (breaks : List ℕ) (n : ℕ) (r : Recorded) → r.standing ≤ length r.events → r.standing ≤ n
+    → (back_of (stops_at breaks) Stop r n).standing ≡ stop_of (seen r.start) (standing_events r) breaks
+unfolding back_of
+back-stops breaks zero r within h = let none : r.standing ≡ 0 = omega (arith, h) in rw none refl
+back-stops breaks (suc n) r within h =
+    let start : (b : Bool) → nat_eq r.standing 0 ≡ b → (back_of (stops_at breaks) Stop r (suc n)).standing ≡ stop_of (seen r.start) (standing_events r) breaks
+    = λ b. elim b as (λ x. nat_eq r.standing 0 ≡ x → (back_of (stops_at breaks) Stop r (suc n)).standing ≡ stop_of (seen r.start) (standing_events r) breaks) [
+      | true ↦ λ is. let none : r.standing ≡ 0 = eqb-true r.standing 0 is in rw none refl
+      | false ↦ λ is.
+          let some : 0 < r.standing = pos_of_ne-zero (λ no. true≢false (sym (eq-eqb r.standing 0 no) ∙ is))
+          in let t : Recorded = one_back r
+          in let last : IsThere r.events t.standing = there t.standing r.events (omega (arith, some, within))
+          in let more : suc (r.standing - 1) ≡ r.standing = omega (arith, some)
+          in let split : standing_events r ≡ standing_events t ++ last.event ∷ [] = ap (λ k. take k r.events) (sym more) ∙ last.one
+          in let count : length (standing_events t) ≡ r.standing - 1 = length-take-le (r.standing - 1) r.events (omega (arith, within))
+          in let later : (back_of (stops_at breaks) Stop t n).standing ≡ stop_of (seen r.start) (standing_events t) breaks = back-stops breaks n t (omega (arith, within)) (omega (arith, h, some))
+          in let pushed : (c : Bool) → is_at_breakpoint (machine_of (session_of t)) breaks ≡ c → stop_of (seen r.start) (standing_events r) breaks ≡ cond c (length (standing_events t)) (stop_of (seen r.start) (standing_events t) breaks)
+          = λ c here. ap (λ es. stop_of (seen r.start) es breaks) split ∙ stop_of-push (seen r.start) (standing_events t) last.event breaks c here
+          in let at : (c : Bool) → is_at_breakpoint (machine_of (session_of t)) breaks ≡ c → (back_of (stops_at breaks) Stop r (suc n)).standing ≡ stop_of (seen r.start) (standing_events r) breaks
+          = λ c. elim c as (λ x. is_at_breakpoint (machine_of (session_of t)) breaks ≡ x → (back_of (stops_at breaks) Stop r (suc n)).standing ≡ stop_of (seen r.start) (standing_events r) breaks) [
+            | true ↦ λ here. rw (is, here) (sym count ∙ sym (pushed true here))
+            | false ↦ λ here. rw (is, here) (later ∙ sym (pushed false here))
+          ]
+          in at (is_at_breakpoint (machine_of (session_of t)) breaks) refl
+    ]
+    in start (nat_eq r.standing 0) refl

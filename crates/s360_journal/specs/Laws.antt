@@ -1,13 +1,18 @@
 -- What the last change of a place, the breakpoints and the last stop are, in other words than those of their
 -- definitions.
-use Rattle.std.specs.Prelude.{◌≡◌, ◌≢◌, ◌<◌, ◌+◌, ◌↔◌, ◌⊎◌, ℕ, zero, suc, true, false, List, [], ◌∷◌, length, take, Option, Some, None, Ok}
+use Rattle.std.specs.Prelude.{◌≡◌, ◌≢◌, ◌<◌, ◌≤◌, ◌+◌, ◌↔◌, ◌⊎◌, ℕ, zero, suc, true, false, List, [], ◌∷◌, length, take, Option, Some, None, Ok}
 use Rattle.std.specs.List.{Contains}
 use Rattle.s360_store.specs.declared.place.Place.{Place}
 use Rattle.s360_machine.specs.declared.event.Event.{Event}
-use Rattle.s360_machine.specs.Machine.{Machine, storage_size}
+use Rattle.s360_machine.specs.Machine.{Machine, seen, storage_size}
 use Rattle.s360_machine.specs.Step.{after, step}
 use Rattle.s360_journal.specs.Breakpoints.{AreBreakpoints, has_address, has_room_for, with_address, without_address, is_at_breakpoint}
-use Rattle.s360_journal.specs.Rerun.{rerun, alters, last_change_of}
+use Rattle.s360_journal.specs.Recorded.{Recorded, after_events}
+use Rattle.s360_journal.specs.Rerun.{AreAccepted, rerun, alters, last_change_of}
+use Rattle.s360_journal.specs.Returning.{one_back}
+use Rattle.s360_journal.specs.Running.{WhereToStop, run_in}
+use Rattle.s360_journal.specs.declared.running.Reach.{Reach}
+use Rattle.s360_journal.specs.declared.running.Turn.TheVariants.{Next}
 use Rattle.s360_journal.specs.Stops.{stop_of}
 
 -- the event of this index, counted from 0, alters the place
@@ -56,3 +61,9 @@ LastStopIsTheGreatest =
     (start : Machine) (es : List Event) (breaks : List ℕ)
     → (IsStop start es breaks (stop_of start es breaks) ⊎ (stop_of start es breaks ≡ 0))
     × ((k : ℕ) → stop_of start es breaks < k → IsStop start es breaks k → ⊥)
+
+-- what was taken back is run again by the next turn, which leads to the very record that was
+abbrev pub TurnRunsAgain : Type 0
+TurnRunsAgain =
+    (stops : WhereToStop) (reach : Reach) (r : Recorded) → AreAccepted (seen r.start) r.events → length r.events ≤ r.limit → 0 < r.standing → r.standing ≤ length r.events
+    → after_events (one_back r) (run_in stops Next reach (one_back r) 1).events ≡ r

@@ -9,6 +9,7 @@ pub mod Standing
 pub mod Advances
 pub mod Offers
 pub mod Running
+pub mod Returning
 pub mod Parts
 pub mod Timelines
 pub mod Events

@@ -1,9 +1,9 @@
 -- What a session is seen as: the events that were recorded, of which the first ones stand.
-use Rattle.std.specs.Prelude.{◌≡◌, ℕ, ◌+◌, ◌-◌, ◌++◌, if◌then◌else◌, List, [], ◌∷◌, take, drop, length, slice_get, Option}
+use Rattle.std.specs.Prelude.{◌≡◌, ℕ, ◌+◌, ◌-◌, ◌++◌, if◌then◌else◌, List, [], ◌∷◌, take, drop, length, slice_get, Option, Some, None}
 use Rattle.s360_machine.specs.declared.event.Event.{Event}
 use Rattle.s360_machine.specs.Machine.{Whole}
 use Rattle.s360_journal.specs.Offers.{with_events}
-use Rattle.s360_journal.specs.Standing.{Standing}
+use Rattle.s360_journal.specs.Standing.{IsAfter, Standing, refusal_in}
 use Rattle.s360_journal.specs.Timelines.{dropped_with, is_first}
 use Rattle.s360_journal.specs.Withdrawals.{without_event}
 
@@ -53,6 +53,13 @@ after_events r (e ∷ es) = after_events (after_event r e) es
 pub record AreRun (r : Recorded) (es : List Event) (t : Recorded) : Type 0 where
   pub record_of : t ≡ after_events r es
   pub stands : session_of t ≡ with_events (session_of r) es
+
+-- the event that comes next was run again: it is not refused, and stands after those before
+pub record IsRunAgain (r t : Recorded) (e : Event) : Type 0 where
+  pub next : next_recorded r ≡ Some e
+  pub accepted : refusal_in (session_of r) e ≡ None
+  pub state : t ≡ after_event r e
+  pub stands : IsAfter (session_of t) (session_of r) e
 
 -- the last event that stands is taken out of the record
 abbrev pub without_last : Recorded → Recorded

@@ -1,9 +1,11 @@
 //! The breakpoints: addresses in storage at which the debugger is to stop (own profile).
 ghost use Rattle.std.specs.Prelude.{◌≡◌, [], length};
-ghost use Rattle.s360_machine.specs.Machine.{seen};
 ghost use Rattle.s360_journal.specs.Breakpoints.{AreBreakpoints, has_address, has_room_for};
-ghost use Rattle.s360_journal.specs.Breakpoints.{is_at_breakpoint, with_address, without_address};
+ghost use Rattle.s360_journal.specs.Breakpoints.{with_address, without_address};
+ghost use Rattle.s360_journal.specs.Running.{stops_at};
 
+use crate::running::Stops;
+use crate::session::Session;
 use arrayvec::ArrayVec;
 use s360_machine::Machine;
 use std::marker::Model;
@@ -72,16 +74,21 @@ impl Breaks {
     {
         self.addresses.len() as u32
     }
+}
 
-    /// Whether the CPU operates at a breakpoint: the run state is operating, the wait bit is zero,
-    /// and there is a breakpoint at the address of the next instruction.
-    pub fn stops(&self, machine: &Machine) -> bool
-        ensures { result ≡ is_at_breakpoint (seen machine.now.whole) self.now }
-    {
+impl Stops for Breaks {
+    ghost stops_of = { λ b. stops_at b };
+
+    fn is_at_stop(&self, machine: &Machine) -> bool {
         if self.addresses.is_empty() {
             return false;
         }
         let psw = machine.psw();
         machine.run().is_operating() && !psw.wait() && self.has(psw.instruction_address())
+    }
+
+    #[inline(always)]
+    fn is_altered(&self, _session: &Session) -> bool {
+        false
     }
 }

@@ -10,7 +10,7 @@ ghost use Rattle.s360_journal.specs.declared.calls.Call.TheVariants.{Run};
 
 use crate::breaks::Breaks;
 use crate::report::Report;
-use crate::running::RunEnd;
+use crate::running::{Pause, Reach, Turn};
 use crate::session::{NothingStands, Session};
 use crate::withdrawing::Withdrawal;
 use s360_machine::{Event, Machine, Refusal};
@@ -28,11 +28,13 @@ pub enum Call {
     /// `Session::preview`
     Preview(Event),
     /// `Session::run`
-    Run(Breaks, u32),
+    Run(Breaks, Turn, Reach, u32),
     /// `Session::back`
     Back,
     /// `Session::step_back`
     StepBack,
+    /// `Session::run_back`
+    RunBack(Breaks, Reach, u32),
     /// `Session::back_until`
     BackUntil(Breaks),
     /// `Session::back_to`
@@ -63,12 +65,17 @@ pub enum Answer {
     /// Of `Session::run`, with the number of events that were accepted.
     Ran {
         accepted: u32,
-        end: Result<RunEnd, AllocError>,
+        end: Result<Pause, AllocError>,
     },
     /// Of `Session::back`.
     TookBack(Result<Event, NothingStands>),
     /// Of `Session::step_back`.
     SteppedBack(Result<(), NothingStands>),
+    /// Of `Session::run_back`, with the number of changes that stand then.
+    RanBack {
+        standing: u32,
+        why: Pause,
+    },
     /// Of `Session::back_until` and `Session::back_to`.
     WentBack(u32),
     /// Of `Session::again`.
@@ -103,9 +110,16 @@ impl Session {
             Call::Forward(event) => Answer::Forwarded(self.forward(event)),
             Call::Advance(event) => Answer::Advanced(self.advance(event)),
             Call::Preview(event) => Answer::Previewed(self.preview(event)),
-            Call::Run(breaks, most) => self.perform_run(&breaks, most),
+            Call::Run(breaks, turn, reach, most) => self.perform_run(&breaks, turn, reach, most),
             Call::Back => Answer::TookBack(self.back()),
             Call::StepBack => Answer::SteppedBack(self.step_back()),
+            Call::RunBack(breaks, reach, most) => {
+                let why = self.run_back(&breaks, reach, most);
+                Answer::RanBack {
+                    standing: self.standing(),
+                    why,
+                }
+            }
             Call::BackUntil(breaks) => Answer::WentBack(self.back_until(&breaks)),
             Call::BackTo(number) => Answer::WentBack(self.back_to(number)),
             Call::Again => Answer::RanAgain(self.again()),
@@ -118,11 +132,11 @@ impl Session {
     }
 
     /// A run, of which the accepted events are counted.
-    fn perform_run(&mut self, breaks: &Breaks, most: u32) -> Answer
-        ensures { IsAnswer self.old (Run breaks.now most) result self.new }
+    fn perform_run(&mut self, breaks: &Breaks, turn: Turn, reach: Reach, most: u32) -> Answer
+        ensures { IsAnswer self.old (Run breaks.now turn reach most) result self.new }
     {
         let before = self.standing();
-        let end = self.run(breaks, most);
+        let end = self.run(breaks, turn, reach, most);
         let accepted = self.standing() - before;
         Answer::Ran { accepted, end }
     }

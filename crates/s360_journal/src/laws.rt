@@ -1,6 +1,6 @@
 //! Laws of the definitions, each the contract of a call that does nothing.
 ghost use Rattle.s360_journal.specs.Laws.{BreakpointsAreASet, LastChangeIsTheGreatest};
-ghost use Rattle.s360_journal.specs.Laws.{LastStopIsTheGreatest, RefusalDependsOnTheSize};
+ghost use Rattle.s360_journal.specs.Laws.{LastStopIsTheGreatest, RefusalDependsOnTheSize, TurnRunsAgain};
 
 /// The last change of a place is the greatest number of a change that alters it.
 pub fn last_change_is_the_greatest()
@@ -21,4 +21,9 @@ pub fn last_stop_is_the_greatest()
 /// An event that is not refused in one machine is refused in no machine whose storage has that size.
 pub fn refusal_depends_on_the_size()
     ensures { RefusalDependsOnTheSize }
+{}
+
+/// What was taken back is run again by the next turn, which leads to the very record that was.
+pub fn turn_runs_again()
+    ensures { TurnRunsAgain }
 {}

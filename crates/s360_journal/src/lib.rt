@@ -26,10 +26,10 @@ pub use breaks::Breaks;
 pub use calls::{Answer, Call, Outcome, run_calls};
 pub use laws::{
     breakpoints_are_a_set, last_change_is_the_greatest, last_stop_is_the_greatest,
-    refusal_depends_on_the_size,
+    refusal_depends_on_the_size, turn_runs_again,
 };
 pub use places::Places;
 pub use report::Report;
-pub use running::{RunEnd, next_event};
+pub use running::{Pause, Reach, Stops, Turn, next_event};
 pub use session::{NothingStands, Session};
 pub use withdrawing::Withdrawal;

@@ -40,6 +40,7 @@ pub(crate) enum Noted<'a> {
 }
 
 /// The event of a tag, with the unit and the whole event that are the nearest apart.
+#[inline(always)]
 pub(crate) fn note_of<'a>(
     tag: Option<&Tag>,
     unit: Option<&Unit>,

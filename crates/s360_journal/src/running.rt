@@ -1,71 +1,209 @@
-//! Runs: the events whose turn it is, one after another.
-ghost use Rattle.std.specs.Prelude.{◌≡◌, ℕ, IfOk, OnOk, OnErr, None, take};
+//! Runs: events one after another, until the machine is to pause; and the way back.
+ghost use Rattle.std.specs.Prelude.{◌≡◌, ◌≤◌, ◌&&◌, ℕ, List, IfOk, OnOk, OnErr, false, length, nat_eq, take};
 ghost use Rattle.s360_machine.specs.Machine.{seen};
-ghost use Rattle.s360_journal.specs.Breakpoints.{is_at_breakpoint};
-ghost use Rattle.s360_journal.specs.Offers.{unless_refused};
-ghost use Rattle.s360_journal.specs.Recorded.{AreRun, session_of};
-ghost use Rattle.s360_journal.specs.Running.{end_of_turn, end_with, next_event, run_of};
-ghost use Rattle.s360_journal.specs.Standing.{IsAfter, Standing, alteration, machine_of, refusal_in};
+ghost use Rattle.s360_machine.specs.declared.event.Event.{Event as Happening};
+ghost use Rattle.s360_journal.specs.Recorded.{AreRun, session_of, standing_events, with_standing};
+ghost use Rattle.s360_journal.specs.Returning.{IsTakenBack, back_of, is_cpu_last};
+ghost use Rattle.s360_journal.specs.Running.{IsAccepted, IsTurn, WhereToStop, is_reached, next_event, pause_after, pause_with, run_in};
+ghost use Rattle.s360_journal.specs.Standing.{IsAfter, Standing};
 
-use crate::breaks::Breaks;
 use crate::session::Session;
-use s360_machine::{Event, Machine, Refusal};
+use s360_machine::{Event, EventKind, Machine, Refusal};
 use std::alloc::AllocError;
 
-/// Why a run ended.
+/// Where a run, or the way back, is to pause.
+pub trait Stops {
+    // as the rules have it
+    ghost stops_of: { Self → WhereToStop };
+
+    /// Whether the CPU operates at a breakpoint.
+    fn is_at_stop(&self, machine: &Machine) -> bool
+        ensures { result ≡ (stops_of self.now).at (seen machine.now.whole) };
+
+    /// Whether the last change that stands altered what is watched.
+    fn is_altered(&self, session: &Session) -> bool
+        ensures { result ≡ (stops_of self.now).altered (session_of session.now) };
+}
+
+/// Which events a run takes.
+#[derive(Clone, Copy, PartialEq, Eq)]
+pub enum Turn {
+    /// New ones, each the one whose turn it is.
+    New,
+    /// Those that come next in the record, and at its end new ones.
+    Next,
+}
+
+/// How far the machine goes where nothing else lets it pause.
+#[derive(Clone, Copy, PartialEq, Eq)]
+pub enum Reach {
+    /// Over one event of the CPU.
+    Step,
+    /// To a breakpoint.
+    Stop,
+}
+
+/// Why the machine pauses.
 #[derive(Clone, Copy)]
-pub enum RunEnd {
+pub enum Pause {
     /// The next event was refused.
     Refused(Refusal),
-    /// The last event altered nothing.
+    /// Nothing is left to do: the event whose turn it was altered nothing.
     Idle,
+    /// The last change altered what is watched.
+    Watch,
     /// The CPU operates at a breakpoint.
     Break,
-    /// As many events were accepted as were asked for.
+    /// An event of the CPU was run, or taken back.
+    Stepped,
+    /// All that was recorded stands.
+    RecordEnd,
+    /// Nothing stands.
+    RecordStart,
+    /// As many events were run, or taken back, as were asked for.
     Done,
 }
 
 impl Session {
-    /// Runs at most so many events, each the one whose turn it is, and answers why the run ended. After want of
-    /// memory some first ones of them stand.
-    pub fn run(&mut self, breaks: &Breaks, most: u32) -> Result<RunEnd, AllocError>
-        ensures end { IfOk result (λ end. end ≡ (run_of breaks.now (session_of self.old) most).why) }
-        ensures state { OnOk result (AreRun self.old (run_of breaks.now (session_of self.old) most).events self.new) }
-        ensures memory { OnErr result ((n : ℕ) × AreRun self.old (take n (run_of breaks.now (session_of self.old) most).events) self.new) }
+    /// Runs at most so many events, and answers why the machine pauses. After want of memory some first ones of them stand.
+    pub fn run<S: Stops>(
+        &mut self,
+        stops: &S,
+        turn: Turn,
+        reach: Reach,
+        most: u32,
+    ) -> Result<Pause, AllocError>
+        ensures end { IfOk result (λ end. end ≡ (run_in (S.stops_of stops.now) turn reach self.old most).why) }
+        ensures state { OnOk result (AreRun self.old (run_in (S.stops_of stops.now) turn reach self.old most).events self.new) }
+        ensures memory { OnErr result ((n : ℕ) × AreRun self.old (take n (run_in (S.stops_of stops.now) turn reach self.old most).events) self.new) }
     {
-        for _turn in 0..most {
-            if let Some(end) = self.take_turn(breaks)? {
-                return Ok(end);
+        for _event in 0..most {
+            if let Some(pause) = self.take_turn(stops, turn, reach)? {
+                return Ok(pause);
             }
         }
-        Ok(RunEnd::Done)
+        Ok(Pause::Done)
     }
 
-    /// Offers the event whose turn it is, and answers why a run ends with it, if it does.
-    fn take_turn(&mut self, breaks: &Breaks) -> Result<Option<RunEnd>, AllocError>
-        ensures end { IfOk result (λ end. end ≡ end_of_turn breaks.now (session_of self.old) (next_event (machine_of (session_of self.old)))) }
-        ensures state { OnOk result (let e = next_event (machine_of (session_of self.old)) in AreRun self.old (unless_refused (refusal_in (session_of self.old) e) e) self.new) }
+    /// Runs the next event, and answers why the machine pauses with it, if it does.
+    #[inline(always)]
+    fn take_turn<S: Stops>(
+        &mut self,
+        stops: &S,
+        turn: Turn,
+        reach: Reach,
+    ) -> Result<Option<Pause>, AllocError>
+        ensures taken { IfOk result (λ pause. IsTurn (S.stops_of stops.now) turn reach self.old pause self.new) }
         ensures memory { OnErr result (self.new ≡ self.old) }
     {
+        if turn == Turn::Next && self.standing() < self.recorded() {
+            self.run_next()?;
+            return Ok(self.pause_after(stops, reach, true));
+        }
         let event = next_event(self.machine());
         match self.advance(event) {
-            Ok(()) => Ok(self.end_after(breaks)),
+            Ok(()) => Ok(self.pause_after(stops, reach, false)),
             Err(Refusal::Memory) => Err(AllocError),
-            Err(refusal) => Ok(Some(RunEnd::Refused(refusal))),
+            Err(refusal) => Ok(Some(Pause::Refused(refusal))),
         }
     }
 
-    /// Why a run ends after the last change that stands, if it does.
-    fn end_after(&self, breaks: &Breaks) -> Option<RunEnd>
-        ensures { (s : Standing) (e : Event) → IsAfter (session_of self.now) s e → result ≡ end_with None (alteration s e) (is_at_breakpoint (machine_of (session_of self.now)) breaks.now) }
+    /// Why the machine pauses after the last event, which may have been run again, if it does.
+    #[inline(always)]
+    fn pause_after<S: Stops>(&self, stops: &S, reach: Reach, is_again: bool) -> Option<Pause>
+        ensures { (s : Standing) (rest : List Happening) (e : Happening) → IsAccepted self.now s rest e is_again → result ≡ pause_after (S.stops_of stops.now) reach s rest e }
     {
-        if self.is_idle() {
-            return Some(RunEnd::Idle);
+        if !is_again && self.is_idle() {
+            return Some(Pause::Idle);
         }
-        if breaks.stops(self.machine()) {
-            return Some(RunEnd::Break);
+        if stops.is_altered(self) {
+            return Some(Pause::Watch);
         }
-        None
+        pause_with(
+            self.is_reached(stops, reach),
+            self.is_at_end(is_again),
+            reach,
+        )
+    }
+
+    /// Whether the last event is as far as was asked.
+    #[inline(always)]
+    fn is_reached<S: Stops>(&self, stops: &S, reach: Reach) -> bool
+        ensures { (s : Standing) (e : Happening) → IsAfter (session_of self.now) s e → result ≡ is_reached (S.stops_of stops.now) reach (session_of self.now) e }
+    {
+        match reach {
+            Reach::Step => self.is_cpu_last(),
+            Reach::Stop => stops.is_at_stop(self.machine()),
+        }
+    }
+
+    /// Whether an event that was run again is the last of the record.
+    #[inline(always)]
+    fn is_at_end(&self, is_again: bool) -> bool
+        ensures { result ≡ (is_again && nat_eq self.now.standing (length self.now.events)) }
+    {
+        is_again && self.standing() == self.recorded()
+    }
+
+    /// Takes at most so many changes back, whose events stay in the record, and answers why the machine pauses. It takes no
+    /// memory.
+    pub fn run_back<S: Stops>(&mut self, stops: &S, reach: Reach, most: u32) -> Pause
+        ensures why { result ≡ (back_of (S.stops_of stops.now) reach self.old most).why }
+        ensures state { self.new ≡ with_standing self.old (back_of (S.stops_of stops.now) reach self.old most).standing }
+        ensures within { self.new.standing ≤ self.old.standing }
+    {
+        for _change in 0..most {
+            if let Some(pause) = self.take_back(stops, reach) {
+                return pause;
+            }
+        }
+        Pause::Done
+    }
+
+    /// Takes the last change back, unless the machine is to pause before it, and answers why the machine pauses, if it does.
+    #[inline(always)]
+    fn take_back<S: Stops>(&mut self, stops: &S, reach: Reach) -> Option<Pause>
+        ensures { IsTakenBack (S.stops_of stops.now) reach self.old result self.new }
+    {
+        if self.standing() == 0 {
+            return Some(Pause::RecordStart);
+        }
+        let is_altered = stops.is_altered(self);
+        if is_altered {
+            return Some(Pause::Watch);
+        }
+        match reach {
+            Reach::Step => {
+                let is_cpu = self.is_cpu_last();
+                let _taken = self.step_back();
+                is_cpu.then_some(Pause::Stepped)
+            }
+            Reach::Stop => {
+                let _taken = self.step_back();
+                stops.is_at_stop(self.machine()).then_some(Pause::Break)
+            }
+        }
+    }
+
+    /// Whether the last event that stands is one of the CPU.
+    fn is_cpu_last(&self) -> bool
+        ensures { result ≡ is_cpu_last (standing_events self.now) }
+    {
+        matches!(self.last_event(), Some(EventKind::Cpu))
+    }
+}
+
+/// Why the machine pauses after an event that altered something, but nothing that is watched.
+#[inline(always)]
+fn pause_with(is_reached: bool, is_end: bool, reach: Reach) -> Option<Pause>
+    ensures { result ≡ pause_with false false is_reached is_end reach }
+{
+    match reach {
+        Reach::Step if is_end => Some(Pause::RecordEnd),
+        Reach::Step if is_reached => Some(Pause::Stepped),
+        Reach::Stop if is_reached => Some(Pause::Break),
+        Reach::Stop if is_end => Some(Pause::RecordEnd),
+        _ => None,
     }
 }
 

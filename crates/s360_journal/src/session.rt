@@ -1,12 +1,13 @@
 //! The session: the machine, and the journal of the changes that stand.
-ghost use Rattle.std.specs.Prelude.{◌≡◌, ◌↔◌, ◌-◌, ◌+◌, ◌<◌, ◌++◌, ◌∷◌, ◌≤◌, [], length, take, OnOk, OnErr, IfOk, IsTrue, Err};
+ghost use Rattle.std.specs.Prelude.{◌≡◌, ◌↔◌, ◌-◌, ◌+◌, ◌<◌, ◌++◌, ◌∷◌, ◌≤◌, [], Some, length, take, OnOk, OnErr, IfOk, IsTrue, Err};
 ghost use Rattle.std.specs.Prelude.{IsOkUnless, MatchOption, max, min};
 ghost use Rattle.std.specs.Option.{unwrap_or};
 ghost use Rattle.s360_machine.specs.Machine.{seen, storage_size};
 ghost use Rattle.s360_machine.specs.declared.refusal.Refusal.TheVariants.{Memory};
-ghost use Rattle.s360_journal.specs.Recorded.{after_event, cut_to, next_recorded, session_of, standing_events, with_standing, without_last};
+ghost use Rattle.s360_journal.specs.Recorded.{IsRunAgain, after_event, cut_to, next_recorded, session_of, standing_events, with_standing, without_last};
 ghost use Rattle.s360_journal.specs.Reports.{IsReport};
 ghost use Rattle.s360_journal.specs.Rerun.{rerun, AreAccepted, changes_of, last_change_of};
+ghost use Rattle.s360_journal.specs.Returning.{one_back};
 ghost use Rattle.s360_journal.specs.Running.{next_event};
 ghost use Rattle.s360_journal.specs.Stops.{stop_of};
 ghost use Rattle.s360_journal.specs.Standing.{IsAfter, Standing, machine_of, refusal_in, alteration, last_kind_of};
@@ -17,7 +18,7 @@ ghost use Rattle.s360_machine.specs.declared.event.Event.{Event as AnEvent};
 use crate::breaks::Breaks;
 use crate::journal::Journal;
 use crate::report::Report;
-use crate::running::next_event;
+use crate::running::{Reach, next_event};
 use crate::timeline::Timeline;
 use s360_machine::{Event, EventKind, Machine, Refusal};
 use s360_store::Place;
@@ -122,6 +123,13 @@ impl Session {
         ensures within { result ≤ length self.now.events }
     {
         self.journal.len()
+    }
+
+    /// How many events may be recorded.
+    pub fn limit(&self) -> u32
+        ensures { result ≡ self.now.limit }
+    {
+        self.limit
     }
 
     /// The number of events that are recorded.
@@ -306,7 +314,7 @@ impl Session {
 
     /// Takes the last change that stands back. Its event stays in the record, and comes next. It takes no memory.
     pub fn step_back(&mut self) -> Result<(), NothingStands>
-        ensures ok { OnOk result (self.new ≡ with_standing self.old (self.old.standing - 1)) }
+        ensures ok { self.new ≡ one_back self.old }
         ensures stands { OnOk result (session_of self.new ≡ record (session_of self.old) { events = take (length (standing_events self.old) - 1) (standing_events self.old) }) }
         ensures some { OnOk result (0 < self.old.standing) }
         ensures err { OnErr result (self.new ≡ self.old) }
@@ -341,29 +349,52 @@ impl Session {
         ensures stands { session_of self.new ≡ record (session_of self.old) { events = take result (standing_events self.old) } }
         ensures within { result ≤ self.old.standing }
     {
-        let mut standing = self.standing();
-        while standing > 0 {
-            let _taken = self.step_back();
-            standing -= 1;
-            if breaks.stops(self.machine()) {
-                return standing;
-            }
-        }
-        0
+        let _pause = self.run_back(breaks, Reach::Stop, self.standing());
+        self.standing()
     }
 
     /// Runs the next event of the record again, and answers whether there was one. Want of memory changes nothing.
     pub fn again(&mut self) -> Result<bool, AllocError>
         ensures some { IfOk result (λ ran. IsTrue ran ↔ (self.old.standing < length self.old.events)) }
+        ensures event { IfOk result (λ ran. IsTrue ran → (e : AnEvent) × IsRunAgain self.old self.new e) }
         ensures state { OnOk result (self.new ≡ with_standing self.old (min (self.old.standing + 1) (length self.old.events))) }
         ensures err { OnErr result (self.new ≡ self.old) }
     {
-        let Some(event) = self.timeline.next()? else {
+        if self.standing() == self.recorded() {
             return Ok(false);
+        }
+        self.run_next()?;
+        Ok(true)
+    }
+
+    /// Runs the next event of the record again, where there is one. Want of memory changes nothing.
+    pub(crate) fn run_next(&mut self) -> Result<(), AllocError>
+        requires { self.old.standing < length self.old.events }
+        ensures event { OnOk result ((e : AnEvent) × IsRunAgain self.old self.new e) }
+        ensures state { OnOk result (self.new ≡ with_standing self.old (self.old.standing + 1)) }
+        ensures err { OnErr result (self.new ≡ self.old) }
+    {
+        // The most frequent event is run with no copy of it.
+        if self.timeline.is_cpu_next() {
+            return self.make_again(Event::Cpu);
+        }
+        let Some(event) = self.timeline.next()? else {
+            unreachable!()
         };
+        self.make_again(event)
+    }
+
+    /// Makes the change of the event that comes next in the record, which then stands. Want of memory changes nothing.
+    #[inline(always)]
+    fn make_again(&mut self, event: Event) -> Result<(), AllocError>
+        requires { next_recorded self.old ≡ Some event }
+        ensures event { OnOk result (IsRunAgain self.old self.new event) }
+        ensures state { OnOk result (self.new ≡ with_standing self.old (self.old.standing + 1)) }
+        ensures err { OnErr result (self.new ≡ self.old) }
+    {
         self.journal.make(&event)?;
         self.timeline.on();
-        Ok(true)
+        Ok(())
     }
 
     /// Goes on to a change: runs the recorded events again up to the one of this number, or all if no more are recorded, or

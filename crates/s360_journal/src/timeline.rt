@@ -1,7 +1,8 @@
 //! The events that were recorded, in a byte each: those that stand, and those that were taken back. What some carry stands in
 //! lists apart: the units of channel events and of loads, and whole events that carry more.
 ghost use Rattle.std.specs.Option.{option_map, option_to_list};
-ghost use Rattle.std.specs.Prelude.{◌≡◌, ◌≢◌, ◌+◌, ◌-◌, ◌++◌, ◌∷◌, [], None, IfOk, OnOk, drop, length, slice_get, take};
+ghost use Rattle.std.specs.Prelude.{◌≡◌, ◌≢◌, ◌+◌, ◌-◌, ◌++◌, ◌∷◌, [], None, Some, IfOk, IsTrue, OnOk, drop, length, slice_get, take};
+ghost use Rattle.s360_machine.specs.declared.event.Event.TheVariants.{Cpu};
 ghost use Rattle.s360_journal.specs.Noted.{event_noted};
 ghost use Rattle.s360_journal.specs.Standing.{last_kind_of, last_of};
 ghost use Rattle.s360_journal.specs.Timelines.{HasRoomFor, is_first};
@@ -151,6 +152,7 @@ impl Timeline {
 
     /// The first event of the rest stands.
     #[tactic(auto, using(crate::proofs::TimelineLemmas::none_there))]
+    #[inline(always)]
     pub(crate) fn on(&mut self)
         requires { self.old.rest ≢ [] }
         ensures standing { self.new.standing ≡ self.old.standing ++ take 1 self.old.rest }
@@ -205,6 +207,7 @@ impl Timeline {
 
     /// The first event of the rest.
     #[tactic(auto, using(crate::proofs::TimelineLemmas::first_of_events))]
+    #[inline(always)]
     fn first(&self) -> Option<Noted<'_>>
         ensures { option_map event_noted result ≡ slice_get self.now.rest 0 }
     {
@@ -227,6 +230,14 @@ impl Timeline {
             Some(noted) => Some(noted.kind()),
             None => None,
         }
+    }
+
+    /// Whether the first event of the rest is one of the CPU.
+    #[inline(always)]
+    pub(crate) fn is_cpu_next(&self) -> bool
+        ensures { IsTrue result → slice_get self.now.rest 0 ≡ Some Cpu }
+    {
+        matches!(self.first(), Some(Noted::Cpu))
     }
 
     /// Whether an event is equal to the first of the rest.

@@ -1,11 +1,12 @@
 -- The first word of a line, found by a look for a byte that is no blank, and then for a blank.
-use Rattle.std.proofs.Common.{◌≡◌, ◌≢◌, ◌<◌, ◌≤◌, ◌+◌, ◌++◌, ℕ, zero, suc, Some, None, List, [], ◌∷◌, Bool, true, false, not, cond, refl, ap, ◌∙◌, take, drop, get_or, length, nat_lt, nat_eq, arith, append_assoc}
+use Rattle.std.proofs.Common.{◌≡◌, ◌≢◌, ◌<◌, ◌≤◌, ◌+◌, ◌-◌, ◌++◌, ℕ, zero, suc, Some, None, List, [], ◌∷◌, Bool, true, false, not, cond, refl, ap, sym, ◌∙◌, take, drop, get_or, length, nat_lt, nat_eq, arith, append_assoc}
 use Rattle.std.proofs.lemmas.Bool.{ltb-false}
+use Rattle.std.proofs.lemmas.Grind.{common_steps}
 use Rattle.std.proofs.lemmas.List.{append-nil, take_all, drop_all, get_or-drop, length-drop}
 use Rattle.std.proofs.lemmas.List.Quantifiers.{position-Some}
 use Rattle.std.proofs.lemmas.List.Sums.{fails_before_first}
 use Rattle.std.specs.List.{position, position_or_len}
-use Rattle.s360_language.specs.Words.{word_then, words_from, words_of}
+use Rattle.s360_language.specs.Words.{from_first, word_then, words_from, words_of}
 
 -- blanks before a word don't count
 skip_blanks : (xs : List ℕ) (n : ℕ) → n ≤ length xs → ((k : ℕ) → k < n → not (nat_eq (get_or xs k 0) 32) ≡ false) → words_of xs ≡ words_of (drop n xs)
@@ -38,14 +39,27 @@ IsFirst-position test xs n h =
     let parts : (n < length xs) × (test (get_or xs n 0) ≡ true) × ((k : ℕ) → k < n → test (get_or xs k 0) ≡ false) = position-Some test xs n 0 h
     in record { within = parts.0; passes = parts.1; before = parts.2 }
 
-pub NonePasses-position : (test : ℕ → Bool) (xs : List ℕ) → position test xs ≡ None → (k : ℕ) → k < length xs → test (get_or xs k 0) ≡ false
-NonePasses-position test xs h =
+-- a position past the end, where no byte passes
+past_end : (test : ℕ → Bool) (xs : List ℕ) → position test xs ≡ None → length xs ≤ position_or_len test xs
+past_end test xs h =
     let n : ℕ = position_or_len test xs
     in let by : (b : Bool) → nat_lt n (length xs) ≡ b → cond b (Some n) None ≡ None → length xs ≤ n
     = λ b. elim b as (λ x. nat_lt n (length xs) ≡ x → cond x (Some n) None ≡ None → length xs ≤ n)
     [ true ↦ λ e none. cc | false ↦ λ e none. ltb-false n (length xs) e ]
-    in let past : length xs ≤ n = by (nat_lt n (length xs)) refl h
-    in λ k i. fails_before_first test xs k 0 (omega arith)
+    in by (nat_lt n (length xs)) refl h
+
+pub NonePasses-position : (test : ℕ → Bool) (xs : List ℕ) → position test xs ≡ None → (k : ℕ) → k < length xs → test (get_or xs k 0) ≡ false
+NonePasses-position test xs h = let past : length xs ≤ position_or_len test xs = past_end test xs h in λ k i. fails_before_first test xs k 0 (omega arith)
+
+-- a line from the first byte on that passes, if one does
+pub from_first-at : (test : ℕ → Bool) (xs : List ℕ) (i : ℕ) → Some i ≡ position test xs → take (length xs - i) (drop i xs) ≡ from_first test xs
+from_first-at test xs i h =
+    let at : position_or_len test xs ≡ i = grind (arith, common_steps)
+    in let whole : take (length xs - i) (drop i xs) ≡ drop i xs = take_all _ _ (omega (arith, length-drop i xs))
+    in whole ∙ ap (λ n. drop n xs) (sym at)
+
+pub from_first-none : (test : ℕ → Bool) (xs : List ℕ) → None ≡ position test xs → [] ≡ from_first test xs
+from_first-none test xs h = sym (drop_all (position_or_len test xs) xs (past_end test xs (sym h)))
 
 pub words_of-none : (xs : List ℕ) → position (λ b. not (nat_eq b 32)) xs ≡ None → words_of xs ≡ []
 words_of-none xs h =

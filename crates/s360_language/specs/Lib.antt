@@ -1,6 +1,7 @@
 pub mod Commands
 pub mod Words
 pub mod Digits
+pub mod Lines
 pub mod Names
 pub mod ShownUnits
 pub mod ShownItems

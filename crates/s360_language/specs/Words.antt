@@ -19,9 +19,12 @@ words_of line = words_from [] line
 abbrev pub from_first : (ℕ → Bool) → List ℕ → List ℕ
 from_first test line = drop (position_or_len test line) line
 
--- what follows the first word of a line
+-- a line from its first word on, and what follows that word
+abbrev pub from_word : List ℕ → List ℕ
+from_word line = from_first (λ b. not (nat_eq b 32)) line
+
 abbrev pub behind_word : List ℕ → List ℕ
-behind_word line = from_first (λ b. nat_eq b 32) (from_first (λ b. not (nat_eq b 32)) line)
+behind_word line = from_first (λ b. nat_eq b 32) (from_word line)
 
 -- the text of a line: what follows its first word and one blank
 abbrev pub text_behind : List ℕ → List ℕ

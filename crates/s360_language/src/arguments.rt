@@ -1,53 +1,104 @@
-//! The arguments of a line: its words after the first, judged from left to right. Each is told its number in the line, and
-//! answers that if it is wrong or missing.
-ghost use Rattle.std.specs.Prelude.{◌≡◌, ◌≤◌, ◌<◌, ◌^◌, ◌-◌, IfOk, drop};
-ghost use Rattle.s360_language.specs.Digits.{count_of};
-ghost use Rattle.s360_language.specs.Reading.{AtEnd, argument, count_or, number_argument, place_argument};
-ghost use Rattle.s360_language.specs.Reading.{unit_argument};
+//! The kinds of arguments of a line.
+ghost use Rattle.std.specs.Prelude.{◌≡◌, ◌≤◌, ◌<◌, ◌^◌, ◌-◌, IfOk, IfSome, drop};
+ghost use Rattle.s360_language.specs.Digits.{count_of, doubleword_of, hex_number};
+ghost use Rattle.s360_language.specs.Lines.{argument_or, kind};
+ghost use Rattle.s360_language.specs.Reading.{address, bit_of, key_of, places, register, storage_key, unit, word_of};
 
 use crate::command::LineFault;
-use crate::words::{Words, is_word};
+use crate::lines::go_on;
+use crate::words::Words;
+use crate::{read_line, read_word};
+use s360_machine::Key;
 use s360_store::{BLOCK_SIZE, Place};
 use s360_text::number_in;
-use s360_word::Unit;
+use s360_word::{ProtectionKey, RegisterNumber, Unit};
 
 /// A count has at most so many decimal digits.
 const COUNT_DIGITS: usize = 8;
 
-/// Refuses a word that is left, by its number.
-pub fn expect_end(mut words: Words<'_>, place: u8) -> Result<(), LineFault>
-    ensures { AtEnd place words.entry result }
+/// A doubleword has so many hexadecimal digits.
+const DOUBLEWORD_DIGITS: usize = 16;
+
+/// A number of at most so many hexadecimal digits.
+fn hexadecimal_in(word: &[u8], most: usize) -> Option<u32>
+    requires { most ≤ 8 }
+    ensures value { result ≡ hex_number most word.now }
+    ensures below { IfSome result (λ n. n < 16 ^ most) }
 {
-    match words.next_word() {
-        Some(_) => Err(LineFault::Argument(place)),
-        None => Ok(()),
+    let number = number_in(16, word, most)?;
+    Some(number as u32)
+}
+
+/// An address.
+pub fn address_in(word: &[u8]) -> Option<u32>
+    ensures { result ≡ address word.now }
+{
+    hexadecimal_in(word, 6)
+}
+
+/// A word of four bytes.
+pub(crate) fn word_in(word: &[u8]) -> Option<u32>
+    ensures { result ≡ word_of word.now }
+{
+    hexadecimal_in(word, 8)
+}
+
+/// A doubleword.
+pub(crate) fn doubleword_in(word: &[u8]) -> Option<u64>
+    ensures { result ≡ doubleword_of word.now }
+{
+    if word.len() != DOUBLEWORD_DIGITS {
+        return None;
+    }
+    number_in(16, word, DOUBLEWORD_DIGITS)
+}
+
+/// A general register.
+pub(crate) fn register_in(word: &[u8]) -> Option<RegisterNumber>
+    ensures { result ≡ register word.now }
+{
+    let number = hexadecimal_in(word, 1)?;
+    Some(RegisterNumber::new(number as u8))
+}
+
+/// A storage key.
+pub(crate) fn storage_key_in(word: &[u8]) -> Option<ProtectionKey>
+    ensures { result ≡ storage_key word.now }
+{
+    let number = hexadecimal_in(word, 1)?;
+    Some(ProtectionKey::new(number as u8))
+}
+
+/// A unit, by its address.
+pub(crate) fn unit_in(word: &[u8]) -> Option<Unit>
+    ensures { result ≡ unit word.now }
+{
+    let address = hexadecimal_in(word, 3)?;
+    Some(Unit::new(address as u16))
+}
+
+/// A bit.
+pub(crate) fn bit_in(word: &[u8]) -> Option<bool>
+    ensures { result ≡ bit_of word.now }
+{
+    read_word! { word, None; "0" => false; "1" => true; }
+}
+
+/// A key of the operator, by its name.
+pub(crate) fn key_in(word: &[u8]) -> Option<Key>
+    ensures { result ≡ key_of word.now }
+{
+    read_word! { word, None;
+        "start" => Key::Start;
+        "stop" => Key::Stop;
+        "reset" => Key::Reset;
+        "interrupt" => Key::Interrupt;
+        "eof" => Key::EndOfFile;
+        "request" => Key::Request;
     }
 }
 
-/// The next word as a number of at most so many hexadecimal digits.
-pub fn next_number(words: &mut Words<'_>, place: u8, most: usize) -> Result<u32, LineFault>
-    requires { most ≤ 8 }
-    ensures value { result ≡ number_argument place most words.old }
-    ensures below { IfOk result (λ n. n < 16 ^ most) }
-    ensures rest { words.new ≡ drop 1 words.old }
-{
-    let word = words.next_word().ok_or(LineFault::Argument(place))?;
-    let Some(number) = number_in(16, word, most) else {
-        return Err(LineFault::Argument(place));
-    };
-    Ok(number as u32)
-}
-
-/// The next word as the address of a unit, in at most three hexadecimal digits.
-pub fn next_unit(words: &mut Words<'_>, place: u8) -> Result<Unit, LineFault>
-    ensures unit { result ≡ unit_argument place words.old }
-    ensures rest { words.new ≡ drop 1 words.old }
-{
-    let address = next_number(words, place, 3)?;
-    Ok(Unit::new(address as u16))
-}
-
-/// A word as a count from 1 to so many, in decimal digits.
+/// A count from 1 to so many, in decimal digits.
 pub fn count_in(word: &[u8], most: u32) -> Option<u32>
     ensures { result ≡ count_of most word.now }
 {
@@ -57,61 +108,37 @@ pub fn count_in(word: &[u8], most: u32) -> Option<u32>
     }
 }
 
-/// The next word as a count from 1 to so many.
-pub fn next_count(words: &mut Words<'_>, place: u8, most: u32) -> Result<u32, LineFault>
-    ensures value { result ≡ argument place (count_of most) words.old }
-    ensures rest { words.new ≡ drop 1 words.old }
-{
-    let word = words.next_word().ok_or(LineFault::Argument(place))?;
-    count_in(word, most).ok_or(LineFault::Argument(place))
-}
-
 /// The next word as a count from 1 to so many, or another number if no word is left.
 pub fn next_count_or(
     words: &mut Words<'_>,
-    place: u8,
+    number: u8,
     most: u32,
     otherwise: u32,
 ) -> Result<u32, LineFault>
-    ensures value { result ≡ count_or place most otherwise words.old }
+    ensures value { result ≡ argument_or number (count_of most) otherwise words.old }
     ensures rest { words.new ≡ drop 1 words.old }
 {
     match words.next_word() {
-        Some(word) => count_in(word, most).ok_or(LineFault::Argument(place)),
+        Some(word) => count_in(word, most).ok_or(LineFault::Argument(number)),
         None => Ok(otherwise),
     }
 }
 
-/// The next words as a place, after the first word of a line, and the number of the word behind them.
-pub fn next_place(words: &mut Words<'_>) -> Result<(Place, u8), LineFault>
-    ensures place { result ≡ place_argument words.old }
-    ensures rest { IfOk result (λ named. words.new ≡ drop (named.1 - 1) words.old) }
-    ensures least { IfOk result (λ named. 2 ≤ named.1) }
-    ensures most { IfOk result (λ named. named.1 ≤ 3) }
+/// The next words as a place, the first of which has this number, and the number of the word behind them.
+pub fn next_place(words: &mut Words<'_>, number: u8) -> Result<(Place, u8), LineFault>
+    requires { number ≡ 1 }
+    ensures place { result ≡ kind places number words.old }
+    ensures rest { IfOk result (λ read. words.new ≡ drop (read.1 - number) words.old) }
+    ensures most { IfOk result (λ read. read.1 ≤ 3) }
 {
-    let kind = words.next_word().ok_or(LineFault::Argument(1))?;
-    if is_word(kind, "s") {
-        let at = next_number(words, 2, 6)?;
-        Ok((Place::Byte(at), 3))
-    } else if is_word(kind, "r") {
-        let register = next_number(words, 2, 1)?;
-        Ok((Place::Register(register as u8), 3))
-    } else if is_word(kind, "k") {
-        let at = next_number(words, 2, 6)?;
-        Ok((Place::Key(at / BLOCK_SIZE), 3))
-    } else if is_word(kind, "p") {
-        Ok((Place::Psw, 2))
-    } else if is_word(kind, "run") {
-        Ok((Place::Run, 2))
-    } else if is_word(kind, "ext") {
-        Ok((Place::External, 2))
-    } else if is_word(kind, "u") {
-        let unit = next_unit(words, 2)?;
-        Ok((Place::UnitState(unit), 3))
-    } else if is_word(kind, "d") {
-        let unit = next_unit(words, 2)?;
-        Ok((Place::UnitMedia(unit), 3))
-    } else {
-        Err(LineFault::Argument(1))
+    read_line! { words, number, go_on, LineFault::Argument(number);
+        "s" (at: address_in) => Place::Byte(at);
+        "r" (register: register_in) => Place::Register(register.number());
+        "k" (at: address_in) => Place::Key(at / BLOCK_SIZE);
+        "p" () => Place::Psw;
+        "run" () => Place::Run;
+        "ext" () => Place::External;
+        "u" (unit: unit_in) => Place::UnitState(unit);
+        "d" (unit: unit_in) => Place::UnitMedia(unit);
     }
 }

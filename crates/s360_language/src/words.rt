@@ -1,8 +1,8 @@
 //! The words of a line: what stands between its blanks.
 ghost use Rattle.std.specs.Prelude.{◌≡◌, ◌≤◌, ◌+◌, ◌∷◌, [], MatchOption, IfSome, length, nat_eq, not};
 ghost use Rattle.std.specs.List.{position};
-ghost use Rattle.s360_language.specs.Reading.{is_word};
-ghost use Rattle.s360_language.specs.Words.{behind_word, text_behind, words_of};
+ghost use Rattle.s360_language.specs.Lines.{is_word};
+ghost use Rattle.s360_language.specs.Words.{behind_word, from_word, text_behind, words_of};
 
 use std::marker::Model;
 
@@ -71,13 +71,33 @@ fn split_word(line: &[u8]) -> Option<(&[u8], &[u8])>
     }
 }
 
+/// What follows the first word of a line.
+pub fn behind_word(line: &[u8]) -> &[u8]
+    ensures { result.now ≡ behind_word line.now }
+{
+    match split_word(line) {
+        Some((_, behind)) => behind,
+        None => &[],
+    }
+}
+
+/// A line from its first word on.
+pub fn from_word(line: &[u8]) -> &[u8]
+    ensures { result.now ≡ from_word line.now }
+{
+    match first_other(line) {
+        Some(at) => &line[at..],
+        None => &[],
+    }
+}
+
 /// The text of a line: what follows its first word and one blank.
 pub(crate) fn text_behind(line: &[u8]) -> &[u8]
     ensures { result.now ≡ text_behind line.now }
 {
-    match split_word(line) {
-        Some((_, [_, text @ ..])) => text,
-        _ => &[],
+    match behind_word(line) {
+        [_, text @ ..] => text,
+        [] => &[],
     }
 }
 

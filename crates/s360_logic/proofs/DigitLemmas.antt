@@ -1,18 +1,13 @@
 -- What is made of operands that share no byte: nothing that is stored is fetched later.
-use Rattle.std.proofs.Common.{◌≡◌, ◌≢◌, ◌<◌, ◌≤◌, ◌+◌, ◌∙◌, ℕ, zero, suc, length, arith, refl, ap, nat_eq, nat_lt, inl, inr, get_or-set_other, get_or-set_same, length-set}
+use Rattle.std.proofs.Common.{◌≡◌, ◌≢◌, ◌<◌, ◌≤◌, ◌+◌, ◌∙◌, ℕ, zero, suc, length, arith, rules, refl, ap, nat_eq, nat_lt, true, inl, inr, get_or-set_other, get_or-set_same, length-set}
 use Rattle.std.proofs.Math.Path.{fun_ext}
 use Rattle.std.proofs.lemmas.Bool.{cases_Bool, eqb-true, eqb-false, ltb-true}
 use Rattle.s360_model.specs.Storage.{Storage}
 use Rattle.s360_logic.specs.declared.field.Field.{Field}
-use Rattle.s360_logic.specs.declared.row.DigitRow.{DigitRow}
 use Rattle.s360_logic.specs.Bytes.{byte_at, with_byte}
-use Rattle.s360_logic.specs.DigitLaws.{DigitsOfApartOperands, IsApart}
-use Rattle.s360_logic.specs.RightToLeft.{address_from_right, byte_from_right, fetched_at, needed_before, result_byte, right_to_left}
-
--- the bytes of the result stored, all of the same bytes of the second operand
-abbrev stored : DigitRow → ℕ → ℕ → (ℕ → ℕ) → Field → ℕ → ℕ → Storage → Storage
-stored row zone low source first i zero s = s
-stored row zone low source first i (suc n) s = stored row zone low source first (i + 1) n (with_byte (address_from_right first i) (result_byte row zone low source i) s)
+use Rattle.s360_logic.specs.DigitLaws.{DigitsOfApartOperands, ShareNoByte}
+use Rattle.s360_logic.specs.RightToLeft.{DigitMove, address_from_right, byte_from_right, first_user, made_byte, source_byte, result_byte, storage_after, storage_before}
+use Rattle.s360_logic.proofs.RightToLeftLemmas.{storage_before-first}
 
 byte_at-other : (s : Storage) (a b byte : ℕ) → b ≢ a → byte_at (with_byte a byte s) b ≡ byte_at s b
 byte_at-other s a b byte other = get_or-set_other s.bytes a b byte 0 other
@@ -21,11 +16,11 @@ byte_at-same : (s : Storage) (a byte : ℕ) → a < length s.bytes → byte_at (
 byte_at-same s a byte inside = get_or-set_same s.bytes a byte 0 inside
 
 -- a byte of one operand is none of the other
-apart : (first second : Field) (i j : ℕ) → IsApart first second → i < first.count → j < second.count → address_from_right second j ≢ address_from_right first i
+apart : (first second : Field) (i j : ℕ) → ShareNoByte first second → i < first.count → j < second.count → address_from_right second j ≢ address_from_right first i
 apart first second i j (inl before) h k = λ e. omega arith
 apart first second i j (inr behind) h k = λ e. omega arith
 
-byte_from_right-kept : (first second : Field) (i byte : ℕ) (s : Storage) → IsApart first second → i < first.count
+byte_from_right-kept : (first second : Field) (i byte : ℕ) (s : Storage) → ShareNoByte first second → i < first.count
     → (j : ℕ) → byte_from_right second (with_byte (address_from_right first i) byte s) j ≡ byte_from_right second s j
 byte_from_right-kept first second i byte s a h j =
     elim (cases_Bool (nat_lt j second.count)) [
@@ -33,69 +28,60 @@ byte_from_right-kept first second i byte s a h j =
       | inr past ↦ rw past refl
     ]
 
-fetched_at-same : (row : DigitRow) (second : Field) (i : ℕ) (source : ℕ → ℕ) (s : Storage) → byte_from_right second s ≡ source → fetched_at row second i source s ≡ source
-fetched_at-same row second i source s e =
-    fun_ext (λ j. elim (cases_Bool (nat_lt j (needed_before row i))) [ inl needed ↦ rw needed refl | inr new ↦ rw new (ap (λ (f : ℕ → ℕ). f j) e) ])
-
-right_to_left-stored : (row : DigitRow) (zone low : ℕ) (first second : Field) (source : ℕ → ℕ) → IsApart first second
-    → (n i : ℕ) (s : Storage) → i + n ≤ first.count → byte_from_right second s ≡ source
-    → right_to_left row zone low first second i n source s ≡ stored row zone low source first i n s
-right_to_left-stored row zone low first second source a zero i s h e = refl
-right_to_left-stored row zone low first second source a (suc n) i s h e =
-    let next : Storage = with_byte (address_from_right first i) (result_byte row zone low source i) s
-    in let kept : byte_from_right second next ≡ source
-    = fun_ext (λ j. byte_from_right-kept first second i (result_byte row zone low source i) s a (omega arith) j ∙ ap (λ (f : ℕ → ℕ). f j) e)
-    in ap (λ (f : ℕ → ℕ). right_to_left row zone low first second (i + 1) n f (with_byte (address_from_right first i) (result_byte row zone low f i) s)) (fetched_at-same row second i source s e)
-    ∙ right_to_left-stored row zone low first second source a n (i + 1) next (omega arith) kept
-
-stored-size : (row : DigitRow) (zone low : ℕ) (source : ℕ → ℕ) (first : Field) (n i : ℕ) (s : Storage) → length (stored row zone low source first i n s).bytes ≡ length s.bytes
-stored-size row zone low source first zero i s = refl
-stored-size row zone low source first (suc n) i s =
-    stored-size row zone low source first n (i + 1) (with_byte (address_from_right first i) (result_byte row zone low source i) s)
-    ∙ length-set s.bytes (address_from_right first i) (result_byte row zone low source i)
-
-stored-keys : (row : DigitRow) (zone low : ℕ) (source : ℕ → ℕ) (first : Field) (n i : ℕ) (s : Storage) → (stored row zone low source first i n s).keys ≡ s.keys
-stored-keys row zone low source first zero i s = refl
-stored-keys row zone low source first (suc n) i s =
-    stored-keys row zone low source first n (i + 1) (with_byte (address_from_right first i) (result_byte row zone low source i) s)
-
-stored-fetch_protection : (row : DigitRow) (zone low : ℕ) (source : ℕ → ℕ) (first : Field) (n i : ℕ) (s : Storage)
-    → (stored row zone low source first i n s).fetch_protection ≡ s.fetch_protection
-stored-fetch_protection row zone low source first zero i s = refl
-stored-fetch_protection row zone low source first (suc n) i s =
-    stored-fetch_protection row zone low source first n (i + 1) (with_byte (address_from_right first i) (result_byte row zone low source i) s)
-
-stored-other : (row : DigitRow) (zone low : ℕ) (source : ℕ → ℕ) (first : Field) (n i a : ℕ) (s : Storage)
-    → ((k : ℕ) → i ≤ k → k < i + n → a ≢ address_from_right first k) → byte_at (stored row zone low source first i n s) a ≡ byte_at s a
-stored-other row zone low source first zero i a s h = refl
-stored-other row zone low source first (suc n) i a s h =
-    stored-other row zone low source first n (i + 1) a (with_byte (address_from_right first i) (result_byte row zone low source i) s) (λ k l m. h k (omega arith) (omega arith))
-    ∙ byte_at-other s (address_from_right first i) a (result_byte row zone low source i) (h i (omega arith) (omega arith))
-
-stored-made : (row : DigitRow) (zone low : ℕ) (source : ℕ → ℕ) (first : Field) (n i k : ℕ) (s : Storage) → i ≤ k → k < i + n → i + n ≤ first.count → first.address + first.count ≤ length s.bytes
-    → byte_at (stored row zone low source first i n s) (address_from_right first k) ≡ result_byte row zone low source k
-stored-made row zone low source first zero i k s l m c inside = absurd (omega arith)
-stored-made row zone low source first (suc n) i k s l m c inside =
-    let byte : ℕ = result_byte row zone low source i
-    in let next : Storage = with_byte (address_from_right first i) byte s
-    in let size : length next.bytes ≡ length s.bytes = length-set s.bytes (address_from_right first i) byte
-    in elim (cases_Bool (nat_eq k i)) [
-      | inl same ↦
-          let e : k ≡ i = eqb-true _ _ same
-          in rw e (stored-other row zone low source first n (i + 1) (address_from_right first i) next (λ j p q. λ f. omega arith) ∙ byte_at-same s (address_from_right first i) byte (omega arith))
-      | inr other ↦
-          let ne : k ≢ i = eqb-false _ _ other
-          in stored-made row zone low source first n (i + 1) k next (omega arith) (omega arith) (omega arith) (omega (arith, size))
+-- each property of storage that a byte of the result leaves holds before each byte
+before-all : (d : DigitMove) (s : Storage) (p : Storage → Type 0) → p s → ((before : ℕ → Storage) (i : ℕ) → i < d.first.count → p (before i) → p (storage_after d before i))
+    → (n i : ℕ) → n ≤ d.first.count → p (storage_before d s n i)
+before-all d s p start step zero i h = start
+before-all d s p start step (suc n) i h =
+    elim (cases_Bool (nat_lt n i)) [
+      | inl later ↦ rw later (step (storage_before d s n) n (omega (arith, h)) (before-all d s p start step n n (omega (arith, h))))
+      | inr made ↦ rw made (before-all d s p start step n i (omega (arith, h)))
     ]
 
+source-kept : (d : DigitMove) (s : Storage) → ShareNoByte d.first d.second → (n i j : ℕ) → n ≤ d.first.count
+    → byte_from_right d.second (storage_before d s n i) j ≡ byte_from_right d.second s j
+source-kept d s a n i j h =
+    before-all d s (λ t. byte_from_right d.second t j ≡ byte_from_right d.second s j) refl
+    (λ before k l e. byte_from_right-kept d.first d.second k (made_byte d before k) (before k) a l j ∙ e) n i h
+
+-- so each byte is made of the bytes as they stood before
+made-kept : (d : DigitMove) (s : Storage) → ShareNoByte d.first d.second → (n i : ℕ) → n ≤ d.first.count → made_byte d (storage_before d s n) i ≡ made_byte d (λ k. s) i
+made-kept d s a n i h =
+    let same : source_byte d (storage_before d s n) ≡ source_byte d (λ k. s) = fun_ext (λ j. source-kept d s a n (first_user d.row j) j h)
+    in ap (λ (t : Storage). result_byte d.row d.zone (byte_from_right d.first t 0) (source_byte d (storage_before d s n)) i) (storage_before-first d s n)
+    ∙ ap (λ (f : ℕ → ℕ). result_byte d.row d.zone (byte_from_right d.first s 0) f i) same
+
+nat_lt-yes : (m n : ℕ) → m < n → nat_lt m n ≡ true
+nat_lt-yes m n h = search rules
+
+-- and stays
+stored-made : (d : DigitMove) (s : Storage) → ShareNoByte d.first d.second → d.first.address + d.first.count ≤ length s.bytes
+    → (n k : ℕ) → k < n → n ≤ d.first.count → byte_at (storage_before d s n n) (address_from_right d.first k) ≡ made_byte d (λ j. s) k
+stored-made d s a inside zero k l h = absurd (omega (arith, l))
+stored-made d s a inside (suc n) k l h =
+    let before : ℕ → Storage = storage_before d s n
+    in let size : length (before n).bytes ≡ length s.bytes
+    = before-all d s (λ t. length t.bytes ≡ length s.bytes) refl (λ b i m e. length-set (b i).bytes (address_from_right d.first i) (made_byte d b i) ∙ e) n n (omega (arith, h))
+    in rw (nat_lt-yes n (suc n) (omega arith)) (
+    elim (cases_Bool (nat_eq k n)) [
+      | inl same ↦
+          let e : k ≡ n = eqb-true _ _ same
+          in rw e (byte_at-same (before n) (address_from_right d.first n) (made_byte d before n) (omega (arith, size, inside, h)) ∙ made-kept d s a n n (omega (arith, h)))
+      | inr other ↦
+          let ne : k ≢ n = eqb-false _ _ other
+          in byte_at-other (before n) (address_from_right d.first n) (address_from_right d.first k) (made_byte d before n) (λ e. omega (arith, e, ne, l, h))
+          ∙ stored-made d s a inside n k (omega (arith, l, ne)) (omega (arith, h))
+    ]
+    )
+
 pub digits_of_apart_operands : DigitsOfApartOperands
-digits_of_apart_operands row zone first second s a inside =
-    let low : ℕ = byte_from_right first s 0
-    in let source : ℕ → ℕ = byte_from_right second s
-    in rw (right_to_left-stored row zone low first second source a first.count 0 s (omega arith) refl) (record {
-      made = λ i h. stored-made row zone low source first first.count 0 i s (omega arith) (omega arith) (omega arith) inside;
-      others = λ b h. stored-other row zone low source first first.count 0 b s (λ k l m. λ e. omega arith);
-      keys = stored-keys row zone low source first first.count 0 s;
-      fetch_protection = stored-fetch_protection row zone low source first first.count 0 s;
-      size = stored-size row zone low source first first.count 0 s;
-    })
+digits_of_apart_operands d s a inside =
+    let n : ℕ = d.first.count
+    in record {
+      made = λ i h. stored-made d s a inside n i h (omega arith);
+      others = λ b h. before-all d s (λ t. byte_at t b ≡ byte_at s b) refl
+          (λ before i l e. byte_at-other (before i) (address_from_right d.first i) b (made_byte d before i) (λ f. omega (arith, f, h, l)) ∙ e) n n (omega arith);
+      keys = before-all d s (λ t. t.keys ≡ s.keys) refl (λ before i l e. e) n n (omega arith);
+      fetch_protection = before-all d s (λ t. t.fetch_protection ≡ s.fetch_protection) refl (λ before i l e. e) n n (omega arith);
+      size = before-all d s (λ t. length t.bytes ≡ length s.bytes) refl (λ before i l e. length-set (before i).bytes (address_from_right d.first i) (made_byte d before i) ∙ e) n n (omega arith);
+    }

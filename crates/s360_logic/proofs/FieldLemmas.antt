@@ -1,5 +1,5 @@
 -- Storage while bytes of an operand are stored, and what is planned of it.
-use Rattle.std.proofs.Common.{◌^◌, ◌≡◌, ◌≢◌, ◌⊎◌, inl, inr, get_or, ◌<◌, ◌≤◌, ◌+◌, ◌-◌, ◌++◌, ℕ, zero, suc, List, length, take, drop, set, arith, refl, ap, sym, slice_set, nat_eq, ◌∙◌, pos, true, rules}
+use Rattle.std.proofs.Common.{◌^◌, ◌≡◌, ◌≢◌, ◌⊎◌, inl, inr, get_or, ◌<◌, ◌≤◌, ◌+◌, ◌-◌, ◌++◌, ℕ, zero, suc, List, Option, length, take, drop, set, arith, refl, ap, sym, slice_set, nat_eq, ◌∙◌, pos, true, rules}
 use Rattle.std.proofs.lemmas.List.{get_or-drop, get_or-set_other, get_or-take, places, same_lists, length-append, length-set, length-take-le, set-append_left, set-append_right}
 use Rattle.std.proofs.lemmas.Bool.{ne_eqb}
 use Rattle.s360_model.specs.ConditionCodes.{order_code}
@@ -7,8 +7,7 @@ use Rattle.s360_model.specs.Storage.{Storage, with_run}
 use Rattle.s360_model.specs.Core.{Core, core_with_bytes, core_with_psw}
 use Rattle.s360_model.specs.Psw.{with_instruction_address}
 use Rattle.s360_store.specs.Differing.{IsFirstOther}
-use Rattle.s360_fixed.specs.declared.setting.Setting.{Setting}
-use Rattle.s360_fixed.specs.Settings.{psw_with}
+use Rattle.s360_fixed.specs.Alterations.{psw_with}
 use Rattle.s360_fixed.specs.View.{View}
 use Rattle.s360_logic.specs.Bytes.{completed_with, byte_at, operand_bytes, with_byte}
 use Rattle.s360_logic.specs.Operands.{FirstOperand, IsApart, IsBeside, first_operand, stored_in}
@@ -88,10 +87,10 @@ comparison_code-first s first second n k bytes others own its count h =
     in sym (operand_bytes-at s first n i inside) ∙ ap (λ xs. get_or xs i 0) (sym own) ∙ sym (h.before i (omega arith) l) ∙ ap (λ xs. get_or xs i 0) its ∙ operand_bytes-at s second n i inside)
 
 -- the PSW with a condition code, and then the bytes of an operand
-pub stored-made : (v : View) (o : FirstOperand) (setting : Setting) (psw : ℕ) (a b c : Core) → a ≡ v.core → b ≡ core_with_psw psw a → c ≡ core_with_bytes o.address o.bytes b
-    → psw ≡ with_instruction_address (psw_with v.core.psw setting) v.next_address → o.storage ≡ v.core.storage
-    → c ≡ (completed_with v setting (stored_in o)).core
-stored-made v o setting psw a b c none first then is same = rw (then, first, none, is, same) refl
+pub stored-made : (v : View) (o : FirstOperand) (code : Option ℕ) (psw : ℕ) (a b c : Core) → a ≡ v.core → b ≡ core_with_psw psw a → c ≡ core_with_bytes o.address o.bytes b
+    → psw ≡ with_instruction_address (psw_with code v.core.psw) v.next_address → o.storage ≡ v.core.storage
+    → c ≡ (completed_with v code (stored_in o)).core
+stored-made v o code psw a b c none first then is same = rw (then, first, none, is, same) refl
 
 -- each other byte stays
 pub stored_in-other : (o : FirstOperand) (i b x : ℕ) → i < length o.bytes → o.address + length o.bytes ≤ length o.storage.bytes → x ≢ o.address + i

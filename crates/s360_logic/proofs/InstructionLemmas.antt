@@ -1,8 +1,8 @@
 -- The instruction that was fetched.
-use Rattle.std.proofs.Common.{◌≡◌, ◌∙◌, length, ℕ, Bool, true, false, refl, Option, Some, None, ap, arith, sym, is_none}
+use Rattle.std.proofs.Common.{◌≡◌, ◌∙◌, ℕ, Bool, true, false, refl, Option, Some, None, ap, arith, sym, is_none}
 use Rattle.s360_model.specs.Core.{Core}
 use Rattle.s360_model.specs.Psw.{instruction_address_of}
-use Rattle.s360_store.specs.declared.place.Place.{Place}
+use Rattle.s360_store.specs.declared.puts.Puts.{Ghosts}
 use Rattle.s360_store.specs.declared.place.Place.TheVariants.{Byte}
 use Rattle.s360_store.specs.Puts.{HasNoPuts}
 use Rattle.s360_fixed.specs.declared.ended.Ended.{Ended}
@@ -14,7 +14,7 @@ use Rattle.s360_psw.specs.declared.instruction_length.InstructionLength.TheVaria
 use Rattle.s360_fixed.specs.Fetching.{instruction_bytes}
 use Rattle.s360_fixed.specs.Plans.{PutsOutcome}
 use Rattle.s360_fixed.specs.ProgramCodes.{Conditions, no_conditions, program_code}
-use Rattle.s360_fixed.specs.Table.{form_of, instruction_length}
+use Rattle.s360_fixed.specs.Table.{form_of}
 use Rattle.s360_fixed.specs.View.{Outcome, View}
 use Rattle.s360_logic.specs.Instruction.{Fetched, IsFetched, PutsInstruction, conditions_at, fetched_outcome, instruction, instruction_at, instruction_of, view_at}
 
@@ -52,14 +52,14 @@ outcome-fetched f h =
     ∙ ap (λ x. fetched_outcome f.view x) (sym h.form)
 
 -- what is put of it
-pub PutsInstruction-fetched : (f : Fetched) (made : Core → Core) (may : Core → Type 0) (past : Place → Type 0) (count : ℕ) (ended : Ended) → IsFetched f → PutsOutcome f.view.core made may past count (fetched_outcome f.view f.form) ended
-    → PutsInstruction f.view.core made may past count (instruction f.view.core) (record { ended = ended; next_address = f.view.next_address; instruction_length = f.view.instruction_length })
+pub PutsInstruction-fetched : {S : Type 0} (q : Ghosts S) (puts : S) (f : Fetched) (ended : Ended) → IsFetched f → PutsOutcome q puts f.view (fetched_outcome f.view f.form) ended
+    → PutsInstruction q puts f.view.core (instruction f.view.core) (record { ended = ended; next_address = f.view.next_address; instruction_length = f.view.instruction_length })
 unfolding instruction
-PutsInstruction-fetched f made may past count ended h p =
+PutsInstruction-fetched q puts f ended h p =
     let a : ℕ = instruction_address_of f.view.core.psw
     in let outcome : (instruction_at f.view.core a).outcome ≡ fetched_outcome f.view f.form = outcome-fetched f h
     in record {
-      puts = rw outcome p;
+      puts = rw outcome (record { ends = p.ends; makes = p.makes; allowed = p.allowed; few = p.few; follow = p.follow });
       next = ap (λ (v : View). v.next_address) h.view;
       length = ap (λ (v : View). v.instruction_length) h.view;
     }
@@ -84,14 +84,15 @@ instruction_of-refused m a form code h =
     in rw (refused-met c.odd_address c.outside_first c.protected_first c.outside_rest c.protected_rest (is_none form) code h) refl
 
 -- one that could not be fetched puts nothing, and has no length
-pub PutsInstruction-refused : (m : Core) (made : Core → Core) (may : Core → Type 0) (past : Place → Type 0) (count : ℕ) (code : ProgramCode) → HasNoPuts m made may past count
+pub PutsInstruction-refused : {S : Type 0} (q : Ghosts S) (puts : S) (m : Core) (code : ProgramCode) → HasNoPuts m (q.made puts) (q.may puts) (q.past puts) (q.count puts)
     → program_code (conditions_at m (instruction_address_of m.psw)) ≡ Some code
-    → PutsInstruction m made may past count (instruction m) (record { ended = Program code; next_address = instruction_address_of m.psw; instruction_length = NotAvailable })
+    → PutsInstruction q puts m (instruction m) (record { ended = Program code; next_address = instruction_address_of m.psw; instruction_length = NotAvailable })
 unfolding instruction
-PutsInstruction-refused m made may past count code h₀ h =
+PutsInstruction-refused q puts m code h₀ h =
     let a : ℕ = instruction_address_of m.psw
     in let outcome : (instruction_at m a).outcome ≡ refused_outcome m code = instruction_of-refused m a (form_of (instruction_bytes m.storage a)) code h
-    in let nothing : PutsOutcome m made may past count (refused_outcome m code) (Program code) = record { ends = refl; makes = h₀.same; allowed = h₀.allowed; few = omega (arith, h₀.none); follow = (ap (λ (n : Core). n.storage) h₀.same, λ a. h₀.any (Byte a)) }
+    in let v : View = record { core = m; next_address = (instruction m).next_address; instruction_length = (instruction m).instruction_length }
+    in let nothing : PutsOutcome q puts v (refused_outcome m code) (Program code) = record { ends = refl; makes = h₀.same; allowed = h₀.allowed; few = omega (arith, h₀.none); follow = (ap (λ (n : Core). n.storage) h₀.same, λ a. h₀.any (Byte a)) }
     in record {
       puts = rw outcome nothing;
       next = rw h refl;

@@ -10,9 +10,9 @@ use Rattle.s360_model.specs.Storage.{doubleword_at}
 use Rattle.s360_store.specs.declared.protection.Access.TheVariants.{Fetch}
 use Rattle.s360_fixed.specs.declared.ended.Ended.TheVariants.{Done, Program}
 use Rattle.s360_fixed.specs.declared.program_code.ProgramCode.TheVariants.{Data, FixedPointDivide}
-use Rattle.s360_fixed.specs.declared.setting.Setting.TheVariants.{Kept}
 use Rattle.s360_fixed.specs.Operands.{access_conditions}
-use Rattle.s360_fixed.specs.Outcomes.{after_effect, single, unless_met}
+use Rattle.s360_fixed.specs.Alterations.{core_with_alteration, one_register, unchanged}
+use Rattle.s360_fixed.specs.Outcomes.{unless_met}
 use Rattle.s360_fixed.specs.Storing.{bytes_outcome}
 use Rattle.s360_fixed.specs.View.{Outcome, View, register_of}
 use Rattle.s360_logic.specs.declared.row.Conversion.{Conversion}
@@ -24,7 +24,7 @@ abbrev pub converted_outcome : Option ℤ → View → ℕ → Outcome
 converted_outcome None v r1 = record { ended = Program Data; core = v.core }
 converted_outcome (Some n) v r1 = record {
   ended = if fits_word n then Done else Program FixedPointDivide;
-  core = (after_effect v.core r1 (single (word_of n) Kept) v.next_address).core;
+  core = core_with_alteration (one_register r1 (word_of n) unchanged v.next_address) v.core;
 }
 
 abbrev pub conversion_outcome : Conversion → View → ℕ → ℕ → Outcome

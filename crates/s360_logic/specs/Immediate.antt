@@ -1,16 +1,16 @@
 -- Rows of a byte in storage and the byte of the instruction (GA22-6821, "Logical Operations").
-use Rattle.std.specs.Prelude.{ℕ, ◌/◌, nat_eq, if◌then◌else◌, [], ◌∷◌, pos, bit_and}
+use Rattle.std.specs.Prelude.{ℕ, ◌/◌, nat_eq, if◌then◌else◌, Some, [], ◌∷◌, pos, bit_and}
 use Rattle.s360_model.specs.ConditionCodes.{order_code}
 use Rattle.s360_store.specs.declared.protection.Access.{Access}
 use Rattle.s360_store.specs.declared.protection.Access.TheVariants.{Fetch, Store}
-use Rattle.s360_fixed.specs.declared.setting.Setting.TheVariants.{Code}
 use Rattle.s360_fixed.specs.Operands.{access_conditions}
-use Rattle.s360_fixed.specs.Outcomes.{after_effect, condition_code_alone, unless_met}
+use Rattle.s360_fixed.specs.Alterations.{after_alteration, no_register, set_to}
+use Rattle.s360_fixed.specs.Outcomes.{unless_met}
 use Rattle.s360_fixed.specs.View.{Outcome, View}
 use Rattle.s360_logic.specs.declared.row.ByteCombination.{ByteCombination}
 use Rattle.s360_logic.specs.declared.row.ImmediateRow.{ImmediateRow}
 use Rattle.s360_logic.specs.declared.row.ImmediateRow.TheVariants.{Combine, Compare, TestUnderMask, TestAndSet}
-use Rattle.s360_logic.specs.Bytes.{byte_at, byte_result, combination_setting, completed_with, with_byte}
+use Rattle.s360_logic.specs.Bytes.{byte_at, byte_result, combination_code, completed_with, with_byte}
 
 -- test under mask: 0 where the selected bits are all zero or none is selected, 3 where they are all one, else 1
 abbrev pub mask_code : ℕ → ℕ → ℕ
@@ -19,16 +19,16 @@ mask_code byte mask =
 
 -- what a row makes of the byte at an address: another byte and a condition code, or a condition code alone
 abbrev pub stored_byte : View → ℕ → ℕ → ByteCombination → Outcome
-stored_byte v address result c = completed_with v (combination_setting c (result ∷ [])) (with_byte address result v.core.storage)
+stored_byte v address result c = completed_with v (combination_code c (result ∷ [])) (with_byte address result v.core.storage)
 
 abbrev pub code_alone : View → ℕ → Outcome
-code_alone v code = after_effect v.core 0 (condition_code_alone code) v.next_address
+code_alone v code = after_alteration v.core (no_register (set_to code) v.next_address)
 
 abbrev pub immediate_result : ImmediateRow → View → ℕ → ℕ → ℕ → Outcome
 immediate_result (Combine c) v byte i2 address = stored_byte v address (byte_result c byte i2) c
 immediate_result Compare v byte i2 address = code_alone v (order_code (pos byte) (pos i2))
 immediate_result TestUnderMask v byte i2 address = code_alone v (mask_code byte i2)
-immediate_result TestAndSet v byte i2 address = completed_with v (Code (byte / 128)) (with_byte address 0xFF v.core.storage)
+immediate_result TestAndSet v byte i2 address = completed_with v (Some (byte / 128)) (with_byte address 0xFF v.core.storage)
 
 -- whether it stores the byte
 abbrev pub immediate_access : ImmediateRow → Access

@@ -1,12 +1,12 @@
 -- One instruction: it is fetched, decoded and done by its row (GA22-6821, "System Structure", program
 -- execution, and "Interruptions").
-use Rattle.std.specs.Prelude.{◌≡◌, ℕ, ◌+◌, nat_eq, if◌then◌else◌, Option, Some, None, is_none, List}
+use Rattle.std.specs.Prelude.{◌≡◌, ◌<◌, ℕ, ◌+◌, nat_eq, if◌then◌else◌, Option, Some, None, is_none, List, length, slice_index}
 use Rattle.s360_model.specs.Core.{Core}
 use Rattle.s360_model.specs.Psw.{instruction_address_of, protection_key_of}
 use Rattle.s360_psw.specs.declared.instruction_length.InstructionLength.{InstructionLength}
 use Rattle.s360_psw.specs.declared.instruction_length.InstructionLength.TheVariants.{NotAvailable, OneHalfword, TwoHalfwords, ThreeHalfwords}
 use Rattle.s360_store.specs.declared.place.Cell.{Cell}
-use Rattle.s360_store.specs.declared.place.Place.{Place}
+use Rattle.s360_store.specs.declared.puts.Puts.{Ghosts}
 use Rattle.s360_fixed.specs.declared.ended.Ended.TheVariants.{Program}
 use Rattle.s360_fixed.specs.declared.form.Form.{Form}
 use Rattle.s360_fixed.specs.declared.program_code.ProgramCode.TheVariants.{Operation}
@@ -14,7 +14,7 @@ use Rattle.s360_fixed.specs.Fetching.{fetch_conditions, instruction_bytes, lengt
 use Rattle.s360_fixed.specs.Outcomes.{unless_met}
 use Rattle.s360_fixed.specs.Plans.{PlansOutcome, PutsOutcome}
 use Rattle.s360_fixed.specs.ProgramCodes.{Conditions, program_code}
-use Rattle.s360_fixed.specs.Table.{form_of}
+use Rattle.s360_fixed.specs.Table.{form_of, instruction_length}
 use Rattle.s360_fixed.specs.View.{Outcome, View}
 use Rattle.s360_logic.specs.declared.cpu.PlannedInstruction.{PlannedInstruction}
 use Rattle.s360_logic.specs.Logic.{outcome_of}
@@ -78,10 +78,15 @@ pub record IsFetched (f : Fetched) : Type 0 where
   pub view : f.view ≡ view_at f.view.core (instruction_address_of f.view.core.psw)
   pub form : f.form ≡ form_of (instruction_bytes f.view.core.storage (instruction_address_of f.view.core.psw))
 
+-- bytes are an instruction that was fetched, which works on this view
+abbrev pub AreFetched : List ℕ → View → Type 0
+AreFetched bytes v =
+    (0 < length bytes) × (length bytes ≡ instruction_length (slice_index bytes 0)) × IsFetched (record { view = v; form = form_of bytes })
+
 -- an instruction ends as the definition's does, with its next address and its length, and its puts make the
 -- definition's core
-pub record PutsInstruction (m : Core) (made : Core → Core) (may : Core → Type 0) (past : Place → Type 0) (count : ℕ) (i : Instruction) (planned : PlannedInstruction) : Type 0 where
-  pub puts : PutsOutcome m made may past count i.outcome planned.ended
+pub record PutsInstruction {S : Type 0} (p : Ghosts S) (taken : S) (m : Core) (i : Instruction) (planned : PlannedInstruction) : Type 0 where
+  pub puts : PutsOutcome p taken (record { core = m; next_address = i.next_address; instruction_length = i.instruction_length }) i.outcome planned.ended
   pub next : planned.next_address ≡ i.next_address
   pub length : planned.instruction_length ≡ i.instruction_length
 

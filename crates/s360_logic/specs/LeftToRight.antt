@@ -1,6 +1,6 @@
 -- Rows of two operands in storage of one length, a byte after another from left to right: a byte that was
 -- stored is seen by later fetches (GA22-6821, "Logical Operations").
-use Rattle.std.specs.Prelude.{ℕ, zero, suc, ◌+◌, ◌*◌, ◌/◌, ◌%◌, ◌^◌, nat_eq, if◌then◌else◌, Option, Some, None, pos}
+use Rattle.std.specs.Prelude.{ℕ, zero, suc, ◌+◌, ◌*◌, ◌/◌, ◌%◌, ◌^◌, nat_eq, if◌then◌else◌, Option, Some, None, [], ◌∷◌, pos}
 use Rattle.s360_model.specs.ConditionCodes.{order_code}
 use Rattle.s360_model.specs.Psw.{protection_key_of}
 use Rattle.s360_model.specs.Storage.{Storage}
@@ -9,14 +9,14 @@ use Rattle.s360_store.specs.declared.protection.Access.TheVariants.{Fetch, Store
 use Rattle.s360_store.specs.declared.protection.Checked.{Checked}
 use Rattle.s360_store.specs.declared.protection.Checked.TheVariants.{Clear}
 use Rattle.s360_fixed.specs.Operands.{is_guarded, is_outside}
-use Rattle.s360_fixed.specs.declared.setting.Setting.TheVariants.{Kept, Code}
-use Rattle.s360_fixed.specs.Outcomes.{after_effect, double, unless_met}
+use Rattle.s360_fixed.specs.Alterations.{after_alteration, set_to}
+use Rattle.s360_fixed.specs.Outcomes.{unless_met}
 use Rattle.s360_fixed.specs.ProgramCodes.{Conditions, no_conditions}
 use Rattle.s360_fixed.specs.View.{Outcome, View, register_of}
 use Rattle.s360_logic.specs.declared.field.Field.{Field}
 use Rattle.s360_logic.specs.declared.row.ByteCombination.{ByteCombination}
 use Rattle.s360_logic.specs.Immediate.{code_alone}
-use Rattle.s360_logic.specs.Bytes.{byte_at, byte_result, combination_setting, completed_with, fields_conditions, operand_bytes, with_byte}
+use Rattle.s360_logic.specs.Bytes.{byte_at, byte_result, combination_code, completed_with, fields_conditions, operand_bytes, with_byte}
 
 -- the storage after the bytes from number i on, so many of them, were made and stored, each of the storage as
 -- those before it left it
@@ -39,7 +39,7 @@ abbrev pub combine_outcome : ByteCombination → View → ℕ → ℕ → ℕ �
 combine_outcome c v first second count =
     let s = combined c first second count v.core.storage
     in unless_met (fields_conditions v Store (field_at first count) (field_at second count)) v.core
-    (completed_with v (combination_setting c (operand_bytes s first count)) s)
+    (completed_with v (combination_code c (operand_bytes s first count)) s)
 
 -- how the first bytes that differ compare: 0 where none does
 abbrev pub comparison_code : Storage → ℕ → ℕ → ℕ → ℕ
@@ -74,7 +74,11 @@ translated_byte table first i s = function_byte table (first + i) s
 abbrev pub translate_access : ℕ → ℕ → ℕ → ℕ → ℕ → Storage → Checked
 translate_access table key first i zero s = Clear
 translate_access table key first i (suc n) s =
-    met_of_both (function_access table key (first + i) s) (translate_access table key first (i + 1) n (with_byte (first + i) (translated_byte table first i s) s))
+    met_of_both (function_access table key (first + i) s)
+    (translate_access table key first (i + 1) n (with_byte (first + i) (translated_byte table first i s) s))
+
+abbrev pub translated : ℕ → ℕ → ℕ → Storage → Storage
+translated table first count s = left_to_right (translated_byte table first) first 0 count s
 
 -- the conditions of what accesses meet
 abbrev pub conditions_of : Checked → Conditions
@@ -89,7 +93,7 @@ translate_conditions v first table count =
 abbrev pub translate_outcome : View → ℕ → ℕ → ℕ → Outcome
 translate_outcome v first table count =
     unless_met (translate_conditions v first table count) v.core
-    (completed_with v Kept (left_to_right (translated_byte table first) first 0 count v.core.storage))
+    (completed_with v None (translated table first count v.core.storage))
 
 -- translate and test: the bytes select function bytes until one is not zero. The number of such a byte, where
 -- there is one
@@ -121,8 +125,11 @@ with_low_byte word byte = word / 256 * 256 + byte
 -- 1 before the last byte, and 2 at it
 abbrev pub found_outcome : ℕ → ℕ → View → ℕ → ℕ → Outcome
 found_outcome i byte v first count =
-    let words : ℕ × ℕ = (with_address (register_of v 1) (first + i), with_low_byte (register_of v 2) byte)
-    in after_effect v.core 1 (double words (Code (if nat_eq (i + 1) count then 2 else 1))) v.next_address
+    after_alteration v.core (record {
+      registers = (1, with_address (register_of v 1) (first + i)) ∷ ((2, with_low_byte (register_of v 2) byte) ∷ []);
+      setting = set_to (if nat_eq (i + 1) count then 2 else 1);
+      address = v.next_address;
+    })
 
 abbrev pub search_outcome : Option ℕ → View → ℕ → ℕ → ℕ → Outcome
 search_outcome None v first table count = code_alone v 0

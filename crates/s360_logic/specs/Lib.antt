@@ -9,4 +9,5 @@ pub mod Held
 pub mod Converting
 pub mod Status
 pub mod Logic
+pub mod Formats
 pub mod Instruction

@@ -40,7 +40,8 @@ address_of v base displacement = operand_address v.core.registers 0 base displac
 
 -- what an instruction does, where it has a row of these chapters
 abbrev pub logic_outcome : Form → Option (View → Outcome)
-logic_outcome (Rx operation r1 x2 b2 d2) = option_map (λ row v. conversion_outcome row v r1 (operand_address v.core.registers x2 b2 d2)) (conversion_of operation)
+logic_outcome (Rx operation r1 x2 b2 d2) =
+    option_map (λ row v. conversion_outcome row v r1 (operand_address v.core.registers x2 b2 d2)) (conversion_of operation)
 logic_outcome (Si operation i2 b1 d1) = option_map (λ row v. immediate_outcome row v i2 (address_of v b1 d1)) (immediate_row_of operation)
 logic_outcome (Ss operation l b1 d1 b2 d2) = option_map (λ row v. storage_outcome row v l (address_of v b1 d1) (address_of v b2 d2)) (storage_row_of operation)
 logic_outcome form = None

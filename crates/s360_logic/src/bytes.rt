@@ -1,14 +1,11 @@
 //! What a byte of the first operand becomes, and the condition code of the results. Source:
 //! GA22-6821, "Logical Operations".
-ghost use Rattle.std.specs.Prelude.{ℕ, ◌≡◌, nat_eq};
+ghost use Rattle.std.specs.Prelude.{◌≡◌, nat_eq};
 ghost use Rattle.std.specs.List.{list_all};
-ghost use Rattle.s360_fixed.specs.Settings.{ended_with};
-ghost use Rattle.s360_fixed.specs.declared.ended.Ended.TheVariants.{Done};
-ghost use Rattle.s360_logic.specs.Bytes.{bits_setting, byte_result, combination_setting};
+ghost use Rattle.s360_logic.specs.Bytes.{byte_result, code_of_bytes, combination_code};
 ghost use Rattle.s360_logic.specs.Immediate.{immediate_access};
 
 use crate::row::{ByteCombination, ImmediateRow};
-use s360_fixed::Setting;
 use s360_store::Access;
 use s360_word::Cc;
 
@@ -20,14 +17,13 @@ fn are_zero(bytes: &[u8]) -> bool
 }
 
 /// The condition code of result bytes: 0 all zero, 1 not all zero.
-fn bits_setting(results: &[u8]) -> Setting
-    ensures setting { result ≡ bits_setting results.now }
-    ensures done { (psw : ℕ) → ended_with psw result ≡ Done }
+fn code_of_bytes(results: &[u8]) -> Option<Cc>
+    ensures { result ≡ code_of_bytes results.now }
 {
     if are_zero(results) {
-        Setting::Code(Cc::new(0))
+        Some(Cc::new(0))
     } else {
-        Setting::Code(Cc::new(1))
+        Some(Cc::new(1))
     }
 }
 
@@ -46,18 +42,15 @@ impl ByteCombination {
         }
     }
 
-    /// What the condition code becomes, by the result bytes.
-    pub(crate) fn setting(self, results: &[u8]) -> Setting
-        ensures setting { result ≡ combination_setting self results.now }
-        ensures done { (psw : ℕ) → ended_with psw result ≡ Done }
+    /// The condition code that it sets by the result bytes, if it sets one.
+    pub(crate) fn code(self, results: &[u8]) -> Option<Cc>
+        ensures { result ≡ combination_code self results.now }
     {
         match self {
-            ByteCombination::Second | ByteCombination::LowHalf | ByteCombination::HighHalf => {
-                Setting::Kept
-            }
+            ByteCombination::Second | ByteCombination::LowHalf | ByteCombination::HighHalf => None,
             ByteCombination::BitwiseAnd
             | ByteCombination::BitwiseOr
-            | ByteCombination::BitwiseExclusiveOr => bits_setting(results),
+            | ByteCombination::BitwiseExclusiveOr => code_of_bytes(results),
         }
     }
 }

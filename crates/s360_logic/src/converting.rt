@@ -2,12 +2,11 @@
 //! GA22-6821, "Fixed-Point Arithmetic", CONVERT TO BINARY and CONVERT TO DECIMAL.
 ghost use Rattle.std.specs.Prelude.{IfOk};
 ghost use Rattle.s360_model.specs.Packed.{packed_value};
-ghost use Rattle.s360_store.specs.Puts.{HasNoPuts};
-ghost use Rattle.s360_fixed.specs.Plans.{PutsOutcome};
+ghost use Rattle.s360_fixed.specs.Plans.{PutsNothing, PutsOutcome};
 ghost use Rattle.s360_logic.specs.Converting.{conversion_outcome, converted_outcome};
 
 use crate::row::Conversion;
-use s360_fixed::{Effect, Ended, ProgramCode, Setting, View, operand_exception, put_store};
+use s360_fixed::{CodeSetting, Effect, Ended, ProgramCode, View, operand_exception, put_store};
 use s360_store::{Access, Puts};
 use s360_word::{PackedFault, RegisterNumber, Word, from_packed, to_packed};
 use std::alloc::AllocError;
@@ -22,11 +21,11 @@ fn put_converted<P: Puts>(
     doubleword: u64,
     puts: &mut P,
 ) -> Result<Ended, AllocError>
-    requires none { HasNoPuts view.now.core (P.made puts.old) (P.may puts.old) (P.past puts.old) (P.count puts.old) }
-    ensures { IfOk result (PutsOutcome view.now.core (P.made puts.new) (P.may puts.new) (P.past puts.new) (P.count puts.new) (converted_outcome (packed_value doubleword) view.now r1)) }
+    requires none { PutsNothing P.Puts puts.old view.now }
+    ensures { IfOk result (PutsOutcome P.Puts puts.new view.now (converted_outcome (packed_value doubleword) view.now r1)) }
 {
     match from_packed(doubleword) {
-        Ok(word) => Effect::single(word, Setting::Kept).put_alone(
+        Ok(word) => Effect::single(word, CodeSetting::unchanged()).put_alone(
             view,
             r1,
             view.next_address(),
@@ -34,8 +33,8 @@ fn put_converted<P: Puts>(
         ),
         Err(PackedFault::BadDigit) => Ok(Ended::Program(ProgramCode::Data)),
         Err(PackedFault::TooLarge(low)) => {
-            let effect = Effect::single(low, Setting::Kept);
-            effect.put(view.psw(), r1, view.next_address(), view.core(), puts)?;
+            let effect = Effect::single(low, CodeSetting::unchanged());
+            effect.put(view, r1, view.next_address(), puts)?;
             Ok(Ended::Program(ProgramCode::FixedPointDivide))
         }
     }
@@ -49,8 +48,8 @@ pub(crate) fn put_conversion<P: Puts>(
     address: u32,
     puts: &mut P,
 ) -> Result<Ended, AllocError>
-    requires none { HasNoPuts view.now.core (P.made puts.old) (P.may puts.old) (P.past puts.old) (P.count puts.old) }
-    ensures { IfOk result (PutsOutcome view.now.core (P.made puts.new) (P.may puts.new) (P.past puts.new) (P.count puts.new) (conversion_outcome conversion view.now r1 address)) }
+    requires none { PutsNothing P.Puts puts.old view.now }
+    ensures { IfOk result (PutsOutcome P.Puts puts.new view.now (conversion_outcome conversion view.now r1 address)) }
 {
     match conversion {
         Conversion::ToBinary => {

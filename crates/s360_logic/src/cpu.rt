@@ -5,6 +5,7 @@ ghost use Rattle.s360_model.specs.Psw.{instruction_address_of};
 ghost use Rattle.s360_fixed.specs.ProgramCodes.{program_code};
 ghost use Rattle.s360_fixed.specs.Table.{form_of, instruction_length};
 ghost use Rattle.s360_store.specs.Puts.{HasNoPuts};
+ghost use Rattle.s360_fixed.specs.Plans.{PutsNothing};
 ghost use Rattle.s360_psw.specs.declared.instruction_length.InstructionLength.TheVariants.{NotAvailable};
 ghost use Rattle.s360_fixed.specs.declared.ended.Ended.TheVariants.{Program};
 ghost use Rattle.s360_logic.specs.Instruction.{PlansInstruction, PutsInstruction, conditions_at, instruction, length_of_bytes};
@@ -38,15 +39,14 @@ pub struct Fetched<'a> {
 }
 
 impl<'a> Model for Fetched<'a> {
-    ghost use Rattle.std.specs.Prelude.{◌≡◌, ◌<◌, length, slice_index};
-    ghost use Rattle.s360_fixed.specs.Table.{form_of, instruction_length};
-    ghost use Rattle.s360_logic.specs.Instruction.{Fetched as Seen, IsFetched};
+    ghost use Rattle.s360_fixed.specs.Table.{form_of};
+    ghost use Rattle.s360_logic.specs.Instruction.{AreFetched, Fetched as Seen};
 
     ghost Value = { Seen };
 
     ghost view = { λ f. record { view = f.view; form = form_of f.bytes.now } };
 
-    ghost invariant = { λ f. (0 < length f.bytes.now) × (length f.bytes.now ≡ instruction_length (slice_index f.bytes.now 0)) × IsFetched (record { view = f.view; form = form_of f.bytes.now }) };
+    ghost invariant = { λ f. AreFetched f.bytes.now f.view };
 }
 
 /// The length of an instruction of 2, 4 or 6 bytes.
@@ -107,8 +107,8 @@ impl<'a> Fetched<'a> {
     /// Puts it, and says how it ends.
     #[inline(always)]
     pub fn put<P: Puts>(&self, puts: &mut P) -> Result<PlannedInstruction, AllocError>
-        requires none { HasNoPuts self.now.view.core (P.made puts.old) (P.may puts.old) (P.past puts.old) (P.count puts.old) }
-        ensures { IfOk result (PutsInstruction self.now.view.core (P.made puts.new) (P.may puts.new) (P.past puts.new) (P.count puts.new) (instruction self.now.view.core)) }
+        requires none { PutsNothing P.Puts puts.old self.now.view }
+        ensures { IfOk result (PutsInstruction P.Puts puts.new self.now.view.core (instruction self.now.view.core)) }
     {
         let ended = put_bytes(self.bytes, &self.view, puts)?;
         Ok(PlannedInstruction {
@@ -133,7 +133,7 @@ impl<'a> Fetched<'a> {
 #[inline(always)]
 pub fn put_instruction<P: Puts>(core: &Core, puts: &mut P) -> Result<PlannedInstruction, AllocError>
     requires none { HasNoPuts core.now (P.made puts.old) (P.may puts.old) (P.past puts.old) (P.count puts.old) }
-    ensures { IfOk result (PutsInstruction core.now (P.made puts.new) (P.may puts.new) (P.past puts.new) (P.count puts.new) (instruction core.now)) }
+    ensures { IfOk result (PutsInstruction P.Puts puts.new core.now (instruction core.now)) }
 {
     match fetch(core) {
         Ok(fetched) => fetched.put(puts),

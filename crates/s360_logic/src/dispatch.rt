@@ -1,22 +1,17 @@
 //! The dispatch of instructions: one `match` on the operation code, whose arms name the row and the operands that its
 //! format has. Source: GA22-6821, "Operation Codes", and "System Structure", program execution.
-ghost use Rattle.std.specs.Prelude.{◌≡◌, ◌<◌, ◌≤◌, ◌%◌, IfOk, Some, length, slice_index};
-ghost use Rattle.s360_store.specs.Puts.{HasNoPuts};
-ghost use Rattle.s360_fixed.specs.Branching.{branch_outcome, index_outcome, register_target};
-ghost use Rattle.s360_fixed.specs.Operands.{operand_address, storage_operand, word_operand};
-ghost use Rattle.s360_fixed.specs.Outcomes.{combination_outcome, pair_outcome};
-ghost use Rattle.s360_fixed.specs.Plans.{PutsOutcome};
-ghost use Rattle.s360_fixed.specs.Shifting.{pair_shift_outcome, shift_outcome};
+ghost use Rattle.std.specs.Prelude.{◌≡◌, ◌<◌, ◌≤◌, IfOk, length, slice_index};
+ghost use Rattle.s360_fixed.specs.Branching.{index_outcome};
+ghost use Rattle.s360_fixed.specs.Fixed.{branch_rr, branch_rx, combination_rr, combination_rx, pair_rr, pair_rx, pair_shift_rs, shift_rs};
+ghost use Rattle.s360_fixed.specs.Plans.{PutsNothing, PutsOutcome};
 ghost use Rattle.s360_fixed.specs.Storing.{store_outcome};
-ghost use Rattle.s360_fixed.specs.Table.{displacement_at, form_of, high_digit, instruction_length, low_digit};
-ghost use Rattle.s360_fixed.specs.View.{register_of};
-ghost use Rattle.s360_fixed.specs.declared.second_operand.SecondOperand.TheVariants.{InStorage};
-ghost use Rattle.s360_fixed.specs.declared.second_operand.Width.TheVariants.{Word};
+ghost use Rattle.s360_fixed.specs.Table.{form_of, instruction_length};
 ghost use Rattle.s360_logic.specs.declared.row.ImmediateRow.TheVariants.{Combine};
 ghost use Rattle.s360_logic.specs.declared.row.RegisterStatus.TheVariants.{StorageKey};
 ghost use Rattle.s360_logic.specs.declared.row.StorageRow.TheVariants.{Combine as CombineBytes, Digits};
 ghost use Rattle.s360_logic.specs.declared.row.StorageStatus.TheVariants.{InputOutput};
 ghost use Rattle.s360_logic.specs.Converting.{conversion_outcome};
+ghost use Rattle.s360_logic.specs.Formats.{in_rr, in_rs, in_rx, in_s, in_si, in_ss};
 ghost use Rattle.s360_logic.specs.Immediate.{immediate_outcome};
 ghost use Rattle.s360_logic.specs.Instruction.{fetched_outcome};
 ghost use Rattle.s360_logic.specs.Logic.{storage_outcome};
@@ -55,8 +50,8 @@ fn put_rr<P: Puts>(
     puts: &mut P,
 ) -> Result<Ended, AllocError>
     requires whole { 2 ≤ length bytes.now }
-    requires none { HasNoPuts view.now.core (P.made puts.old) (P.may puts.old) (P.past puts.old) (P.count puts.old) }
-    ensures { IfOk result (PutsOutcome view.now.core (P.made puts.new) (P.may puts.new) (P.past puts.new) (P.count puts.new) (combination_outcome combination view.now (high_digit bytes.now 1) (word_operand (register_of view.now (low_digit bytes.now 1))))) }
+    requires none { PutsNothing P.Puts puts.old view.now }
+    ensures { IfOk result (PutsOutcome P.Puts puts.new view.now (in_rr (combination_rr combination) bytes.now view.now)) }
 {
     let second = view.register(low_register(bytes, 1));
     put_combined(view, combination, high_register(bytes, 1), second, puts)
@@ -72,8 +67,8 @@ fn put_rx<P: Puts>(
     puts: &mut P,
 ) -> Result<Ended, AllocError>
     requires whole { 4 ≤ length bytes.now }
-    requires none { HasNoPuts view.now.core (P.made puts.old) (P.may puts.old) (P.past puts.old) (P.count puts.old) }
-    ensures { IfOk result (PutsOutcome view.now.core (P.made puts.new) (P.may puts.new) (P.past puts.new) (P.count puts.new) (combination_outcome combination view.now (high_digit bytes.now 1) (storage_operand view.now.core second (operand_address view.now.core.registers (low_digit bytes.now 1) (high_digit bytes.now 2) (displacement_at bytes.now 2))))) }
+    requires none { PutsNothing P.Puts puts.old view.now }
+    ensures { IfOk result (PutsOutcome P.Puts puts.new view.now (in_rx (combination_rx second combination) bytes.now view.now)) }
 {
     let address = indexed_address(bytes, view);
     put_combined_at(
@@ -95,8 +90,8 @@ fn put_pair_rr<P: Puts>(
     puts: &mut P,
 ) -> Result<Ended, AllocError>
     requires whole { 2 ≤ length bytes.now }
-    requires none { HasNoPuts view.now.core (P.made puts.old) (P.may puts.old) (P.past puts.old) (P.count puts.old) }
-    ensures { IfOk result (PutsOutcome view.now.core (P.made puts.new) (P.may puts.new) (P.past puts.new) (P.count puts.new) (pair_outcome pair view.now (high_digit bytes.now 1) (word_operand (register_of view.now (low_digit bytes.now 1))))) }
+    requires none { PutsNothing P.Puts puts.old view.now }
+    ensures { IfOk result (PutsOutcome P.Puts puts.new view.now (in_rr (pair_rr pair) bytes.now view.now)) }
 {
     put_pair(
         view,
@@ -116,8 +111,8 @@ fn put_pair_rx<P: Puts>(
     puts: &mut P,
 ) -> Result<Ended, AllocError>
     requires whole { 4 ≤ length bytes.now }
-    requires none { HasNoPuts view.now.core (P.made puts.old) (P.may puts.old) (P.past puts.old) (P.count puts.old) }
-    ensures { IfOk result (PutsOutcome view.now.core (P.made puts.new) (P.may puts.new) (P.past puts.new) (P.count puts.new) (pair_outcome pair view.now (high_digit bytes.now 1) (storage_operand view.now.core (InStorage Word) (operand_address view.now.core.registers (low_digit bytes.now 1) (high_digit bytes.now 2) (displacement_at bytes.now 2))))) }
+    requires none { PutsNothing P.Puts puts.old view.now }
+    ensures { IfOk result (PutsOutcome P.Puts puts.new view.now (in_rx (pair_rx pair) bytes.now view.now)) }
 {
     put_pair_at(
         view,
@@ -137,8 +132,8 @@ fn put_branch_rr<P: Puts>(
     puts: &mut P,
 ) -> Result<Ended, AllocError>
     requires whole { 2 ≤ length bytes.now }
-    requires none { HasNoPuts view.now.core (P.made puts.old) (P.may puts.old) (P.past puts.old) (P.count puts.old) }
-    ensures { IfOk result (PutsOutcome view.now.core (P.made puts.new) (P.may puts.new) (P.past puts.new) (P.count puts.new) (branch_outcome branch view.now (high_digit bytes.now 1) (register_target view.now (low_digit bytes.now 1)))) }
+    requires none { PutsNothing P.Puts puts.old view.now }
+    ensures { IfOk result (PutsOutcome P.Puts puts.new view.now (in_rr (branch_rr branch) bytes.now view.now)) }
 {
     let target = register_target(view, low_register(bytes, 1));
     put_branch(view, branch, high_register(bytes, 1), target, puts)
@@ -153,8 +148,8 @@ fn put_branch_rx<P: Puts>(
     puts: &mut P,
 ) -> Result<Ended, AllocError>
     requires whole { 4 ≤ length bytes.now }
-    requires none { HasNoPuts view.now.core (P.made puts.old) (P.may puts.old) (P.past puts.old) (P.count puts.old) }
-    ensures { IfOk result (PutsOutcome view.now.core (P.made puts.new) (P.may puts.new) (P.past puts.new) (P.count puts.new) (branch_outcome branch view.now (high_digit bytes.now 1) (Some (operand_address view.now.core.registers (low_digit bytes.now 1) (high_digit bytes.now 2) (displacement_at bytes.now 2))))) }
+    requires none { PutsNothing P.Puts puts.old view.now }
+    ensures { IfOk result (PutsOutcome P.Puts puts.new view.now (in_rx (branch_rx branch) bytes.now view.now)) }
 {
     let target = Some(indexed_address(bytes, view));
     put_branch(view, branch, high_register(bytes, 1), target, puts)
@@ -169,8 +164,8 @@ fn put_store_rx<P: Puts>(
     puts: &mut P,
 ) -> Result<Ended, AllocError>
     requires whole { 4 ≤ length bytes.now }
-    requires none { HasNoPuts view.now.core (P.made puts.old) (P.may puts.old) (P.past puts.old) (P.count puts.old) }
-    ensures { IfOk result (PutsOutcome view.now.core (P.made puts.new) (P.may puts.new) (P.past puts.new) (P.count puts.new) (store_outcome width view.now (high_digit bytes.now 1) (operand_address view.now.core.registers (low_digit bytes.now 1) (high_digit bytes.now 2) (displacement_at bytes.now 2)))) }
+    requires none { PutsNothing P.Puts puts.old view.now }
+    ensures { IfOk result (PutsOutcome P.Puts puts.new view.now (in_rx (store_outcome width) bytes.now view.now)) }
 {
     put_register(
         view,
@@ -190,8 +185,8 @@ fn put_conversion_rx<P: Puts>(
     puts: &mut P,
 ) -> Result<Ended, AllocError>
     requires whole { 4 ≤ length bytes.now }
-    requires none { HasNoPuts view.now.core (P.made puts.old) (P.may puts.old) (P.past puts.old) (P.count puts.old) }
-    ensures { IfOk result (PutsOutcome view.now.core (P.made puts.new) (P.may puts.new) (P.past puts.new) (P.count puts.new) (conversion_outcome conversion view.now (high_digit bytes.now 1) (operand_address view.now.core.registers (low_digit bytes.now 1) (high_digit bytes.now 2) (displacement_at bytes.now 2)))) }
+    requires none { PutsNothing P.Puts puts.old view.now }
+    ensures { IfOk result (PutsOutcome P.Puts puts.new view.now (in_rx (conversion_outcome conversion) bytes.now view.now)) }
 {
     put_conversion(
         view,
@@ -211,8 +206,8 @@ fn put_shift_rs<P: Puts>(
     puts: &mut P,
 ) -> Result<Ended, AllocError>
     requires whole { 4 ≤ length bytes.now }
-    requires none { HasNoPuts view.now.core (P.made puts.old) (P.may puts.old) (P.past puts.old) (P.count puts.old) }
-    ensures { IfOk result (PutsOutcome view.now.core (P.made puts.new) (P.may puts.new) (P.past puts.new) (P.count puts.new) (shift_outcome shift view.now (high_digit bytes.now 1) ((operand_address view.now.core.registers 0 (high_digit bytes.now 2) (displacement_at bytes.now 2)) % 64))) }
+    requires none { PutsNothing P.Puts puts.old view.now }
+    ensures { IfOk result (PutsOutcome P.Puts puts.new view.now (in_rs (shift_rs shift) bytes.now view.now)) }
 {
     let count = (based_address(bytes, 2, view) % 64) as u8;
     put_shift(view, shift, high_register(bytes, 1), count, puts)
@@ -227,8 +222,8 @@ fn put_pair_shift_rs<P: Puts>(
     puts: &mut P,
 ) -> Result<Ended, AllocError>
     requires whole { 4 ≤ length bytes.now }
-    requires none { HasNoPuts view.now.core (P.made puts.old) (P.may puts.old) (P.past puts.old) (P.count puts.old) }
-    ensures { IfOk result (PutsOutcome view.now.core (P.made puts.new) (P.may puts.new) (P.past puts.new) (P.count puts.new) (pair_shift_outcome shift view.now (high_digit bytes.now 1) ((operand_address view.now.core.registers 0 (high_digit bytes.now 2) (displacement_at bytes.now 2)) % 64))) }
+    requires none { PutsNothing P.Puts puts.old view.now }
+    ensures { IfOk result (PutsOutcome P.Puts puts.new view.now (in_rs (pair_shift_rs shift) bytes.now view.now)) }
 {
     let count = (based_address(bytes, 2, view) % 64) as u8;
     put_pair_shift(view, shift, high_register(bytes, 1), count, puts)
@@ -243,8 +238,8 @@ fn put_branch_rs<P: Puts>(
     puts: &mut P,
 ) -> Result<Ended, AllocError>
     requires whole { 4 ≤ length bytes.now }
-    requires none { HasNoPuts view.now.core (P.made puts.old) (P.may puts.old) (P.past puts.old) (P.count puts.old) }
-    ensures { IfOk result (PutsOutcome view.now.core (P.made puts.new) (P.may puts.new) (P.past puts.new) (P.count puts.new) (index_outcome branch view.now (high_digit bytes.now 1) (low_digit bytes.now 1) (operand_address view.now.core.registers 0 (high_digit bytes.now 2) (displacement_at bytes.now 2)))) }
+    requires none { PutsNothing P.Puts puts.old view.now }
+    ensures { IfOk result (PutsOutcome P.Puts puts.new view.now (in_rs (index_outcome branch) bytes.now view.now)) }
 {
     let address = based_address(bytes, 2, view);
     put_branch_on_index(
@@ -266,8 +261,8 @@ fn put_si<P: Puts>(
     puts: &mut P,
 ) -> Result<Ended, AllocError>
     requires whole { 4 ≤ length bytes.now }
-    requires none { HasNoPuts view.now.core (P.made puts.old) (P.may puts.old) (P.past puts.old) (P.count puts.old) }
-    ensures { IfOk result (PutsOutcome view.now.core (P.made puts.new) (P.may puts.new) (P.past puts.new) (P.count puts.new) (immediate_outcome row view.now (slice_index bytes.now 1) (operand_address view.now.core.registers 0 (high_digit bytes.now 2) (displacement_at bytes.now 2)))) }
+    requires none { PutsNothing P.Puts puts.old view.now }
+    ensures { IfOk result (PutsOutcome P.Puts puts.new view.now (in_si (immediate_outcome row) bytes.now view.now)) }
 {
     put_immediate(view, row, bytes[1], based_address(bytes, 2, view), puts)
 }
@@ -281,8 +276,8 @@ fn put_status_si<P: Puts>(
     puts: &mut P,
 ) -> Result<Ended, AllocError>
     requires whole { 4 ≤ length bytes.now }
-    requires none { HasNoPuts view.now.core (P.made puts.old) (P.may puts.old) (P.past puts.old) (P.count puts.old) }
-    ensures { IfOk result (PutsOutcome view.now.core (P.made puts.new) (P.may puts.new) (P.past puts.new) (P.count puts.new) (storage_status_outcome row view.now (operand_address view.now.core.registers 0 (high_digit bytes.now 2) (displacement_at bytes.now 2)))) }
+    requires none { PutsNothing P.Puts puts.old view.now }
+    ensures { IfOk result (PutsOutcome P.Puts puts.new view.now (in_s (storage_status_outcome row) bytes.now view.now)) }
 {
     put_storage_status(view, row, based_address(bytes, 2, view), puts)
 }
@@ -296,8 +291,8 @@ fn put_status_rr<P: Puts>(
     puts: &mut P,
 ) -> Result<Ended, AllocError>
     requires whole { 2 ≤ length bytes.now }
-    requires none { HasNoPuts view.now.core (P.made puts.old) (P.may puts.old) (P.past puts.old) (P.count puts.old) }
-    ensures { IfOk result (PutsOutcome view.now.core (P.made puts.new) (P.may puts.new) (P.past puts.new) (P.count puts.new) (register_status_outcome row view.now (high_digit bytes.now 1) (low_digit bytes.now 1))) }
+    requires none { PutsNothing P.Puts puts.old view.now }
+    ensures { IfOk result (PutsOutcome P.Puts puts.new view.now (in_rr (register_status_outcome row) bytes.now view.now)) }
 {
     put_register_status(
         view,
@@ -317,8 +312,8 @@ fn put_ss<P: Puts>(
     puts: &mut P,
 ) -> Result<Ended, AllocError>
     requires whole { 6 ≤ length bytes.now }
-    requires none { HasNoPuts view.now.core (P.made puts.old) (P.may puts.old) (P.past puts.old) (P.count puts.old) }
-    ensures { IfOk result (PutsOutcome view.now.core (P.made puts.new) (P.may puts.new) (P.past puts.new) (P.count puts.new) (storage_outcome row view.now (slice_index bytes.now 1) (operand_address view.now.core.registers 0 (high_digit bytes.now 2) (displacement_at bytes.now 2)) (operand_address view.now.core.registers 0 (high_digit bytes.now 4) (displacement_at bytes.now 4)))) }
+    requires none { PutsNothing P.Puts puts.old view.now }
+    ensures { IfOk result (PutsOutcome P.Puts puts.new view.now (in_ss (storage_outcome row) bytes.now view.now)) }
 {
     let (first, second) = (based_address(bytes, 2, view), based_address(bytes, 4, view));
     put_storage(view, row, bytes[1], first, second, puts)
@@ -333,8 +328,8 @@ fn put_byte_si<P: Puts>(
     puts: &mut P,
 ) -> Result<Ended, AllocError>
     requires whole { 4 ≤ length bytes.now }
-    requires none { HasNoPuts view.now.core (P.made puts.old) (P.may puts.old) (P.past puts.old) (P.count puts.old) }
-    ensures { IfOk result (PutsOutcome view.now.core (P.made puts.new) (P.may puts.new) (P.past puts.new) (P.count puts.new) (immediate_outcome (Combine combination) view.now (slice_index bytes.now 1) (operand_address view.now.core.registers 0 (high_digit bytes.now 2) (displacement_at bytes.now 2)))) }
+    requires none { PutsNothing P.Puts puts.old view.now }
+    ensures { IfOk result (PutsOutcome P.Puts puts.new view.now (in_si (immediate_outcome (Combine combination)) bytes.now view.now)) }
 {
     put_si(ImmediateRow::Combine(combination), bytes, view, puts)
 }
@@ -348,8 +343,8 @@ fn put_io_si<P: Puts>(
     puts: &mut P,
 ) -> Result<Ended, AllocError>
     requires whole { 4 ≤ length bytes.now }
-    requires none { HasNoPuts view.now.core (P.made puts.old) (P.may puts.old) (P.past puts.old) (P.count puts.old) }
-    ensures { IfOk result (PutsOutcome view.now.core (P.made puts.new) (P.may puts.new) (P.past puts.new) (P.count puts.new) (storage_status_outcome (InputOutput operation) view.now (operand_address view.now.core.registers 0 (high_digit bytes.now 2) (displacement_at bytes.now 2)))) }
+    requires none { PutsNothing P.Puts puts.old view.now }
+    ensures { IfOk result (PutsOutcome P.Puts puts.new view.now (in_s (storage_status_outcome (InputOutput operation)) bytes.now view.now)) }
 {
     put_status_si(StorageStatus::InputOutput(operation), bytes, view, puts)
 }
@@ -363,8 +358,8 @@ fn put_key_rr<P: Puts>(
     puts: &mut P,
 ) -> Result<Ended, AllocError>
     requires whole { 2 ≤ length bytes.now }
-    requires none { HasNoPuts view.now.core (P.made puts.old) (P.may puts.old) (P.past puts.old) (P.count puts.old) }
-    ensures { IfOk result (PutsOutcome view.now.core (P.made puts.new) (P.may puts.new) (P.past puts.new) (P.count puts.new) (register_status_outcome (StorageKey row) view.now (high_digit bytes.now 1) (low_digit bytes.now 1))) }
+    requires none { PutsNothing P.Puts puts.old view.now }
+    ensures { IfOk result (PutsOutcome P.Puts puts.new view.now (in_rr (register_status_outcome (StorageKey row)) bytes.now view.now)) }
 {
     put_status_rr(RegisterStatus::StorageKey(row), bytes, view, puts)
 }
@@ -378,8 +373,8 @@ fn put_bytes_ss<P: Puts>(
     puts: &mut P,
 ) -> Result<Ended, AllocError>
     requires whole { 6 ≤ length bytes.now }
-    requires none { HasNoPuts view.now.core (P.made puts.old) (P.may puts.old) (P.past puts.old) (P.count puts.old) }
-    ensures { IfOk result (PutsOutcome view.now.core (P.made puts.new) (P.may puts.new) (P.past puts.new) (P.count puts.new) (storage_outcome (CombineBytes combination) view.now (slice_index bytes.now 1) (operand_address view.now.core.registers 0 (high_digit bytes.now 2) (displacement_at bytes.now 2)) (operand_address view.now.core.registers 0 (high_digit bytes.now 4) (displacement_at bytes.now 4)))) }
+    requires none { PutsNothing P.Puts puts.old view.now }
+    ensures { IfOk result (PutsOutcome P.Puts puts.new view.now (in_ss (storage_outcome (CombineBytes combination)) bytes.now view.now)) }
 {
     put_ss(StorageRow::Combine(combination), bytes, view, puts)
 }
@@ -393,8 +388,8 @@ fn put_digits_ss<P: Puts>(
     puts: &mut P,
 ) -> Result<Ended, AllocError>
     requires whole { 6 ≤ length bytes.now }
-    requires none { HasNoPuts view.now.core (P.made puts.old) (P.may puts.old) (P.past puts.old) (P.count puts.old) }
-    ensures { IfOk result (PutsOutcome view.now.core (P.made puts.new) (P.may puts.new) (P.past puts.new) (P.count puts.new) (storage_outcome (Digits row) view.now (slice_index bytes.now 1) (operand_address view.now.core.registers 0 (high_digit bytes.now 2) (displacement_at bytes.now 2)) (operand_address view.now.core.registers 0 (high_digit bytes.now 4) (displacement_at bytes.now 4)))) }
+    requires none { PutsNothing P.Puts puts.old view.now }
+    ensures { IfOk result (PutsOutcome P.Puts puts.new view.now (in_ss (storage_outcome (Digits row)) bytes.now view.now)) }
 {
     put_ss(StorageRow::Digits(row), bytes, view, puts)
 }
@@ -408,8 +403,8 @@ pub(crate) fn put_bytes<P: Puts>(
 ) -> Result<Ended, AllocError>
     requires begun { 0 < length bytes.now }
     requires whole { length bytes.now ≡ instruction_length (slice_index bytes.now 0) }
-    requires none { HasNoPuts view.now.core (P.made puts.old) (P.may puts.old) (P.past puts.old) (P.count puts.old) }
-    ensures { IfOk result (PutsOutcome view.now.core (P.made puts.new) (P.may puts.new) (P.past puts.new) (P.count puts.new) (fetched_outcome view.now (form_of bytes.now))) }
+    requires none { PutsNothing P.Puts puts.old view.now }
+    ensures { IfOk result (PutsOutcome P.Puts puts.new view.now (fetched_outcome view.now (form_of bytes.now))) }
 {
     let (r1, r3) = (high_register(bytes, 1), low_register(bytes, 1));
     match bytes[0] {

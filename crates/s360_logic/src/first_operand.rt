@@ -1,16 +1,14 @@
 //! Storage as an instruction has it so far, which stores into its first operand alone.
 ghost use Rattle.std.specs.Prelude.{◌≡◌, ◌<◌, ◌≤◌, ◌+◌, ◌^◌, IfOk, IfSome, OnSome, length, slice_set};
-ghost use Rattle.s360_store.specs.Puts.{HasNoPuts};
-ghost use Rattle.s360_fixed.specs.Plans.{PutsOutcome};
-ghost use Rattle.s360_fixed.specs.Settings.{ended_with};
-ghost use Rattle.s360_fixed.specs.declared.ended.Ended.TheVariants.{Done};
+ghost use Rattle.s360_fixed.specs.Plans.{PutsNothing, PutsOutcome};
 ghost use Rattle.s360_logic.specs.Bytes.{byte_at, completed_with, operand_bytes};
 ghost use Rattle.s360_logic.specs.Operands.{IsApart, IsBeside, first_operand, stored_in};
 
 use crate::field::Field;
 use arrayvec::ArrayVec;
-use s360_fixed::{Ended, Setting, View};
+use s360_fixed::{Ended, View, psw_with};
 use s360_store::{GREATEST_SIZE, Puts, Storage};
+use s360_word::Cc;
 use std::alloc::AllocError;
 use std::marker::Model;
 
@@ -136,22 +134,19 @@ impl<'a> FirstOperand<'a> {
         self.bytes[i as usize] = byte;
     }
 
-    /// Puts the bytes, and a condition code, after which the next instruction comes.
+    /// Puts the bytes, and a condition code if one is set, after which the next instruction comes.
     pub(crate) fn put<P: Puts>(
         &self,
         view: &View,
-        setting: Setting,
+        code: Option<Cc>,
         puts: &mut P,
     ) -> Result<Ended, AllocError>
         requires storage { self.now.storage ≡ view.now.core.storage }
-        requires done { ended_with view.now.core.psw setting ≡ Done }
-        requires none { HasNoPuts view.now.core (P.made puts.old) (P.may puts.old) (P.past puts.old) (P.count puts.old) }
-        ensures { IfOk result (PutsOutcome view.now.core (P.made puts.new) (P.may puts.new) (P.past puts.new) (P.count puts.new) (completed_with view.now setting (stored_in self.now))) }
+        requires none { PutsNothing P.Puts puts.old view.now }
+        ensures { IfOk result (PutsOutcome P.Puts puts.new view.now (completed_with view.now code (stored_in self.now))) }
     {
         prove!(self.address() + self.len() <= self.storage.size());
-        let psw = setting
-            .psw(view.psw())
-            .with_instruction_address(view.next_address());
+        let psw = psw_with(code, view.psw()).with_instruction_address(view.next_address());
         puts.put_psw(view.core(), psw)?;
         puts.put_bytes(view.core(), self.address(), self.bytes())?;
         Ok(Ended::Done)

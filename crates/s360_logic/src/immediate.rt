@@ -1,10 +1,7 @@
 //! Rows of a byte in storage and the byte of the instruction. Source: GA22-6821, "Logical
 //! Operations".
 ghost use Rattle.std.specs.Prelude.{◌≡◌, ◌<◌, IfOk, length};
-ghost use Rattle.s360_store.specs.Puts.{HasNoPuts};
-ghost use Rattle.s360_fixed.specs.Plans.{PutsOutcome};
-ghost use Rattle.s360_fixed.specs.Settings.{ended_with};
-ghost use Rattle.s360_fixed.specs.declared.ended.Ended.TheVariants.{Done};
+ghost use Rattle.s360_fixed.specs.Plans.{PutsNothing, PutsOutcome};
 ghost use Rattle.s360_logic.specs.Bytes.{completed_with, with_byte};
 ghost use Rattle.s360_logic.specs.Immediate.{immediate_outcome, mask_code};
 
@@ -12,7 +9,7 @@ use crate::condition::put_code;
 use crate::field::Field;
 use crate::first_operand::FirstOperand;
 use crate::row::ImmediateRow;
-use s360_fixed::{Ended, Setting, View, operand_exception};
+use s360_fixed::{Ended, View, operand_exception};
 use s360_store::{Access, Puts};
 use s360_word::{Cc, Word, compare_logical};
 use std::alloc::AllocError;
@@ -31,22 +28,21 @@ fn mask_condition(byte: u8, mask: u8) -> Cc
     }
 }
 
-/// Puts a byte at an address inside storage, and a condition code.
+/// Puts a byte at an address inside storage, and a condition code if one is set.
 fn put_byte<P: Puts>(
     view: &View,
     address: u32,
     byte: u8,
-    setting: Setting,
+    code: Option<Cc>,
     puts: &mut P,
 ) -> Result<Ended, AllocError>
     requires inside { address < length view.now.core.storage.bytes }
-    requires done { ended_with view.now.core.psw setting ≡ Done }
-    requires none { HasNoPuts view.now.core (P.made puts.old) (P.may puts.old) (P.past puts.old) (P.count puts.old) }
-    ensures { IfOk result (PutsOutcome view.now.core (P.made puts.new) (P.may puts.new) (P.past puts.new) (P.count puts.new) (completed_with view.now setting (with_byte address byte view.now.core.storage))) }
+    requires none { PutsNothing P.Puts puts.old view.now }
+    ensures { IfOk result (PutsOutcome P.Puts puts.new view.now (completed_with view.now code (with_byte address byte view.now.core.storage))) }
 {
     let mut operand = FirstOperand::new(view.storage(), Field { address, count: 1 });
     operand.set(0, byte);
-    operand.put(view, setting, puts)
+    operand.put(view, code, puts)
 }
 
 /// Puts a row of a byte in storage and the byte of the instruction.
@@ -57,8 +53,8 @@ pub(crate) fn put_immediate<P: Puts>(
     address: u32,
     puts: &mut P,
 ) -> Result<Ended, AllocError>
-    requires none { HasNoPuts view.now.core (P.made puts.old) (P.may puts.old) (P.past puts.old) (P.count puts.old) }
-    ensures { IfOk result (PutsOutcome view.now.core (P.made puts.new) (P.may puts.new) (P.past puts.new) (P.count puts.new) (immediate_outcome row view.now i2 address)) }
+    requires none { PutsNothing P.Puts puts.old view.now }
+    ensures { IfOk result (PutsOutcome P.Puts puts.new view.now (immediate_outcome row view.now i2 address)) }
 {
     if let Some(code) = operand_exception(view, address, 1, 1, row.access()) {
         return Ok(Ended::Program(code));
@@ -67,10 +63,10 @@ pub(crate) fn put_immediate<P: Puts>(
     match row {
         ImmediateRow::Combine(combination) => {
             let result = combination.of(byte, i2);
-            put_byte(view, address, result, combination.setting(&[result]), puts)
+            put_byte(view, address, result, combination.code(&[result]), puts)
         }
         ImmediateRow::TestAndSet => {
-            let leftmost = Setting::Code(Cc::new(byte / 128));
+            let leftmost = Some(Cc::new(byte / 128));
             put_byte(view, address, 0xFF, leftmost, puts)
         }
         ImmediateRow::Compare => {

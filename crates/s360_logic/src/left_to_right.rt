@@ -2,16 +2,15 @@
 //! GA22-6821, "Logical Operations".
 ghost use Rattle.std.specs.Option.{option_map};
 ghost use Rattle.std.specs.Prelude.{◌≡◌, ◌≤◌, ◌<◌, ◌+◌, ◌^◌, ◌≢◌, IfNone, IfOk, IfSome, IsTrue, length};
-ghost use Rattle.s360_store.specs.Puts.{HasNoPuts};
-ghost use Rattle.s360_fixed.specs.Plans.{PutsOutcome};
+ghost use Rattle.s360_fixed.specs.Plans.{PutsNothing, PutsOutcome};
 ghost use Rattle.s360_fixed.specs.ProgramCodes.{program_code};
 ghost use Rattle.s360_logic.specs.LeftToRight.{combine_outcome, combined, compare_outcome};
 ghost use Rattle.s360_logic.specs.LeftToRight.{conditions_of};
 ghost use Rattle.s360_logic.specs.LeftToRight.{comparison_code, found_at, function_address};
-ghost use Rattle.s360_logic.specs.LeftToRight.{found_outcome, function_byte, left_to_right};
+ghost use Rattle.s360_logic.specs.LeftToRight.{found_outcome, function_byte};
 ghost use Rattle.s360_logic.specs.LeftToRight.{search_access, translate_outcome};
 ghost use Rattle.s360_logic.specs.LeftToRight.{translate_and_test_outcome};
-ghost use Rattle.s360_logic.specs.LeftToRight.{translate_access, translated_byte};
+ghost use Rattle.s360_logic.specs.LeftToRight.{translate_access, translated};
 ghost use Rattle.s360_logic.specs.LeftToRight.{with_address, with_low_byte};
 ghost use Rattle.s360_logic.specs.declared.left_to_right.Found.{Found};
 ghost use Rattle.s360_logic.specs.Bytes.{operand_bytes};
@@ -24,7 +23,7 @@ use crate::condition::put_code;
 use crate::field::{Field, check, fields_exception};
 use crate::first_operand::FirstOperand;
 use crate::row::ByteCombination;
-use s360_fixed::{ADDRESSES, Effect, Ended, ProgramCode, Setting, View};
+use s360_fixed::{ADDRESSES, CodeSetting, Effect, Ended, ProgramCode, View};
 use s360_store::{Access, Checked, GREATEST_SIZE, Puts, Storage, first_other};
 use s360_word::{Cc, ProtectionKey, RegisterNumber, Word, compare_logical};
 use std::alloc::AllocError;
@@ -97,8 +96,8 @@ pub(crate) fn put_combine<P: Puts>(
     puts: &mut P,
 ) -> Result<Ended, AllocError>
     requires few { count ≤ 256 }
-    requires none { HasNoPuts view.now.core (P.made puts.old) (P.may puts.old) (P.past puts.old) (P.count puts.old) }
-    ensures { IfOk result (PutsOutcome view.now.core (P.made puts.new) (P.may puts.new) (P.past puts.new) (P.count puts.new) (combine_outcome combination view.now first second count)) }
+    requires none { PutsNothing P.Puts puts.old view.now }
+    ensures { IfOk result (PutsOutcome P.Puts puts.new view.now (combine_outcome combination view.now first second count)) }
 {
     let field = Field {
         address: first,
@@ -113,8 +112,8 @@ pub(crate) fn put_combine<P: Puts>(
     }
     let mut operand = FirstOperand::new(view.storage(), field);
     combine(combination, &mut operand, second);
-    let setting = combination.setting(operand.bytes());
-    operand.put(view, setting, puts)
+    let code = combination.code(operand.bytes());
+    operand.put(view, code, puts)
 }
 
 /// The condition code of the first bytes that differ.
@@ -140,8 +139,8 @@ pub(crate) fn put_compare<P: Puts>(
     count: u32,
     puts: &mut P,
 ) -> Result<Ended, AllocError>
-    requires none { HasNoPuts view.now.core (P.made puts.old) (P.may puts.old) (P.past puts.old) (P.count puts.old) }
-    ensures { IfOk result (PutsOutcome view.now.core (P.made puts.new) (P.may puts.new) (P.past puts.new) (P.count puts.new) (compare_outcome view.now first second count)) }
+    requires none { PutsNothing P.Puts puts.old view.now }
+    ensures { IfOk result (PutsOutcome P.Puts puts.new view.now (compare_outcome view.now first second count)) }
 {
     let field = Field {
         address: first,
@@ -188,7 +187,7 @@ fn translate_apart(operand: &mut FirstOperand, table: u32, key: ProtectionKey, f
     requires unaltered { stored_in operand.old ≡ operand.old.storage }
     requires clear { access operand.old.storage table 256 Fetch key ≡ Clear }
     ensures met { translate_access table key operand.old.address 0 (length operand.old.bytes) (stored_in operand.old) ≡ Clear }
-    ensures stored { stored_in operand.new ≡ left_to_right (translated_byte table operand.old.address) operand.old.address 0 (length operand.old.bytes) (stored_in operand.old) }
+    ensures stored { stored_in operand.new ≡ translated table operand.old.address (length operand.old.bytes) (stored_in operand.old) }
     ensures storage { operand.new.storage ≡ operand.old.storage }
     ensures address { operand.new.address ≡ operand.old.address }
     ensures count { length operand.new.bytes ≡ length operand.old.bytes }
@@ -210,7 +209,7 @@ fn translate_in_turn(
     requires storage { storage.now ≡ operand.old.storage }
     requires table { table < 2 ^ 24 }
     ensures met { result ≡ translate_access table key operand.old.address 0 (length operand.old.bytes) (stored_in operand.old) }
-    ensures stored { result ≡ Clear → stored_in operand.new ≡ left_to_right (translated_byte table operand.old.address) operand.old.address 0 (length operand.old.bytes) (stored_in operand.old) }
+    ensures stored { result ≡ Clear → stored_in operand.new ≡ translated table operand.old.address (length operand.old.bytes) (stored_in operand.old) }
     ensures storage { operand.new.storage ≡ operand.old.storage }
     ensures address { operand.new.address ≡ operand.old.address }
     ensures count { length operand.new.bytes ≡ length operand.old.bytes }
@@ -241,7 +240,7 @@ fn translate(
     requires table { table < 2 ^ 24 }
     requires unaltered { stored_in operand.old ≡ operand.old.storage }
     ensures met { result ≡ translate_access table key operand.old.address 0 (length operand.old.bytes) (stored_in operand.old) }
-    ensures stored { result ≡ Clear → stored_in operand.new ≡ left_to_right (translated_byte table operand.old.address) operand.old.address 0 (length operand.old.bytes) (stored_in operand.old) }
+    ensures stored { result ≡ Clear → stored_in operand.new ≡ translated table operand.old.address (length operand.old.bytes) (stored_in operand.old) }
     ensures storage { operand.new.storage ≡ operand.old.storage }
     ensures address { operand.new.address ≡ operand.old.address }
     ensures count { length operand.new.bytes ≡ length operand.old.bytes }
@@ -274,8 +273,8 @@ pub(crate) fn put_translate<P: Puts>(
 ) -> Result<Ended, AllocError>
     requires few { count ≤ 256 }
     requires table { table < 2 ^ 24 }
-    requires none { HasNoPuts view.now.core (P.made puts.old) (P.may puts.old) (P.past puts.old) (P.count puts.old) }
-    ensures { IfOk result (PutsOutcome view.now.core (P.made puts.new) (P.may puts.new) (P.past puts.new) (P.count puts.new) (translate_outcome view.now first table count)) }
+    requires none { PutsNothing P.Puts puts.old view.now }
+    ensures { IfOk result (PutsOutcome P.Puts puts.new view.now (translate_outcome view.now first table count)) }
 {
     let field = Field {
         address: first,
@@ -290,7 +289,7 @@ pub(crate) fn put_translate<P: Puts>(
     let met = translate(&mut operand, view.storage(), table, key);
     match exception_of(checked, met) {
         Some(code) => Ok(Ended::Program(code)),
-        None => operand.put(view, Setting::Kept, puts),
+        None => operand.put(view, None, puts),
     }
 }
 
@@ -363,8 +362,8 @@ fn put_found<P: Puts>(
 ) -> Result<Ended, AllocError>
     requires inside { field.address + field.count ≤ length view.now.core.storage.bytes }
     requires number { found.number < field.count }
-    requires none { HasNoPuts view.now.core (P.made puts.old) (P.may puts.old) (P.past puts.old) (P.count puts.old) }
-    ensures { IfOk result (PutsOutcome view.now.core (P.made puts.new) (P.may puts.new) (P.past puts.new) (P.count puts.new) (found_outcome found.number found.function_byte view.now field.address field.count)) }
+    requires none { PutsNothing P.Puts puts.old view.now }
+    ensures { IfOk result (PutsOutcome P.Puts puts.new view.now (found_outcome found.number found.function_byte view.now field.address field.count)) }
 {
     // So no address of the operand passes 24 bits.
     prove!(view.storage().size() <= GREATEST_SIZE);
@@ -375,7 +374,7 @@ fn put_found<P: Puts>(
         with_address(view.register(one), field.address + found.number),
         with_low_byte(view.register(RegisterNumber::new(2)), found.function_byte),
     );
-    Effect::double(words, Setting::Code(code)).put_alone(view, one, view.next_address(), puts)
+    Effect::double(words, CodeSetting::to(code)).put_alone(view, one, view.next_address(), puts)
 }
 
 /// Puts a search of a table.
@@ -387,8 +386,8 @@ pub(crate) fn put_translate_and_test<P: Puts>(
     puts: &mut P,
 ) -> Result<Ended, AllocError>
     requires table { table < 2 ^ 24 }
-    requires none { HasNoPuts view.now.core (P.made puts.old) (P.may puts.old) (P.past puts.old) (P.count puts.old) }
-    ensures { IfOk result (PutsOutcome view.now.core (P.made puts.new) (P.may puts.new) (P.past puts.new) (P.count puts.new) (translate_and_test_outcome view.now first table count)) }
+    requires none { PutsNothing P.Puts puts.old view.now }
+    ensures { IfOk result (PutsOutcome P.Puts puts.new view.now (translate_and_test_outcome view.now first table count)) }
 {
     let field = Field {
         address: first,

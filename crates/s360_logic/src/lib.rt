@@ -23,3 +23,4 @@ mod status;
 pub use cpu::{Fetched, PlannedInstruction, fetch, plan_instruction, put_instruction};
 pub use laws::digits_of_apart_operands;
 pub use logic::{plan_logic, put_logic, subject_of, with_ored_byte};
+pub use row::DigitRow;

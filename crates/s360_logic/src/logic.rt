@@ -2,8 +2,7 @@
 //! Source: GA22-6821, "Logical Operations", "Fixed-Point Arithmetic", "Decimal Arithmetic", "Status
 //! Switching", and "Branching", EXECUTE.
 ghost use Rattle.std.specs.Prelude.{◌≡◌, ◌<◌, ◌≤◌, ◌^◌, [], None, IfOk, length, slice_index};
-ghost use Rattle.s360_store.specs.Puts.{HasNoPuts};
-ghost use Rattle.s360_fixed.specs.Plans.{PlansOutcome, PutsOutcome};
+ghost use Rattle.s360_fixed.specs.Plans.{PlansOutcome, PutsNothing, PutsOutcome};
 ghost use Rattle.s360_logic.specs.Logic.{address_of, by_row, execute_outcome, logic_outcome};
 ghost use Rattle.s360_logic.specs.Logic.{outcome_of, row_outcome, status_outcome};
 ghost use Rattle.s360_logic.specs.Logic.{storage_outcome, subject_of, with_ored_byte};
@@ -49,8 +48,8 @@ pub(crate) fn put_storage<P: Puts>(
     puts: &mut P,
 ) -> Result<Ended, AllocError>
     requires second { second < 2 ^ 24 }
-    requires none { HasNoPuts view.now.core (P.made puts.old) (P.may puts.old) (P.past puts.old) (P.count puts.old) }
-    ensures { IfOk result (PutsOutcome view.now.core (P.made puts.new) (P.may puts.new) (P.past puts.new) (P.count puts.new) (storage_outcome row view.now l first second)) }
+    requires none { PutsNothing P.Puts puts.old view.now }
+    ensures { IfOk result (PutsOutcome P.Puts puts.new view.now (storage_outcome row view.now l first second)) }
 {
     let count = u32::from(l) + 1;
     match row {
@@ -76,8 +75,8 @@ pub(crate) fn put_storage<P: Puts>(
 
 /// Puts an instruction by its row in these chapters, if it has one.
 fn put_own<P: Puts>(form: &Form, view: &View, puts: &mut P) -> Result<Ended, AllocError>
-    requires none { HasNoPuts view.now.core (P.made puts.old) (P.may puts.old) (P.past puts.old) (P.count puts.old) }
-    ensures { IfOk result (PutsOutcome view.now.core (P.made puts.new) (P.may puts.new) (P.past puts.new) (P.count puts.new) (by_row None (logic_outcome form.now) (status_outcome form.now) view.now)) }
+    requires none { PutsNothing P.Puts puts.old view.now }
+    ensures { IfOk result (PutsOutcome P.Puts puts.new view.now (by_row None (logic_outcome form.now) (status_outcome form.now) view.now)) }
 {
     match *form {
         Form::Rx {
@@ -126,8 +125,8 @@ fn put_own<P: Puts>(form: &Form, view: &View, puts: &mut P) -> Result<Ended, All
 
 /// Puts an instruction by its row.
 fn put_row<P: Puts>(form: &Form, view: &View, puts: &mut P) -> Result<Ended, AllocError>
-    requires none { HasNoPuts view.now.core (P.made puts.old) (P.may puts.old) (P.past puts.old) (P.count puts.old) }
-    ensures { IfOk result (PutsOutcome view.now.core (P.made puts.new) (P.may puts.new) (P.past puts.new) (P.count puts.new) (row_outcome view.now form.now)) }
+    requires none { PutsNothing P.Puts puts.old view.now }
+    ensures { IfOk result (PutsOutcome P.Puts puts.new view.now (row_outcome view.now form.now)) }
 {
     if is_fixed(form) {
         return put_fixed(form, view, puts);
@@ -173,8 +172,8 @@ pub(crate) fn put_execute<P: Puts>(
     address: u32,
     puts: &mut P,
 ) -> Result<Ended, AllocError>
-    requires none { HasNoPuts view.now.core (P.made puts.old) (P.may puts.old) (P.past puts.old) (P.count puts.old) }
-    ensures { IfOk result (PutsOutcome view.now.core (P.made puts.new) (P.may puts.new) (P.past puts.new) (P.count puts.new) (execute_outcome view.now r1 address)) }
+    requires none { PutsNothing P.Puts puts.old view.now }
+    ensures { IfOk result (PutsOutcome P.Puts puts.new view.now (execute_outcome view.now r1 address)) }
 {
     let bytes = match fetch_instruction(view.storage(), address, view.psw().protection_key()) {
         Ok(bytes) => with_ored_byte(view, r1, bytes),
@@ -191,8 +190,8 @@ pub(crate) fn put_execute<P: Puts>(
 
 /// Puts what an instruction does that was decoded, and says how it ends.
 pub fn put_logic<P: Puts>(form: &Form, view: &View, puts: &mut P) -> Result<Ended, AllocError>
-    requires none { HasNoPuts view.now.core (P.made puts.old) (P.may puts.old) (P.past puts.old) (P.count puts.old) }
-    ensures { IfOk result (PutsOutcome view.now.core (P.made puts.new) (P.may puts.new) (P.past puts.new) (P.count puts.new) (outcome_of view.now form.now)) }
+    requires none { PutsNothing P.Puts puts.old view.now }
+    ensures { IfOk result (PutsOutcome P.Puts puts.new view.now (outcome_of view.now form.now)) }
 {
     match subject_of(form, view) {
         Some((r1, address)) => put_execute(view, r1, address, puts),

@@ -1,24 +1,22 @@
 //! Rows of two operands in storage, each with its length, a byte of the result after another from
 //! right to left. Source: GA22-6821, "Decimal Arithmetic", MOVE WITH OFFSET, PACK and UNPACK.
 ghost use Rattle.std.specs.Prelude.{◌≡◌, ◌≤◌, ◌<◌, ◌+◌, IfOk, length};
-ghost use Rattle.s360_store.specs.Puts.{HasNoPuts};
-ghost use Rattle.s360_fixed.specs.Plans.{PutsOutcome};
+ghost use Rattle.s360_fixed.specs.Plans.{PutsNothing, PutsOutcome};
 ghost use Rattle.s360_logic.specs.Operands.{field_of, stored_in};
-ghost use Rattle.s360_logic.specs.Held.{made_at};
-ghost use Rattle.s360_logic.specs.RightToLeft.{byte_from_right, digits, digits_outcome};
-ghost use Rattle.s360_logic.specs.RightToLeft.{digits_stored, exchanged, zone_of};
+ghost use Rattle.s360_logic.specs.Held.{next_byte};
+ghost use Rattle.s360_logic.specs.RightToLeft.{byte_from_right, digit_move, digits, digits_outcome, digits_stored, exchanged, zone_of};
 
 use crate::field::{Field, fields_exception};
 use crate::first_operand::FirstOperand;
 use crate::row::DigitRow;
-use s360_fixed::{Ended, Setting, View};
+use s360_fixed::{Ended, View};
 use s360_psw::Psw;
 use s360_store::{Access, Puts};
 use std::alloc::AllocError;
 
 /// A byte of the result, and the byte of the second operand that is held for the next.
 #[derive(Clone, Copy)]
-struct Made {
+struct NextByte {
     byte: u8,
     held: u8,
 }
@@ -58,40 +56,47 @@ fn zone_of(psw: Psw) -> u8
 }
 
 /// The byte of the result at `i`, counted from 0 at the right.
-fn made_at(row: DigitRow, zone: u8, storage: &FirstOperand, second: Field, i: u32, held: u8) -> Made
+fn next_byte(
+    row: DigitRow,
+    zone: u8,
+    storage: &FirstOperand,
+    second: Field,
+    i: u32,
+    held: u8,
+) -> NextByte
     requires inside { second.address + second.count ≤ length storage.now.storage.bytes }
     requires small { length storage.now.storage.bytes ≤ 1048576 }
     requires few { i < 256 }
-    ensures { result ≡ made_at row zone second i held (stored_in storage.now) }
+    ensures { result ≡ next_byte row zone second i held (stored_in storage.now) }
 {
     match row {
         DigitRow::MoveWithOffset => {
             let fetched = byte_from_right(storage, second, i);
-            Made {
+            NextByte {
                 byte: digits(fetched, held / 16),
                 held: fetched,
             }
         }
-        DigitRow::Pack | DigitRow::Unpack if i == 0 => Made {
+        DigitRow::Pack | DigitRow::Unpack if i == 0 => NextByte {
             byte: exchanged(byte_from_right(storage, second, 0)),
             held,
         },
         DigitRow::Pack => {
             let low = byte_from_right(storage, second, 2 * i - 1);
             let high = byte_from_right(storage, second, 2 * i);
-            Made {
+            NextByte {
                 byte: digits(high, low),
                 held,
             }
         }
         DigitRow::Unpack if i % 2 == 1 => {
             let fetched = byte_from_right(storage, second, (i + 1) / 2);
-            Made {
+            NextByte {
                 byte: digits(zone, fetched),
                 held: fetched,
             }
         }
-        DigitRow::Unpack => Made {
+        DigitRow::Unpack => NextByte {
             byte: digits(zone, held / 16),
             held,
         },
@@ -102,7 +107,7 @@ fn made_at(row: DigitRow, zone: u8, storage: &FirstOperand, second: Field, i: u3
 fn make_digits(row: DigitRow, zone: u8, operand: &mut FirstOperand, second: Field)
     requires inside { second.address + second.count ≤ length operand.old.storage.bytes }
     requires some { 0 < length operand.old.bytes }
-    ensures stored { stored_in operand.new ≡ digits_stored row zone (field_of operand.old) second (stored_in operand.old) }
+    ensures stored { stored_in operand.new ≡ digits_stored (digit_move row zone (field_of operand.old) second) (stored_in operand.old) }
     ensures storage { operand.new.storage ≡ operand.old.storage }
 {
     let count = operand.len();
@@ -112,9 +117,9 @@ fn make_digits(row: DigitRow, zone: u8, operand: &mut FirstOperand, second: Fiel
     };
     let mut held = digits(byte_from_right(operand, first, 0), 0);
     for i in 0..count {
-        let made = made_at(row, zone, operand, second, i, held);
-        operand.set(count - 1 - i, made.byte);
-        held = made.held;
+        let next = next_byte(row, zone, operand, second, i, held);
+        operand.set(count - 1 - i, next.byte);
+        held = next.held;
     }
 }
 
@@ -128,13 +133,13 @@ pub(crate) fn put_digits<P: Puts>(
 ) -> Result<Ended, AllocError>
     requires some { 0 < first.count }
     requires few { first.count ≤ 16 }
-    requires none { HasNoPuts view.now.core (P.made puts.old) (P.may puts.old) (P.past puts.old) (P.count puts.old) }
-    ensures { IfOk result (PutsOutcome view.now.core (P.made puts.new) (P.may puts.new) (P.past puts.new) (P.count puts.new) (digits_outcome row view.now first second)) }
+    requires none { PutsNothing P.Puts puts.old view.now }
+    ensures { IfOk result (PutsOutcome P.Puts puts.new view.now (digits_outcome row view.now first second)) }
 {
     if let Some(code) = fields_exception(view, Access::Store, first, second) {
         return Ok(Ended::Program(code));
     }
     let mut operand = FirstOperand::new(view.storage(), first);
     make_digits(row, zone_of(view.psw()), &mut operand, second);
-    operand.put(view, Setting::Kept, puts)
+    operand.put(view, None, puts)
 }

@@ -40,7 +40,7 @@ pub(crate) enum ImmediateRow {
 
 /// What is made of two operands in storage from right to left, a digit of four bits at a time.
 #[derive(Clone, Copy, PartialEq, Eq)]
-pub(crate) enum DigitRow {
+pub enum DigitRow {
     /// The digits of the second to the left of the low digit of the first.
     MoveWithOffset,
     /// The low digits, two to a byte.

@@ -1,11 +1,10 @@
 //! Status switching: the PSW and its masks, the storage keys and the supervisor call. Source:
 //! GA22-6821, "Status Switching", and "System Structure", protection feature.
-ghost use Rattle.std.specs.Prelude.{◌≡◌, ◌<◌, IfErr, IfNone, IfOk, None, Some};
+ghost use Rattle.std.specs.Prelude.{◌≡◌, ◌<◌, IfErr, IfNone, IfOk, None, OnOk, Some};
 ghost use Rattle.s360_model.specs.Psw.{current_psw};
 ghost use Rattle.s360_model.specs.Storage.{doubleword_at, key_limit};
 ghost use Rattle.s360_store.specs.Plans.{HasBlock, HasBytes};
-ghost use Rattle.s360_store.specs.Puts.{HasNoPuts};
-ghost use Rattle.s360_fixed.specs.Plans.{PutsOutcome};
+ghost use Rattle.s360_fixed.specs.Plans.{PutsNothing, PutsOutcome};
 ghost use Rattle.s360_fixed.specs.ProgramCodes.{program_code};
 ghost use Rattle.s360_fixed.specs.Storing.{next_psw};
 ghost use Rattle.s360_logic.specs.declared.row.StorageStatus.TheVariants.{LoadPsw, SetSystemMask};
@@ -48,8 +47,8 @@ fn next_psw(view: &View) -> Psw
 
 /// Puts a PSW alone.
 fn put_psw<P: Puts>(view: &View, psw: Psw, puts: &mut P) -> Result<Ended, AllocError>
-    requires none { HasNoPuts view.now.core (P.made puts.old) (P.may puts.old) (P.past puts.old) (P.count puts.old) }
-    ensures { IfOk result (PutsOutcome view.now.core (P.made puts.new) (P.may puts.new) (P.past puts.new) (P.count puts.new) (with_psw view.now psw)) }
+    requires none { PutsNothing P.Puts puts.old view.now }
+    ensures { IfOk result (PutsOutcome P.Puts puts.new view.now (with_psw view.now psw)) }
 {
     puts.put_psw(view.core(), psw)?;
     Ok(Ended::Done)
@@ -105,8 +104,8 @@ fn put_key<P: Puts>(
     puts: &mut P,
 ) -> Result<Ended, AllocError>
     requires inside { HasBlock block view.now.core }
-    requires none { HasNoPuts view.now.core (P.made puts.old) (P.may puts.old) (P.past puts.old) (P.count puts.old) }
-    ensures { IfOk result (PutsOutcome view.now.core (P.made puts.new) (P.may puts.new) (P.past puts.new) (P.count puts.new) (key_outcome row view.now r1 block)) }
+    requires none { PutsNothing P.Puts puts.old view.now }
+    ensures { IfOk result (PutsOutcome P.Puts puts.new view.now (key_outcome row view.now r1 block)) }
 {
     let word = view.register(r1);
     put_next_psw(view, puts)?;
@@ -131,8 +130,8 @@ pub(crate) fn put_register_status<P: Puts>(
     r2: RegisterNumber,
     puts: &mut P,
 ) -> Result<Ended, AllocError>
-    requires none { HasNoPuts view.now.core (P.made puts.old) (P.may puts.old) (P.past puts.old) (P.count puts.old) }
-    ensures { IfOk result (PutsOutcome view.now.core (P.made puts.new) (P.may puts.new) (P.past puts.new) (P.count puts.new) (register_status_outcome row view.now r1 r2)) }
+    requires none { PutsNothing P.Puts puts.old view.now }
+    ensures { IfOk result (PutsOutcome P.Puts puts.new view.now (register_status_outcome row view.now r1 r2)) }
 {
     match row {
         RegisterStatus::SetProgramMask => {
@@ -167,8 +166,8 @@ fn fetch_exception(view: &View, address: u32, count: u32) -> Option<ProgramCode>
 
 /// Puts the system mask that is the byte at an address.
 fn put_system_mask<P: Puts>(view: &View, address: u32, puts: &mut P) -> Result<Ended, AllocError>
-    requires none { HasNoPuts view.now.core (P.made puts.old) (P.may puts.old) (P.past puts.old) (P.count puts.old) }
-    ensures { IfOk result (PutsOutcome view.now.core (P.made puts.new) (P.may puts.new) (P.past puts.new) (P.count puts.new) (storage_status_outcome SetSystemMask view.now address)) }
+    requires none { PutsNothing P.Puts puts.old view.now }
+    ensures { IfOk result (PutsOutcome P.Puts puts.new view.now (storage_status_outcome SetSystemMask view.now address)) }
 {
     match fetch_exception(view, address, 1) {
         Some(code) => Ok(Ended::Program(code)),
@@ -182,7 +181,8 @@ fn put_system_mask<P: Puts>(view: &View, address: u32, puts: &mut P) -> Result<E
 /// The PSW that is the doubleword at an address, or what keeps it from being loaded.
 #[inline(always)]
 pub(crate) fn loaded_psw(view: &View, address: u32) -> Result<Psw, ProgramCode>
-    ensures ok { IfOk result (λ psw. (program_code (privileged_fetch view.now address 8) ≡ None) × (psw ≡ current_psw (doubleword_at view.now.core.storage.bytes address))) }
+    ensures ok { OnOk result (program_code (privileged_fetch view.now address 8) ≡ None) }
+    ensures psw { IfOk result (λ psw. psw ≡ current_psw (doubleword_at view.now.core.storage.bytes address)) }
     ensures err { IfErr result (λ code. program_code (privileged_fetch view.now address 8) ≡ Some code) }
 {
     match fetch_exception(view, address, DOUBLEWORD) {
@@ -193,8 +193,8 @@ pub(crate) fn loaded_psw(view: &View, address: u32) -> Result<Psw, ProgramCode>
 
 /// Puts the PSW that is the doubleword at an address.
 fn put_load_psw<P: Puts>(view: &View, address: u32, puts: &mut P) -> Result<Ended, AllocError>
-    requires none { HasNoPuts view.now.core (P.made puts.old) (P.may puts.old) (P.past puts.old) (P.count puts.old) }
-    ensures { IfOk result (PutsOutcome view.now.core (P.made puts.new) (P.may puts.new) (P.past puts.new) (P.count puts.new) (storage_status_outcome LoadPsw view.now address)) }
+    requires none { PutsNothing P.Puts puts.old view.now }
+    ensures { IfOk result (PutsOutcome P.Puts puts.new view.now (storage_status_outcome LoadPsw view.now address)) }
 {
     match loaded_psw(view, address) {
         Ok(psw) => put_psw(view, psw, puts),
@@ -209,8 +209,8 @@ pub(crate) fn put_storage_status<P: Puts>(
     address: u32,
     puts: &mut P,
 ) -> Result<Ended, AllocError>
-    requires none { HasNoPuts view.now.core (P.made puts.old) (P.may puts.old) (P.past puts.old) (P.count puts.old) }
-    ensures { IfOk result (PutsOutcome view.now.core (P.made puts.new) (P.may puts.new) (P.past puts.new) (P.count puts.new) (storage_status_outcome row view.now address)) }
+    requires none { PutsNothing P.Puts puts.old view.now }
+    ensures { IfOk result (PutsOutcome P.Puts puts.new view.now (storage_status_outcome row view.now address)) }
 {
     match row {
         StorageStatus::SetSystemMask => put_system_mask(view, address, puts),

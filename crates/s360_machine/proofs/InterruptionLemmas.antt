@@ -1,5 +1,5 @@
 -- The puts of an interruption.
-use Rattle.std.proofs.Common.{◌≡◌, ◌<◌, ◌≤◌, ◌+◌, ◌-◌, ◌++◌, ℕ, zero, suc, List, refl, ap, arith, sym, ◌∙◌, drop, length, take, Some, None, unwrap_or, slice_index}
+use Rattle.std.proofs.Common.{◌≡◌, ◌≤◌, ◌+◌, ◌-◌, ◌++◌, ℕ, zero, suc, List, refl, ap, arith, sym, ◌∙◌, drop, length, take, slice_index}
 use Rattle.std.proofs.lemmas.List.{append_assoc, drop-drop, drop_at, get_or-drop, length-append, length-take-le, take-take, take_at}
 use Rattle.std.specs.Int.{bytes_high_first}
 use Rattle.s360_model.specs.Core.{Core, core_with_bytes, core_with_psw}
@@ -11,12 +11,6 @@ use Rattle.s360_psw.specs.declared.instruction_length.InstructionLength.{Instruc
 use Rattle.s360_psw.specs.declared.instruction_length.InstructionLength.TheVariants.{NotAvailable}
 use Rattle.s360_psw.specs.Class.{new_location_of, old_location_of}
 use Rattle.s360_psw.specs.InstructionLength.{length_code_of}
-use Rattle.s360_store.specs.declared.place.Place.{Place}
-use Rattle.s360_store.specs.declared.place.Place.TheVariants.{Byte}
-use Rattle.s360_store.specs.declared.place.Cell.{Cell}
-use Rattle.s360_store.specs.Cells.{AreCellsOf, after_exchange}
-use Rattle.s360_store.specs.Places.{IsPlaceOf, value_at}
-use Rattle.s360_store.specs.Plans.{planned_value}
 use Rattle.s360_machine.specs.Interruptions.{after_interruption}
 
 -- the core after an interruption, by what it stores and what it loads

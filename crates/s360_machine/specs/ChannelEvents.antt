@@ -8,6 +8,7 @@ use Rattle.s360_device.specs.Commands.{command_of}
 use Rattle.s360_device.specs.declared.card.PunchedCard.{PunchedCard}
 use Rattle.s360_device.specs.Punch.{punch_table}
 use Rattle.s360_device.specs.Reader.{ReaderMedia, reader_table}
+use Rattle.s360_device.specs.declared.device.Device.{Ghosts}
 use Rattle.s360_device.specs.declared.device_with.DeviceWith.{DeviceWith}
 use Rattle.s360_device.specs.Rows.{Table, after_command, begin_of, exception_of, input_of}
 use Rattle.s360_print.specs.Console.{ConsoleMedia, console_table}
@@ -17,7 +18,7 @@ use Rattle.s360_channel.specs.declared.unit_control.UnitControl.{UnitControl}
 use Rattle.s360_channel.specs.declared.unit_state.UnitState.{UnitState}
 use Rattle.s360_channel.specs.declared.unit_state.UnitState.TheVariants.{Active}
 use Rattle.s360_channel.specs.Execution.{DeviceView, Ending, Execution, channel_execution, core_with_run}
-use Rattle.s360_channel.specs.Steps.{IsDeviceChange, LiesIn, state_after_step}
+use Rattle.s360_channel.specs.Steps.{IsChangeOf, LiesIn, device_view, state_after_step}
 use Rattle.s360_channel.specs.declared.engine.ChannelStep.{ChannelStep}
 use Rattle.s360_channel.specs.declared.program.Program.{Program}
 use Rattle.s360_channel.specs.Differences.{same_unit}
@@ -91,8 +92,8 @@ StepsTo u step x = (p : Program) → u.state ≡ Active p → IsAlterationOf u (
 
 -- a step executes what the state of the unit asks for: it has what that stores, the other state of the unit and the
 -- change of the device, where they do not stay as they are
-pub record ExecutesProgram {C : Type 0} (s : Storage) (u : UnitControl) (d : DeviceView) (Becomes : Ending → C → Type 0) (Stays : Ending → Type 0) (step : UnitStep C) : Type 0 where
-  pub stores : step.stores ≡ (execution_with d s u.state).stores
+pub record ExecutesProgram {D C : Type 0} (g : Ghosts D C) (d : D) (s : Storage) (u : UnitControl) (step : UnitStep C) : Type 0 where
+  pub stores : step.stores ≡ (execution_with (device_view g d) s u.state).stores
   pub inside : IfSome step.stores (λ r. LiesIn s r)
-  pub control : IsAlterationOf u (record u { state = (execution_with d s u.state).state }) step.control
-  pub change : IsDeviceChange Becomes Stays (execution_with d s u.state).ending step.change
+  pub control : IsAlterationOf u (record u { state = (execution_with (device_view g d) s u.state).state }) step.control
+  pub change : IsChangeOf g d (execution_with (device_view g d) s u.state).ending step.change

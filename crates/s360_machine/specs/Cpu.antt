@@ -1,7 +1,6 @@
 -- One CPU event (GA22-6821, "Interruptions", "Status Switching" and "System Structure", program
 -- execution).
 use Rattle.std.specs.Prelude.{ℕ, Bool, true, false, Option, Some, None}
-use Rattle.std.specs.Option.{option_map}
 use Rattle.s360_model.specs.Core.{Core, core_with_psw}
 use Rattle.s360_model.specs.Psw.{wait_of, with_instruction_address}
 use Rattle.s360_psw.specs.declared.class.Class.{Class}
@@ -16,16 +15,10 @@ use Rattle.s360_logic.specs.Instruction.{Instruction, instruction}
 use Rattle.s360_machine.specs.declared.cpu.CpuCase.{CpuCase}
 use Rattle.s360_machine.specs.declared.cpu.CpuCase.TheVariants.{Halted, Interrupted, Waiting, Executing}
 use Rattle.s360_machine.specs.Interruptions.{after_interruption, external_code}
-use Rattle.s360_word.specs.declared.unit.Unit.{Unit as UnitAddress}
-use Rattle.s360_channel.specs.ConfiguredUnits.{Units}
+use Rattle.s360_channel.specs.ConfiguredUnits.{Units, pending_unit}
 use Rattle.s360_machine.specs.InputOutput.{after_input_output, after_io}
 use Rattle.s360_machine.specs.Machine.{Control, Machine, no_external}
 use Rattle.s360_machine.specs.RunStates.{is_operating}
-use Rattle.s360_channel.specs.ConfiguredUnits.{address_of_unit, lowest_pending}
-
--- the lowest unit of a channel that has a condition, by its address
-abbrev pub pending_unit : Units → ℕ → Option UnitAddress
-pending_unit us channel = option_map (λ u. record { 0 = address_of_unit u }) (lowest_pending us channel)
 
 -- what waits until the PSW lets it interrupt
 abbrev pub pending_of : Control → Units → Pending

@@ -4,7 +4,7 @@ ghost use Rattle.std.specs.Prelude.{◌≡◌, IfOk, IfSome, OnOk};
 ghost use Rattle.std.specs.Option.{option_map};
 ghost use Rattle.s360_channel.specs.declared.unit_change.UnitChange.TheVariants.{One};
 ghost use Rattle.s360_channel.specs.Execution.{core_with_run};
-ghost use Rattle.s360_channel.specs.Steps.{AltersDevice, KeepsDevice, LiesIn, change_of_step};
+ghost use Rattle.s360_channel.specs.Steps.{LiesIn, change_of_step};
 ghost use Rattle.s360_store.specs.Puts.{HasNoPuts};
 ghost use Rattle.s360_machine.specs.ChannelEvents.{ExecutesProgram, IsAlterationOf, StepsTo, after_channel_event};
 ghost use Rattle.s360_machine.specs.Machine.{seen};
@@ -77,7 +77,7 @@ fn execute_unit<D: Device>(
     unit: &UnitControl,
     device: &D,
 ) -> Result<UnitStep<D::Change>, AllocError>
-    ensures { IfOk result (ExecutesProgram storage.now unit.now (record { begin = D.begin_of device.now; input = D.input_of device.now; exception = D.exception_of device.now }) (AltersDevice D.can_swap D.after_swap D.change_after_swap D.needs D.bare D.is_after device.now) (KeepsDevice D.is_after device.now)) }
+    ensures { IfOk result (ExecutesProgram D.Device device.now storage.now unit.now) }
 {
     let UnitState::Active(program) = &unit.state else {
         return Ok(UnitStep {

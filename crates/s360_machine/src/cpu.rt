@@ -161,7 +161,7 @@ impl Machine {
         puts: &mut P,
         beside: &mut Beside,
     ) -> Result<(), AllocError>
-        requires planned { PutsInstruction self.now.whole.core (P.made puts.old) (P.may puts.old) (P.past puts.old) (P.count puts.old) (instruction self.now.whole.core) planned }
+        requires planned { PutsInstruction P.Puts puts.old self.now.whole.core (instruction self.now.whole.core) planned }
         requires leaves { LeavesOthers self.now.whole beside.old }
         ensures { OnOk result (PutsMachine self.now.whole (P.made puts.new) (P.may puts.new) beside.new (after_instruction (seen self.now.whole))) }
     {

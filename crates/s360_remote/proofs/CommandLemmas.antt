@@ -1,15 +1,12 @@
 -- Lines of gdb's user: one that saves, and any other.
-use Rattle.std.proofs.Common.{◌≡◌, ◌++◌, ℕ, List, Option, Some, None, Result, refl, sym, subst}
+use Rattle.std.proofs.Common.{◌≡◌, ◌++◌, ℕ, List, Option, Some, None, Result, sym, subst}
 use Rattle.std.specs.Prelude.{IfOk, OnErr}
-use Rattle.s360_inquiry.specs.Reading.{inquiry_of}
 use Rattle.s360_language.specs.declared.command.LineFault.{LineFault}
-use Rattle.s360_packet.specs.Framing.{framed}
 use Rattle.s360_saving.specs.Reading.{Asked}
 use Rattle.s360_remote.specs.Driven.{Driven}
-use Rattle.s360_remote.specs.Monitor.{IsAnswered, IsBegun}
-use Rattle.s360_remote.specs.Replies.{line_text}
+use Rattle.s360_remote.specs.Replies.{Adds}
 use Rattle.s360_remote.specs.Saving.{IsSavingServed}
-use Rattle.s360_remote.specs.Serving.{IsCommandBegun, IsCommandServed, machine_now, unmoved, with_moved}
+use Rattle.s360_remote.specs.Serving.{IsAnsweredAtOnce, IsBegunAtOnce, IsCommandBegun, IsCommandServed, machine_now, unmoved}
 use Rattle.s360_remote.specs.declared.serving.Then.{Then}
 use Rattle.s360_remote.specs.declared.serving.Then.TheVariants.{GoOn}
 use Rattle.s360_remote.proofs.ServingLemmas.{if-ok-map, on-err}
@@ -28,12 +25,10 @@ saved-begun r reading asked line d t same is = on-err r _ (subst (λ o. IsComman
 
 -- any other was answered at once
 pub at_once-served : {E : Type 0} (r : Result Then E) (reading : Option (Result Asked LineFault)) (line : List ℕ) (d t : Driven) (old new : List ℕ) → reading ≡ None
-    → IfOk r (λ next. (next ≡ GoOn) × ((u : Driven) × (text : List ℕ) × IsAnswered (inquiry_of line) line d u text × (t ≡ with_moved d u) × (new ≡ old ++ framed (line_text text))))
-    → IfOk r (λ next. (packets : List ℕ) × IsCommandServed reading line d t next packets × (new ≡ old ++ packets))
+    → IfOk r (λ next. (next ≡ GoOn) × Adds (IsAnsweredAtOnce line d t) old new) → IfOk r (λ next. Adds (IsCommandServed reading line d t next) old new)
 at_once-served r reading line d t old new is h =
-    subst (λ o. IfOk r (λ next. (packets : List ℕ) × IsCommandServed o line d t next packets × (new ≡ old ++ packets))) (sym is)
-    (if-ok-map r _ _ (λ next g. (framed (line_text g.1.1), (g.0, (g.1.0, g.1.1, g.1.2, g.1.3, refl)), g.1.4)) h)
+    subst (λ o. IfOk r (λ next. Adds (IsCommandServed o line d t next) old new)) (sym is) (if-ok-map r _ _ (λ next g. (g.1.0, (g.0, g.1.1), g.1.2)) h)
 
 pub at_once-begun : {E : Type 0} (r : Result Then E) (reading : Option (Result Asked LineFault)) (line : List ℕ) (d t : Driven) → reading ≡ None
-    → OnErr r ((u : Driven) × IsBegun (inquiry_of line) line d u × (t ≡ with_moved d u)) → OnErr r (IsCommandBegun reading line d t)
+    → OnErr r (IsBegunAtOnce line d t) → OnErr r (IsCommandBegun reading line d t)
 at_once-begun r reading line d t is h = subst (λ o. OnErr r (IsCommandBegun o line d t)) (sym is) h

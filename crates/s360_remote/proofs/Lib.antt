@@ -1,10 +1,7 @@
 pub mod RegisterLemmas
 pub mod PointLemmas
 pub mod ConditionLemmas
-pub mod ForwardLemmas
-pub mod GoingLemmas
 pub mod WritingLemmas
-pub mod AgainLemmas
 pub mod RestLemmas
 pub mod MonitorLemmas
 pub mod ServingLemmas

@@ -2,7 +2,7 @@
 use Rattle.std.proofs.Common.{◌≡◌, ◌<◌, ◌+◌, ◌∙◌, ℕ, zero, suc, Bool, true, false, cond, List, [], ◌∷◌, Some, refl, ap, sym, subst, arith, length, drop, get_or, nat_eq}
 use Rattle.std.specs.List.{filter, fold, items_where_true, range_with_len}
 use Rattle.std.specs.List.Retain.{IsFiltered, ReturnsInTurn}
-use Rattle.s360_journal.specs.Recorded.{Recorded}
+use Rattle.s360_journal.specs.Standing.{Standing}
 use Rattle.s360_remote.specs.Points.{Watched, byte_altered_by, last_change_at, with_altered}
 
 -- the bytes that remain, the first of them apart
@@ -11,10 +11,10 @@ range-more at n m h = let same : n ≡ suc m = omega (arith, h) in ap (λ k. ran
 
 -- ---- one byte more
 
-pub altered-next : (r : Recorded) (number at n m : ℕ) (b : Bool) → n ≡ m + 1 → nat_eq (last_change_at r at) number ≡ b
-    → byte_altered_by r (range_with_len at n) number ≡ cond b (Some at) (byte_altered_by r (range_with_len (at + 1) m) number)
-altered-next r number at n m b more is =
-    ap (λ l. byte_altered_by r l number) (range-more at n m more) ∙ ap (λ x. cond x (Some at) (byte_altered_by r (range_with_len (at + 1) m) number)) is
+pub altered-next : (s : Standing) (number at n m : ℕ) (b : Bool) → n ≡ m + 1 → nat_eq (last_change_at s at) number ≡ b
+    → byte_altered_by s (range_with_len at n) number ≡ cond b (Some at) (byte_altered_by s (range_with_len (at + 1) m) number)
+altered-next s number at n m b more is =
+    ap (λ l. byte_altered_by s l number) (range-more at n m more) ∙ ap (λ x. cond x (Some at) (byte_altered_by s (range_with_len (at + 1) m) number)) is
 
 -- ---- one watch more
 
@@ -23,10 +23,10 @@ at-index [] i w h is = absurd (omega (arith, h))
 at-index (v ∷ ws) zero w h is = ap (λ x. x ∷ ws) (sym is)
 at-index (v ∷ ws) (suc i) w h is = let more : suc i + 1 ≡ suc (i + 1) = omega arith in at-index ws i w (omega (arith, h)) is ∙ ap (λ k. w ∷ drop k (v ∷ ws)) (sym more)
 
-pub altered-watch : (r : Recorded) (number : ℕ) (ws : List Watched) (i : ℕ) (w : Watched) (told more : List ℕ) → i < length ws → w ≡ get_or ws i w → more ≡ with_altered r number told w
-    → fold (λ t v. with_altered r number t v) told (drop i ws) ≡ fold (λ t v. with_altered r number t v) more (drop (i + 1) ws)
-altered-watch r number ws i w told more h is same =
-    ap (λ vs. fold (λ t v. with_altered r number t v) told vs) (at-index ws i w h is) ∙ ap (λ t. fold (λ t v. with_altered r number t v) t (drop (i + 1) ws)) (sym same)
+pub altered-watch : (s : Standing) (number : ℕ) (ws : List Watched) (i : ℕ) (w : Watched) (told more : List ℕ) → i < length ws → w ≡ get_or ws i w → more ≡ with_altered s number told w
+    → fold (λ t v. with_altered s number t v) told (drop i ws) ≡ fold (λ t v. with_altered s number t v) more (drop (i + 1) ws)
+altered-watch s number ws i w told more h is same =
+    ap (λ vs. fold (λ t v. with_altered s number t v) told vs) (at-index ws i w h is) ∙ ap (λ t. fold (λ t v. with_altered s number t v) t (drop (i + 1) ws)) (sym same)
 
 -- ---- what stays of a vector
 

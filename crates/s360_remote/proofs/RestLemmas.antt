@@ -1,5 +1,5 @@
 -- Whether the last change altered anything.
-use Rattle.std.proofs.Common.{◌≡◌, ◌≤◌, ◌+◌, ◌-◌, ◌++◌, ◌∙◌, ℕ, zero, suc, Bool, true, false, List, [], ◌∷◌, Option, Some, None, refl, ap, sym, arith, length, length-append, take}
+use Rattle.std.proofs.Common.{◌≡◌, ◌≤◌, ◌-◌, ◌++◌, ◌∙◌, ℕ, zero, suc, Bool, true, false, List, [], ◌∷◌, Option, Some, None, refl, ap, sym, arith, length, length-append, take}
 use Rattle.std.proofs.lemmas.Bool.{true≢false}
 use Rattle.std.specs.List.{slice_get}
 use Rattle.std.specs.Prelude.{IsTrue, ◌↔◌}
@@ -7,10 +7,9 @@ use Rattle.s360_store.specs.declared.place.Place.{Place}
 use Rattle.s360_machine.specs.declared.event.Event.{Event}
 use Rattle.s360_journal.specs.Standing.{IsAfter, Standing, alteration, last_of}
 use Rattle.s360_journal.proofs.SessionLemmas.{last-there}
-use Rattle.s360_inquiry.proofs.InquiryLemmas.{take-next}
 use Rattle.s360_journal.specs.Recorded.{Recorded, session_of, standing_events, with_standing}
-use Rattle.s360_remote.specs.Forward.{is_in_vain, was_in_vain}
-use Rattle.s360_remote.proofs.AgainLemmas.{IsThere, there}
+use Rattle.s360_remote.specs.Moving.{is_in_vain, was_in_vain}
+use Rattle.s360_journal.proofs.AgainLemmas.{IsThere, there}
 
 -- the last of some events, behind those before it
 split-last : (n : ℕ) (es : List Event) (e : Event) → n ≤ length es → last_of (take n es) ≡ Some e → take n es ≡ take (n - 1) es ++ e ∷ []
@@ -18,8 +17,7 @@ split-last zero [] e h is = absurd (cc)
 split-last zero (x ∷ es) e h is = absurd (cc)
 split-last (suc k) es e h is =
     let one : IsThere es k = there k es (omega (arith, h))
-    in let next : suc k ≡ k + 1 = omega arith
-    in let split : take (suc k) es ≡ take k es ++ one.event ∷ [] = take-next k (suc k) es one.event next one.next
+    in let split : take (suc k) es ≡ take k es ++ one.event ∷ [] = one.one
     in let place : length (take k es ++ one.event ∷ []) - 1 ≡ length (take k es) = omega (arith, length-append (take k es) (one.event ∷ []))
     in let last : last_of (take (suc k) es) ≡ Some one.event
     = ap (λ l. last_of l) split ∙ ap (λ n. slice_get (take k es ++ one.event ∷ []) n) place ∙ last-there (take k es) one.event

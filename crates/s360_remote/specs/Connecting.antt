@@ -2,12 +2,12 @@
 -- Protocol", "Packet Acknowledgment").
 use Rattle.std.specs.Prelude.{◌≡◌, ◌⊎◌, ℕ, Bool, true, false, not, ◌&&◌, List, [], ◌++◌, Option, Some, None, Ok, Err}
 use Rattle.std.specs.Option.{option_to_list}
-use Rattle.s360_packet.specs.Receiving.{Receiving, acknowledgement_of, after_byte, received_at}
+use Rattle.s360_packet.specs.Receiving.{Receiving, acknowledgement_of, after_byte, between_packets, received_at}
 use Rattle.s360_packet.specs.Requests.{Reading, reading_of}
 use Rattle.s360_packet.specs.declared.answer.Answer.{Answer}
 use Rattle.s360_packet.specs.declared.answer.Answer.TheVariants as answer
 use Rattle.s360_packet.specs.declared.receiver.Acknowledging.{Acknowledging}
-use Rattle.s360_packet.specs.declared.receiver.Acknowledging.TheVariants.{Off}
+use Rattle.s360_packet.specs.declared.receiver.Acknowledging.TheVariants.{Off, On}
 use Rattle.s360_packet.specs.declared.receiver.Received.{Received}
 use Rattle.s360_packet.specs.declared.receiver.Received.TheVariants.{Packet, TooLong, Damaged, Interrupt as Interrupted}
 use Rattle.s360_packet.specs.declared.answer.Stop.TheVariants.{Interrupt}
@@ -33,6 +33,14 @@ pub record Connected : Type 0 where
   pub extended : Bool
   pub interrupted : Bool
   pub ended : Bool
+
+abbrev pub connected : Receiving → Acknowledging → Bool → Bool → Bool → Connected
+connected receiving acknowledging extended interrupted ended =
+    record { receiving = receiving; acknowledging = acknowledging; extended = extended; interrupted = interrupted; ended = ended }
+
+-- nothing came yet
+abbrev pub new_connection : Connected
+new_connection = connected (between_packets 16384) On false false false
 
 -- how a connection goes on
 abbrev pub going : Connected → Then → Connected
@@ -87,9 +95,12 @@ abbrev pub IsAnswered : Reading → Connected → Driven → Connected → Drive
 IsAnswered (Err f) c d e t errand packets = IsLeft c d e t errand × (packets ≡ packet_of (answer_to_fault f))
 IsAnswered (Ok request) c d e t errand packets = IsMet (c.interrupted && is_to_move request) request c d e t errand packets
 
+abbrev pub HasAnswered : Connected → Driven → Connected → Driven → Errand → List ℕ → Type 0
+HasAnswered c d e t errand packets = IsAnswered (reading_of c.receiving.bytes) c d e t errand packets
+
 -- a packet came, or gdb's user interrupts the machine
 abbrev pub IsReceived : Received → Connected → Driven → Connected → Driven → Errand → List ℕ → Type 0
-IsReceived Packet c d e t errand packets = IsAnswered (reading_of c.receiving.bytes) c d e t errand packets
+IsReceived Packet c d e t errand packets = HasAnswered c d e t errand packets
 IsReceived TooLong c d e t errand packets = IsLeft c d e t errand × (packets ≡ packet_of (error_of Malformed))
 IsReceived Damaged c d e t errand packets = IsLeft c d e t errand × (packets ≡ [])
 IsReceived Interrupted c d e t errand packets = IsLeft (record c { interrupted = true }) d e t errand × (packets ≡ [])

@@ -1,10 +1,9 @@
 -- What a target is seen as.
-use Rattle.std.specs.Prelude.{ℕ, Bool, false, List, [], drop, Option}
-use Rattle.s360_journal.specs.Recorded.{Recorded}
-use Rattle.s360_remote.specs.Forward.{Paused}
-use Rattle.s360_remote.specs.Points.{Points}
-use Rattle.s360_remote.specs.declared.pause.Pause.{Pause}
-use Rattle.s360_remote.specs.declared.pause.Pause.TheVariants.{Watch}
+use Rattle.std.specs.Prelude.{ℕ, Bool, false, List, [], drop, take, Option, None}
+use Rattle.s360_journal.specs.Recorded.{Recorded, after_events}
+use Rattle.s360_journal.specs.declared.running.Reach.{Reach}
+use Rattle.s360_remote.specs.Moving.{Moved, run_on}
+use Rattle.s360_remote.specs.Points.{Points, no_points}
 
 -- what gdb is still to be told: watched bytes that were altered together with one that it was told of; that the machine stands
 -- where it does; and, if gdb asks, whether the last line of its user moved the machine
@@ -25,15 +24,26 @@ pub record Driven : Type 0 where
   pub stood : Option ℕ
   pub untold : Untold
 
+-- a target over a session of which nobody has asked anything
+abbrev pub new_target : Recorded → Driven
+new_target r = record { recorded = r; points = no_points; own = []; stood = None; untold = nothing_untold }
+
 -- before a line or a write none of the record was dropped
 abbrev pub fresh : Driven → Driven
 fresh d = record d { recorded = record d.recorded { dropped = 0 } }
 
--- gdb is told of one of the bytes alone
-abbrev pub others_of : Pause → List ℕ
-others_of (Watch altered) = drop 1 altered
-others_of other = []
+-- altered bytes of which gdb is to be told
+abbrev pub noting : Driven → List ℕ → Driven
+noting d altered = record d { untold = record d.untold { altered = altered } }
 
--- the target, where the machine went to
-abbrev pub moved_to : Driven → Paused → Driven
-moved_to d paused = record d { recorded = paused.state; untold = record d.untold { altered = others_of paused.why } }
+-- some first ones of the events stand that the machine would run
+abbrev pub gone_partly : Driven → Reach → ℕ → Driven
+gone_partly d reach n = record d { recorded = after_events d.recorded (take n (run_on d.points reach d.recorded).events) }
+
+-- the target, where the machine went to, with altered bytes of which gdb is to be told
+abbrev pub come_to : Driven → Moved → Driven
+come_to d moved = noting (record d { recorded = moved.recorded }) moved.altered
+
+-- gdb was told of the first
+abbrev pub moved_to : Driven → Moved → Driven
+moved_to d moved = noting (record d { recorded = moved.recorded }) (drop 1 moved.altered)

@@ -1,7 +1,6 @@
 pub mod Registers
 pub mod Points
-pub mod Forward
-pub mod Backward
+pub mod Moving
 pub mod Driven
 pub mod Replies
 pub mod ErrorNumbers

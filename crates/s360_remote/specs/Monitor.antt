@@ -8,39 +8,43 @@ use Rattle.s360_language.specs.Reading.{reading_of}
 use Rattle.s360_debug.specs.Answers.{fault_text}
 use Rattle.s360_inquiry.specs.Answers.{Inquired, answer_to, state_after}
 use Rattle.s360_inquiry.specs.Reading.{Asked}
-use Rattle.s360_journal.specs.Recorded.{session_of, with_standing}
+use Rattle.s360_journal.specs.Recorded.{with_standing}
 use Rattle.s360_remote.specs.Driven.{Driven, fresh}
 use Rattle.s360_remote.specs.declared.monitor.TheConstants.{HELP}
 
--- what a line meets: the session that stands, and the breakpoints that lines set
+-- what a line meets: the session, of which none of the record was dropped yet, and the breakpoints that lines set
 abbrev pub debugger_of : Driven → Debugger
-debugger_of d = record { session = session_of d.recorded; breaks = d.own }
+debugger_of d = record { session = (fresh d).recorded; breaks = d.own }
+
+abbrev pub with_debugger : Driven → Debugger → Driven
+with_debugger d k = record d { recorded = k.session; own = k.breaks }
+
+-- where the target is once a line was carried out as a script's is, also one that a script skips
+abbrev pub after_line : Driven → List ℕ → Driven
+after_line d line = with_debugger d (state_after_line (debugger_of d) line)
 
 -- a last line, if any were dropped
 abbrev pub dropped_text : ℕ → List ℕ
 dropped_text zero = []
 dropped_text (suc n) = codes "dropped " ++ decimal (suc n) ++ codes " recorded changes\n"
 
-abbrev pub monitor_text : Debugger → List ℕ → ℕ → List ℕ
-monitor_text d line dropped = answer_to_line d line ++ dropped_text dropped
+abbrev pub monitor_text : Driven → List ℕ → List ℕ
+monitor_text d line = answer_to_line (debugger_of d) line ++ dropped_text (after_line d line).recorded.dropped
 
--- the line was carried out: one of the language as a script's is, also where a script skips it; `help` with no change, and it
--- tells the lines
+-- the line was carried out; `help` changes nothing, and tells the lines
 pub record IsCarriedOut (line : List ℕ) (d t : Driven) (said : List ℕ) : Type 0 where
-  pub text : line ≢ codes "help" → said ≡ monitor_text (debugger_of d) line t.recorded.dropped
-  pub state : line ≢ codes "help" → debugger_of t ≡ state_after_line (debugger_of d) line
-  pub points : t.points ≡ d.points
-  pub stood : t.stood ≡ d.stood
-  pub untold : t.untold ≡ d.untold
-  pub help : line ≡ codes "help" → (t ≡ d) × (said ≡ HELP.now)
+  pub done : line ≢ codes "help" → (said ≡ monitor_text d line) × (t ≡ after_line d line)
+  pub help : line ≡ codes "help" → (said ≡ HELP.now) × (t ≡ d)
 
--- after want of memory: some first ones of the events stand that it would have run, or it was carried out and its text is lost
+-- some first ones of the events stand that it would run, or it was carried out and its text is lost
+abbrev pub IsLineCut : List ℕ → Driven → Driven → Type 0
+IsLineCut line d t =
+    (StandsAfterReading (reading_of line) (debugger_of d) t.recorded × (t ≡ record d { recorded = t.recorded }))
+    ⊎ (t ≡ after_line d line)
+
+-- after want of memory
 pub record IsLineBegun (line : List ℕ) (d t : Driven) : Type 0 where
-  pub stands : line ≢ codes "help" → StandsAfterReading (reading_of line) (debugger_of d) (debugger_of t).session
-      ⊎ (debugger_of t ≡ state_after_line (debugger_of d) line)
-  pub points : t.points ≡ d.points
-  pub stood : t.stood ≡ d.stood
-  pub untold : t.untold ≡ d.untold
+  pub done : line ≢ codes "help" → IsLineCut line d t
   pub help : line ≡ codes "help" → t ≡ d
 
 -- what a line asks of: the recording, and where it stood before

@@ -1,6 +1,7 @@
 -- Where gdb asks the machine to stop: breakpoints, and bytes of storage that are watched (gdb manual, "Packets", `Z0` to
 -- `Z2`).
-use Rattle.std.specs.Prelude.{ℕ, Bool, not, ◌&&◌, ◌||◌, ◌+◌, nat_eq, nat_le, nat_lt, if◌then◌else◌, List, [], ◌∷◌, ◌++◌, length, Option}
+use Rattle.std.specs.Prelude.{ℕ, Bool, true, false, not, ◌&&◌, ◌||◌, ◌+◌, nat_eq, nat_le, nat_lt, if◌then◌else◌}
+use Rattle.std.specs.Prelude.{List, [], ◌∷◌, ◌++◌, length, Option}
 use Rattle.std.specs.List.{filter, find, fold, list_any, range_with_len}
 use Rattle.std.specs.Option.{option_to_list, unwrap_or}
 use Rattle.s360_store.specs.declared.place.Place.TheVariants.{Byte}
@@ -11,7 +12,8 @@ use Rattle.s360_model.specs.Psw.{instruction_address_of}
 use Rattle.s360_machine.specs.Machine.{Machine, seen}
 use Rattle.s360_journal.specs.Breakpoints.{has_room_for, is_at_breakpoint, with_address, without_address}
 use Rattle.s360_journal.specs.Rerun.{last_change_of}
-use Rattle.s360_journal.specs.Recorded.{Recorded, standing_events}
+use Rattle.s360_journal.specs.Running.{WhereToStop}
+use Rattle.s360_journal.specs.Standing.{Standing}
 use Rattle.s360_remote.specs.Registers.{words_of}
 
 -- conditions of the breakpoint at an address, of which one has to hold: each is the instructions of an expression
@@ -30,6 +32,10 @@ pub record Points : Type 0 where
   pub conditional : List Conditional
   pub watches : List Watched
 
+-- no point
+abbrev pub no_points : Points
+no_points = record { breaks = []; conditional = []; watches = [] }
+
 -- without the conditions of the breakpoint at an address
 abbrev pub without_conditions : List Conditional → ℕ → List Conditional
 without_conditions conditional at = filter (λ c. not (nat_eq c.at at)) conditional
@@ -47,30 +53,43 @@ is_passed target at c = nat_eq c.at at && not (list_any (λ e. holds target e) c
 abbrev pub target_of : Machine → Target
 target_of m = record { registers = words_of m; storage = m.core.storage.bytes }
 
+-- the breakpoint at the next instruction has conditions of which none holds
+abbrev pub is_passed_in : Machine → List Conditional → Bool
+is_passed_in m conditional = list_any (λ c. is_passed (target_of m) (instruction_address_of m.core.psw) c) conditional
+
 -- the CPU operates at a breakpoint which has no conditions, or one that holds
 abbrev pub is_at_stop : Machine → Points → Bool
-is_at_stop m p = is_at_breakpoint m p.breaks && not (list_any (λ c. is_passed (target_of m) (instruction_address_of m.core.psw) c) p.conditional)
+is_at_stop m p = is_at_breakpoint m p.breaks && not (is_passed_in m p.conditional)
 
 -- the last standing change of a byte, 0 if there is none
-abbrev pub last_change_at : Recorded → ℕ → ℕ
-last_change_at r at = unwrap_or (last_change_of (seen r.start) (standing_events r) (Byte at)) 0
+abbrev pub last_change_at : Standing → ℕ → ℕ
+last_change_at s at = unwrap_or (last_change_of (seen s.start) s.events (Byte at)) 0
 
 -- the first of some bytes that the change of this number was the last to alter
-abbrev pub byte_altered_by : Recorded → List ℕ → ℕ → Option ℕ
-byte_altered_by r bytes number = find (λ at. nat_eq (last_change_at r at) number) bytes
+abbrev pub byte_altered_by : Standing → List ℕ → ℕ → Option ℕ
+byte_altered_by s bytes number = find (λ at. nat_eq (last_change_at s at) number) bytes
 
 -- a byte is one of those from an address on
 abbrev pub has_byte : Watched → ℕ → Bool
 has_byte w at = nat_le w.at at && nat_lt at (w.at + w.count)
 
 -- that of one watch more: gdb looks at each watch that has a byte which it is told of
-abbrev pub with_altered : Recorded → ℕ → List ℕ → Watched → List ℕ
-with_altered r number told w = if list_any (λ at. has_byte w at) told then told else told ++ option_to_list (byte_altered_by r (range_with_len w.at w.count) number)
+abbrev pub with_altered : Standing → ℕ → List ℕ → Watched → List ℕ
+with_altered s number told w =
+    if list_any (λ at. has_byte w at) told then told
+    else told ++ option_to_list (byte_altered_by s (range_with_len w.at w.count) number)
 
--- the watched bytes that gdb is told of one after another: those that the change of this number was the last to alter, one of
--- each watch at most
-abbrev pub bytes_altered_by : Recorded → List Watched → ℕ → List ℕ
-bytes_altered_by r watches number = fold (λ told w. with_altered r number told w) [] watches
+-- the watched bytes that gdb is told of one after another: those that the last change altered, one of each watch at most
+abbrev pub bytes_altered : Standing → List Watched → List ℕ
+bytes_altered s watches = fold (λ told w. with_altered s (length s.events) told w) [] watches
+
+abbrev pub are_any : List ℕ → Bool
+are_any [] = false
+are_any (at ∷ others) = true
+
+-- where the machine is to pause
+abbrev pub stops_of : Points → WhereToStop
+stops_of p = record { at = λ m. is_at_stop m p; altered = λ s. are_any (bytes_altered s p.watches) }
 
 -- a byte is watched
 abbrev pub is_watched : List Watched → ℕ → Bool

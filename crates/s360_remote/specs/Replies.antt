@@ -1,5 +1,6 @@
 -- The packets that are sent to gdb (gdb manual, "Packets", "Stop Reply Packets").
-use Rattle.std.specs.Prelude.{ℕ, ◌+◌, Bool, true, false, nat_eq, nat_lt, if◌then◌else◌, List, [], ◌∷◌, ◌++◌, codes, length, slice_range, Option, Some, None}
+use Rattle.std.specs.Prelude.{◌≡◌, ℕ, ◌+◌, Bool, true, false, nat_eq, nat_lt, if◌then◌else◌}
+use Rattle.std.specs.Prelude.{List, [], ◌∷◌, ◌++◌, codes, length, slice_range, Option, Some, None}
 use Rattle.s360_machine.specs.declared.event_kind.EventKind.{EventKind}
 use Rattle.s360_machine.specs.declared.event_kind.EventKind.TheVariants.{Channel}
 use Rattle.s360_machine.specs.Machine.{Machine}
@@ -11,25 +12,29 @@ use Rattle.s360_packet.specs.Framing.{framed}
 use Rattle.s360_packet.specs.Hexadecimal.{bytes_text}
 use Rattle.s360_packet.specs.Target.{register_text, register_value}
 use Rattle.s360_packet.specs.declared.answer.Answer.{Answer}
-use Rattle.s360_packet.specs.declared.answer.Answer.TheVariants.{Done}
+use Rattle.s360_packet.specs.declared.answer.Answer.TheVariants as answer
 use Rattle.s360_packet.specs.declared.answer.Stop.{Stop}
 use Rattle.s360_packet.specs.declared.answer.Stop.TheVariants.{Trap, Quiet, Watch as watch, Breakpoint, HistoryBegin, HistoryEnd}
 use Rattle.s360_packet.specs.declared.target.RegisterValue.{RegisterValue}
 use Rattle.s360_remote.specs.ErrorNumbers.{error_of}
 use Rattle.s360_remote.specs.Registers.{words_of}
 use Rattle.s360_remote.specs.declared.error_number.ErrorNumber.TheVariants.{Address, Malformed}
-use Rattle.s360_remote.specs.declared.pause.Pause.{Pause}
-use Rattle.s360_remote.specs.declared.pause.Pause.TheVariants.{Refused, Watch, Idle, Break, Stepped, RecordEnd, RecordStart, Slice}
-use Rattle.s360_remote.specs.declared.pause.Reach.{Reach}
-use Rattle.s360_remote.specs.declared.pause.Reach.TheVariants.{Step}
-use Rattle.s360_remote.specs.declared.pause.Reach.TheVariants as reach
+use Rattle.s360_journal.specs.declared.running.Pause.{Pause}
+use Rattle.s360_journal.specs.declared.running.Pause.TheVariants.{Refused, Watch, Idle, Break, Stepped, RecordEnd, RecordStart, Done}
+use Rattle.s360_journal.specs.declared.running.Reach.{Reach}
+use Rattle.s360_journal.specs.declared.running.Reach.TheVariants.{Step}
+use Rattle.s360_journal.specs.declared.running.Reach.TheVariants as reach
+
+-- packets of this kind are sent after those before
+abbrev pub Adds : (List ℕ → Type 0) → List ℕ → List ℕ → Type 0
+Adds P old new = (packets : List ℕ) × P packets × (new ≡ old ++ packets)
 
 abbrev pub packet_of : Answer → List ℕ
 packet_of a = framed (answer_text a)
 
 -- what answers a line: its text, or that it is done if it has none
 abbrev pub line_text : List ℕ → List ℕ
-line_text [] = answer_text Done
+line_text [] = answer_text answer.Done
 line_text (b ∷ bs) = bytes_text (b ∷ bs)
 
 -- bytes of storage: an error where there are none, or one is outside
@@ -70,16 +75,20 @@ abbrev pub end_packets : Reach → List ℕ → Stop → List ℕ
 end_packets Step words end = console_packet words ++ stop_packet Quiet
 end_packets reach.Stop words end = stop_packet end
 
+-- the first of altered bytes
+abbrev pub watch_stop : List ℕ → Stop
+watch_stop [] = Trap
+watch_stop (at ∷ others) = watch at
+
 -- what tells why the machine pauses: where nothing is left to do, or an event is refused, a text and the stop that stands for
 -- it; m is the machine then, and the last event is that which stands last. A breakpoint where gdb has none lets it in, and it
 -- goes on by itself.
-abbrev pub pause_packets : Reach → Machine → Option EventKind → Pause → List ℕ
-pause_packets reach m last (Refused refusal) = console_packet (refused_text refusal) ++ stop_packet Quiet
-pause_packets reach m last Idle = console_packet (idle_words m last) ++ stop_packet Quiet
-pause_packets reach m last (Watch []) = stop_packet Trap
-pause_packets reach m last (Watch (at ∷ others)) = stop_packet (watch at)
-pause_packets reach m last Break = stop_packet Breakpoint
-pause_packets reach m last Stepped = stop_packet Trap
-pause_packets reach m last RecordEnd = end_packets reach (codes "end of what was recorded\n") HistoryEnd
-pause_packets reach m last RecordStart = end_packets reach (codes "start of what was recorded\n") HistoryBegin
-pause_packets reach m last Slice = stop_packet Breakpoint
+abbrev pub pause_packets : Reach → Machine → Option EventKind → List ℕ → Pause → List ℕ
+pause_packets reach m last altered (Refused refusal) = console_packet (refused_text refusal) ++ stop_packet Quiet
+pause_packets reach m last altered Idle = console_packet (idle_words m last) ++ stop_packet Quiet
+pause_packets reach m last altered Watch = stop_packet (watch_stop altered)
+pause_packets reach m last altered Break = stop_packet Breakpoint
+pause_packets reach m last altered Stepped = stop_packet Trap
+pause_packets reach m last altered RecordEnd = end_packets reach (codes "end of what was recorded\n") HistoryEnd
+pause_packets reach m last altered RecordStart = end_packets reach (codes "start of what was recorded\n") HistoryBegin
+pause_packets reach m last altered Done = stop_packet Breakpoint

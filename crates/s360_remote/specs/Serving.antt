@@ -1,6 +1,7 @@
 -- What a request makes of the target, and what it is answered (gdb manual, "Packets", "Stop Reply Packets", "General Query
 -- Packets").
-use Rattle.std.specs.Prelude.{◌≡◌, ◌≢◌, ◌⊎◌, ⊤, ℕ, zero, suc, ◌+◌, ◌^◌, Bool, true, false, nat_eq, nat_lt, not, if◌then◌else◌, Option, Some, None, List, [], length, take, Result, Ok, Err}
+use Rattle.std.specs.Prelude.{◌≡◌, ◌≢◌, ◌⊎◌, ⊤, ℕ, zero, suc, ◌+◌, ◌^◌, Bool, true, false, nat_eq, nat_lt, not}
+use Rattle.std.specs.Prelude.{if◌then◌else◌, Option, Some, None, List, [], length, take, Result, Ok, Err}
 use Rattle.byteorder.specs.Endian.{IsRead, big_number}
 use Rattle.s360_condition.specs.declared.instruction.Placed.{Placed}
 use Rattle.s360_machine.specs.Machine.{Machine, storage_size}
@@ -19,26 +20,30 @@ use Rattle.s360_packet.specs.declared.request.Point.TheVariants.{Write as write}
 use Rattle.s360_packet.specs.declared.request.Thread.{Thread}
 use Rattle.s360_packet.specs.declared.request.Thread.TheVariants.{Numbered}
 use Rattle.s360_packet.specs.declared.request.Request.{Request}
-use Rattle.s360_packet.specs.declared.request.Request.TheVariants.{Stopped, Registers, WriteRegisters, Register, WriteRegister, Storage, WriteStorage, Step, Continue, StepBack, ContinueBack, Insert, InsertIf, Remove, Supported, Description, MemoryMap, HasMoved, Extend, Restart, Run, Select, IsAlive, CurrentThread, Attached, FirstThreads, NextThreads, StopAcknowledging, Command, Detach, Kill, KillProcess}
+use Rattle.s360_packet.specs.declared.request.Request.TheVariants.{Stopped, Registers, WriteRegisters, Register, WriteRegister, Storage, WriteStorage}
+use Rattle.s360_packet.specs.declared.request.Request.TheVariants.{Step, Continue, StepBack, ContinueBack, Insert, InsertIf, Remove, Command, HasMoved}
+use Rattle.s360_packet.specs.declared.request.Request.TheVariants.{Supported, Description, MemoryMap, Extend, Restart, Run, Select, IsAlive}
+use Rattle.s360_packet.specs.declared.request.Request.TheVariants.{CurrentThread, Attached, FirstThreads, NextThreads}
+use Rattle.s360_packet.specs.declared.request.Request.TheVariants.{StopAcknowledging, Detach, Kill, KillProcess}
 use Rattle.s360_journal.specs.Recorded.{session_of, standing_events, with_standing}
-use Rattle.s360_remote.specs.Backward.{gone_back}
 use Rattle.s360_remote.specs.Conditions.{conditions_in}
-use Rattle.s360_remote.specs.Driven.{Driven, moved_to}
+use Rattle.s360_remote.specs.Driven.{Driven, come_to, gone_partly, moved_to}
 use Rattle.s360_remote.specs.ErrorNumbers.{error_of}
-use Rattle.s360_remote.specs.Forward.{Paused, most_turns, resumed}
+use Rattle.s360_remote.specs.Moving.{Moved, gone_back, resumed}
 use Rattle.s360_inquiry.specs.Reading.{inquiry_of}
 use Rattle.s360_remote.specs.Monitor.{IsAnswered, IsBegun as IsMonitorBegun}
 use Rattle.s360_saving.specs.Reading.{Asked, saving_of}
-use Rattle.s360_remote.specs.Points.{Points, has_room_for_watch, with_break, with_watch, without_break, without_watch}
+use Rattle.s360_remote.specs.Points.{Points, Watched, has_room_for_watch, with_break, with_watch, without_break, without_watch}
 use Rattle.s360_remote.specs.Registers.{words_of}
-use Rattle.s360_remote.specs.Replies.{line_text, packet_of, pause_packets, register_of_number, stop_packet, storage_text}
+use Rattle.s360_remote.specs.Replies.{console_packet, idle_words, line_text, packet_of, pause_packets, register_of_number, stop_packet, storage_text}
 use Rattle.s360_remote.specs.Saving.{IsSavingServed}
 use Rattle.s360_remote.specs.Untold.{after_stop, stop_before}
 use Rattle.s360_remote.specs.Writing.{IsWriteEnd, Write, register_write, registers_write, storage_write}
 use Rattle.s360_remote.specs.declared.error_number.ErrorNumber.{ErrorNumber}
 use Rattle.s360_remote.specs.declared.error_number.ErrorNumber.TheVariants.{NoThread, Address, Full, Malformed, Memory}
-use Rattle.s360_remote.specs.declared.pause.Reach.{Reach}
-use Rattle.s360_remote.specs.declared.pause.Reach.TheVariants as reach
+use Rattle.s360_journal.specs.declared.running.Pause.{Pause}
+use Rattle.s360_journal.specs.declared.running.Reach.{Reach}
+use Rattle.s360_journal.specs.declared.running.Reach.TheVariants as reach
 use Rattle.s360_remote.specs.declared.serving.Then.{Then}
 use Rattle.s360_remote.specs.declared.serving.Then.TheVariants as then
 
@@ -53,20 +58,42 @@ told_first d = stop_before d.untold d.points.watches
 abbrev pub after_told : Driven → Driven
 after_told d = record d { untold = after_stop d.untold d.points.watches }
 
+-- what tells why it pauses, and why nothing is left to do
+abbrev pub pause_told : Reach → Driven → Pause → List ℕ
+pause_told reach d why = pause_packets reach (machine_now d) (last_kind_of (standing_events d.recorded)) d.untold.altered why
+
+abbrev pub idle_told : Driven → List ℕ
+idle_told d = console_packet (idle_words (machine_now d) (last_kind_of (standing_events d.recorded)))
+
 -- the machine paused: the target is as it was but for the machine, and gdb is told why
-abbrev pub IsPaused : Reach → Paused → Driven → Driven → Then → List ℕ → Type 0
-IsPaused reach paused d t next packets =
-    (t ≡ moved_to d paused) × (next ≡ then.GoOn) × (packets ≡ pause_packets reach (machine_now t) (last_kind_of (standing_events t.recorded)) paused.why)
+abbrev pub IsPaused : Reach → Moved → Driven → Driven → Then → List ℕ → Type 0
+IsPaused reach moved d t next packets =
+    (t ≡ moved_to d moved) × (next ≡ then.GoOn) × (packets ≡ pause_told reach (come_to d moved) moved.why)
 
 -- gdb was told what it was still to be told, and the machine stays where it is; else it goes on or back
-abbrev pub IsResumed : Option Stop → Reach → Paused → Driven → Driven → Then → List ℕ → Type 0
-IsResumed (Some stop) reach paused d t next packets = (t ≡ after_told d) × (next ≡ then.GoOn) × (packets ≡ stop_packet stop)
-IsResumed None reach paused d t next packets = IsPaused reach paused d t next packets
+abbrev pub IsResumed : Option Stop → Reach → Moved → Driven → Driven → Then → List ℕ → Type 0
+IsResumed (Some stop) reach moved d t next packets = (t ≡ after_told d) × (next ≡ then.GoOn) × (packets ≡ stop_packet stop)
+IsResumed None reach moved d t next packets = IsPaused reach moved d t next packets
+
+abbrev pub IsResumedOn : Reach → Driven → Driven → Then → List ℕ → Type 0
+IsResumedOn reach d t next packets = IsResumed (told_first d) reach (resumed d.points reach d.recorded) d t next packets
+
+abbrev pub IsResumedBack : Reach → Driven → Driven → Then → List ℕ → Type 0
+IsResumedBack reach d t next packets = IsResumed (told_first d) reach (gone_back d.points reach d.recorded) d t next packets
 
 -- after want of memory: likewise, or the machine moved so
 abbrev pub IsResumedBegun : Option Stop → Driven → Driven → Type 0 → Type 0
 IsResumedBegun (Some stop) d t moved = t ≡ after_told d
 IsResumedBegun None d t moved = moved
+
+-- the machine went on and its pause is lost, or some first ones of the events stand
+abbrev pub HasGoneOn : Reach → Driven → Driven → Type 0
+HasGoneOn reach d t =
+    (t ≡ moved_to d (resumed d.points reach d.recorded))
+    ⊎ ((n : ℕ) × (t ≡ gone_partly (after_told d) reach n))
+
+abbrev pub HasGoneBack : Reach → Driven → Driven → Type 0
+HasGoneBack reach d t = t ≡ moved_to d (gone_back d.points reach d.recorded)
 
 -- the machine is started anew: it goes back to the start of the record, and nothing else is told
 abbrev pub started_anew : Driven → Driven
@@ -115,28 +142,41 @@ AreAllBegun bytes d t = (t ≡ d) ⊎ ((words : List ℕ) × AreWordsOf bytes wo
 abbrev pub is_in_storage : Driven → ℕ → ℕ → Bool
 is_in_storage d at count = if nat_lt (storage_size (machine_now d)) (at + count) then false else true
 
+abbrev bytes_at : ℕ → ℕ → Watched
+bytes_at at count = record { at = at; count = count }
+
+abbrev watching : Points → List Watched → Points
+watching p watches = record p { watches = watches }
+
+abbrev pub with_points : Driven → Points → Driven
+with_points d p = record d { points = p }
+
+-- the target was served so, and this answer is sent
+abbrev pub IsSet : Driven → Driven → Then → List ℕ → Answer → Type 0
+IsSet d t next packets a = (t ≡ d) × (next ≡ then.GoOn) × (packets ≡ packet_of a)
+
 abbrev pub set_if : Bool → Answer
 set_if true = answer.Done
 set_if false = error_of Full
 
 abbrev pub insert_answer : Point → ℕ → ℕ → Driven → Answer
-insert_answer write at count d = if is_in_storage d at count then set_if (has_room_for_watch d.points.watches (record { at = at; count = count })) else error_of Address
+insert_answer write at count d = if is_in_storage d at count then set_if (has_room_for_watch d.points.watches (bytes_at at count)) else error_of Address
 insert_answer other at count d = set_if (has_room_for d.points.breaks at)
 
 abbrev pub points_with : Point → ℕ → ℕ → Driven → Points
-points_with write at count d = if is_in_storage d at count then record d.points { watches = with_watch d.points.watches (record { at = at; count = count }) } else d.points
+points_with write at count d = if is_in_storage d at count then watching d.points (with_watch d.points.watches (bytes_at at count)) else d.points
 points_with other at count d = with_break d.points at []
 
 -- no bytes beyond 2^32 are watched
 abbrev pub points_without : Point → ℕ → ℕ → Driven → Points
-points_without write at count d = if nat_lt (at + count) (2 ^ 32) then record d.points { watches = without_watch d.points.watches (record { at = at; count = count }) } else d.points
+points_without write at count d = if nat_lt (at + count) (2 ^ 32) then watching d.points (without_watch d.points.watches (bytes_at at count)) else d.points
 points_without other at count d = without_break d.points at
 
 -- a breakpoint with conditions, if they are right
 abbrev pub IsInsertedIf : Part (List (List Placed)) → ℕ → Driven → Driven → Then → List ℕ → Type 0
 IsInsertedIf (Ok conditions) at d t next packets =
-    (t ≡ record d { points = with_break d.points at conditions }) × (next ≡ then.GoOn) × (packets ≡ packet_of (set_if (has_room_for d.points.breaks at)))
-IsInsertedIf (Err f) at d t next packets = (t ≡ d) × (next ≡ then.GoOn) × (packets ≡ packet_of (error_of Malformed))
+    IsSet (with_points d (with_break d.points at conditions)) t next packets (set_if (has_room_for d.points.breaks at))
+IsInsertedIf (Err f) at d t next packets = IsSet d t next packets (error_of Malformed)
 
 -- after want of memory
 abbrev pub IsInsertIfBegun : Part (List (List Placed)) → ℕ → Driven → Driven → Type 0
@@ -166,6 +206,9 @@ told (Select thread) m = answer_text (thread_answer thread)
 told (IsAlive thread) m = answer_text (thread_answer thread)
 told other m = answer_text answer.Done
 
+abbrev pub told_to : Request → Driven → List ℕ
+told_to request d = told request (machine_now d)
+
 -- ---- lines of gdb's user
 
 -- once a line was carried out, gdb may ask whether it moved the machine
@@ -175,16 +218,24 @@ with_moved d t = record t { untold = record t.untold { moved = not (nat_eq t.rec
 abbrev pub unmoved : Driven → Driven
 unmoved d = record d { untold = record d.untold { moved = false } }
 
+-- a line that saves nothing was carried out, and answered at once
+abbrev pub IsAnsweredAtOnce : List ℕ → Driven → Driven → List ℕ → Type 0
+IsAnsweredAtOnce line d t packets =
+    (u : Driven) × (text : List ℕ) × IsAnswered (inquiry_of line) line d u text × (t ≡ with_moved d u) × (packets ≡ framed (line_text text))
+
+abbrev pub IsBegunAtOnce : List ℕ → Driven → Driven → Type 0
+IsBegunAtOnce line d t = (u : Driven) × IsMonitorBegun (inquiry_of line) line d u × (t ≡ with_moved d u)
+
 -- a line that saves moves nothing; any other is carried out, and answered at once
 abbrev pub IsCommandServed : Option (Result Asked LineFault) → List ℕ → Driven → Driven → Then → List ℕ → Type 0
 IsCommandServed (Some asked) line d t next packets = (t ≡ unmoved d) × IsSavingServed asked (machine_now d) next packets
 IsCommandServed None line d t next packets =
-    (next ≡ then.GoOn) × ((u : Driven) × (text : List ℕ) × IsAnswered (inquiry_of line) line d u text × (t ≡ with_moved d u) × (packets ≡ framed (line_text text)))
+    (next ≡ then.GoOn) × IsAnsweredAtOnce line d t packets
 
 -- the same after want of memory
 abbrev pub IsCommandBegun : Option (Result Asked LineFault) → List ℕ → Driven → Driven → Type 0
 IsCommandBegun (Some asked) line d t = t ≡ unmoved d
-IsCommandBegun None line d t = (u : Driven) × IsMonitorBegun (inquiry_of line) line d u × (t ≡ with_moved d u)
+IsCommandBegun None line d t = IsBegunAtOnce line d t
 
 -- gdb is told whether the last line moved the machine. Where it did gdb looks at all anew, and is then told that the machine
 -- stands where it does.
@@ -202,16 +253,16 @@ then_after Extend = then.Extend
 then_after other = then.GoOn
 
 abbrev pub IsServed : Request → Driven → Driven → Then → List ℕ → Type 0
-IsServed Step d t next packets = IsResumed (told_first d) reach.Step (resumed d.points reach.Step d.recorded most_turns) d t next packets
-IsServed Continue d t next packets = IsResumed (told_first d) reach.Stop (resumed d.points reach.Stop d.recorded most_turns) d t next packets
-IsServed StepBack d t next packets = IsResumed (told_first d) reach.Step (gone_back d.points reach.Step d.recorded most_turns) d t next packets
-IsServed ContinueBack d t next packets = IsResumed (told_first d) reach.Stop (gone_back d.points reach.Stop d.recorded most_turns) d t next packets
+IsServed Step d t next packets = IsResumedOn reach.Step d t next packets
+IsServed Continue d t next packets = IsResumedOn reach.Stop d t next packets
+IsServed StepBack d t next packets = IsResumedBack reach.Step d t next packets
+IsServed ContinueBack d t next packets = IsResumedBack reach.Stop d t next packets
 IsServed (WriteStorage at bytes) d t next packets = IsWritten (storage_write d at bytes) d t next packets
 IsServed (WriteRegister number word) d t next packets = IsWritten (register_write d number word) d t next packets
 IsServed (WriteRegisters bytes) d t next packets = AreAllWritten bytes d t next packets
-IsServed (Insert point at kind) d t next packets = (t ≡ record d { points = points_with point at kind d }) × (next ≡ then.GoOn) × (packets ≡ packet_of (insert_answer point at kind d))
+IsServed (Insert point at kind) d t next packets = IsSet (with_points d (points_with point at kind d)) t next packets (insert_answer point at kind d)
 IsServed (InsertIf point at kind conditions) d t next packets = IsInsertedIf (conditions_in conditions) at d t next packets
-IsServed (Remove point at kind) d t next packets = (t ≡ record d { points = points_without point at kind d }) × (next ≡ then.GoOn) × (packets ≡ packet_of answer.Done)
+IsServed (Remove point at kind) d t next packets = IsSet (with_points d (points_without point at kind d)) t next packets answer.Done
 IsServed (Command line) d t next packets = IsCommandServed (saving_of line) line d t next packets
 IsServed HasMoved d t next packets = (t ≡ after_asking d) × (next ≡ then.GoOn) × (packets ≡ packet_of (answer.Moved d.untold.moved))
 IsServed Run d t next packets = (t ≡ started_anew d) × (next ≡ then.GoOn) × (packets ≡ stop_packet Trap)
@@ -221,10 +272,10 @@ IsServed other d t next packets = (t ≡ d) × (next ≡ then_after other) × (p
 
 -- after want of memory: some first ones of its events stand, or all that it makes is there and its answer is lost
 abbrev pub IsBegun : Request → Driven → Driven → Type 0
-IsBegun Step d t = IsResumedBegun (told_first d) d t ((n : ℕ) × (t ≡ moved_to d (resumed d.points reach.Step d.recorded n)))
-IsBegun Continue d t = IsResumedBegun (told_first d) d t ((n : ℕ) × (t ≡ moved_to d (resumed d.points reach.Stop d.recorded n)))
-IsBegun StepBack d t = IsResumedBegun (told_first d) d t (t ≡ moved_to d (gone_back d.points reach.Step d.recorded most_turns))
-IsBegun ContinueBack d t = IsResumedBegun (told_first d) d t (t ≡ moved_to d (gone_back d.points reach.Stop d.recorded most_turns))
+IsBegun Step d t = IsResumedBegun (told_first d) d t (HasGoneOn reach.Step d t)
+IsBegun Continue d t = IsResumedBegun (told_first d) d t (HasGoneOn reach.Stop d t)
+IsBegun StepBack d t = IsResumedBegun (told_first d) d t (HasGoneBack reach.Step d t)
+IsBegun ContinueBack d t = IsResumedBegun (told_first d) d t (HasGoneBack reach.Stop d t)
 IsBegun (WriteStorage at bytes) d t = IsWriteBegun (storage_write d at bytes) d t
 IsBegun (WriteRegister number word) d t = IsWriteBegun (register_write d number word) d t
 IsBegun (WriteRegisters bytes) d t = AreAllBegun bytes d t

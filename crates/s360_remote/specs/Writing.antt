@@ -1,6 +1,7 @@
 -- What gdb writes into the machine: patches, each an event of its own, which stands and can be taken back (gdb manual,
 -- "Packets", `M`, `X`, `P` and `G`).
-use Rattle.std.specs.Prelude.{◌≡◌, ⊤, ℕ, zero, suc, ◌+◌, ◌-◌, ◌/◌, ◌||◌, Bool, not, nat_eq, nat_lt, if◌then◌else◌, List, [], ◌∷◌, ◌++◌, length, take, drop, slice_index, Result, Ok, Err}
+use Rattle.std.specs.Prelude.{◌≡◌, ⊤, ℕ, zero, suc, ◌+◌, ◌-◌, ◌/◌, ◌||◌, Bool, not, nat_eq, nat_lt, if◌then◌else◌}
+use Rattle.std.specs.Prelude.{List, [], ◌∷◌, ◌++◌, length, take, drop, slice_index, Result, Ok, Err}
 use Rattle.std.specs.List.{flat_map, range_with_len}
 use Rattle.s360_machine.specs.Machine.{storage_size}
 use Rattle.s360_machine.specs.declared.event.Event.TheVariants.{Patch as patch}

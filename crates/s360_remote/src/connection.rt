@@ -1,10 +1,10 @@
 //! A connection with gdb: bytes come in and go out. Source: gdb manual, "Remote Serial Protocol", "Packet Acknowledgment".
 ghost use Rattle.std.specs.Prelude.{◌≡◌, ◌&&◌, ◌++◌, ℕ, List, false, IfOk, OnOk};
 ghost use Rattle.std.specs.Option.{option_to_list};
-ghost use Rattle.s360_packet.specs.Receiving.{acknowledgement_of, between_packets};
-ghost use Rattle.s360_packet.specs.Requests.{reading_of};
-ghost use Rattle.s360_packet.specs.declared.receiver.Acknowledging.TheVariants.{On};
-ghost use Rattle.s360_remote.specs.Connecting.{IsAnswered, IsInterrupted, IsReceived, IsTaken, answer_to_fault, errand_of, going, is_to_move};
+ghost use Rattle.s360_packet.specs.Receiving.{acknowledgement_of};
+ghost use Rattle.s360_remote.specs.Connecting.{HasAnswered, IsInterrupted, IsReceived, IsTaken, answer_to_fault, errand_of};
+ghost use Rattle.s360_remote.specs.Connecting.{going, is_to_move, new_connection};
+ghost use Rattle.s360_remote.specs.Replies.{Adds};
 
 use crate::errand::Errand;
 use crate::error_number::ErrorNumber;
@@ -30,17 +30,17 @@ pub struct Connection {
 }
 
 impl Model for Connection {
-    ghost use Rattle.s360_remote.specs.Connecting.{Connected};
+    ghost use Rattle.s360_remote.specs.Connecting.{Connected, connected};
 
     ghost Value = { Connected };
 
-    ghost view = { λ c. record { receiving = c.receiver; acknowledging = c.acknowledging; extended = c.extended; interrupted = c.interrupted; ended = c.ended } };
+    ghost view = { λ c. connected c.receiver c.acknowledging c.extended c.interrupted c.ended };
 }
 
 impl Connection {
     /// A connection on which nothing came yet.
     pub fn new(alloc: Global) -> Result<Connection, AllocError>
-        ensures { IfOk result (λ c. c ≡ record { receiving = between_packets 16384; acknowledging = On; extended = false; interrupted = false; ended = false }) }
+        ensures { IfOk result (λ c. c ≡ new_connection) }
     {
         Ok(Connection {
             receiver: Receiver::new(alloc, crate::PACKET_SIZE as usize)?,
@@ -67,7 +67,7 @@ impl Connection {
         target: &mut Target,
         replies: &mut Replies,
     ) -> Result<Errand, AllocError>
-        ensures { IfOk result (λ errand. (bytes : List ℕ) × IsTaken self.old.ended byte self.old target.old self.new target.new errand bytes × (replies.new ≡ replies.old ++ bytes)) }
+        ensures { IfOk result (λ errand. Adds (IsTaken self.old.ended byte self.old target.old self.new target.new errand) replies.old replies.new) }
     {
         if self.ended {
             return Ok(Errand::Nothing);
@@ -96,7 +96,7 @@ impl Connection {
         target: &mut Target,
         replies: &mut Replies,
     ) -> Result<Errand, AllocError>
-        ensures { IfOk result (λ errand. (packets : List ℕ) × IsReceived received self.old target.old self.new target.new errand packets × (replies.new ≡ replies.old ++ packets)) }
+        ensures { IfOk result (λ errand. Adds (IsReceived received self.old target.old self.new target.new errand) replies.old replies.new) }
     {
         match received {
             Received::Packet => self.answer(target, replies),
@@ -114,7 +114,7 @@ impl Connection {
 
     /// Carries out the request that came, and adds what is answered.
     fn answer(&mut self, target: &mut Target, replies: &mut Replies) -> Result<Errand, AllocError>
-        ensures { IfOk result (λ errand. (packets : List ℕ) × IsAnswered (reading_of self.old.receiving.bytes) self.old target.old self.new target.new errand packets × (replies.new ≡ replies.old ++ packets)) }
+        ensures { IfOk result (λ errand. Adds (HasAnswered self.old target.old self.new target.new errand) replies.old replies.new) }
     {
         let request = match read_request(self.alloc, self.receiver.data()) {
             Ok(request) => request,

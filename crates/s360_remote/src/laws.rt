@@ -1,13 +1,7 @@
 //! Laws of the definitions, each the contract of a call that does nothing.
-ghost use Rattle.s360_remote.specs.Forward.{TurnRunsAgain};
 ghost use Rattle.s360_remote.specs.Registers.{BothWordsAreThePsw};
 
 /// The PSW of both its words is the PSW.
 pub fn both_words_are_the_psw()
     ensures { BothWordsAreThePsw }
-{}
-
-/// What was taken back is run again by the next turn, which leads to the very state that was.
-pub fn turn_runs_again()
-    ensures { TurnRunsAgain }
 {}

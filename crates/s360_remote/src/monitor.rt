@@ -1,15 +1,13 @@
 //! Lines of gdb's user for the target: `monitor LINE`. Each is an inquiry, or a line of the script language with the answer that
 //! it has in a script. What it takes back stays recorded.
-ghost use Rattle.std.specs.Prelude.{◌≡◌, ◌⊎◌, ◌++◌, false, IfOk, OnErr, OnOk};
-ghost use Rattle.s360_language.specs.Reading.{reading_of};
+ghost use Rattle.std.specs.Prelude.{◌≡◌, ◌++◌, false, IfOk, OnErr, OnOk};
 ghost use Rattle.s360_debug.specs.Lines.{is_skipped};
-ghost use Rattle.s360_debug.specs.Script.{StandsAfterReading, state_after_line};
 ghost use Rattle.s360_debug.specs.Answers.{fault_text};
 ghost use Rattle.s360_inquiry.specs.Answers.{answer_to, state_after};
 ghost use Rattle.s360_inquiry.specs.Reading.{inquiry_of};
 ghost use Rattle.s360_remote.specs.Driven.{fresh};
-ghost use Rattle.s360_remote.specs.Monitor.{IsAnswered, IsAskedBegun, IsBegun, IsCarriedOut, IsLineBegun, after_asked};
-ghost use Rattle.s360_remote.specs.Monitor.{answer_to_asked, debugger_of, dropped_text, inquired_of, monitor_text, with_inquired};
+ghost use Rattle.s360_remote.specs.Monitor.{IsAnswered, IsAskedBegun, IsBegun, IsCarriedOut, IsLineBegun, IsLineCut, after_asked, after_line};
+ghost use Rattle.s360_remote.specs.Monitor.{answer_to_asked, dropped_text, inquired_of, monitor_text, with_inquired};
 
 use crate::target::Target;
 use s360_debug::{answer_line, skips, text_of_fault};
@@ -138,12 +136,9 @@ fn text_of(alloc: Global, words: &str) -> Result<Text, AllocError>
 /// Carries out a line of the language that a script does not skip.
 fn carry_out(target: &mut Target, line: &[u8]) -> Result<Text, AllocError>
     requires { is_skipped line.now ≡ false }
-    ensures text { IfOk result (λ text. text ≡ monitor_text (debugger_of target.old) line.now target.new.recorded.dropped) }
-    ensures state { OnOk result (debugger_of target.new ≡ state_after_line (debugger_of target.old) line.now) }
-    ensures points { target.new.points ≡ target.old.points }
-    ensures stood { target.new.stood ≡ target.old.stood }
-    ensures untold { target.new.untold ≡ target.old.untold }
-    ensures memory { OnErr result (StandsAfterReading (reading_of line.now) (debugger_of target.old) (debugger_of target.new).session ⊎ (debugger_of target.new ≡ state_after_line (debugger_of target.old) line.now)) }
+    ensures text { IfOk result (λ text. text ≡ monitor_text target.old line.now) }
+    ensures state { OnOk result (target.new ≡ after_line target.old line.now) }
+    ensures memory { OnErr result (IsLineCut line.now target.old target.new) }
 {
     target.session.forget_dropped();
     let alloc = target.alloc;

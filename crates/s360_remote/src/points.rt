@@ -1,18 +1,19 @@
 //! Where gdb asks the machine to stop. Source: gdb manual, "Packets", `Z0` to `Z2`.
-ghost use Rattle.std.specs.Prelude.{◌≡◌, ◌<◌, ◌+◌, ◌^◌, [], ◌↔◌, ◌≤◌, drop, length, nat_eq, slice_get, vec_capacity, IfOk, IsTrue, OnErr, OnOk, SomeIff};
+ghost use Rattle.std.specs.Prelude.{◌≡◌, ◌<◌, ◌+◌, ◌^◌, [], ◌≤◌, not, drop, length, nat_eq};
+ghost use Rattle.std.specs.Prelude.{slice_get, vec_capacity, IfOk, OnErr, OnOk, SomeIff};
 ghost use Rattle.std.specs.List.{filter, list_any, range_with_len};
 ghost use Rattle.s360_journal.specs.Breakpoints.{has_room_for};
+ghost use Rattle.s360_journal.specs.Recorded.{session_of};
 ghost use Rattle.s360_machine.specs.Machine.{seen};
 ghost use Rattle.s360_condition.specs.Evaluation.{holds};
-ghost use Rattle.s360_model.specs.Psw.{instruction_address_of};
-ghost use Rattle.s360_remote.specs.Points.{is_at_stop, is_passed, target_of, with_break, without_break, without_conditions};
-ghost use Rattle.s360_remote.specs.Points.{byte_altered_by, bytes_altered_by, last_change_at};
+ghost use Rattle.s360_remote.specs.Points.{is_passed, is_passed_in, no_points, stops_of, target_of, with_break, without_break, without_conditions};
+ghost use Rattle.s360_remote.specs.Points.{are_any, byte_altered_by, bytes_altered, last_change_at};
 ghost use Rattle.s360_remote.specs.Points.{has_byte, has_room_for_watch, is_watched, with_altered, with_watch, without_watch};
 
 use crate::readout::Readout;
 use arrayvec::ArrayVec;
 use s360_condition::Expression;
-use s360_journal::{Breaks, Session};
+use s360_journal::{Breaks, Session, Stops};
 use s360_machine::Machine;
 use s360_store::Place;
 use std::alloc::{AllocError, Global};
@@ -52,7 +53,7 @@ impl Watch {
 
     /// The address of the first of the bytes that a change of this number was the last to alter.
     fn byte_altered_by(self, session: &Session, number: u32) -> Option<u32>
-        ensures { result ≡ byte_altered_by session.now (range_with_len self.at self.count) number }
+        ensures { result ≡ byte_altered_by (session_of session.now) (range_with_len self.at self.count) number }
     {
         for at in self.at..self.at + self.count {
             if last_change_at(session, at) == number {
@@ -72,7 +73,7 @@ impl Watch {
 
 /// The number of the last change of a byte, 0 if there is none.
 fn last_change_at(session: &Session, at: u32) -> u32
-    ensures { result ≡ last_change_at session.now at }
+    ensures { result ≡ last_change_at (session_of session.now) at }
 {
     session.last_change(Place::Byte(at)).unwrap_or(0)
 }
@@ -103,7 +104,7 @@ impl Altered {
 
     /// Whether there are none.
     pub(crate) fn is_empty(&self) -> bool
-        ensures { IsTrue result ↔ (self.now ≡ []) }
+        ensures { result ≡ not (are_any self.now) }
     {
         self.addresses.is_empty()
     }
@@ -118,7 +119,7 @@ impl Altered {
     /// Adds the first byte of a watch that the change of this number was the last to alter, if the watch has none of them yet.
     fn add_byte_of(&mut self, watch: Watch, session: &Session, number: u32)
         requires { length self.old < 64 }
-        ensures bytes { self.new ≡ with_altered session.now number self.old watch }
+        ensures bytes { self.new ≡ with_altered (session_of session.now) number self.old watch }
         ensures few { length self.new ≤ length self.old + 1 }
     {
         if self.is_in(watch) {
@@ -213,7 +214,7 @@ impl Model for Points {
 impl Points {
     /// None. It takes no memory.
     pub fn new(alloc: Global) -> Points
-        ensures { result ≡ record { breaks = []; conditional = []; watches = [] } }
+        ensures { result ≡ no_points }
     {
         Points {
             breaks: Breaks::new(),
@@ -279,16 +280,9 @@ impl Points {
         self.watches.retain(|set| *set != watch);
     }
 
-    /// Whether the CPU operates at a breakpoint which has no conditions, or one that holds.
-    pub(crate) fn stops(&self, machine: &Machine) -> bool
-        ensures { result ≡ is_at_stop (seen machine.now.whole) self.now }
-    {
-        self.breaks.stops(machine) && !self.is_passed(machine)
-    }
-
     /// Whether the breakpoint at the next instruction has conditions of which none holds.
     fn is_passed(&self, machine: &Machine) -> bool
-        ensures { result ≡ list_any (λ c. is_passed (target_of (seen machine.now.whole)) (instruction_address_of (seen machine.now.whole).core.psw) c) self.now.conditional }
+        ensures { result ≡ is_passed_in (seen machine.now.whole) self.now.conditional }
     {
         if self.conditional.is_empty() {
             return false;
@@ -308,23 +302,32 @@ impl Points {
         self.watches.as_slice().iter().any(|watch| watch.has(at))
     }
 
-    /// Whether no byte is watched.
-    pub(crate) fn watches_nothing(&self) -> bool
-        ensures { IsTrue result ↔ (self.now.watches ≡ []) }
+    /// The watched bytes that the last change altered: the first of each watch that has none of those before.
+    pub(crate) fn bytes_altered(&self, session: &Session) -> Altered
+        ensures { result ≡ bytes_altered (session_of session.now) self.now.watches }
     {
-        self.watches.is_empty()
-    }
-
-    /// The watched bytes that the change of this number was the last to alter: the first of each watch that has none of those
-    /// before.
-    pub(crate) fn bytes_altered_by(&self, session: &Session, number: u32) -> Altered
-        ensures { result ≡ bytes_altered_by session.now self.now.watches number }
-    {
+        let number = session.standing();
         let mut altered = Altered::new();
         for watch in self.watches.as_slice() {
             altered.add_byte_of(*watch, session, number);
         }
         altered
+    }
+}
+
+impl Stops for Points {
+    ghost stops_of = { λ p. stops_of p };
+
+    /// Whether the CPU operates at a breakpoint which has no conditions, or one that holds.
+    #[inline(always)]
+    fn is_at_stop(&self, machine: &Machine) -> bool {
+        self.breaks.is_at_stop(machine) && !self.is_passed(machine)
+    }
+
+    /// Whether the last change altered watched bytes.
+    #[inline(always)]
+    fn is_altered(&self, session: &Session) -> bool {
+        !self.watches.is_empty() && !self.bytes_altered(session).is_empty()
     }
 }
 

@@ -5,6 +5,7 @@ ghost use Rattle.s360_saving.specs.Outcomes.{outcome_text};
 ghost use Rattle.s360_remote.specs.Saving.{IsSavingServed, IsWrittenTold};
 ghost use Rattle.s360_remote.specs.Replies.{line_text};
 ghost use Rattle.s360_remote.specs.Serving.{machine_now};
+ghost use Rattle.s360_remote.specs.Replies.{Adds};
 
 use crate::error_number::ErrorNumber;
 use crate::replies::Replies;
@@ -21,7 +22,7 @@ pub(crate) fn save(
     asked: Result<Saving<'_>, LineFault>,
     replies: &mut Replies,
 ) -> Result<Then, AllocError>
-    ensures { IfOk result (λ next. (packets : List ℕ) × IsSavingServed asked.entry (machine_now target.now) next packets × (replies.new ≡ replies.old ++ packets)) }
+    ensures { IfOk result (λ next. Adds (IsSavingServed asked.entry (machine_now target.now) next) replies.old replies.new) }
 {
     match asked {
         Ok(saving) => Ok(Then::Save(file_for(target.alloc, target.machine(), saving)?)),

@@ -1,24 +1,19 @@
 //! What gdb asks, and what is answered. Source: gdb manual, "Packets", "Stop Reply Packets", "General Query Packets".
-ghost use Rattle.std.specs.Prelude.{◌≡◌, ◌≢◌, ◌≤◌, ◌+◌, ◌++◌, ℕ, List, Err, IfOk, OnErr, OnOk, SomeIff};
-ghost use Rattle.s360_journal.specs.Standing.{last_kind_of};
+ghost use Rattle.std.specs.Prelude.{◌≡◌, ◌≢◌, ◌≤◌, ◌+◌, ◌++◌, drop, Err, IfOk, OnErr, OnOk, SomeIff};
 ghost use Rattle.s360_language.specs.Names.{refused_text};
 ghost use Rattle.s360_machine.specs.Machine.{storage_size};
 ghost use Rattle.s360_packet.specs.Answers.{registers_text};
 ghost use Rattle.s360_packet.specs.Framing.{framed};
 ghost use Rattle.s360_packet.specs.declared.answer.Answer.TheVariants.{Done, Moved};
-ghost use Rattle.s360_journal.specs.Recorded.{standing_events};
-ghost use Rattle.s360_remote.specs.Backward.{gone_back};
 ghost use Rattle.s360_remote.specs.Conditions.{conditions_in};
-ghost use Rattle.s360_remote.specs.Driven.{Driven, moved_to, others_of};
-ghost use Rattle.s360_remote.specs.Forward.{most_turns, resumed};
-ghost use Rattle.s360_inquiry.specs.Reading.{inquiry_of};
-ghost use Rattle.s360_remote.specs.Monitor.{IsAnswered, IsBegun as IsMonitorBegun};
 ghost use Rattle.s360_remote.specs.Registers.{words_of};
-ghost use Rattle.s360_remote.specs.Replies.{console_packet, end_packets, idle_words, idle_words_of, line_text};
-ghost use Rattle.s360_remote.specs.Replies.{packet_of, pause_packets, register_of_number, stop_packet, storage_text};
-ghost use Rattle.s360_remote.specs.Serving.{AreAllBegun, AreAllWritten, IsBegun, IsResumed, IsResumedBegun, IsServed, IsTold};
-ghost use Rattle.s360_remote.specs.Serving.{IsCommandBegun, IsCommandServed, IsInsertIfBegun, IsInsertedIf, after_asking, set_if, started_anew, told_first, unmoved, with_moved};
-ghost use Rattle.s360_remote.specs.Serving.{after_write, insert_answer, machine_now, points_with, points_without, then_after, thread_answer, told};
+ghost use Rattle.s360_remote.specs.Replies.{Adds, console_packet, end_packets, idle_words_of, line_text};
+ghost use Rattle.s360_remote.specs.Replies.{packet_of, register_of_number, stop_packet, storage_text};
+ghost use Rattle.s360_remote.specs.Serving.{AreAllBegun, AreAllWritten, IsAnsweredAtOnce, IsBegun, IsBegunAtOnce, IsServed, IsTold};
+ghost use Rattle.s360_remote.specs.Serving.{IsCommandBegun, IsCommandServed, IsInsertIfBegun, IsInsertedIf, after_asking, set_if, unmoved};
+ghost use Rattle.s360_remote.specs.Serving.{HasGoneBack, HasGoneOn, IsResumedBack, IsResumedBegun, IsResumedOn, idle_told, pause_told, started_anew};
+ghost use Rattle.s360_remote.specs.Serving.{after_write, insert_answer, machine_now, points_with, points_without, then_after, thread_answer};
+ghost use Rattle.s360_remote.specs.Serving.{told_first, told_to, with_points};
 ghost use Rattle.s360_saving.specs.Reading.{saving_of};
 ghost use Rattle.s360_remote.specs.declared.error_number.ErrorNumber.TheVariants.{Memory};
 ghost use Rattle.s360_remote.specs.declared.serving.Then.TheVariants.{GoOn};
@@ -26,13 +21,13 @@ ghost use Rattle.s360_remote.specs.declared.serving.Then.TheVariants.{GoOn};
 use crate::condition::read_conditions;
 use crate::error_number::ErrorNumber;
 use crate::monitor::monitor;
-use crate::pause::{Pause, Reach};
 use crate::points::{Altered, Watch};
 use crate::registers::words_of;
 use crate::replies::Replies;
 use crate::saving::save;
 use crate::target::Target;
 use byteorder::{BigEndian, ByteOrder};
+use s360_journal::{Pause, Reach};
 use s360_language::refusal_text;
 use s360_machine::{EventKind, Refusal};
 use s360_packet::{
@@ -66,7 +61,7 @@ impl Target {
     /// Carries a request out, and adds what is answered. After want of memory some first events of the request may stand,
     /// and some first bytes of the answer may be there.
     pub fn serve(&mut self, request: Request, replies: &mut Replies) -> Result<Then, AllocError>
-        ensures served { IfOk result (λ next. (packets : List ℕ) × IsServed request self.old self.new next packets × (replies.new ≡ replies.old ++ packets)) }
+        ensures served { IfOk result (λ next. Adds (IsServed request self.old self.new next) replies.old replies.new) }
         ensures begun { OnErr result (IsBegun request self.old self.new) }
     {
         match request {
@@ -108,7 +103,7 @@ impl Target {
 
     /// Answers a request that changes nothing.
     fn tell(&self, request: &Request, replies: &mut Replies) -> Result<Then, AllocError>
-        ensures { IfOk result (λ next. (next ≡ then_after request.now) × (replies.new ≡ replies.old ++ framed (told request.now (machine_now self.now)))) }
+        ensures { IfOk result (λ next. (next ≡ then_after request.now) × (replies.new ≡ replies.old ++ framed (told_to request.now self.now))) }
     {
         self.push_told(request, replies)?;
         Ok(then_after(request))
@@ -116,7 +111,7 @@ impl Target {
 
     /// Adds what answers a request that changes nothing.
     fn push_told(&self, request: &Request, replies: &mut Replies) -> Result<(), AllocError>
-        ensures { OnOk result (replies.new ≡ replies.old ++ framed (told request.now (machine_now self.now))) }
+        ensures { OnOk result (replies.new ≡ replies.old ++ framed (told_to request.now self.now)) }
     {
         match *request {
             Request::Registers => self.tell_registers(replies),
@@ -178,8 +173,8 @@ impl Target {
 
     /// Tells what gdb is still to be told, or goes on and tells why the machine pauses.
     fn resume(&mut self, reach: Reach, replies: &mut Replies) -> Result<Then, AllocError>
-        ensures served { IfOk result (λ next. (packets : List ℕ) × IsResumed (told_first self.old) reach (resumed self.old.points reach self.old.recorded most_turns) self.old self.new next packets × (replies.new ≡ replies.old ++ packets)) }
-        ensures begun { OnErr result (IsResumedBegun (told_first self.old) self.old self.new ((n : ℕ) × (self.new ≡ moved_to self.old (resumed self.old.points reach self.old.recorded n)))) }
+        ensures served { IfOk result (λ next. Adds (IsResumedOn reach self.old self.new next) replies.old replies.new) }
+        ensures begun { OnErr result (IsResumedBegun (told_first self.old) self.old self.new (HasGoneOn reach self.old self.new)) }
     {
         if let Some(stop) = self.untold.take_stop(&self.points) {
             return tell_stop(stop, replies);
@@ -190,8 +185,8 @@ impl Target {
 
     /// Tells what gdb is still to be told, or goes back and tells why the machine pauses.
     fn resume_back(&mut self, reach: Reach, replies: &mut Replies) -> Result<Then, AllocError>
-        ensures served { IfOk result (λ next. (packets : List ℕ) × IsResumed (told_first self.old) reach (gone_back self.old.points reach self.old.recorded most_turns) self.old self.new next packets × (replies.new ≡ replies.old ++ packets)) }
-        ensures begun { OnErr result (IsResumedBegun (told_first self.old) self.old self.new (self.new ≡ moved_to self.old (gone_back self.old.points reach self.old.recorded most_turns))) }
+        ensures served { IfOk result (λ next. Adds (IsResumedBack reach self.old self.new next) replies.old replies.new) }
+        ensures begun { OnErr result (IsResumedBegun (told_first self.old) self.old self.new (HasGoneBack reach self.old self.new)) }
     {
         if let Some(stop) = self.untold.take_stop(&self.points) {
             return tell_stop(stop, replies);
@@ -229,7 +224,7 @@ impl Target {
         bytes: &[u8],
         replies: &mut Replies,
     ) -> Result<Then, AllocError>
-        ensures served { IfOk result (λ next. (packets : List ℕ) × AreAllWritten bytes.now self.old self.new next packets × (replies.new ≡ replies.old ++ packets)) }
+        ensures served { IfOk result (λ next. Adds (AreAllWritten bytes.now self.old self.new next) replies.old replies.new) }
         ensures begun { OnErr result (AreAllBegun bytes.now self.old self.new) }
     {
         if bytes.len() != ALL_REGISTERS {
@@ -250,7 +245,7 @@ impl Target {
         kind: u32,
         replies: &mut Replies,
     ) -> Result<Then, AllocError>
-        ensures points { self.new ≡ record self.old { points = points_with point at kind self.old } }
+        ensures points { self.new ≡ with_points self.old (points_with point at kind self.old) }
         ensures answer { IfOk result (λ next. (next ≡ GoOn) × (replies.new ≡ replies.old ++ packet_of (insert_answer point at kind self.old))) }
     {
         let is_set = match point {
@@ -273,7 +268,7 @@ impl Target {
         conditions: &[u8],
         replies: &mut Replies,
     ) -> Result<Then, AllocError>
-        ensures served { IfOk result (λ next. (packets : List ℕ) × IsInsertedIf (conditions_in conditions.now) at self.old self.new next packets × (replies.new ≡ replies.old ++ packets)) }
+        ensures served { IfOk result (λ next. Adds (IsInsertedIf (conditions_in conditions.now) at self.old self.new next) replies.old replies.new) }
         ensures begun { OnErr result (IsInsertIfBegun (conditions_in conditions.now) at self.old self.new) }
     {
         let set = match read_conditions(self.alloc, conditions) {
@@ -295,7 +290,7 @@ impl Target {
         kind: u32,
         replies: &mut Replies,
     ) -> Result<Then, AllocError>
-        ensures points { self.new ≡ record self.old { points = points_without point at kind self.old } }
+        ensures points { self.new ≡ with_points self.old (points_without point at kind self.old) }
         ensures answer { IfOk result (λ next. (next ≡ GoOn) × (replies.new ≡ replies.old ++ packet_of Done)) }
     {
         match point {
@@ -323,7 +318,7 @@ impl Target {
 
     /// Carries a line of gdb's user out, and tells its answer, or hands up the file that it saves.
     fn answer_line(&mut self, line: &Payload, replies: &mut Replies) -> Result<Then, AllocError>
-        ensures served { IfOk result (λ next. (packets : List ℕ) × IsCommandServed (saving_of line.now) line.now self.old self.new next packets × (replies.new ≡ replies.old ++ packets)) }
+        ensures served { IfOk result (λ next. Adds (IsCommandServed (saving_of line.now) line.now self.old self.new next) replies.old replies.new) }
         ensures begun { OnErr result (IsCommandBegun (saving_of line.now) line.now self.old self.new) }
     {
         match read_saving(line.as_slice()) {
@@ -344,8 +339,8 @@ impl Target {
 
     /// Carries a line out that saves nothing, and tells its answer. A line without one is done.
     fn answer_at_once(&mut self, line: &[u8], replies: &mut Replies) -> Result<Then, AllocError>
-        ensures served { IfOk result (λ next. (next ≡ GoOn) × ((carried : Driven) × (text : List ℕ) × IsAnswered (inquiry_of line.now) line.now self.old carried text × (self.new ≡ with_moved self.old carried) × (replies.new ≡ replies.old ++ framed (line_text text)))) }
-        ensures begun { OnErr result ((carried : Driven) × IsMonitorBegun (inquiry_of line.now) line.now self.old carried × (self.new ≡ with_moved self.old carried)) }
+        ensures served { IfOk result (λ next. (next ≡ GoOn) × Adds (IsAnsweredAtOnce line.now self.old self.new) replies.old replies.new) }
+        ensures begun { OnErr result (IsBegunAtOnce line.now self.old self.new) }
     {
         let standing = self.standing();
         let text = monitor(self, line);
@@ -360,7 +355,7 @@ impl Target {
         written: Result<(), ErrorNumber>,
         replies: &mut Replies,
     ) -> Result<Then, AllocError>
-        ensures told { IfOk result (λ next. (packets : List ℕ) × IsTold written self.now.recorded.dropped next packets × (replies.new ≡ replies.old ++ packets)) }
+        ensures told { IfOk result (λ next. Adds (IsTold written self.now.recorded.dropped next) replies.old replies.new) }
         ensures memory { OnOk result (written ≢ Err Memory) }
     {
         match written {
@@ -383,12 +378,12 @@ impl Target {
         reach: Reach,
         replies: &mut Replies,
     ) -> Result<Then, AllocError>
-        ensures state { self.new ≡ record self.old { untold = record self.old.untold { altered = others_of pause } } }
+        ensures state { self.new ≡ record self.old { untold = record self.old.untold { altered = drop 1 self.old.untold.altered } } }
         ensures next { IfOk result (λ next. next ≡ GoOn) }
-        ensures packets { OnOk result (replies.new ≡ replies.old ++ pause_packets reach (machine_now self.old) (last_kind_of (standing_events self.old.recorded)) pause) }
+        ensures packets { OnOk result (replies.new ≡ replies.old ++ pause_told reach self.old pause) }
     {
-        let pushed = self.push_pause(&pause, reach, replies);
-        self.untold.altered = pause.others();
+        let pushed = self.push_pause(pause, reach, replies);
+        let _told = self.untold.altered.take_first();
         pushed?;
         Ok(Then::GoOn)
     }
@@ -396,22 +391,22 @@ impl Target {
     /// Adds what tells why the machine pauses. If nothing is left to do, or an event was refused, a text says so before the stop.
     fn push_pause(
         &self,
-        pause: &Pause,
+        pause: Pause,
         reach: Reach,
         replies: &mut Replies,
     ) -> Result<(), AllocError>
-        ensures { OnOk result (replies.new ≡ replies.old ++ pause_packets reach (machine_now self.now) (last_kind_of (standing_events self.now.recorded)) pause.now) }
+        ensures { OnOk result (replies.new ≡ replies.old ++ pause_told reach self.now pause) }
     {
         match pause {
             Pause::Refused(refusal) => {
-                self.tell_refusal(*refusal, replies)?;
+                self.tell_refusal(refusal, replies)?;
                 replies.push(Answer::Stopped(Stop::Quiet))
             }
             Pause::Idle => {
                 self.tell_idle(replies)?;
                 replies.push(Answer::Stopped(Stop::Quiet))
             }
-            Pause::Break | Pause::Slice => replies.push(Answer::Stopped(Stop::Breakpoint)),
+            Pause::Break | Pause::Done => replies.push(Answer::Stopped(Stop::Breakpoint)),
             Pause::RecordEnd => push_end(
                 reach,
                 "end of what was recorded\n",
@@ -424,7 +419,7 @@ impl Target {
                 Stop::HistoryBegin,
                 replies,
             ),
-            Pause::Watch(altered) => replies.push(Answer::Stopped(match altered.first() {
+            Pause::Watch => replies.push(Answer::Stopped(match self.untold.altered.first() {
                 Some(at) => Stop::Watch { at },
                 None => Stop::Trap,
             })),
@@ -442,7 +437,7 @@ impl Target {
 
     /// Tells gdb's user why nothing is left to do.
     fn tell_idle(&self, replies: &mut Replies) -> Result<(), AllocError>
-        ensures { OnOk result (replies.new ≡ replies.old ++ console_packet (idle_words (machine_now self.now) (last_kind_of (standing_events self.now.recorded)))) }
+        ensures { OnOk result (replies.new ≡ replies.old ++ idle_told self.now) }
     {
         let machine = self.machine();
         let words = idle_words(

@@ -1,6 +1,7 @@
 //! What gdb writes into the machine, each an event of its own, which stands and can be taken back. Source: gdb manual,
 //! "Packets", `M`, `X`, `P` and `G`.
-ghost use Rattle.std.specs.Prelude.{◌≡◌, ◌+◌, ◌-◌, ◌^◌, ◌<◌, ◌≤◌, ◌∷◌, ◌||◌, [], length, nat_le, None, if◌then◌else◌};
+ghost use Rattle.std.specs.Prelude.{◌≡◌, ◌+◌, ◌-◌, ◌^◌, ◌<◌, ◌≤◌, ◌∷◌, ◌||◌, [], length};
+ghost use Rattle.std.specs.Prelude.{nat_le, None, if◌then◌else◌};
 ghost use Rattle.s360_machine.specs.Machine.{seen, storage_size};
 ghost use Rattle.s360_machine.specs.Refusals.{refusal_of_patch};
 ghost use Rattle.s360_remote.specs.Writing.{IsMadeOrBegun, IsWriteEnd, is_other, patch_count, patches_from_register, patches_of_bytes};
@@ -66,7 +67,7 @@ impl Target {
     fn has_room_for(&self, events: usize) -> bool
         ensures { result ≡ nat_le (self.now.recorded.standing + events) self.now.recorded.limit }
     {
-        (self.standing() as usize).saturating_add(events) <= self.limit as usize
+        (self.standing() as usize).saturating_add(events) <= self.session.limit() as usize
     }
 
     /// Gives storage from an address on these bytes, all of which are in storage. The record has room for the patches.

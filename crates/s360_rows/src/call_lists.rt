@@ -51,7 +51,14 @@ recorded
 patch r 3 1
 recorded
 again
-standing";
+standing
+previous
+next
+return 2
+resume 1
+resume 9
+next
+previous";
 
 /// Their answers where so many changes may stand, and register 1 in the end.
 const ANSWERS: &str = "nothing stands
@@ -88,6 +95,13 @@ stepped back
 5
 false
 5
+back to 0 start
+ran 5 end
+back to 3 done
+ran 1 done
+ran 1 end
+ran 1 stepped
+back to 5 stepped
 7FFFFFFF
 ";
 

@@ -2,7 +2,7 @@
 use crate::fault::Fault;
 use crate::rows::Words;
 use s360_debug::read_command;
-use s360_journal::{Answer, Breaks, Call, Places, Report, RunEnd, Session, Withdrawal};
+use s360_journal::{Answer, Breaks, Call, Pause, Places, Reach, Report, Session, Turn, Withdrawal};
 use s360_machine::{Bytes, Event, Patch, Refusal};
 use s360_store::Place;
 use std::alloc::{AllocError, Global};
@@ -16,7 +16,8 @@ fn break_at(address: &str) -> Result<Breaks, Fault> {
 
 /// The call that a line asks of a session: how many changes stand or are recorded, taking the last change out of the
 /// record or a step back, going back to a change or to a breakpoint, going on by one or to a change, a withdrawal, the
-/// last change of a byte or a register, a run with no breakpoint, or the event that it offers.
+/// last change of a byte or a register, a run with no breakpoint of new events or of what comes next in the record, back to
+/// its start or over an event of the CPU, or the event that it offers.
 pub(crate) fn call(alloc: Global, line: &str) -> Result<Call, Fault> {
     Ok(match line.split_once(" ") {
         None if line == "standing" => Call::Standing,
@@ -29,7 +30,11 @@ pub(crate) fn call(alloc: Global, line: &str) -> Result<Call, Fault> {
         Some(("on", number)) => Call::AgainTo(number.parse()?),
         Some(("withdraw", number)) => Call::Withdraw(number.parse()?),
         Some(("last", place)) => Call::LastChange(place_of(place)?),
-        Some(("run", most)) => Call::Run(Breaks::new(), most.parse()?),
+        Some(("run", most)) => Call::Run(Breaks::new(), Turn::New, Reach::Stop, most.parse()?),
+        Some(("resume", most)) => Call::Run(Breaks::new(), Turn::Next, Reach::Stop, most.parse()?),
+        Some(("return", most)) => Call::RunBack(Breaks::new(), Reach::Stop, most.parse()?),
+        None if line == "next" => Call::Run(Breaks::new(), Turn::Next, Reach::Step, 1000),
+        None if line == "previous" => Call::RunBack(Breaks::new(), Reach::Step, 1000),
         Some(("advance", line)) => Call::Advance(event(alloc, line)?),
         Some(("preview", line)) => Call::Preview(event(alloc, line)?),
         _ => Call::Forward(event(alloc, line)?),
@@ -108,17 +113,31 @@ pub(crate) fn text_of_report(
     }
 }
 
+/// Why the machine pauses.
+fn text_of_pause(alloc: Global, pause: Pause) -> Result<String, Fault> {
+    Ok(match pause {
+        Pause::Refused(refusal) => format!(in alloc; "{refusal}")?,
+        Pause::Idle => format!(in alloc; "idle")?,
+        Pause::Watch => format!(in alloc; "watch")?,
+        Pause::Break => format!(in alloc; "break")?,
+        Pause::Stepped => format!(in alloc; "stepped")?,
+        Pause::RecordEnd => format!(in alloc; "end")?,
+        Pause::RecordStart => format!(in alloc; "start")?,
+        Pause::Done => format!(in alloc; "done")?,
+    })
+}
+
 /// What a run was answered, and how many of its events were accepted.
 fn text_of_run(
     alloc: Global,
     accepted: u32,
-    end: &Result<RunEnd, AllocError>,
+    end: &Result<Pause, AllocError>,
 ) -> Result<String, Fault> {
     match end {
-        Ok(RunEnd::Refused(refusal)) => Ok(format!(in alloc; "ran {accepted} {refusal}")?),
-        Ok(RunEnd::Idle) => Ok(format!(in alloc; "ran {accepted} idle")?),
-        Ok(RunEnd::Break) => Ok(format!(in alloc; "ran {accepted} break")?),
-        Ok(RunEnd::Done) => Ok(format!(in alloc; "ran {accepted} done")?),
+        Ok(pause) => {
+            let why = text_of_pause(alloc, *pause)?;
+            Ok(format!(in alloc; "ran {accepted} {why}")?)
+        }
         Err(_) => Err(Fault::Memory),
     }
 }
@@ -135,6 +154,10 @@ pub(crate) fn text_of_answer(alloc: Global, answer: &Answer) -> Result<String, F
         Answer::TookBack(Err(fault)) => format!(in alloc; "{fault}")?,
         Answer::SteppedBack(Ok(())) => format!(in alloc; "stepped back")?,
         Answer::SteppedBack(Err(fault)) => format!(in alloc; "{fault}")?,
+        Answer::RanBack { standing, why } => {
+            let why = text_of_pause(alloc, *why)?;
+            format!(in alloc; "back to {standing} {why}")?
+        }
         Answer::WentBack(number) => format!(in alloc; "until {number}")?,
         Answer::RanAgain(Ok(ran)) => format!(in alloc; "{ran}")?,
         Answer::WentOn(Ok(number)) => format!(in alloc; "on {number}")?,

@@ -1,2 +1,1 @@
-mod NameLemmas
 mod SavingLemmas

@@ -4,3 +4,4 @@ pub mod Failures
 pub mod Images
 pub mod Partial
 pub mod Programs
+pub mod Beginning

@@ -1,8 +1,9 @@
-//! What a program over the machine starts and ends with: its command line, the deck and the tapes in the files that it
-//! names, and what is told where one of them, or a script, is at fault.
+//! What a program over the machine starts and ends with: its command line, the machine with the deck and the tapes in
+//! the files that it names, and what is told where one of them, or a script, is at fault.
 #![tactic(auto)]
 
 mod arguments;
+mod beginning;
 mod command_line;
 mod failure;
 mod images;
@@ -11,9 +12,10 @@ mod starting;
 mod telling;
 
 pub use arguments::{Options, TapeOptions};
+pub use beginning::set_up;
 pub use command_line::options;
 pub use failure::{Failure, Fault, Part};
-pub use images::{open, read_deck, read_tape};
+pub use images::open;
 pub use program::Program;
 pub use starting::start;
 pub use telling::{ending, tell};

@@ -6,10 +6,10 @@ use Rattle.s360_psw.specs.declared.instruction_length.InstructionLength.{Instruc
 use Rattle.s360_store.specs.declared.place.Place.{Place}
 use Rattle.s360_store.specs.declared.place.Place.TheVariants.{Psw, Register}
 use Rattle.s360_fixed.specs.declared.operation.Operation.{Operation}
-use Rattle.s360_fixed.specs.declared.setting.Setting.TheVariants.{Kept}
 use Rattle.s360_model.specs.Psw.{condition_code_of}
-use Rattle.s360_fixed.specs.Branching.{address_after, comparand_of, count_less_one, is_selected, link_of, register_target}
-use Rattle.s360_fixed.specs.Outcomes.{after_effect, is_odd, no_effect, single}
+use Rattle.s360_fixed.specs.Branching.{address_after_branch, comparand_of, count_less_one, is_selected, link_of, register_target}
+use Rattle.s360_fixed.specs.Alterations.{after_alteration, no_register, one_register, unchanged}
+use Rattle.s360_fixed.specs.Outcomes.{is_odd}
 use Rattle.s360_fixed.specs.ProgramCodes.{no_conditions}
 use Rattle.s360_fixed.specs.View.{View}
 use Rattle.s360_source.specs.Agreement.{AreAlike, HaveAllSame}
@@ -43,34 +43,34 @@ comparand-is m next length r3 = comparand-if (is_odd r3) m r3
 pub condition-row : (operation : Operation) (m n : Core) (next mask : ℕ) (length : InstructionLength) (s t : Option ℕ) (target : List Place) (p : Place)
     → converts_to_binary operation ≡ false → AreAlike m n → (HaveAllSame m n target → s ≡ t)
     → FollowsSources operation m n
-    (after_effect m mask no_effect (address_after (seen m next length) (is_selected mask (condition_code_of m.psw)) s))
-    (after_effect n mask no_effect (address_after (seen n next length) (is_selected mask (condition_code_of n.psw)) t))
+    (after_alteration m (no_register unchanged (address_after_branch (seen m next length) (is_selected mask (condition_code_of m.psw)) s)))
+    (after_alteration n (no_register unchanged (address_after_branch (seen n next length) (is_selected mask (condition_code_of n.psw)) t)))
     (psw_made_of target itself) p
 condition-row o m n next mask length s t target p k alike same =
-    code-row o no_conditions no_conditions m n mask Kept Kept
-    (address_after (seen m next length) (is_selected mask (condition_code_of m.psw)) s)
-    (address_after (seen n next length) (is_selected mask (condition_code_of n.psw)) t)
+    code-row o no_conditions no_conditions m n unchanged unchanged
+    (address_after_branch (seen m next length) (is_selected mask (condition_code_of m.psw)) s)
+    (address_after_branch (seen n next length) (is_selected mask (condition_code_of n.psw)) t)
     target p k alike (λ h. (refl, rw (h.0, same h.1) refl))
 
 pub link-row : (operation : Operation) (m n : Core) (next r1 : ℕ) (length : InstructionLength) (s t : Option ℕ) (target : List Place) (p : Place)
     → converts_to_binary operation ≡ false → AreAlike m n → (HaveAllSame m n target → s ≡ t)
     → FollowsSources operation m n
-    (after_effect m r1 (single (link_of (seen m next length)) Kept) (address_after (seen m next length) true s))
-    (after_effect n r1 (single (link_of (seen n next length)) Kept) (address_after (seen n next length) true t))
+    (after_alteration m (one_register r1 (link_of (seen m next length)) unchanged (address_after_branch (seen m next length) true s)))
+    (after_alteration n (one_register r1 (link_of (seen n next length)) unchanged (address_after_branch (seen n next length) true t)))
     (link_sources r1 target) p
 link-row o m n next r1 length s t target p k alike same =
-    single-row o no_conditions no_conditions m n r1 (link_of (seen m next length)) (link_of (seen n next length)) Kept Kept
-    (address_after (seen m next length) true s) (address_after (seen n next length) true t)
+    single-row o no_conditions no_conditions m n r1 (link_of (seen m next length)) (link_of (seen n next length)) unchanged unchanged
+    (address_after_branch (seen m next length) true s) (address_after_branch (seen n next length) true t)
     target (Psw ∷ []) p k alike (λ h. (refl, rw (same h.1) refl)) (λ h. rw h.0 refl)
 
 pub count-row : (operation : Operation) (m n : Core) (next r1 : ℕ) (length : InstructionLength) (s t : Option ℕ) (target : List Place) (p : Place)
     → converts_to_binary operation ≡ false → AreAlike m n → (HaveAllSame m n target → s ≡ t)
     → FollowsSources operation m n
-    (after_effect m r1 (single (count_less_one (slice_index m.registers r1)) Kept) (address_after (seen m next length) (not (nat_eq (count_less_one (slice_index m.registers r1)) 0)) s))
-    (after_effect n r1 (single (count_less_one (slice_index n.registers r1)) Kept) (address_after (seen n next length) (not (nat_eq (count_less_one (slice_index n.registers r1)) 0)) t))
+    (after_alteration m (one_register r1 (count_less_one (slice_index m.registers r1)) unchanged (address_after_branch (seen m next length) (not (nat_eq (count_less_one (slice_index m.registers r1)) 0)) s)))
+    (after_alteration n (one_register r1 (count_less_one (slice_index n.registers r1)) unchanged (address_after_branch (seen n next length) (not (nat_eq (count_less_one (slice_index n.registers r1)) 0)) t)))
     (count_sources r1 target) p
 count-row o m n next r1 length s t target p k alike same =
-    single-row o no_conditions no_conditions m n r1 (count_less_one (slice_index m.registers r1)) (count_less_one (slice_index n.registers r1)) Kept Kept
-    (address_after (seen m next length) (not (nat_eq (count_less_one (slice_index m.registers r1)) 0)) s)
-    (address_after (seen n next length) (not (nat_eq (count_less_one (slice_index n.registers r1)) 0)) t)
+    single-row o no_conditions no_conditions m n r1 (count_less_one (slice_index m.registers r1)) (count_less_one (slice_index n.registers r1)) unchanged unchanged
+    (address_after_branch (seen m next length) (not (nat_eq (count_less_one (slice_index m.registers r1)) 0)) s)
+    (address_after_branch (seen n next length) (not (nat_eq (count_less_one (slice_index n.registers r1)) 0)) t)
     (Register r1 ∷ target) (Register r1 ∷ []) p k alike (λ h. (refl, rw (h.1.0, same h.1.1) refl)) (λ h. rw h.0 refl)

@@ -2,8 +2,8 @@
 use Rattle.std.proofs.Common.{◌≡◌, ◌+◌, ◌-◌, ◌∙◌, ◌++◌, ℕ, Bool, true, false, List, [], ◌∷◌, refl, ap, sym, arith, length, subst, Option, Some, None, nat_eq}
 use Rattle.std.specs.List.{slice_range}
 use Rattle.std.specs.Option.{option_and_then, option_map, option_map_or}
-use Rattle.std.specs.Prelude.{if◌then◌else◌, map, nat_le}
-use Rattle.std.proofs.lemmas.List.{length-append}
+use Rattle.std.specs.Prelude.{if◌then◌else◌, map, nat_le, take}
+use Rattle.std.proofs.lemmas.List.{length-append, length-take}
 use Rattle.s360_model.specs.Core.{Core}
 use Rattle.s360_model.specs.Storage.{is_inside}
 use Rattle.s360_word.specs.declared.unit.Unit.{Unit as UnitAddress}
@@ -28,13 +28,14 @@ use Rattle.s360_channel.specs.declared.configured_unit.ConfiguredUnit.{Configure
 use Rattle.s360_channel.specs.declared.configured_unit.ConfiguredUnit.TheVariants.{Reader, Punch, Printer, Console, Tape0, Tape1}
 use Rattle.s360_channel.specs.declared.program.Program.{Program}
 use Rattle.s360_channel.specs.declared.program.Progress.{Progress}
-use Rattle.s360_channel.specs.declared.program.Progress.TheVariants.{InputChained, OutputChained}
+use Rattle.s360_channel.specs.declared.program.Progress.TheVariants.{OutputChained}
 use Rattle.s360_channel.specs.declared.transfer.Transfer.{Transfer}
 use Rattle.s360_channel.specs.declared.unit_control.UnitControl.{UnitControl}
 use Rattle.s360_channel.specs.declared.unit_state.UnitState.{UnitState as StateOfUnit}
 use Rattle.s360_channel.specs.declared.unit_state.UnitState.TheVariants.{Idle, Active, Waiting}
 use Rattle.s360_channel.specs.ConfiguredUnits.{control_of, unit_at}
-use Rattle.s360_channel.specs.Execution.{DeviceView, Execution, access_of, address_after, after_conclusion, after_transfer, channel_execution, command_with, ended_unit, execute_begun, gathered_within, goes_on_after, input_transfer, lowest_address, moved_before, output_transfer, run_of, stored_bytes, unless_checked}
+use Rattle.s360_channel.specs.Execution.{DeviceView, Execution, WordAtHand, access_of, after_input, after_output, channel_execution, command_ends, command_with, conclusion_of}
+use Rattle.s360_channel.specs.Execution.{execute_begun, input_transfer, lowest_address, next_ccw_address, output_transfer, run_of, stored_bytes, unless_checked, word_at_hand}
 use Rattle.s360_channel.specs.Units.{program_of}
 use Rattle.s360_channel.specs.Words.{reads_backward}
 use Rattle.s360_machine.specs.ChannelEvents.{execution_at, execution_of, view_of}
@@ -54,7 +55,7 @@ use Rattle.s360_source.proofs.AccessLemmas.{access-same}
 use Rattle.s360_source.proofs.AgreementLemmas.{same-first, same-second}
 use Rattle.s360_source.proofs.ChannelLemmas.{WordsSame, checked-shape, length-range}
 use Rattle.s360_source.proofs.EventLaws.{there-cores}
-use Rattle.s360_source.proofs.ExecutionLemmas.{words-law}
+use Rattle.s360_source.proofs.ExecutionLemmas.{going_on, words-law}
 use Rattle.s360_source.proofs.WordDeciderLaws.{led-same, next-same, taken-same, target-same, word-same}
 
 -- what an access of a channel meets
@@ -75,13 +76,13 @@ access-of-law m n key count kind (Some a) alike h =
 abbrev ShapedAlike : Execution → Execution → Type 0
 ShapedAlike x y = (state_shape x.state ≡ state_shape y.state) × (x.stores ≡ y.stores)
 
-unless-alike : (p : Program) (at : ℕ) (x y : Execution) (a : Checked) → ShapedAlike x y → ShapedAlike (unless_checked p at a x) (unless_checked p at a y)
-unless-alike p at x y Clear h = h
-unless-alike p at x y Addressing h = (refl, refl)
-unless-alike p at x y Protection h = (refl, refl)
+unless-alike : (w : WordAtHand) (x y : Execution) (a : Checked) → ShapedAlike x y → ShapedAlike (unless_checked w a x) (unless_checked w a y)
+unless-alike w x y Clear h = h
+unless-alike w x y Addressing h = (refl, refl)
+unless-alike w x y Protection h = (refl, refl)
 
-met-alike : (p : Program) (at : ℕ) (x y : Execution) (a b : Checked) → a ≡ b → ShapedAlike x y → ShapedAlike (unless_checked p at a x) (unless_checked p at b y)
-met-alike p at x y a b e h = subst (λ z. ShapedAlike (unless_checked p at a x) (unless_checked p at z y)) e (unless-alike p at x y a h)
+met-alike : (w : WordAtHand) (x y : Execution) (a b : Checked) → a ≡ b → ShapedAlike x y → ShapedAlike (unless_checked w a x) (unless_checked w b y)
+met-alike w x y a b e h = subst (λ z. ShapedAlike (unless_checked w a x) (unless_checked w z y)) e (unless-alike w x y a h)
 
 -- as many bytes are gathered
 abbrev blank : List ℕ → List ℕ
@@ -93,41 +94,41 @@ zeros [] (y ∷ ys) e = absurd (omega arith)
 zeros (x ∷ xs) [] e = absurd (omega arith)
 zeros (x ∷ xs) (y ∷ ys) e = ap (λ (zs : List ℕ). 0 ∷ zs) (zeros xs ys (omega arith))
 
-gathered-alike : (goes_on : Bool) (p : Program) (at command : ℕ) (gathered other : List ℕ) (s : StateOfUnit) → length gathered ≡ length other
-    → state_shape (if goes_on then goes_on_after p at (OutputChained command gathered) else s) ≡ state_shape (if goes_on then goes_on_after p at (OutputChained command other) else s)
-gathered-alike true p at command gathered other s e =
-    ap (λ (zs : List ℕ). Active (record { key = p.key; address = address_after at; progress = OutputChained command zs })) (zeros gathered other e)
-gathered-alike false p at command gathered other s e = refl
+alike-if : (b : Bool) (x y u v : Execution) → ShapedAlike x u → ShapedAlike y v → ShapedAlike (if b then x else y) (if b then u else v)
+alike-if true x y u v h k = h
+alike-if false x y u v h k = k
 
-transfer-alike : (d : DeviceView) (p : Program) (at : ℕ) (c : Ccw) (t : Transfer) (command : ℕ) (gathered other : List ℕ) → length gathered ≡ length other
-    → ShapedAlike (after_transfer d p at c t None (OutputChained command gathered) (record { command = command; output = gathered }))
-    (after_transfer d p at c t None (OutputChained command other) (record { command = command; output = other }))
-transfer-alike d p at c t command gathered other e =
-    let ended : StateOfUnit = after_conclusion p at c (record { unit = ended_unit (d.exception command); incorrect_length = t.incorrect_length; residual = t.residual })
-    in (gathered-alike t.goes_on p at command gathered other ended e, refl)
+transfer-alike : (w : WordAtHand) (t : Transfer) (output other : List ℕ) → length output ≡ length other → ShapedAlike (after_output w t output) (after_output w t other)
+transfer-alike w t output other e =
+    alike-if t.goes_on (going_on w (OutputChained w.command output)) (command_ends w (conclusion_of w t) output)
+    (going_on w (OutputChained w.command other)) (command_ends w (conclusion_of w t) other)
+    (ap (λ (zs : List ℕ). Active (record { key = w.program.key; address = next_ccw_address w.at; progress = OutputChained w.command zs })) (zeros output other e), refl) (refl, refl)
+
+-- as many bytes of an output
+length-output : (limit : ℕ) (gathered xs ys : List ℕ) → length xs ≡ length ys → length (take limit (gathered ++ xs)) ≡ length (take limit (gathered ++ ys))
+length-output limit gathered xs ys e = rw (length-take limit (gathered ++ xs), length-take limit (gathered ++ ys), length-append gathered xs, length-append gathered ys, e) refl
 
 -- what a word does, by how the device begins its command
 begun-alike : (m n : Core) (d : DeviceView) (p : Program) (at : ℕ) (c : Ccw) (begin : Begin) → AreAlike m n → HaveAllSame m n (begun_deciders d m.storage p c begin)
-    → ShapedAlike (execute_begun d m.storage p at c (command_with p.progress c) begin) (execute_begun d n.storage p at c (command_with p.progress c) begin)
+    → ShapedAlike (execute_begun m.storage (word_at_hand d p at c) begin) (execute_begun n.storage (word_at_hand d p at c) begin)
 begun-alike m n d p at c (Input total) alike h =
-    let command : ℕ = command_with p.progress c
-    in let t : Transfer = input_transfer c (total - moved_before p.progress)
-    in let bytes : List ℕ = stored_bytes (d.input command) p.progress c command t
-    in let lowest : Option ℕ = lowest_address (reads_backward command) c.address (length bytes)
-    in let x : Execution = after_transfer d p at c t (run_of lowest bytes) (InputChained command (moved_before p.progress + t.count)) (record { command = command; output = [] })
-    in met-alike p at x x (access_of m.storage p.key Store (length bytes) lowest) (access_of n.storage p.key Store (length bytes) lowest)
+    let w : WordAtHand = word_at_hand d p at c
+    in let t : Transfer = input_transfer c (total - w.moved)
+    in let bytes : List ℕ = stored_bytes w t.count
+    in let lowest : Option ℕ = lowest_address (reads_backward w.command) c.address (length bytes)
+    in let x : Execution = record (after_input w t) { stores = run_of lowest bytes }
+    in met-alike w x x (access_of m.storage p.key Store (length bytes) lowest) (access_of n.storage p.key Store (length bytes) lowest)
     (access-of-law m n p.key (length bytes) Store lowest alike h) (refl, refl)
 begun-alike m n d p at c (Output limit) alike h =
-    let command : ℕ = command_with p.progress c
-    in let before : List ℕ = gathered_within limit p.progress
-    in let t : Transfer = output_transfer c (limit - length before)
+    let w : WordAtHand = word_at_hand d p at c
+    in let t : Transfer = output_transfer c (limit - length w.gathered)
     in let xs : List ℕ = slice_range m.storage.bytes c.address (c.address + t.count)
     in let ys : List ℕ = slice_range n.storage.bytes c.address (c.address + t.count)
-    in let after : List ℕ → Execution = λ bytes. after_transfer d p at c t None (OutputChained command bytes) (record { command = command; output = bytes })
-    in met-alike p at (after (before ++ xs)) (after (before ++ ys)) (access_of m.storage p.key Fetch t.count (Some c.address)) (access_of n.storage p.key Fetch t.count (Some c.address))
+    in met-alike w (after_output w t (take limit (w.gathered ++ xs))) (after_output w t (take limit (w.gathered ++ ys)))
+    (access_of m.storage p.key Fetch t.count (Some c.address)) (access_of n.storage p.key Fetch t.count (Some c.address))
     (access-of-law m n p.key t.count Fetch (Some c.address) alike h)
-    (transfer-alike d p at c t command (before ++ xs) (before ++ ys)
-    (length-append before xs ∙ ap (λ k. length before + k) (length-range m.storage.bytes n.storage.bytes c.address t.count alike.size) ∙ sym (length-append before ys)))
+    (transfer-alike w t (take limit (w.gathered ++ xs)) (take limit (w.gathered ++ ys))
+    (length-output limit w.gathered xs ys (length-range m.storage.bytes n.storage.bytes c.address t.count alike.size)))
 begun-alike m n d p at c Control alike h = (refl, refl)
 begun-alike m n d p at c (Refused sense) alike h = (refl, refl)
 begun-alike m n d p at c NotYet alike h = (refl, refl)

@@ -9,7 +9,7 @@ use Rattle.s360_device.specs.declared.device_with.DeviceWith.{DeviceWith}
 use Rattle.s360_device.specs.Rows.{Table}
 use Rattle.s360_channel.specs.declared.ccw.Ccw.{Ccw}
 use Rattle.s360_channel.specs.declared.program.Program.{Program}
-use Rattle.s360_channel.specs.Execution.{DeviceView, command_with, gathered_within, in_order, input_transfer, lowest_address, moved_before, output_transfer}
+use Rattle.s360_channel.specs.Execution.{DeviceView, command_with, gathered_before, in_order, input_transfer, lowest_address, moved_before, output_transfer}
 use Rattle.s360_channel.specs.Words.{reads_backward}
 use Rattle.s360_machine.specs.ChannelEvents.{view_of}
 use Rattle.s360_source.specs.ChannelDeciders.{access_deciders, begun_deciders, executed_deciders, stored_count}
@@ -45,7 +45,7 @@ input-keys d s p c total count lowest word begun counted is at =
     ∙ begun-keys d s p c (Input total) word begun
 
 pub output-keys : (d : DeviceView) (s : Storage) (p : Program) (c : Ccw) (limit count : ℕ) → executed_word s p ≡ Some c → d.begin (command_with p.progress c) ≡ Output limit
-    → count ≡ (output_transfer c (limit - length (gathered_within limit p.progress))).count
+    → count ≡ (output_transfer c (limit - length (gathered_before p.progress))).count
     → access_deciders s p.key Fetch count (Some c.address) ≡ executed_deciders d s p (executed_word s p)
 output-keys d s p c limit count word begun is =
     ap (λ (k : ℕ). access_deciders s p.key Fetch k (Some c.address)) is ∙ begun-keys d s p c (Output limit) word begun

@@ -70,7 +70,7 @@ unfolding channel_execution
 device-law t d e m n x y p same one two words =
     let Holds : Type 0 = FetchesSame m n p (executed_word m.core.storage p) (λ code. begin_of t d (command_of code))
     in rw (← same, one, two) (words-law (Follows Holds) (view_of t d) m.core.storage n.core.storage p words.0 words.1 (λ at h k. refl)
-    (λ at c w. begun-law Holds (view_of t d) m.core.storage n.core.storage p at c (command_with p.progress c) (begin_of t d (command_of (command_with p.progress c))) (λ k limit b. k c limit w b)))
+    (λ at c w. begun-law Holds (view_of t d) m.core.storage n.core.storage p at c (begin_of t d (command_of (command_with p.progress c))) (λ k limit b. k c limit w b)))
 
 device-inside : {M : Type 0} (t : Table M) (d : DeviceWith M) (s : Storage) (x : StateOfUnit) → StoresInside s (execution_of t d s x).stores
 unfolding channel_execution

@@ -1,5 +1,5 @@
 -- MOVE WITH OFFSET, PACK and UNPACK follow their sources.
-use Rattle.std.proofs.Common.{◌≡◌, ◌+◌, ◌∙◌, ℕ, zero, suc, false, List, [], ◌∷◌, refl, ap, sym, arith, length, get_or, nat_eq, nat_lt, inl, inr}
+use Rattle.std.proofs.Common.{◌≡◌, ◌∙◌, ℕ, zero, suc, false, List, [], ◌∷◌, refl, ap, sym, length, get_or, nat_eq, nat_lt, inl, inr, None}
 use Rattle.std.specs.Prelude.{if◌then◌else◌}
 use Rattle.std.proofs.lemmas.Bool.{cases_Bool, eq-eqb, ne_eqb}
 use Rattle.std.proofs.lemmas.List.{length-set}
@@ -11,7 +11,6 @@ use Rattle.s360_store.specs.declared.place.Place.{Place}
 use Rattle.s360_store.specs.declared.place.Place.TheVariants.{Psw, Register, Byte, Key, Run, External, UnitState, UnitMedia}
 use Rattle.s360_store.specs.declared.protection.Access.TheVariants.{Store}
 use Rattle.s360_fixed.specs.declared.operation.Operation.{Operation}
-use Rattle.s360_fixed.specs.declared.setting.Setting.TheVariants.{Kept}
 use Rattle.s360_fixed.specs.Outcomes.{unless_met}
 use Rattle.s360_fixed.specs.ProgramCodes.{Conditions}
 use Rattle.s360_fixed.specs.View.{Outcome}
@@ -36,66 +35,39 @@ from_right address count s i = byte_from_right (record { address = address; coun
 abbrev fetched_then : ℕ → (ℕ → ℕ) → (ℕ → ℕ) → ℕ → ℕ
 fetched_then before source now j = if nat_lt j before then source j else now j
 
--- the storage after so many bytes of a result were made and stored from right to left: the recursion of each row of digits,
--- by how many bytes of the second operand are needed before, and by what a byte of the result is made
-abbrev pub right_to_left_of : (ℕ → ℕ) → ((ℕ → ℕ) → ℕ → ℕ) → ℕ → ℕ → ℕ → ℕ → ℕ → ℕ → (ℕ → ℕ) → Storage → Storage
-right_to_left_of needed result a1 c1 a2 c2 i zero source s = s
-right_to_left_of needed result a1 c1 a2 c2 i (suc n) source s =
-    let fetched : ℕ → ℕ = fetched_then (needed i) source (from_right a2 c2 s)
-    in right_to_left_of needed result a1 c1 a2 c2 (i + 1) n fetched (with_byte (address_from_right (record { address = a1; count = c1 }) i) (result fetched i) s)
-
-abbrev pub stored_of : (ℕ → ℕ) → ((ℕ → ℕ) → ℕ → ℕ) → ℕ → ℕ → ℕ → ℕ → Storage → Storage
-stored_of needed result a1 c1 a2 c2 s = right_to_left_of needed result a1 c1 a2 c2 0 c1 (from_right a2 c2 s) s
-
 -- where the byte at a number from the right is
 abbrev place_of : ℕ → ℕ → ℕ → ℕ
 place_of a1 c1 i = address_from_right (record { address = a1; count = c1 }) i
 
 -- one byte more
-abbrev fetched_at : (ℕ → ℕ) → ℕ → ℕ → ℕ → (ℕ → ℕ) → Storage → ℕ → ℕ
+abbrev pub fetched_at : (ℕ → ℕ) → ℕ → ℕ → ℕ → (ℕ → ℕ) → Storage → ℕ → ℕ
 fetched_at needed a2 c2 i source s = fetched_then (needed i) source (from_right a2 c2 s)
 
 abbrev next_of : (ℕ → ℕ) → ((ℕ → ℕ) → ℕ → ℕ) → ℕ → ℕ → ℕ → ℕ → ℕ → (ℕ → ℕ) → Storage → Storage
 next_of needed result a1 c1 a2 c2 i source s = with_byte (place_of a1 c1 i) (result (fetched_at needed a2 c2 i source s) i) s
 
-keys-stay : (needed : ℕ → ℕ) (result : (ℕ → ℕ) → ℕ → ℕ) (a1 c1 a2 c2 i n : ℕ) (source : ℕ → ℕ) (s : Storage) → (right_to_left_of needed result a1 c1 a2 c2 i n source s).keys ≡ s.keys
-keys-stay needed result a1 c1 a2 c2 i zero source s = refl
-keys-stay needed result a1 c1 a2 c2 i (suc n) source s =
-    keys-stay needed result a1 c1 a2 c2 (i + 1) n (fetched_at needed a2 c2 i source s) (next_of needed result a1 c1 a2 c2 i source s)
-
-option-stays : (needed : ℕ → ℕ) (result : (ℕ → ℕ) → ℕ → ℕ) (a1 c1 a2 c2 i n : ℕ) (source : ℕ → ℕ) (s : Storage) → (right_to_left_of needed result a1 c1 a2 c2 i n source s).fetch_protection ≡ s.fetch_protection
-option-stays needed result a1 c1 a2 c2 i zero source s = refl
-option-stays needed result a1 c1 a2 c2 i (suc n) source s =
-    option-stays needed result a1 c1 a2 c2 (i + 1) n (fetched_at needed a2 c2 i source s) (next_of needed result a1 c1 a2 c2 i source s)
-
-length-stays : (needed : ℕ → ℕ) (result : (ℕ → ℕ) → ℕ → ℕ) (a1 c1 a2 c2 i n : ℕ) (source : ℕ → ℕ) (s : Storage) → length (right_to_left_of needed result a1 c1 a2 c2 i n source s).bytes ≡ length s.bytes
-length-stays needed result a1 c1 a2 c2 i zero source s = refl
-length-stays needed result a1 c1 a2 c2 i (suc n) source s =
-    length-stays needed result a1 c1 a2 c2 (i + 1) n (fetched_at needed a2 c2 i source s) (next_of needed result a1 c1 a2 c2 i source s)
-    ∙ length-set s.bytes (place_of a1 c1 i) (result (fetched_at needed a2 c2 i source s) i)
-
 -- the bytes that were fetched and the storage, after so many bytes of a result
-abbrev State : Type 0
+abbrev pub State : Type 0
 State = (ℕ → ℕ) × Storage
 
 abbrev next_state : (ℕ → ℕ) → ((ℕ → ℕ) → ℕ → ℕ) → ℕ → ℕ → ℕ → ℕ → ℕ → State → State
 next_state needed result a1 c1 a2 c2 n x = (fetched_at needed a2 c2 n x.0 x.1, next_of needed result a1 c1 a2 c2 n x.0 x.1)
 
-abbrev state_after : (ℕ → ℕ) → ((ℕ → ℕ) → ℕ → ℕ) → ℕ → ℕ → ℕ → ℕ → Storage → ℕ → State
+abbrev pub state_after : (ℕ → ℕ) → ((ℕ → ℕ) → ℕ → ℕ) → ℕ → ℕ → ℕ → ℕ → Storage → ℕ → State
 state_after needed result a1 c1 a2 c2 s zero = (from_right a2 c2 s, s)
 state_after needed result a1 c1 a2 c2 s (suc n) = next_state needed result a1 c1 a2 c2 n (state_after needed result a1 c1 a2 c2 s n)
 
--- what is left to be stored then makes all
-rest-stored : (needed : ℕ → ℕ) (result : (ℕ → ℕ) → ℕ → ℕ) (a1 c1 a2 c2 : ℕ) (s : Storage) (n i : ℕ)
-    → right_to_left_of needed result a1 c1 a2 c2 i n (state_after needed result a1 c1 a2 c2 s i).0 (state_after needed result a1 c1 a2 c2 s i).1 ≡ (state_after needed result a1 c1 a2 c2 s (i + n)).1
-rest-stored needed result a1 c1 a2 c2 s zero i = let here : i + 0 ≡ i = omega arith in rw here refl
-rest-stored needed result a1 c1 a2 c2 s (suc n) i =
-    let next : i + 1 ≡ suc i = omega arith
-    in let all : i + suc n ≡ suc i + n = omega arith
-    in rw (next, all) (rest-stored needed result a1 c1 a2 c2 s n (suc i))
+-- the storage after all bytes
+abbrev pub stored_of : (ℕ → ℕ) → ((ℕ → ℕ) → ℕ → ℕ) → ℕ → ℕ → ℕ → ℕ → Storage → Storage
+stored_of needed result a1 c1 a2 c2 s = (state_after needed result a1 c1 a2 c2 s c1).1
 
-all-stored : (needed : ℕ → ℕ) (result : (ℕ → ℕ) → ℕ → ℕ) (a1 c1 a2 c2 : ℕ) (s : Storage) → stored_of needed result a1 c1 a2 c2 s ≡ (state_after needed result a1 c1 a2 c2 s c1).1
-all-stored needed result a1 c1 a2 c2 s = let all : 0 + c1 ≡ c1 = omega arith in rw all at (rest-stored needed result a1 c1 a2 c2 s c1 0)
+keys-stay : (needed : ℕ → ℕ) (result : (ℕ → ℕ) → ℕ → ℕ) (a1 c1 a2 c2 : ℕ) (s : Storage) (n : ℕ) → (state_after needed result a1 c1 a2 c2 s n).1.keys ≡ s.keys
+keys-stay needed result a1 c1 a2 c2 s zero = refl
+keys-stay needed result a1 c1 a2 c2 s (suc n) = keys-stay needed result a1 c1 a2 c2 s n
+
+option-stays : (needed : ℕ → ℕ) (result : (ℕ → ℕ) → ℕ → ℕ) (a1 c1 a2 c2 : ℕ) (s : Storage) (n : ℕ) → (state_after needed result a1 c1 a2 c2 s n).1.fetch_protection ≡ s.fetch_protection
+option-stays needed result a1 c1 a2 c2 s zero = refl
+option-stays needed result a1 c1 a2 c2 s (suc n) = option-stays needed result a1 c1 a2 c2 s n
 
 state-length : (needed : ℕ → ℕ) (result : (ℕ → ℕ) → ℕ → ℕ) (a1 c1 a2 c2 : ℕ) (s : Storage) (n : ℕ) → length (state_after needed result a1 c1 a2 c2 s n).1.bytes ≡ length s.bytes
 state-length needed result a1 c1 a2 c2 s zero = refl
@@ -173,7 +145,7 @@ rightmost-same m n field h =
 
 -- the outcome of an instruction that is completed with the bytes that are stored
 abbrev digits_done : Core → ℕ → InstructionLength → (ℕ → ℕ) → ((ℕ → ℕ) → ℕ → ℕ) → ℕ → ℕ → ℕ → ℕ → Outcome
-digits_done m next il needed result a1 c1 a2 c2 = completed_with (seen m next il) Kept (stored_of needed result a1 c1 a2 c2 m.storage)
+digits_done m next il needed result a1 c1 a2 c2 = completed_with (seen m next il) None (stored_of needed result a1 c1 a2 c2 m.storage)
 
 digits-law : (m n : Core) (next : ℕ) (il : InstructionLength) (d : Digits) (f g : (ℕ → ℕ) → ℕ → ℕ) (p : Place) → AreAlike m n → IsMadeOf m n d f g
     → HaveAllSame m n (digit_sources d p)
@@ -181,22 +153,21 @@ digits-law : (m n : Core) (next : ℕ) (il : InstructionLength) (d : Digits) (f 
 digits-law m n next il d f g Psw alike each h = ap (λ x. with_instruction_address x next) h.0
 digits-law m n next il d f g (Register r) alike each h = h.0
 digits-law m n next il d f g (Key b) alike each h =
-    ap (λ (x : List ℕ). get_or x b 0) (keys-stay (fetched_before d.row) f d.first.address d.first.count d.second.address d.second.count 0 d.first.count (from_right d.second.address d.second.count m.storage) m.storage) ∙ h.0
-    ∙ sym (ap (λ (x : List ℕ). get_or x b 0) (keys-stay (fetched_before d.row) g d.first.address d.first.count d.second.address d.second.count 0 d.first.count (from_right d.second.address d.second.count n.storage) n.storage))
+    ap (λ (x : List ℕ). get_or x b 0) (keys-stay (fetched_before d.row) f d.first.address d.first.count d.second.address d.second.count m.storage d.first.count) ∙ h.0
+    ∙ sym (ap (λ (x : List ℕ). get_or x b 0) (keys-stay (fetched_before d.row) g d.first.address d.first.count d.second.address d.second.count n.storage d.first.count))
 digits-law m n next il d f g Run alike each h = refl
 digits-law m n next il d f g External alike each h = refl
 digits-law m n next il d f g (UnitState u) alike each h = refl
 digits-law m n next il d f g (UnitMedia u) alike each h = refl
 digits-law m n next il d f g (Byte a) alike each h =
-    rw (all-stored (fetched_before d.row) f d.first.address d.first.count d.second.address d.second.count m.storage, all-stored (fetched_before d.row) g d.first.address d.first.count d.second.address d.second.count n.storage)
-    ((state-follows m n d f g alike each d.first.count).stored a h)
+    (state-follows m n d f g alike each d.first.count).stored a h
 
 digits-keep : (m : Core) (next : ℕ) (il : InstructionLength) (needed : ℕ → ℕ) (f : (ℕ → ℕ) → ℕ → ℕ) (c1 c2 a1 a2 : ℕ) → KeepsSizes m (digits_done m next il needed f a1 c1 a2 c2).core
 digits-keep m next il needed f c1 c2 a1 a2 = record {
   registers = refl;
-  bytes = length-stays needed f a1 c1 a2 c2 0 c1 (from_right a2 c2 m.storage) m.storage;
-  keys = ap length (keys-stay needed f a1 c1 a2 c2 0 c1 (from_right a2 c2 m.storage) m.storage);
-  option = option-stays needed f a1 c1 a2 c2 0 c1 (from_right a2 c2 m.storage) m.storage;
+  bytes = state-length needed f a1 c1 a2 c2 m.storage c1;
+  keys = ap length (keys-stay needed f a1 c1 a2 c2 m.storage c1);
+  option = option-stays needed f a1 c1 a2 c2 m.storage c1;
 }
 
 -- the conditions of the operands

@@ -12,11 +12,10 @@ use Rattle.s360_fixed.specs.declared.ended.Ended.TheVariants.{Done, Program}
 use Rattle.s360_fixed.specs.declared.form.Form.{Form}
 use Rattle.s360_fixed.specs.declared.program_code.ProgramCode.{ProgramCode}
 use Rattle.s360_fixed.specs.declared.program_code.ProgramCode.TheVariants.{Data, FixedPointDivide, Specification}
-use Rattle.s360_fixed.specs.declared.setting.Setting.TheVariants.{SignedCode}
 use Rattle.s360_fixed.specs.Operands.{access_conditions}
-use Rattle.s360_fixed.specs.Outcomes.{division_effect, is_odd, unless_met}
+use Rattle.s360_fixed.specs.Alterations.{ended_by, set_by_signed}
+use Rattle.s360_fixed.specs.Outcomes.{division_alteration, is_odd, unless_met}
 use Rattle.s360_fixed.specs.ProgramCodes.{Conditions, program_code}
-use Rattle.s360_fixed.specs.Settings.{ended_with}
 use Rattle.s360_fixed.specs.View.{Outcome, View}
 use Rattle.s360_logic.specs.Converting.{converted_outcome}
 use Rattle.s360_logic.specs.Logic.{row_outcome}
@@ -30,26 +29,26 @@ use Rattle.s360_source.proofs.EffectLemmas.{is-one}
 use Rattle.s360_source.proofs.SuppressionLemmas.{refused, unless_met-is}
 
 -- with this code, where it is one
-abbrev ended_by : Option ProgramCode → Ended → Ended
-ended_by None ended = ended
-ended_by (Some code) ended = Program code
+abbrev ended_as : Option ProgramCode → Ended → Ended
+ended_as None ended = ended
+ended_as (Some code) ended = Program code
 
-refused-ends : (q : Option ProgramCode) (m : Core) (x : Outcome) → (refused q m x).ended ≡ ended_by q x.ended
+refused-ends : (q : Option ProgramCode) (m : Core) (x : Outcome) → (refused q m x).ended ≡ ended_as q x.ended
 refused-ends None m x = refl
 refused-ends (Some code) m x = refl
 
-unless-ends : (c : Conditions) (m : Core) (x : Outcome) → (unless_met c m x).ended ≡ ended_by (program_code c) x.ended
+unless-ends : (c : Conditions) (m : Core) (x : Outcome) → (unless_met c m x).ended ≡ ended_as (program_code c) x.ended
 unless-ends c m x = ap (λ (o : Outcome). o.ended) (unless_met-is c m x) ∙ refused-ends (program_code c) m x
 
 -- two outcomes that meet the same
 pub unless-same : (c d : Conditions) (m n : Core) (x y : Outcome) → c ≡ d → x.ended ≡ y.ended → (unless_met c m x).ended ≡ (unless_met d n y).ended
-unless-same c d m n x y e f = unless-ends c m x ∙ ap (λ q. ended_by (program_code q) x.ended) e ∙ ap (ended_by (program_code d)) f ∙ sym (unless-ends d n y)
+unless-same c d m n x y e f = unless-ends c m x ∙ ap (λ q. ended_as (program_code q) x.ended) e ∙ ap (ended_as (program_code d)) f ∙ sym (unless-ends d n y)
 
 -- two that meet one code
 unless-code : (c d : Conditions) (m n : Core) (x y : Outcome) (code : ProgramCode) → program_code c ≡ Some code → program_code d ≡ Some code
     → (unless_met c m x).ended ≡ (unless_met d n y).ended
 unless-code c d m n x y code e f =
-    unless-ends c m x ∙ ap (λ q. ended_by q x.ended) e ∙ sym (unless-ends d n y ∙ ap (λ q. ended_by q y.ended) f)
+    unless-ends c m x ∙ ap (λ q. ended_as q x.ended) e ∙ sym (unless-ends d n y ∙ ap (λ q. ended_as q y.ended) f)
 
 -- two of a pair of registers, which is refused if it begins with an odd one
 pub pair-ends : (r1 : ℕ) (c d : Conditions) (m n : Core) (x y : Outcome)
@@ -73,7 +72,7 @@ accessed-same m n a b boundary count kind x y alike psw e keys f =
     unless-same (access_conditions m a boundary count kind) (access_conditions n b boundary count kind) m n x y (conditions-same m n a b boundary count kind alike psw e keys) f
 
 -- where the mask is zero an overflow ends nothing
-overflows-not : (b : Bool) (psw code : ℕ) → nat_eq code 3 ≡ b → fixed_point_overflow_mask_of psw ≡ false → ended_with psw (SignedCode code) ≡ Done
+overflows-not : (b : Bool) (psw code : ℕ) → nat_eq code 3 ≡ b → fixed_point_overflow_mask_of psw ≡ false → ended_by (set_by_signed code) psw ≡ Done
 overflows-not true psw code e f = rw (e, f) refl
 overflows-not false psw code e f = rw e refl
 
@@ -85,18 +84,18 @@ of-result b m n r1 used others h e =
 -- a result that may overflow
 pub overflow-same : (m n : Core) (r1 s t : ℕ) (used others : List Place) → m.psw ≡ n.psw
     → HaveAllSame m n (if fixed_point_overflow_mask_of m.psw then (if nat_eq r1 r1 then used else others) else []) → (HaveAllSame m n used → s ≡ t)
-    → ended_with m.psw (SignedCode s) ≡ ended_with n.psw (SignedCode t)
+    → ended_by (set_by_signed s) m.psw ≡ ended_by (set_by_signed t) n.psw
 overflow-same m n r1 s t used others psw h same = by (fixed_point_overflow_mask_of m.psw) refl where
-  by : (b : Bool) → fixed_point_overflow_mask_of m.psw ≡ b → ended_with m.psw (SignedCode s) ≡ ended_with n.psw (SignedCode t)
-  by true e = ap (λ c. ended_with m.psw (SignedCode c)) (same (of-result (fixed_point_overflow_mask_of m.psw) m n r1 used others h e)) ∙ ap (λ x. ended_with x (SignedCode t)) psw
+  by : (b : Bool) → fixed_point_overflow_mask_of m.psw ≡ b → ended_by (set_by_signed s) m.psw ≡ ended_by (set_by_signed t) n.psw
+  by true e = ap (λ c. ended_by (set_by_signed c) m.psw) (same (of-result (fixed_point_overflow_mask_of m.psw) m n r1 used others h e)) ∙ ap (λ x. ended_by (set_by_signed t) x) psw
   by false e =
       overflows-not (nat_eq s 3) m.psw s refl e
       ∙ sym (overflows-not (nat_eq t 3) n.psw t refl (sym (ap fixed_point_overflow_mask_of psw) ∙ e))
 
 -- a division that is completed ends so, whatever its words
-pub division-ends : (psw : ℕ) (q : Option (ℕ × ℕ)) → ended_with psw (division_effect q).setting ≡ Done
-division-ends psw None = refl
-division-ends psw (Some words) = refl
+pub division-ends : (psw r1 address : ℕ) (q : Option (ℕ × ℕ)) → ended_by (division_alteration r1 q address).setting psw ≡ Done
+division-ends psw r1 address None = refl
+division-ends psw r1 address (Some words) = refl
 
 -- a conversion to binary, by the number that is converted
 abbrev converted_ends : Option ℤ → Ended

@@ -1,5 +1,5 @@
 -- The instructions of the format SI follow their sources.
-use Rattle.std.proofs.Common.{◌≡◌, ◌/◌, ◌∙◌, ℕ, false, List, [], ◌∷◌, refl, ap, nat_eq, pos, bit_and, bit_or, bit_xor}
+use Rattle.std.proofs.Common.{◌≡◌, ◌/◌, ◌∙◌, ℕ, false, List, [], ◌∷◌, refl, ap, nat_eq, pos, bit_and, bit_or, bit_xor, Option, None, Some}
 use Rattle.std.specs.Prelude.{slice_index}
 use Rattle.std.proofs.lemmas.List.{length-set}
 use Rattle.s360_model.specs.ConditionCodes.{order_code}
@@ -18,14 +18,12 @@ use Rattle.s360_fixed.specs.declared.ended.IoOperation.TheVariants.{Start, Test,
 use Rattle.s360_fixed.specs.declared.form.Form.TheVariants.{Si}
 use Rattle.s360_fixed.specs.declared.operation.Operation.{Operation}
 use Rattle.s360_fixed.specs.declared.operation.Operation.TheVariants.{SetSystemMask, LoadPsw, Move, TestAndSet, TestUnderMask, CompareLogical, And, Or, ExclusiveOr, StartIo, TestIo, HaltIo, TestChannel}
-use Rattle.s360_fixed.specs.declared.setting.Setting.{Setting}
-use Rattle.s360_fixed.specs.declared.setting.Setting.TheVariants.{Code, Kept}
 use Rattle.s360_fixed.specs.Operands.{access_conditions}
 use Rattle.s360_fixed.specs.Outcomes.{unless_met}
 use Rattle.s360_fixed.specs.ProgramCodes.{Conditions, no_conditions}
-use Rattle.s360_fixed.specs.Settings.{psw_with}
+use Rattle.s360_fixed.specs.Alterations.{psw_with, set_to}
 use Rattle.s360_fixed.specs.Storing.{next_psw}
-use Rattle.s360_logic.specs.Bytes.{bits_setting, completed_with, with_byte}
+use Rattle.s360_logic.specs.Bytes.{code_of_bytes, completed_with, with_byte}
 use Rattle.s360_logic.specs.Immediate.{mask_code}
 use Rattle.s360_logic.specs.Logic.{address_of, row_outcome}
 use Rattle.s360_logic.specs.Status.{privileged, privileged_fetch, unit_of}
@@ -40,7 +38,7 @@ use Rattle.s360_source.proofs.CombinationLemmas.{character-same}
 use Rattle.s360_source.proofs.EffectLemmas.{is-one, is-other, psw-keeps, set-same}
 use Rattle.s360_source.proofs.RowLemmas.{code-row, psw-same}
 use Rattle.s360_source.proofs.StatusLemmas.{psw-row}
-use Rattle.s360_source.proofs.SuppressionLemmas.{is_suppressed-setting, suppression-law}
+use Rattle.s360_source.proofs.SuppressionLemmas.{suppression-law}
 
 -- one byte is another, and the PSW
 byte-law : (m n : Core) (a v w x y : ℕ) (of_psw of_byte : List Place) (p : Place) → AreAlike m n
@@ -55,17 +53,17 @@ byte-law m n a v w x y of_psw of_byte (Byte k) alike h psw byte =
     (λ ne. (same-else (nat_eq a k) m n of_byte (Byte k ∷ []) h (is-other a k ne)).0)
 byte-law m n a v w x y of_psw of_byte p alike h psw byte = refl
 
-byte-keeps : (m : Core) (next : ℕ) (il : InstructionLength) (s : Setting) (a v : ℕ) → KeepsSizes m (completed_with (seen m next il) s (with_byte a v m.storage)).core
+byte-keeps : (m : Core) (next : ℕ) (il : InstructionLength) (s : Option ℕ) (a v : ℕ) → KeepsSizes m (completed_with (seen m next il) s (with_byte a v m.storage)).core
 byte-keeps m next il s a v = record { registers = refl; bytes = length-set m.storage.bytes a v; keys = refl; option = refl }
 
-byte-row : (operation : Operation) (c d : Conditions) (m n : Core) (next : ℕ) (il : InstructionLength) (a b v w : ℕ) (s t : Setting) (of_code of_byte : List Place) (p : Place)
+byte-row : (operation : Operation) (c d : Conditions) (m n : Core) (next : ℕ) (il : InstructionLength) (a b v w : ℕ) (s t : Option ℕ) (of_code of_byte : List Place) (p : Place)
     → converts_to_binary operation ≡ false → AreAlike m n → a ≡ b → (HaveAllSame m n of_code → s ≡ t) → (HaveAllSame m n of_byte → v ≡ w)
     → FollowsSources operation m n (unless_met c m (completed_with (seen m next il) s (with_byte a v m.storage))) (unless_met d n (completed_with (seen n next il) t (with_byte b w n.storage)))
     (psw_made_of of_code (made_of (Byte a) of_byte itself)) p
 byte-row o c d m n next il a b v w s t of_code of_byte p k alike e code byte =
     suppression-law o c d m n (completed_with (seen m next il) s (with_byte a v m.storage)) (completed_with (seen n next il) t (with_byte b w n.storage)) (psw_made_of of_code (made_of (Byte a) of_byte itself)) p
-    k (is_suppressed-setting o m.psw s) (is_suppressed-setting o n.psw t) alike (λ f. byte-keeps m next il s a v) (λ f. byte-keeps n next il t b w)
-    (λ f g h. rw (← e) (byte-law m n a v w (with_instruction_address (psw_with m.psw s) next) (with_instruction_address (psw_with n.psw t) next) (Psw ∷ of_code) of_byte p alike h (psw-same m n s t next next of_code (λ i. (code i.1, refl))) byte))
+    k refl refl alike (λ f. byte-keeps m next il s a v) (λ f. byte-keeps n next il t b w)
+    (λ f g h. rw (← e) (byte-law m n a v w (with_instruction_address (psw_with s m.psw) next) (with_instruction_address (psw_with t n.psw) next) (Psw ∷ of_code) of_byte p alike h (psw-same m n s t next next of_code (λ i. (code i.1, refl))) byte))
 
 -- an instruction that is handed to the channels leaves each place alone
 io-row : (operation : Operation) (c d : Conditions) (m n : Core) (io other : IoOperation) (u v : UnitAddress) (p : Place) → converts_to_binary operation ≡ false → AreAlike m n
@@ -93,37 +91,37 @@ bytes m n next length b d e h = character-same m n (at m next length b d) (at n 
 
 pub si-law : (operation : Operation) → ImmediateFollows operation
 si-law Move m n next length i2 b d p alike e =
-    byte-row Move (access_conditions m (at m next length b d) 1 1 Store) (access_conditions n (at n next length b d) 1 1 Store) m n next length _ _ i2 i2 Kept Kept [] [] p refl alike e (λ h. refl) (λ h. refl)
+    byte-row Move (access_conditions m (at m next length b d) 1 1 Store) (access_conditions n (at n next length b d) 1 1 Store) m n next length _ _ i2 i2 None None [] [] p refl alike e (λ h. refl) (λ h. refl)
 si-law And m n next length i2 b d p alike e =
     let x : ℕ = byte_of m next length b d
     in let y : ℕ = byte_of n next length b d
-    in byte-row And (access_conditions m (at m next length b d) 1 1 Store) (access_conditions n (at n next length b d) 1 1 Store) m n next length _ _ (bit_and x i2) (bit_and y i2) (bits_setting (bit_and x i2 ∷ [])) (bits_setting (bit_and y i2 ∷ []))
-    (Byte (at m next length b d) ∷ []) (Byte (at m next length b d) ∷ []) p refl alike e (λ h. ap (λ z. bits_setting (bit_and z i2 ∷ [])) (bytes m n next length b d e h)) (λ h. ap (λ z. bit_and z i2) (bytes m n next length b d e h))
+    in byte-row And (access_conditions m (at m next length b d) 1 1 Store) (access_conditions n (at n next length b d) 1 1 Store) m n next length _ _ (bit_and x i2) (bit_and y i2) (code_of_bytes (bit_and x i2 ∷ [])) (code_of_bytes (bit_and y i2 ∷ []))
+    (Byte (at m next length b d) ∷ []) (Byte (at m next length b d) ∷ []) p refl alike e (λ h. ap (λ z. code_of_bytes (bit_and z i2 ∷ [])) (bytes m n next length b d e h)) (λ h. ap (λ z. bit_and z i2) (bytes m n next length b d e h))
 si-law Or m n next length i2 b d p alike e =
     let x : ℕ = byte_of m next length b d
     in let y : ℕ = byte_of n next length b d
-    in byte-row Or (access_conditions m (at m next length b d) 1 1 Store) (access_conditions n (at n next length b d) 1 1 Store) m n next length _ _ (bit_or x i2) (bit_or y i2) (bits_setting (bit_or x i2 ∷ [])) (bits_setting (bit_or y i2 ∷ []))
-    (Byte (at m next length b d) ∷ []) (Byte (at m next length b d) ∷ []) p refl alike e (λ h. ap (λ z. bits_setting (bit_or z i2 ∷ [])) (bytes m n next length b d e h)) (λ h. ap (λ z. bit_or z i2) (bytes m n next length b d e h))
+    in byte-row Or (access_conditions m (at m next length b d) 1 1 Store) (access_conditions n (at n next length b d) 1 1 Store) m n next length _ _ (bit_or x i2) (bit_or y i2) (code_of_bytes (bit_or x i2 ∷ [])) (code_of_bytes (bit_or y i2 ∷ []))
+    (Byte (at m next length b d) ∷ []) (Byte (at m next length b d) ∷ []) p refl alike e (λ h. ap (λ z. code_of_bytes (bit_or z i2 ∷ [])) (bytes m n next length b d e h)) (λ h. ap (λ z. bit_or z i2) (bytes m n next length b d e h))
 si-law ExclusiveOr m n next length i2 b d p alike e =
     let x : ℕ = byte_of m next length b d
     in let y : ℕ = byte_of n next length b d
-    in byte-row ExclusiveOr (access_conditions m (at m next length b d) 1 1 Store) (access_conditions n (at n next length b d) 1 1 Store) m n next length _ _ (bit_xor x i2) (bit_xor y i2) (bits_setting (bit_xor x i2 ∷ [])) (bits_setting (bit_xor y i2 ∷ []))
-    (Byte (at m next length b d) ∷ []) (Byte (at m next length b d) ∷ []) p refl alike e (λ h. ap (λ z. bits_setting (bit_xor z i2 ∷ [])) (bytes m n next length b d e h)) (λ h. ap (λ z. bit_xor z i2) (bytes m n next length b d e h))
+    in byte-row ExclusiveOr (access_conditions m (at m next length b d) 1 1 Store) (access_conditions n (at n next length b d) 1 1 Store) m n next length _ _ (bit_xor x i2) (bit_xor y i2) (code_of_bytes (bit_xor x i2 ∷ [])) (code_of_bytes (bit_xor y i2 ∷ []))
+    (Byte (at m next length b d) ∷ []) (Byte (at m next length b d) ∷ []) p refl alike e (λ h. ap (λ z. code_of_bytes (bit_xor z i2 ∷ [])) (bytes m n next length b d e h)) (λ h. ap (λ z. bit_xor z i2) (bytes m n next length b d e h))
 si-law TestAndSet m n next length i2 b d p alike e =
     let x : ℕ = byte_of m next length b d
     in let y : ℕ = byte_of n next length b d
-    in byte-row TestAndSet (access_conditions m (at m next length b d) 1 1 Store) (access_conditions n (at n next length b d) 1 1 Store) m n next length _ _ 0xFF 0xFF (Code (x / 128)) (Code (y / 128))
-    (Byte (at m next length b d) ∷ []) [] p refl alike e (λ h. ap (λ z. Code (z / 128)) (bytes m n next length b d e h)) (λ h. refl)
+    in byte-row TestAndSet (access_conditions m (at m next length b d) 1 1 Store) (access_conditions n (at n next length b d) 1 1 Store) m n next length _ _ 0xFF 0xFF (Some (x / 128)) (Some (y / 128))
+    (Byte (at m next length b d) ∷ []) [] p refl alike e (λ h. ap (λ z. Some (z / 128)) (bytes m n next length b d e h)) (λ h. refl)
 si-law TestUnderMask m n next length i2 b d p alike e =
     let x : ℕ = byte_of m next length b d
     in let y : ℕ = byte_of n next length b d
-    in code-row TestUnderMask (access_conditions m (at m next length b d) 1 1 Fetch) (access_conditions n (at n next length b d) 1 1 Fetch) m n 0 (Code (mask_code x i2)) (Code (mask_code y i2)) next next
-    (Byte (at m next length b d) ∷ []) p refl alike (λ h. (ap (λ z. Code (mask_code z i2)) (bytes m n next length b d e h.1), refl))
+    in code-row TestUnderMask (access_conditions m (at m next length b d) 1 1 Fetch) (access_conditions n (at n next length b d) 1 1 Fetch) m n (set_to (mask_code x i2)) (set_to (mask_code y i2)) next next
+    (Byte (at m next length b d) ∷ []) p refl alike (λ h. (ap (λ z. set_to (mask_code z i2)) (bytes m n next length b d e h.1), refl))
 si-law CompareLogical m n next length i2 b d p alike e =
     let x : ℕ = byte_of m next length b d
     in let y : ℕ = byte_of n next length b d
-    in code-row CompareLogical (access_conditions m (at m next length b d) 1 1 Fetch) (access_conditions n (at n next length b d) 1 1 Fetch) m n 0 (Code (order_code (pos x) (pos i2))) (Code (order_code (pos y) (pos i2))) next next
-    (Byte (at m next length b d) ∷ []) p refl alike (λ h. (ap (λ z. Code (order_code (pos z) (pos i2))) (bytes m n next length b d e h.1), refl))
+    in code-row CompareLogical (access_conditions m (at m next length b d) 1 1 Fetch) (access_conditions n (at n next length b d) 1 1 Fetch) m n (set_to (order_code (pos x) (pos i2))) (set_to (order_code (pos y) (pos i2))) next next
+    (Byte (at m next length b d) ∷ []) p refl alike (λ h. (ap (λ z. set_to (order_code (pos z) (pos i2))) (bytes m n next length b d e h.1), refl))
 si-law SetSystemMask m n next length i2 b d p alike e =
     psw-row SetSystemMask (privileged_fetch (seen m next length) (at m next length b d) 1) (privileged_fetch (seen n next length) (at n next length b d) 1) m n
     (with_system_mask (next_psw (seen m next length)) (byte_of m next length b d)) (with_system_mask (next_psw (seen n next length)) (byte_of n next length b d))

@@ -104,7 +104,7 @@ rx-ends Divide r1 x b d m n next il alike psw a h k =
     = λ e. all-alike division _ _ _ _ _ _ (same e).0 (same e).1.0 (word-same m n (at m x b d) (at n x b d) (address-same m n x b d a) (same e).1.1)
     in pair-ends r1 c f m n _ _ (λ e. (rw e refl, rw e refl)) (λ e. unless-same c f m n _ _
     (ap (λ c. pair_met r1 c (is_none q)) (met m n x b d alike psw a k) ∙ ap (λ z. pair_met r1 (access_conditions n (at n x b d) 4 4 Fetch) (is_none z)) (words e))
-    (division-ends m.psw q ∙ sym (division-ends n.psw r)))
+    (division-ends m.psw r1 next q ∙ sym (division-ends n.psw r1 next r)))
 rx-ends Store r1 x b d m n next il alike psw a h k = accessed m n x b d 4 to_store _ _ alike psw a k refl
 rx-ends StoreHalfword r1 x b d m n next il alike psw a h k = accessed m n x b d 2 to_store _ _ alike psw a k refl
 rx-ends StoreCharacter r1 x b d m n next il alike psw a h k = accessed m n x b d 1 to_store _ _ alike psw a k refl

@@ -1,9 +1,9 @@
 -- The instructions of the format RX follow their sources.
-use Rattle.std.proofs.Common.{◌≡◌, ◌+◌, ◌∙◌, ◌||◌, ℕ, false, List, [], ◌∷◌, refl, ap, is_none, Some, Option, bit_and, bit_or, bit_xor}
+use Rattle.std.proofs.Common.{◌≡◌, ◌+◌, ◌∙◌, ◌||◌, ℕ, false, List, [], ◌∷◌, refl, ap, is_none, Some, Option, bit_and, bit_or, bit_xor, ◌/◌, ◌*◌, ◌%◌, pos}
 use Rattle.std.specs.Int.{bytes_high_first}
 use Rattle.std.specs.Prelude.{slice_index}
 use Rattle.s360_model.specs.Arithmetic.{absolute_value, logical_difference, logical_sum, negative_absolute_value, signed_complement, signed_difference, signed_sum, word_of}
-use Rattle.s360_model.specs.ConditionCodes.{order_code}
+use Rattle.s360_model.specs.ConditionCodes.{carry_code, order_code}
 use Rattle.s360_model.specs.Core.{Core}
 use Rattle.s360_model.specs.Numbers.{low32, signed}
 use Rattle.s360_model.specs.Packed.{packed}
@@ -22,11 +22,11 @@ use Rattle.s360_fixed.specs.declared.operation.Operation.TheVariants.{Add, AddHa
 use Rattle.s360_fixed.specs.declared.operation.Operation.TheVariants.{Compare, CompareHalfword, CompareLogical, And, Or, ExclusiveOr}
 use Rattle.s360_fixed.specs.declared.operation.Operation.TheVariants.{MultiplyHalfword, Multiply, Divide, BranchOnCondition, BranchAndLink, BranchOnCount}
 use Rattle.s360_fixed.specs.declared.operation.Operation.TheVariants.{Store, StoreHalfword, StoreCharacter, ConvertToBinary, ConvertToDecimal}
-use Rattle.s360_fixed.specs.declared.setting.Setting.TheVariants.{Kept}
 use Rattle.s360_fixed.specs.Operands.{access_conditions, operand_address}
 use Rattle.s360_fixed.specs.Outcomes.{is_odd}
 use Rattle.s360_fixed.specs.ProgramCodes.{Conditions, no_conditions}
-use Rattle.s360_fixed.specs.Rows.{by_bits, by_carry, by_sign, by_sign_of_word, by_sign_or_overflow, inserted_character, unsigned}
+use Rattle.s360_fixed.specs.Rows.{by_bits, by_sign, by_sign_or_overflow}
+use Rattle.s360_fixed.specs.Alterations.{set_to, unchanged}
 use Rattle.s360_logic.specs.Logic.{row_outcome}
 use Rattle.s360_source.specs.Agreement.{AreAlike, HaveAllSame}
 use Rattle.s360_source.specs.InstructionSources.{rx_sources}
@@ -67,11 +67,11 @@ rx-law LoadHalfword m n next length r1 x b d p alike e =
     loaded-row LoadHalfword (met m x b d 2) (met n x b d 2) m n r1 next _ _ (second m x b d 2) p refl alike (half-same m n _ _ e)
 rx-law LoadAddress m n next length r1 x b d p alike e = loaded-row LoadAddress no_conditions no_conditions m n r1 next _ _ (address_parts x b) p refl alike (λ h. e)
 rx-law InsertCharacter m n next length r1 x b d p alike e =
-    kept-row InsertCharacter (met m x b d 1) (met n x b d 1) m n r1 next inserted_character _ _ (second m x b d 1) p refl alike (character-same m n _ _ e)
+    kept-row InsertCharacter (met m x b d 1) (met n x b d 1) m n r1 next (λ a c. a / 256 * 256 + c % 256) _ _ (second m x b d 1) p refl alike (character-same m n _ _ e)
 rx-law MultiplyHalfword m n next length r1 x b d p alike e =
     kept-row MultiplyHalfword (met m x b d 2) (met n x b d 2) m n r1 next (λ a c. word_of (signed_product a c)) _ _ (second m x b d 2) p refl alike (half-same m n _ _ e)
 rx-law LoadAndTest m n next length r1 x b d p alike e =
-    tested-row LoadAndTest (met m x b d 4) (met n x b d 4) m n r1 next (λ a. a) by_sign_of_word _ _ (second m x b d 4) p refl alike (words m n x b d e)
+    tested-row LoadAndTest (met m x b d 4) (met n x b d 4) m n r1 next (λ a. a) (λ a. by_sign (signed a)) _ _ (second m x b d 4) p refl alike (words m n x b d e)
 rx-law LoadComplement m n next length r1 x b d p alike e =
     tested-row LoadComplement (met m x b d 4) (met n x b d 4) m n r1 next (λ a. word_of (signed_complement a)) (λ a. by_sign_or_overflow (signed_complement a)) _ _ (second m x b d 4) p refl alike (words m n x b d e)
 rx-law LoadPositive m n next length r1 x b d p alike e =
@@ -87,9 +87,9 @@ rx-law AddHalfword m n next length r1 x b d p alike e =
 rx-law SubtractHalfword m n next length r1 x b d p alike e =
     both-row SubtractHalfword (met m x b d 2) (met n x b d 2) m n r1 next (λ a c. word_of (signed_difference a c)) (λ a c. by_sign_or_overflow (signed_difference a c)) _ _ (second m x b d 2) p refl alike (half-same m n _ _ e)
 rx-law AddLogical m n next length r1 x b d p alike e =
-    both-row AddLogical (met m x b d 4) (met n x b d 4) m n r1 next (λ a c. low32 (logical_sum a c)) (λ a c. by_carry (logical_sum a c)) _ _ (second m x b d 4) p refl alike (words m n x b d e)
+    both-row AddLogical (met m x b d 4) (met n x b d 4) m n r1 next (λ a c. low32 (logical_sum a c)) (λ a c. set_to (carry_code (logical_sum a c))) _ _ (second m x b d 4) p refl alike (words m n x b d e)
 rx-law SubtractLogical m n next length r1 x b d p alike e =
-    both-row SubtractLogical (met m x b d 4) (met n x b d 4) m n r1 next (λ a c. low32 (logical_difference a c)) (λ a c. by_carry (logical_difference a c)) _ _ (second m x b d 4) p refl alike (words m n x b d e)
+    both-row SubtractLogical (met m x b d 4) (met n x b d 4) m n r1 next (λ a c. low32 (logical_difference a c)) (λ a c. set_to (carry_code (logical_difference a c))) _ _ (second m x b d 4) p refl alike (words m n x b d e)
 rx-law And m n next length r1 x b d p alike e =
     both-row And (met m x b d 4) (met n x b d 4) m n r1 next bit_and (λ a c. by_bits (bit_and a c)) _ _ (second m x b d 4) p refl alike (words m n x b d e)
 rx-law Or m n next length r1 x b d p alike e =
@@ -101,13 +101,13 @@ rx-law Compare m n next length r1 x b d p alike e =
 rx-law CompareHalfword m n next length r1 x b d p alike e =
     compared-row CompareHalfword (met m x b d 2) (met n x b d 2) m n r1 next (λ a c. order_code (signed a) (signed c)) _ _ (second m x b d 2) p refl alike (half-same m n _ _ e)
 rx-law CompareLogical m n next length r1 x b d p alike e =
-    compared-row CompareLogical (met m x b d 4) (met n x b d 4) m n r1 next (λ a c. order_code (unsigned a) (unsigned c)) _ _ (second m x b d 4) p refl alike (words m n x b d e)
+    compared-row CompareLogical (met m x b d 4) (met n x b d 4) m n r1 next (λ a c. order_code (pos a) (pos c)) _ _ (second m x b d 4) p refl alike (words m n x b d e)
 rx-law Multiply m n next length r1 x b d p alike e =
     let one : ℕ = word_at m.storage.bytes (operand_address m.registers x b d)
     in let other : ℕ = word_at n.storage.bytes (operand_address n.registers x b d)
     in double-row Multiply (record (met m x b d 4) { specification = is_odd r1 || (met m x b d 4).specification; divide = false }) (record (met n x b d 4) { specification = is_odd r1 || (met n x b d 4).specification; divide = false }) m n r1
     (product_words (slice_index m.registers (r1 + 1)) one) (product_words (slice_index n.registers (r1 + 1)) other)
-    Kept Kept next next [] (Register (r1 + 1) ∷ second m x b d 4) p refl alike (λ h. (refl, refl))
+    unchanged unchanged next next [] (Register (r1 + 1) ∷ second m x b d 4) p refl alike (λ h. (refl, refl))
     (λ h. ap (λ a. product_words a one) h.0 ∙ ap (product_words (slice_index n.registers (r1 + 1))) (words m n x b d e h.1))
 rx-law Divide m n next length r1 x b d p alike e =
     let one : ℕ = word_at m.storage.bytes (operand_address m.registers x b d)

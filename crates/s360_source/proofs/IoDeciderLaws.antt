@@ -20,7 +20,7 @@ use Rattle.s360_channel.specs.declared.io_instructions.IoResult.{IoResult}
 use Rattle.s360_channel.specs.declared.program.Progress.TheVariants.{First}
 use Rattle.s360_channel.specs.declared.unit_control.UnitControl.{UnitControl}
 use Rattle.s360_channel.specs.ConfiguredUnits.{active_beside, control_of, is_occupied, unit_at}
-use Rattle.s360_channel.specs.IoInstructions.{caw_location, condition_alone, halt_unit, halted_unit, not_operational, start_idle, start_program, start_unit, start_with, started, test_unit, with_status}
+use Rattle.s360_channel.specs.IoInstructions.{caw_location, with_code, halt_unit, halted_unit, not_operational, start_idle, start_program, start_unit, start_with, started, test_unit, with_status}
 use Rattle.s360_channel.specs.Programs.{ccw_at, executed_at, next_ccw, next_ccw_with, program_at, transferred_to}
 use Rattle.s360_channel.specs.Units.{is_active, is_waiting}
 use Rattle.s360_channel.specs.Words.{caw_of, is_transfer, is_whole_caw, meets_program_check, no_unit_status}
@@ -83,7 +83,7 @@ program-law m n u alike h =
 
 start-by : (active waits occupied attention : Bool) (m n : Core) (u : ConfiguredUnit) → AreAlike m n
     → HaveAllSame m n (if active || (waits || (occupied || attention)) then [] else first_program_deciders m.storage)
-    → (if active || (waits || occupied) then condition_alone 2 else start_idle m.storage u attention) ≡ (if active || (waits || occupied) then condition_alone 2 else start_idle n.storage u attention)
+    → (if active || (waits || occupied) then with_code 2 else start_idle m.storage u attention) ≡ (if active || (waits || occupied) then with_code 2 else start_idle n.storage u attention)
 start-by true waits occupied attention m n u alike h = refl
 start-by false true occupied attention m n u alike h = refl
 start-by false false true attention m n u alike h = refl
@@ -136,10 +136,10 @@ halt-law m n u h =
 
 -- TEST CHANNEL
 abbrev tapes_tested : UnitControl → UnitControl → IoResult
-tapes_tested x y = condition_alone (if is_active x.state || is_active y.state then 2 else (if is_waiting x.state || is_waiting y.state then 1 else 0))
+tapes_tested x y = with_code (if is_active x.state || is_active y.state then 2 else (if is_waiting x.state || is_waiting y.state then 1 else 0))
 
 abbrev channel_tested : Bool → Bool → Machine → IoResult
-channel_tested first second m = if first then condition_alone 0 else if second then tapes_tested (control_of m.units Tape0) (control_of m.units Tape1) else not_operational
+channel_tested first second m = if first then with_code 0 else if second then tapes_tested (control_of m.units Tape0) (control_of m.units Tape1) else not_operational
 
 tested-by : (first second : Bool) (m n : Machine) → HaveAllThere m n (if second then units_of_channel Tape0 else []) → channel_tested first second m ≡ channel_tested first second n
 tested-by true second m n h = refl

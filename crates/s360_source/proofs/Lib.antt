@@ -16,6 +16,7 @@ pub mod ImmediateLaws
 pub mod LeftToRightLemmas
 pub mod SearchLemmas
 pub mod DigitLemmas
+pub mod DigitStates
 pub mod StorageLaws
 pub mod InstructionLaws
 pub mod InterruptionLaws

@@ -60,7 +60,7 @@ rr-ends Divide r1 r2 m n next il alike psw a h k =
     in let d : Conditions = record (odd_pair r1) { divide = is_none r }
     in let same : is_odd r1 ≡ false → HaveAllSame m n used = λ e. same-if (nat_eq r1 r1) m n used _ (unless-refused m n r1 true _ e h) (is-one r1 r1 refl)
     in pair-ends r1 c d m n _ _ (λ e. (rw e refl, rw e refl)) (λ e. unless-same c d m n _ _
-    (ap (λ x. record (odd_pair r1) { divide = is_none x }) (all-alike division _ _ _ _ _ _ (same e).0 (same e).1.0 (same e).1.1.0)) (division-ends m.psw q ∙ sym (division-ends n.psw r)))
+    (ap (λ x. record (odd_pair r1) { divide = is_none x }) (all-alike division _ _ _ _ _ _ (same e).0 (same e).1.0 (same e).1.1.0)) (division-ends m.psw r1 next q ∙ sym (division-ends n.psw r1 next r)))
 rr-ends SetStorageKey r1 r2 m n next il alike psw a h k =
     unless-same (key_conditions (seen m next il) (slice_index m.registers r2)) (key_conditions (seen n next il) (slice_index n.registers r2)) m n _ _ (key-conditions-same m n next il r2 alike psw a.0) refl
 rr-ends InsertStorageKey r1 r2 m n next il alike psw a h k =

@@ -1,8 +1,8 @@
 -- The instructions of the format RR follow their sources.
-use Rattle.std.proofs.Common.{◌≡◌, ◌+◌, ◌||◌, ℕ, false, [], ◌∷◌, refl, is_none, bit_and, bit_or, bit_xor}
+use Rattle.std.proofs.Common.{◌≡◌, ◌+◌, ◌||◌, ℕ, false, [], ◌∷◌, refl, is_none, bit_and, bit_or, bit_xor, ◌/◌, ◌*◌, ◌%◌, pos}
 use Rattle.std.specs.Prelude.{slice_index}
 use Rattle.s360_model.specs.Arithmetic.{absolute_value, logical_difference, logical_sum, negative_absolute_value, signed_complement, signed_difference, signed_sum, word_of}
-use Rattle.s360_model.specs.ConditionCodes.{order_code}
+use Rattle.s360_model.specs.ConditionCodes.{carry_code, order_code}
 use Rattle.s360_model.specs.Core.{Core}
 use Rattle.s360_model.specs.Numbers.{low32, signed}
 use Rattle.s360_model.specs.Products.{division, product_words, signed_product}
@@ -16,11 +16,11 @@ use Rattle.s360_fixed.specs.declared.operation.Operation.TheVariants.{Add, AddHa
 use Rattle.s360_fixed.specs.declared.operation.Operation.TheVariants.{Compare, CompareHalfword, CompareLogical, And, Or, ExclusiveOr}
 use Rattle.s360_fixed.specs.declared.operation.Operation.TheVariants.{SetProgramMask, SetStorageKey, InsertStorageKey}
 use Rattle.s360_fixed.specs.declared.operation.Operation.TheVariants.{MultiplyHalfword, Multiply, Divide, BranchOnCondition, BranchAndLink, BranchOnCount}
-use Rattle.s360_fixed.specs.declared.setting.Setting.TheVariants.{Kept}
 use Rattle.s360_fixed.specs.Branching.{register_target}
 use Rattle.s360_fixed.specs.Outcomes.{is_odd}
 use Rattle.s360_fixed.specs.ProgramCodes.{no_conditions}
-use Rattle.s360_fixed.specs.Rows.{by_bits, by_carry, by_sign, by_sign_of_word, by_sign_or_overflow, inserted_character, unsigned}
+use Rattle.s360_fixed.specs.Rows.{by_bits, by_sign, by_sign_or_overflow}
+use Rattle.s360_fixed.specs.Alterations.{set_to, unchanged}
 use Rattle.s360_fixed.specs.Storing.{next_psw}
 use Rattle.s360_model.specs.Psw.{with_program_mask}
 use Rattle.s360_logic.specs.Logic.{row_outcome}
@@ -50,11 +50,11 @@ pub rr-law : (operation : Operation) → RegistersFollow operation
 rr-law Load m n next length r1 r2 p alike e = loaded-row Load no_conditions no_conditions m n r1 next _ _ (Register r2 ∷ []) p refl alike (λ h. h.0)
 rr-law LoadHalfword m n next length r1 r2 p alike e = loaded-row LoadHalfword no_conditions no_conditions m n r1 next _ _ (Register r2 ∷ []) p refl alike (λ h. h.0)
 rr-law LoadAddress m n next length r1 r2 p alike e = loaded-row LoadAddress no_conditions no_conditions m n r1 next _ _ (Register r2 ∷ []) p refl alike (λ h. h.0)
-rr-law InsertCharacter m n next length r1 r2 p alike e = kept-row InsertCharacter no_conditions no_conditions m n r1 next inserted_character _ _ (Register r2 ∷ []) p refl alike (λ h. h.0)
+rr-law InsertCharacter m n next length r1 r2 p alike e = kept-row InsertCharacter no_conditions no_conditions m n r1 next (λ a c. a / 256 * 256 + c % 256) _ _ (Register r2 ∷ []) p refl alike (λ h. h.0)
 rr-law MultiplyHalfword m n next length r1 r2 p alike e =
     kept-row MultiplyHalfword no_conditions no_conditions m n r1 next (λ a b. word_of (signed_product a b)) _ _ (Register r2 ∷ []) p refl alike (λ h. h.0)
 rr-law LoadAndTest m n next length r1 r2 p alike e =
-    tested-row LoadAndTest no_conditions no_conditions m n r1 next (λ b. b) by_sign_of_word _ _ (Register r2 ∷ []) p refl alike (λ h. h.0)
+    tested-row LoadAndTest no_conditions no_conditions m n r1 next (λ b. b) (λ a. by_sign (signed a)) _ _ (Register r2 ∷ []) p refl alike (λ h. h.0)
 rr-law LoadComplement m n next length r1 r2 p alike e =
     tested-row LoadComplement no_conditions no_conditions m n r1 next (λ b. word_of (signed_complement b)) (λ b. by_sign_or_overflow (signed_complement b)) _ _ (Register r2 ∷ []) p refl alike (λ h. h.0)
 rr-law LoadPositive m n next length r1 r2 p alike e =
@@ -70,9 +70,9 @@ rr-law Subtract m n next length r1 r2 p alike e =
 rr-law SubtractHalfword m n next length r1 r2 p alike e =
     both-row SubtractHalfword no_conditions no_conditions m n r1 next (λ a b. word_of (signed_difference a b)) (λ a b. by_sign_or_overflow (signed_difference a b)) _ _ (Register r2 ∷ []) p refl alike (λ h. h.0)
 rr-law AddLogical m n next length r1 r2 p alike e =
-    both-row AddLogical no_conditions no_conditions m n r1 next (λ a b. low32 (logical_sum a b)) (λ a b. by_carry (logical_sum a b)) _ _ (Register r2 ∷ []) p refl alike (λ h. h.0)
+    both-row AddLogical no_conditions no_conditions m n r1 next (λ a b. low32 (logical_sum a b)) (λ a b. set_to (carry_code (logical_sum a b))) _ _ (Register r2 ∷ []) p refl alike (λ h. h.0)
 rr-law SubtractLogical m n next length r1 r2 p alike e =
-    both-row SubtractLogical no_conditions no_conditions m n r1 next (λ a b. low32 (logical_difference a b)) (λ a b. by_carry (logical_difference a b)) _ _ (Register r2 ∷ []) p refl alike (λ h. h.0)
+    both-row SubtractLogical no_conditions no_conditions m n r1 next (λ a b. low32 (logical_difference a b)) (λ a b. set_to (carry_code (logical_difference a b))) _ _ (Register r2 ∷ []) p refl alike (λ h. h.0)
 rr-law And m n next length r1 r2 p alike e =
     both-row And no_conditions no_conditions m n r1 next bit_and (λ a b. by_bits (bit_and a b)) _ _ (Register r2 ∷ []) p refl alike (λ h. h.0)
 rr-law Or m n next length r1 r2 p alike e =
@@ -84,11 +84,11 @@ rr-law Compare m n next length r1 r2 p alike e =
 rr-law CompareHalfword m n next length r1 r2 p alike e =
     compared-row CompareHalfword no_conditions no_conditions m n r1 next (λ a b. order_code (signed a) (signed b)) _ _ (Register r2 ∷ []) p refl alike (λ h. h.0)
 rr-law CompareLogical m n next length r1 r2 p alike e =
-    compared-row CompareLogical no_conditions no_conditions m n r1 next (λ a b. order_code (unsigned a) (unsigned b)) _ _ (Register r2 ∷ []) p refl alike (λ h. h.0)
+    compared-row CompareLogical no_conditions no_conditions m n r1 next (λ a b. order_code (pos a) (pos b)) _ _ (Register r2 ∷ []) p refl alike (λ h. h.0)
 rr-law Multiply m n next length r1 r2 p alike e =
     double-row Multiply (record no_conditions { specification = is_odd r1 || false }) (record no_conditions { specification = is_odd r1 || false }) m n r1
     (product_words (slice_index m.registers (r1 + 1)) (slice_index m.registers r2)) (product_words (slice_index n.registers (r1 + 1)) (slice_index n.registers r2))
-    Kept Kept next next [] (Register (r1 + 1) ∷ (Register r2 ∷ [])) p refl alike (λ h. (refl, refl)) (λ h. rw (h.0, h.1.0) refl)
+    unchanged unchanged next next [] (Register (r1 + 1) ∷ (Register r2 ∷ [])) p refl alike (λ h. (refl, refl)) (λ h. rw (h.0, h.1.0) refl)
 rr-law Divide m n next length r1 r2 p alike e =
     let q = division (slice_index m.registers r1) (slice_index m.registers (r1 + 1)) (slice_index m.registers r2)
     in let r = division (slice_index n.registers r1) (slice_index n.registers (r1 + 1)) (slice_index n.registers r2)

@@ -10,8 +10,7 @@ use Rattle.s360_psw.specs.declared.instruction_length.InstructionLength.{Instruc
 use Rattle.s360_store.specs.declared.place.Place.{Place}
 use Rattle.s360_store.specs.declared.place.Place.TheVariants.{Psw, Register, Byte, Key, Run, External, UnitState, UnitMedia}
 use Rattle.s360_fixed.specs.declared.operation.Operation.TheVariants.{TranslateAndTest}
-use Rattle.s360_fixed.specs.declared.setting.Setting.TheVariants.{Code}
-use Rattle.s360_fixed.specs.Settings.{psw_with}
+use Rattle.s360_fixed.specs.Alterations.{psw_with}
 use Rattle.s360_logic.specs.Bytes.{byte_at}
 use Rattle.s360_logic.specs.LeftToRight.{found_at, function_address, function_byte, search_conditions, search_outcome, translate_and_test_outcome, with_address, with_low_byte}
 use Rattle.s360_source.specs.Agreement.{AreAlike, HaveAllSame, HaveSame, KeepsSizes}
@@ -64,7 +63,7 @@ code_of None count = 0
 code_of (Some i) count = if nat_eq (i + 1) count then 2 else 1
 
 psw-of : (q : Option ℕ) (m : Core) (next : ℕ) (il : InstructionLength) (first table count : ℕ)
-    → (search_outcome q (seen m next il) first table count).core.psw ≡ with_instruction_address (psw_with m.psw (Code (code_of q count))) next
+    → (search_outcome q (seen m next il) first table count).core.psw ≡ with_instruction_address (psw_with (Some (code_of q count)) m.psw) next
 psw-of None m next il first table count = refl
 psw-of (Some i) m next il first table count = refl
 
@@ -150,8 +149,8 @@ search-law : (m n : Core) (next : ℕ) (il : InstructionLength) (first table cou
 search-law m n next il first table count Psw alike h =
     let same : found_at table first 0 count m.storage ≡ found_at table first 0 count n.storage = found-same m n table first count 0 h.1
     in psw-of (found_at table first 0 count m.storage) m next il first table count
-    ∙ ap (λ q. with_instruction_address (psw_with m.psw (Code (code_of q count))) next) same
-    ∙ ap (λ x. with_instruction_address (psw_with x (Code (code_of (found_at table first 0 count n.storage) count))) next) h.0
+    ∙ ap (λ q. with_instruction_address (psw_with (Some (code_of q count)) m.psw) next) same
+    ∙ ap (λ x. with_instruction_address (psw_with (Some (code_of (found_at table first 0 count n.storage) count)) x) next) h.0
     ∙ sym (psw-of (found_at table first 0 count n.storage) n next il first table count)
 search-law m n next il first table count (Register r) alike h =
     register-law (found_at table first 0 count m.storage) (found_at table first 0 count n.storage) m n next il first table count r (searched_places table first 0 count m.storage) alike

@@ -6,6 +6,7 @@ use Rattle.s360_model.specs.Storage.{Storage}
 use Rattle.s360_psw.specs.declared.instruction_length.InstructionLength.{InstructionLength}
 use Rattle.s360_psw.specs.declared.instruction_length.InstructionLength.TheVariants.{NotAvailable}
 use Rattle.s360_store.specs.declared.place.Cell.{Cell}
+use Rattle.s360_store.specs.declared.puts.Puts.{Ghosts}
 use Rattle.s360_fixed.specs.declared.ended.Ended.{Ended}
 use Rattle.s360_fixed.specs.declared.ended.Ended.TheVariants.{Program}
 use Rattle.s360_fixed.specs.declared.form.Form.{Form}
@@ -68,7 +69,8 @@ shape-of-planned m plan planned performed p e =
 pub shape-of-refused : (m : Core) (code : ProgramCode) → program_code (conditions_at m (instruction_address_of m.psw)) ≡ Some code
     → record { performed = None; next_address = instruction_address_of m.psw; length = NotAvailable; ended = Program code } ≡ instruction_shape m
 shape-of-refused m code met =
-    let puts = PutsInstruction-refused m (λ n. n) (λ n. Unit {0}) (λ q. Unit {0}) 0 code (record { same = refl; allowed = tt; any = λ q. tt; none = refl }) met
+    let none : Ghosts (List Cell) = record { made = λ plan n. n; may = λ plan n. Unit {0}; past = λ plan q. Unit {0}; count = λ plan. 0 }
+    in let puts = PutsInstruction-refused none [] m code (record { same = refl; allowed = tt; any = λ q. tt; none = refl }) met
     in let plans : PlansInstruction m [] (instruction m) (record { ended = Program code; next_address = instruction_address_of m.psw; instruction_length = NotAvailable }) = record {
       plans = record { ends = puts.puts.ends; makes = record { cells = tt; makes = puts.puts.makes }; few = omega arith };
       next = puts.next;

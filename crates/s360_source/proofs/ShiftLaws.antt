@@ -14,11 +14,11 @@ use Rattle.s360_fixed.specs.declared.operation.Operation.{Operation}
 use Rattle.s360_fixed.specs.declared.operation.Operation.TheVariants.{StoreMultiple, LoadMultiple, BranchOnIndexHigh, BranchOnIndexLowOrEqual}
 use Rattle.s360_fixed.specs.declared.operation.Operation.TheVariants.{ShiftLeftSingleLogical, ShiftRightSingleLogical, ShiftLeftSingle, ShiftRightSingle}
 use Rattle.s360_fixed.specs.declared.operation.Operation.TheVariants.{ShiftLeftDoubleLogical, ShiftRightDoubleLogical, ShiftLeftDouble, ShiftRightDouble}
-use Rattle.s360_fixed.specs.declared.setting.Setting.{Setting}
-use Rattle.s360_fixed.specs.declared.setting.Setting.TheVariants.{Kept}
-use Rattle.s360_fixed.specs.Branching.{address_after, comparand_of}
+use Rattle.s360_fixed.specs.declared.setting.CodeSetting.{CodeSetting}
+use Rattle.s360_fixed.specs.Branching.{address_after_branch, comparand_of}
 use Rattle.s360_fixed.specs.Operands.{operand_address}
-use Rattle.s360_fixed.specs.Outcomes.{after_effect, double, single, unless_met}
+use Rattle.s360_fixed.specs.Alterations.{after_alteration, one_register, register_pair, unchanged}
+use Rattle.s360_fixed.specs.Outcomes.{unless_met}
 use Rattle.s360_fixed.specs.ProgramCodes.{no_conditions}
 use Rattle.s360_fixed.specs.Rows.{by_sign, by_sign_or_overflow, by_sign_or_pair_overflow}
 use Rattle.s360_fixed.specs.Shifting.{register_pair_conditions}
@@ -42,15 +42,15 @@ all-alike f a b c d i j p q r = ap (λ x. f x c i) p ∙ ap (λ x. f b x i) q �
 
 -- a register that is shifted by one count
 logical-row : (operation : Operation) (m n : Core) (next r1 a b : ℕ) (f : ℕ → ℕ → ℕ) (p : Place) → converts_to_binary operation ≡ false → AreAlike m n → a ≡ b
-    → FollowsSources operation m n (after_effect m r1 (single (f (slice_index m.registers r1) (a % 64)) Kept) next) (after_effect n r1 (single (f (slice_index n.registers r1) (b % 64)) Kept) next) (logical_shift_sources r1) p
+    → FollowsSources operation m n (after_alteration m (one_register r1 (f (slice_index m.registers r1) (a % 64)) unchanged next)) (after_alteration n (one_register r1 (f (slice_index n.registers r1) (b % 64)) unchanged next)) (logical_shift_sources r1) p
 logical-row o m n next r1 a b f p k alike e =
-    single-row o no_conditions no_conditions m n r1 (f (slice_index m.registers r1) (a % 64)) (f (slice_index n.registers r1) (b % 64)) Kept Kept next next [] (Register r1 ∷ []) p k alike
+    single-row o no_conditions no_conditions m n r1 (f (slice_index m.registers r1) (a % 64)) (f (slice_index n.registers r1) (b % 64)) unchanged unchanged next next [] (Register r1 ∷ []) p k alike
     (λ h. (refl, refl)) (λ h. both-alike f (slice_index m.registers r1) (slice_index n.registers r1) (a % 64) (b % 64) h.0 (ap (λ x. x % 64) e))
 
-signed-row : (operation : Operation) (m n : Core) (next r1 a b : ℕ) (f : ℕ → ℕ → ℕ) (g : ℕ → ℕ → Setting) (p : Place) → converts_to_binary operation ≡ false → AreAlike m n → a ≡ b
+signed-row : (operation : Operation) (m n : Core) (next r1 a b : ℕ) (f : ℕ → ℕ → ℕ) (g : ℕ → ℕ → CodeSetting) (p : Place) → converts_to_binary operation ≡ false → AreAlike m n → a ≡ b
     → FollowsSources operation m n
-    (after_effect m r1 (single (f (slice_index m.registers r1) (a % 64)) (g (slice_index m.registers r1) (a % 64))) next)
-    (after_effect n r1 (single (f (slice_index n.registers r1) (b % 64)) (g (slice_index n.registers r1) (b % 64))) next) (signed_shift_sources r1) p
+    (after_alteration m (one_register r1 (f (slice_index m.registers r1) (a % 64)) (g (slice_index m.registers r1) (a % 64)) next))
+    (after_alteration n (one_register r1 (f (slice_index n.registers r1) (b % 64)) (g (slice_index n.registers r1) (b % 64)) next)) (signed_shift_sources r1) p
 signed-row o m n next r1 a b f g p k alike e =
     let x : ℕ = slice_index m.registers r1
     in let y : ℕ = slice_index n.registers r1
@@ -60,18 +60,18 @@ signed-row o m n next r1 a b f g p k alike e =
 -- a pair that is shifted by one count
 logical-pair-row : (operation : Operation) (m n : Core) (next r1 a b : ℕ) (f : ℕ → ℕ → ℕ → ℕ × ℕ) (p : Place) → converts_to_binary operation ≡ false → AreAlike m n → a ≡ b
     → FollowsSources operation m n
-    (unless_met (register_pair_conditions r1) m (after_effect m r1 (double (f (slice_index m.registers r1) (slice_index m.registers (r1 + 1)) (a % 64)) Kept) next))
-    (unless_met (register_pair_conditions r1) n (after_effect n r1 (double (f (slice_index n.registers r1) (slice_index n.registers (r1 + 1)) (b % 64)) Kept) next)) (logical_pair_shift_sources r1) p
+    (unless_met (register_pair_conditions r1) m (after_alteration m (register_pair r1 (f (slice_index m.registers r1) (slice_index m.registers (r1 + 1)) (a % 64)) unchanged next)))
+    (unless_met (register_pair_conditions r1) n (after_alteration n (register_pair r1 (f (slice_index n.registers r1) (slice_index n.registers (r1 + 1)) (b % 64)) unchanged next))) (logical_pair_shift_sources r1) p
 logical-pair-row o m n next r1 a b f p k alike e =
     double-row o (register_pair_conditions r1) (register_pair_conditions r1) m n r1
-    (f (slice_index m.registers r1) (slice_index m.registers (r1 + 1)) (a % 64)) (f (slice_index n.registers r1) (slice_index n.registers (r1 + 1)) (b % 64)) Kept Kept next next
+    (f (slice_index m.registers r1) (slice_index m.registers (r1 + 1)) (a % 64)) (f (slice_index n.registers r1) (slice_index n.registers (r1 + 1)) (b % 64)) unchanged unchanged next next
     [] (Register r1 ∷ (Register (r1 + 1) ∷ [])) p k alike (λ h. (refl, refl))
     (λ h. all-alike f (slice_index m.registers r1) (slice_index n.registers r1) (slice_index m.registers (r1 + 1)) (slice_index n.registers (r1 + 1)) (a % 64) (b % 64) h.0 h.1.0 (ap (λ x. x % 64) e))
 
-signed-pair-row : (operation : Operation) (m n : Core) (next r1 a b : ℕ) (f : ℕ → ℕ → ℕ → ℕ × ℕ) (g : ℕ → ℕ → ℕ → Setting) (p : Place) → converts_to_binary operation ≡ false → AreAlike m n → a ≡ b
+signed-pair-row : (operation : Operation) (m n : Core) (next r1 a b : ℕ) (f : ℕ → ℕ → ℕ → ℕ × ℕ) (g : ℕ → ℕ → ℕ → CodeSetting) (p : Place) → converts_to_binary operation ≡ false → AreAlike m n → a ≡ b
     → FollowsSources operation m n
-    (unless_met (register_pair_conditions r1) m (after_effect m r1 (double (f (slice_index m.registers r1) (slice_index m.registers (r1 + 1)) (a % 64)) (g (slice_index m.registers r1) (slice_index m.registers (r1 + 1)) (a % 64))) next))
-    (unless_met (register_pair_conditions r1) n (after_effect n r1 (double (f (slice_index n.registers r1) (slice_index n.registers (r1 + 1)) (b % 64)) (g (slice_index n.registers r1) (slice_index n.registers (r1 + 1)) (b % 64))) next)) (signed_pair_shift_sources r1) p
+    (unless_met (register_pair_conditions r1) m (after_alteration m (register_pair r1 (f (slice_index m.registers r1) (slice_index m.registers (r1 + 1)) (a % 64)) (g (slice_index m.registers r1) (slice_index m.registers (r1 + 1)) (a % 64)) next)))
+    (unless_met (register_pair_conditions r1) n (after_alteration n (register_pair r1 (f (slice_index n.registers r1) (slice_index n.registers (r1 + 1)) (b % 64)) (g (slice_index n.registers r1) (slice_index n.registers (r1 + 1)) (b % 64)) next))) (signed_pair_shift_sources r1) p
 signed-pair-row o m n next r1 a b f g p k alike e =
     let x : ℕ = slice_index m.registers r1
     in let y : ℕ = slice_index n.registers r1
@@ -86,19 +86,19 @@ signed-pair-row o m n next r1 a b f g p k alike e =
 -- a branch that is taken where a test of the sum and the comparand says so
 index-row : (operation : Operation) (m n : Core) (next r1 r3 a b : ℕ) (il : InstructionLength) (taken : ℕ → ℕ → Bool) (p : Place) → converts_to_binary operation ≡ false → AreAlike m n → a ≡ b
     → FollowsSources operation m n
-    (after_effect m r1 (single (word_of (signed_sum (slice_index m.registers r1) (slice_index m.registers r3))) Kept) (address_after (seen m next il) (taken (word_of (signed_sum (slice_index m.registers r1) (slice_index m.registers r3))) (comparand_of (seen m next il) r3)) (Some a)))
-    (after_effect n r1 (single (word_of (signed_sum (slice_index n.registers r1) (slice_index n.registers r3))) Kept) (address_after (seen n next il) (taken (word_of (signed_sum (slice_index n.registers r1) (slice_index n.registers r3))) (comparand_of (seen n next il) r3)) (Some b)))
+    (after_alteration m (one_register r1 (word_of (signed_sum (slice_index m.registers r1) (slice_index m.registers r3))) unchanged (address_after_branch (seen m next il) (taken (word_of (signed_sum (slice_index m.registers r1) (slice_index m.registers r3))) (comparand_of (seen m next il) r3)) (Some a))))
+    (after_alteration n (one_register r1 (word_of (signed_sum (slice_index n.registers r1) (slice_index n.registers r3))) unchanged (address_after_branch (seen n next il) (taken (word_of (signed_sum (slice_index n.registers r1) (slice_index n.registers r3))) (comparand_of (seen n next il) r3)) (Some b))))
     (index_sources r1 r3) p
 index-row o m n next r1 r3 a b il taken p k alike e =
     let x : ℕ = word_of (signed_sum (slice_index m.registers r1) (slice_index m.registers r3))
     in let y : ℕ = word_of (signed_sum (slice_index n.registers r1) (slice_index n.registers r3))
     in let s : HaveAllSame m n (Register r1 ∷ (Register r3 ∷ [])) → x ≡ y = λ h. both-alike (λ u v. word_of (signed_sum u v)) _ _ _ _ h.0 h.1.0
-    in single-row o no_conditions no_conditions m n r1 x y Kept Kept
-    (address_after (seen m next il) (taken x (comparand_of (seen m next il) r3)) (Some a)) (address_after (seen n next il) (taken y (comparand_of (seen n next il) r3)) (Some b))
+    in single-row o no_conditions no_conditions m n r1 x y unchanged unchanged
+    (address_after_branch (seen m next il) (taken x (comparand_of (seen m next il) r3)) (Some a)) (address_after_branch (seen n next il) (taken y (comparand_of (seen n next il) r3)) (Some b))
     (Register r1 ∷ (Register r3 ∷ (Register (comparand_register r3) ∷ []))) (Register r1 ∷ (Register r3 ∷ [])) p k alike
     (λ h. (
       refl,
-      all-alike (λ u v i. address_after (seen m next il) (taken u v) (Some i)) x y (comparand_of (seen m next il) r3) (comparand_of (seen n next il) r3) a b
+      all-alike (λ u v i. address_after_branch (seen m next il) (taken u v) (Some i)) x y (comparand_of (seen m next il) r3) (comparand_of (seen n next il) r3) a b
           (s (h.1.0, (h.1.1.0, tt))) (comparand-is m next il r3 ∙ h.1.1.1.0 ∙ sym (comparand-is n next il r3)) e,
     ))
     s

@@ -1,5 +1,5 @@
 -- The instructions of the format SS follow their sources.
-use Rattle.std.proofs.Common.{◌≡◌, ◌<◌, ◌+◌, ◌-◌, ◌*◌, ◌/◌, ◌%◌, ◌∙◌, ℕ, zero, suc, false, List, [], ◌∷◌, refl, ap, sym, arith, length, min, take, drop, nat_eq, bit_and, bit_or, bit_xor, ◌++◌, inl, inr}
+use Rattle.std.proofs.Common.{◌≡◌, ◌<◌, ◌+◌, ◌-◌, ◌*◌, ◌/◌, ◌%◌, ◌∙◌, ℕ, zero, suc, false, List, [], ◌∷◌, refl, ap, sym, arith, length, min, take, drop, nat_eq, bit_and, bit_or, bit_xor, ◌++◌, inl, inr, Option, None}
 use Rattle.std.specs.Prelude.{if◌then◌else◌}
 use Rattle.std.proofs.lemmas.Bool.{cases_Bool}
 use Rattle.std.proofs.lemmas.List.{ext_get_or, get_or-drop, get_or-take, length-drop, length-take}
@@ -14,20 +14,22 @@ use Rattle.s360_store.specs.Spans.{byte_places}
 use Rattle.s360_fixed.specs.declared.form.Form.TheVariants.{Ss}
 use Rattle.s360_fixed.specs.declared.operation.Operation.{Operation}
 use Rattle.s360_fixed.specs.declared.operation.Operation.TheVariants.{Move, MoveNumerics, MoveZones, And, Or, ExclusiveOr, CompareLogical, Translate, TranslateAndTest, MoveWithOffset, Pack, Unpack}
-use Rattle.s360_fixed.specs.declared.setting.Setting.{Setting}
-use Rattle.s360_fixed.specs.declared.setting.Setting.TheVariants.{Code, Kept}
+use Rattle.s360_fixed.specs.Alterations.{set_to}
 use Rattle.s360_fixed.specs.Outcomes.{unless_met}
 use Rattle.s360_fixed.specs.ProgramCodes.{Conditions}
 use Rattle.s360_fixed.specs.View.{Outcome}
-use Rattle.s360_logic.specs.Bytes.{bits_setting, byte_at, completed_with, fields_conditions, operand_bytes}
+use Rattle.s360_logic.specs.Bytes.{code_of_bytes, byte_at, completed_with, fields_conditions, operand_bytes}
 use Rattle.s360_logic.specs.LeftToRight.{comparison_code, function_address, left_to_right, translate_conditions, translated_byte}
 use Rattle.s360_logic.specs.Logic.{address_of, row_outcome}
-use Rattle.s360_logic.specs.RightToLeft.{byte_from_right, digits, exchanged, zone_of}
+use Rattle.s360_logic.specs.declared.row.DigitRow.{DigitRow}
+use Rattle.s360_logic.specs.declared.row.DigitRow.TheVariants.{MoveWithOffset as move_with_offset, Pack as pack, Unpack as unpack}
+use Rattle.s360_logic.specs.RightToLeft.{DigitMove, byte_from_right, digit_move, digits, digits_stored, exchanged, zone_of}
 use Rattle.s360_source.specs.Agreement.{AreAlike, HaveAllSame, HaveSame, KeepsSizes}
 use Rattle.s360_source.specs.declared.digits.DigitRow.TheVariants.{MoveWithOffset as with_offset, Pack as packed, Unpack as unpacked}
 use Rattle.s360_source.specs.declared.digits.Digits.{Digits}
 use Rattle.s360_source.specs.declared.digits.Field.{Field}
-use Rattle.s360_source.specs.DigitSources.{from_right}
+use Rattle.s360_source.specs.DigitSources.{digit_sources, fetched_before, from_right}
+use Rattle.s360_source.proofs.DigitStates.{digits-are, packed-agrees, stored-as, unpacked-agrees}
 use Rattle.s360_source.specs.InstructionSources.{combination_in_storage, digits_of, ss_sources}
 use Rattle.s360_source.specs.Laws.{FollowsSources}
 use Rattle.s360_source.specs.Shapes.{converts_to_binary}
@@ -39,7 +41,7 @@ use Rattle.s360_source.proofs.LeftToRightLemmas.{SameBytes, byte_list, left_to_r
 use Rattle.s360_source.proofs.DigitLemmas.{IsMadeOf, digits-row, rightmost-same}
 use Rattle.s360_source.proofs.SearchLemmas.{search-row}
 use Rattle.s360_source.proofs.RowLemmas.{code-row, psw-same}
-use Rattle.s360_source.proofs.SuppressionLemmas.{is_suppressed-setting, suppression-law}
+use Rattle.s360_source.proofs.SuppressionLemmas.{suppression-law}
 
 -- the byte of a number follows the bytes that it is made of, each storage as those before left it
 abbrev pub EachFollows : Core → Core → (ℕ → Storage → ℕ) → (ℕ → Storage → ℕ) → Bytes → ℕ → Type 0
@@ -47,10 +49,10 @@ EachFollows m n f g bytes first =
     (k : ℕ) → SameBytes (left_to_right f first 0 k m.storage) (left_to_right g first 0 k n.storage) (bytes k) → f k (left_to_right f first 0 k m.storage) ≡ g k (left_to_right g first 0 k n.storage)
 
 -- an instruction that is completed with the bytes that are stored, and a condition code
-abbrev stored_outcome : Core → ℕ → InstructionLength → Setting → (ℕ → Storage → ℕ) → ℕ → ℕ → Outcome
+abbrev stored_outcome : Core → ℕ → InstructionLength → Option ℕ → (ℕ → Storage → ℕ) → ℕ → ℕ → Outcome
 stored_outcome m next il s f first count = completed_with (seen m next il) s (left_to_right f first 0 count m.storage)
 
-stored-law : (m n : Core) (next : ℕ) (il : InstructionLength) (s t : Setting) (f g : ℕ → Storage → ℕ) (bytes : Bytes) (first count : ℕ) (of_code : List Place) (p : Place) → AreAlike m n
+stored-law : (m n : Core) (next : ℕ) (il : InstructionLength) (s t : Option ℕ) (f g : ℕ → Storage → ℕ) (bytes : Bytes) (first count : ℕ) (of_code : List Place) (p : Place) → AreAlike m n
     → EachFollows m n f g bytes first → (HaveAllSame m n of_code → s ≡ t) → HaveAllSame m n (psw_made_of of_code (left_to_right_sources bytes first count) p)
     → HaveSame (stored_outcome m next il s f first count).core (stored_outcome n next il t g first count).core p
 stored-law m n next il s t f g bytes first count of_code Psw alike each code h = psw-same m n s t next next of_code (λ i. (code i.1, refl)) h
@@ -62,7 +64,7 @@ stored-law m n next il s t f g bytes first count of_code External alike each cod
 stored-law m n next il s t f g bytes first count of_code (UnitState u) alike each code h = refl
 stored-law m n next il s t f g bytes first count of_code (UnitMedia u) alike each code h = refl
 
-stored-keeps : (m : Core) (next : ℕ) (il : InstructionLength) (s : Setting) (f : ℕ → Storage → ℕ) (first count : ℕ) → KeepsSizes m (stored_outcome m next il s f first count).core
+stored-keeps : (m : Core) (next : ℕ) (il : InstructionLength) (s : Option ℕ) (f : ℕ → Storage → ℕ) (first count : ℕ) → KeepsSizes m (stored_outcome m next il s f first count).core
 stored-keeps m next il s f first count = record {
   registers = refl;
   bytes = left_to_right-length f first count 0 m.storage;
@@ -70,12 +72,12 @@ stored-keeps m next il s f first count = record {
   option = left_to_right-option f first count 0 m.storage;
 }
 
-pub stored-row : (operation : Operation) (c d : Conditions) (m n : Core) (next : ℕ) (il : InstructionLength) (s t : Setting) (f g : ℕ → Storage → ℕ) (bytes : Bytes) (a b count : ℕ) (of_code : List Place) (p : Place)
+pub stored-row : (operation : Operation) (c d : Conditions) (m n : Core) (next : ℕ) (il : InstructionLength) (s t : Option ℕ) (f g : ℕ → Storage → ℕ) (bytes : Bytes) (a b count : ℕ) (of_code : List Place) (p : Place)
     → converts_to_binary operation ≡ false → AreAlike m n → a ≡ b → EachFollows m n f g bytes a → (HaveAllSame m n of_code → s ≡ t)
     → FollowsSources operation m n (unless_met c m (stored_outcome m next il s f a count)) (unless_met d n (stored_outcome n next il t g b count)) (psw_made_of of_code (left_to_right_sources bytes a count)) p
 stored-row o c d m n next il s t f g bytes a b count of_code p k alike e each code =
     suppression-law o c d m n (stored_outcome m next il s f a count) (stored_outcome n next il t g b count) (psw_made_of of_code (left_to_right_sources bytes a count)) p
-    k (is_suppressed-setting o m.psw s) (is_suppressed-setting o n.psw t) alike (λ i. stored-keeps m next il s f a count) (λ i. stored-keeps n next il t g b count)
+    k refl refl alike (λ i. stored-keeps m next il s f a count) (λ i. stored-keeps n next il t g b count)
     (λ i j h. rw (← e) (stored-law m n next il s t f g bytes a count of_code p alike each code h))
 
 -- a byte of a function of the two bytes of its number
@@ -146,22 +148,22 @@ both_met m next il kind a b count = fields_conditions (seen m next il) kind (rec
 -- combinations with a condition code, and without one
 coded-row : (operation : Operation) (f : ℕ → ℕ → ℕ) (m n : Core) (next : ℕ) (il : InstructionLength) (a1 a2 b1 b2 count : ℕ) (p : Place) → converts_to_binary operation ≡ false → AreAlike m n → a1 ≡ b1 → a2 ≡ b2
     → FollowsSources operation m n
-    (unless_met (both_met m next il Store a1 a2 count) m (stored_outcome m next il (bits_setting (operand_bytes (left_to_right (of_both f a1 a2) a1 0 count m.storage) a1 count)) (of_both f a1 a2) a1 count))
-    (unless_met (both_met n next il Store b1 b2 count) n (stored_outcome n next il (bits_setting (operand_bytes (left_to_right (of_both f b1 b2) b1 0 count n.storage) b1 count)) (of_both f b1 b2) b1 count))
+    (unless_met (both_met m next il Store a1 a2 count) m (stored_outcome m next il (code_of_bytes (operand_bytes (left_to_right (of_both f a1 a2) a1 0 count m.storage) a1 count)) (of_both f a1 a2) a1 count))
+    (unless_met (both_met n next il Store b1 b2 count) n (stored_outcome n next il (code_of_bytes (operand_bytes (left_to_right (of_both f b1 b2) b1 0 count n.storage) b1 count)) (of_both f b1 b2) b1 count))
     (combination_in_storage a1 a2 count) p
 coded-row o f m n next il a1 a2 b1 b2 count p k alike d e =
     stored-row o (both_met m next il Store a1 a2 count) (both_met n next il Store b1 b2 count) m n next il
-    (bits_setting (operand_bytes (left_to_right (of_both f a1 a2) a1 0 count m.storage) a1 count)) (bits_setting (operand_bytes (left_to_right (of_both f b1 b2) b1 0 count n.storage) b1 count))
+    (code_of_bytes (operand_bytes (left_to_right (of_both f a1 a2) a1 0 count m.storage) a1 count)) (code_of_bytes (operand_bytes (left_to_right (of_both f b1 b2) b1 0 count n.storage) b1 count))
     (of_both f a1 a2) (of_both f b1 b2) (combined_bytes a1 a2) a1 b1 count (both_operands a1 a2 count) p k alike d (combined-each f m n a1 a2 b1 b2 d e)
-    (λ h. ap bits_setting (results-same f m n a1 a2 b1 b2 count alike d e h))
+    (λ h. ap code_of_bytes (results-same f m n a1 a2 b1 b2 count alike d e h))
 
 kept-row : (operation : Operation) (f : ℕ → ℕ → ℕ) (m n : Core) (next : ℕ) (il : InstructionLength) (a1 a2 b1 b2 count : ℕ) (p : Place) → converts_to_binary operation ≡ false → AreAlike m n → a1 ≡ b1 → a2 ≡ b2
     → FollowsSources operation m n
-    (unless_met (both_met m next il Store a1 a2 count) m (stored_outcome m next il Kept (of_both f a1 a2) a1 count))
-    (unless_met (both_met n next il Store b1 b2 count) n (stored_outcome n next il Kept (of_both f b1 b2) b1 count))
+    (unless_met (both_met m next il Store a1 a2 count) m (stored_outcome m next il None (of_both f a1 a2) a1 count))
+    (unless_met (both_met n next il Store b1 b2 count) n (stored_outcome n next il None (of_both f b1 b2) b1 count))
     (psw_made_of [] (left_to_right_sources (combined_bytes a1 a2) a1 count)) p
 kept-row o f m n next il a1 a2 b1 b2 count p k alike d e =
-    stored-row o (both_met m next il Store a1 a2 count) (both_met n next il Store b1 b2 count) m n next il Kept Kept
+    stored-row o (both_met m next il Store a1 a2 count) (both_met n next il Store b1 b2 count) m n next il None None
     (of_both f a1 a2) (of_both f b1 b2) (combined_bytes a1 a2) a1 b1 count [] p k alike d (combined-each f m n a1 a2 b1 b2 d e) (λ h. refl)
 
 -- what the rows of digits make a byte of
@@ -214,9 +216,14 @@ unpacked-made m n first second x y fetched i same h =
 abbrev at : Core → ℕ → InstructionLength → ℕ → ℕ → ℕ
 at m next length b d = address_of (seen m next length) b d
 
+-- a row of digits and its operands
+abbrev moved : DigitRow → Core → ℕ → InstructionLength → ℕ → ℕ → ℕ → ℕ → ℕ → DigitMove
+moved row m next length l b1 d1 b2 d2 =
+    digit_move row (zone_of m.psw) (record { address = at m next length b1 d1; count = l / 16 + 1 }) (record { address = at m next length b2 d2; count = l % 16 + 1 })
+
 pub ss-law : (operation : Operation) → StorageFollows operation
 ss-law Move m n next length l b1 d1 b2 d2 p alike d e =
-    stored-row Move (both_met m next length Store (at m next length b1 d1) (at m next length b2 d2) (l + 1)) (both_met n next length Store (at n next length b1 d1) (at n next length b2 d2) (l + 1)) m n next length Kept Kept
+    stored-row Move (both_met m next length Store (at m next length b1 d1) (at m next length b2 d2) (l + 1)) (both_met n next length Store (at n next length b1 d1) (at n next length b2 d2) (l + 1)) m n next length None None
     (λ i s. byte_at s (at m next length b2 d2 + i)) (λ i s. byte_at s (at n next length b2 d2 + i)) (moved_bytes (at m next length b2 d2)) (at m next length b1 d1) (at n next length b1 d1) (l + 1) [] p refl alike d
     (moved-each m n (at m next length b1 d1) (at m next length b2 d2) (at n next length b2 d2) e) (λ h. refl)
 ss-law MoveNumerics m n next length l b1 d1 b2 d2 p alike d e =
@@ -234,29 +241,41 @@ ss-law CompareLogical m n next length l b1 d1 b2 d2 p alike d e =
     in let a2 : ℕ = at m next length b2 d2
     in let c1 : ℕ = at n next length b1 d1
     in let c2 : ℕ = at n next length b2 d2
-    in code-row CompareLogical (both_met m next length Fetch a1 a2 (l + 1)) (both_met n next length Fetch c1 c2 (l + 1)) m n 0
-    (Code (comparison_code m.storage a1 a2 (l + 1))) (Code (comparison_code n.storage c1 c2 (l + 1))) next next (both_operands a1 a2 (l + 1)) p refl alike
+    in code-row CompareLogical (both_met m next length Fetch a1 a2 (l + 1)) (both_met n next length Fetch c1 c2 (l + 1)) m n
+    (set_to (comparison_code m.storage a1 a2 (l + 1))) (set_to (comparison_code n.storage c1 c2 (l + 1))) next next (both_operands a1 a2 (l + 1)) p refl alike
     (λ h. (
-      ap (λ x. Code x) (comparison-same m n (l + 1) a1 a2 (same-first m n (byte_places a1 (l + 1)) (byte_places a2 (l + 1)) h.1) (same-second m n (byte_places a1 (l + 1)) (byte_places a2 (l + 1)) h.1)
+      ap (λ x. set_to x) (comparison-same m n (l + 1) a1 a2 (same-first m n (byte_places a1 (l + 1)) (byte_places a2 (l + 1)) h.1) (same-second m n (byte_places a1 (l + 1)) (byte_places a2 (l + 1)) h.1)
           ∙ ap (λ x. comparison_code n.storage x a2 (l + 1)) d ∙ ap (λ x. comparison_code n.storage c1 x (l + 1)) e),
       refl,
     ))
 ss-law Translate m n next length l b1 d1 b2 d2 p alike d e =
-    stored-row Translate (translate_conditions (seen m next length) (at m next length b1 d1) (at m next length b2 d2) (l + 1)) (translate_conditions (seen n next length) (at n next length b1 d1) (at n next length b2 d2) (l + 1)) m n next length Kept Kept
+    stored-row Translate (translate_conditions (seen m next length) (at m next length b1 d1) (at m next length b2 d2) (l + 1)) (translate_conditions (seen n next length) (at n next length b1 d1) (at n next length b2 d2) (l + 1)) m n next length None None
     (translated_byte (at m next length b2 d2) (at m next length b1 d1)) (translated_byte (at n next length b2 d2) (at n next length b1 d1)) (translated_bytes (at m next length b1 d1) (at m next length b2 d2) m.storage) (at m next length b1 d1) (at n next length b1 d1) (l + 1) [] p refl alike d
     (translated-each m n (at m next length b1 d1) (at m next length b2 d2) (at n next length b1 d1) (at n next length b2 d2) d e) (λ h. refl)
 ss-law TranslateAndTest m n next length l b1 d1 b2 d2 p alike d e = search-row m n next length (at m next length b1 d1) (at m next length b2 d2) (at n next length b1 d1) (at n next length b2 d2) (l + 1) p alike d e
 ss-law MoveWithOffset m n next length l b1 d1 b2 d2 p alike d e =
     let o : Digits = digits_of with_offset l (at m next length b1 d1) (at m next length b2 d2)
     in let first : Field = o.first
-    in digits-row MoveWithOffset m n next length o (offset_byte first.address first.count m.storage) (offset_byte (at n next length b1 d1) first.count n.storage) (at n next length b1 d1) (at n next length b2 d2) p refl alike d e
+    in stored-as MoveWithOffset m n next length (moved move_with_offset m next length l b1 d1 b2 d2) (moved move_with_offset n next length l b1 d1 b2 d2) _ _
+    (digits_stored (moved move_with_offset m next length l b1 d1 b2 d2) m.storage) (digits_stored (moved move_with_offset n next length l b1 d1 b2 d2) n.storage) (digit_sources o) p
+    (digits-are (moved move_with_offset m next length l b1 d1 b2 d2) m.storage (fetched_before with_offset) (λ i j. refl))
+    (digits-are (moved move_with_offset n next length l b1 d1 b2 d2) n.storage (fetched_before with_offset) (λ i j. refl))
+    (digits-row MoveWithOffset m n next length o (offset_byte first.address first.count m.storage) (offset_byte (at n next length b1 d1) first.count n.storage) (at n next length b1 d1) (at n next length b2 d2) p refl alike d e
     (λ x y fetched i same h. offset-made m n o.first o.second
     (byte_from_right (record { address = first.address; count = first.count }) m.storage 0) (byte_from_right (record { address = at n next length b1 d1; count = first.count }) n.storage 0)
-    (λ r. rightmost-same m n first r ∙ ap (λ q. byte_from_right (record { address = q; count = first.count }) n.storage 0) d) x y fetched i same h)
+    (λ r. rightmost-same m n first r ∙ ap (λ q. byte_from_right (record { address = q; count = first.count }) n.storage 0) d) x y fetched i same h))
 ss-law Pack m n next length l b1 d1 b2 d2 p alike d e =
     let o : Digits = digits_of packed l (at m next length b1 d1) (at m next length b2 d2)
-    in digits-row Pack m n next length o packed_byte packed_byte (at n next length b1 d1) (at n next length b2 d2) p refl alike d e (packed-made m n o.first o.second)
+    in stored-as Pack m n next length (moved pack m next length l b1 d1 b2 d2) (moved pack n next length l b1 d1 b2 d2) _ _
+    (digits_stored (moved pack m next length l b1 d1 b2 d2) m.storage) (digits_stored (moved pack n next length l b1 d1 b2 d2) n.storage) (digit_sources o) p
+    (digits-are (moved pack m next length l b1 d1 b2 d2) m.storage (fetched_before packed) packed-agrees)
+    (digits-are (moved pack n next length l b1 d1 b2 d2) n.storage (fetched_before packed) packed-agrees)
+    (digits-row Pack m n next length o packed_byte packed_byte (at n next length b1 d1) (at n next length b2 d2) p refl alike d e (packed-made m n o.first o.second))
 ss-law Unpack m n next length l b1 d1 b2 d2 p alike d e =
     let o : Digits = digits_of unpacked l (at m next length b1 d1) (at m next length b2 d2)
-    in digits-row Unpack m n next length o (unpacked_byte m.psw) (unpacked_byte n.psw) (at n next length b1 d1) (at n next length b2 d2) p refl alike d e (unpacked-made m n o.first o.second)
+    in stored-as Unpack m n next length (moved unpack m next length l b1 d1 b2 d2) (moved unpack n next length l b1 d1 b2 d2) _ _
+    (digits_stored (moved unpack m next length l b1 d1 b2 d2) m.storage) (digits_stored (moved unpack n next length l b1 d1 b2 d2) n.storage) (digit_sources o) p
+    (digits-are (moved unpack m next length l b1 d1 b2 d2) m.storage (fetched_before unpacked) unpacked-agrees)
+    (digits-are (moved unpack n next length l b1 d1 b2 d2) n.storage (fetched_before unpacked) unpacked-agrees)
+    (digits-row Unpack m n next length o (unpacked_byte m.psw) (unpacked_byte n.psw) (at n next length b1 d1) (at n next length b2 d2) p refl alike d e (unpacked-made m n o.first o.second))
 ss-law other m n next length l b1 d1 b2 d2 p alike d e = λ f h. record { first = same-sizes m; second = same-sizes n; same = h.0 }

@@ -1,10 +1,11 @@
 -- Where a word stores bytes, as it is told from the word and from how the device begins its command.
-use Rattle.std.proofs.Common.{◌≡◌, ◌+◌, ◌-◌, ◌∙◌, ℕ, Bool, true, false, ◌||◌, not, List, [], refl, ap, sym, arith, length, take, drop, subst, true≢false, Option, Some, None, nat_eq}
+use Rattle.std.proofs.Common.{◌≡◌, ◌+◌, ◌-◌, ◌∙◌, ◌++◌, ℕ, Bool, true, false, ◌||◌, not, List, [], refl, ap, sym, arith, length, take, drop, subst, true≢false, Option, Some, None, nat_eq}
+use Rattle.std.specs.List.{slice_range}
 use Rattle.std.specs.Option.{option_and_then, option_map}
 use Rattle.std.specs.Prelude.{if◌then◌else◌, min, nat_lt}
 use Rattle.std.proofs.lemmas.List.{length-drop, length-take, length-reverse}
 use Rattle.s360_model.specs.Storage.{Storage}
-use Rattle.s360_store.specs.declared.protection.Access.TheVariants.{Store}
+use Rattle.s360_store.specs.declared.protection.Access.TheVariants.{Fetch, Store}
 use Rattle.s360_store.specs.declared.protection.Checked.{Checked}
 use Rattle.s360_store.specs.declared.protection.Checked.TheVariants.{Clear, Addressing, Protection}
 use Rattle.s360_device.specs.declared.device.Begin.{Begin}
@@ -17,12 +18,14 @@ use Rattle.s360_channel.specs.declared.ccw.Ccw.{Ccw}
 use Rattle.s360_channel.specs.declared.configured_unit.ConfiguredUnit.{ConfiguredUnit}
 use Rattle.s360_channel.specs.declared.program.Program.{Program}
 use Rattle.s360_channel.specs.declared.program.Progress.{Progress}
-use Rattle.s360_channel.specs.declared.program.Progress.TheVariants.{InputChained}
+use Rattle.s360_channel.specs.declared.program.Progress.TheVariants.{InputChained, OutputChained}
 use Rattle.s360_channel.specs.declared.unit_state.UnitState.{UnitState}
 use Rattle.s360_channel.specs.declared.unit_state.UnitState.TheVariants.{Active}
 use Rattle.s360_channel.specs.declared.configured_unit.ConfiguredUnit.TheVariants.{Tape0, Tape1}
 use Rattle.s360_channel.specs.ConfiguredUnits.{address_of_unit, control_of, unit_at}
-use Rattle.s360_channel.specs.Execution.{DeviceView, Execution, access_of, after_transfer, channel_execution, command_with, execute_begun, in_order, input_transfer, lowest_address, moved_before, run_of, stored_bytes, unless_checked}
+use Rattle.s360_channel.specs.declared.transfer.Transfer.{Transfer}
+use Rattle.s360_channel.specs.Execution.{DeviceView, Execution, WordAtHand, access_of, after_input, after_output, channel_execution, command_with, execute_begun, in_order}
+use Rattle.s360_channel.specs.Execution.{input_transfer, lowest_address, output_transfer, run_of, stored_bytes, unless_checked, word_at_hand}
 use Rattle.s360_channel.specs.Words.{reads_backward}
 use Rattle.s360_source.specs.declared.channel_moves.ChannelMoves.{ChannelMoves}
 use Rattle.s360_machine.specs.ChannelEvents.{execution_of, view_of}
@@ -33,7 +36,7 @@ use Rattle.s360_word.specs.declared.unit.Unit.{Unit as UnitAddress}
 use Rattle.s360_source.specs.ChannelShapes.{executed_at, executed_of, executed_word, extent_of, fetched_at, fetched_by, is_checked, moves_of, target_of, word_of}
 use Rattle.s360_source.specs.StoredRuns.{lowest_of, stored_by}
 use Rattle.s360_source.proofs.ChannelLemmas.{checked-shape}
-use Rattle.s360_source.proofs.ExecutionLemmas.{transfer-ends, words-law}
+use Rattle.s360_source.proofs.ExecutionLemmas.{transfer-ends, transfer-stores, words-law}
 
 -- what is stored, by the execution itself, and as it is told
 abbrev Stores : Execution → Option (ℕ × ℕ) → Type 0
@@ -44,17 +47,17 @@ if-none true o told e f = e
 if-none false o told e f = e ∙ sym f
 
 -- no output stores
-none-checked : (p : Program) (at : ℕ) (x : Execution) (a : Checked) → x.stores ≡ None → Stores (unless_checked p at a x) None
-none-checked p at x Clear e = if-none (is_checked x.state) (option_map extent_of x.stores) None (ap (option_map extent_of) e) refl
-none-checked p at x Addressing e = refl
-none-checked p at x Protection e = refl
+none-checked : (w : WordAtHand) (x : Execution) (a : Checked) → x.stores ≡ None → Stores (unless_checked w a x) None
+none-checked w x Clear e = if-none (is_checked x.state) (option_map extent_of x.stores) None (ap (option_map extent_of) e) refl
+none-checked w x Addressing e = refl
+none-checked w x Protection e = refl
 
 -- an input stores what meets no check
-some-checked : (p : Program) (at : ℕ) (x : Execution) (a : Checked) (told : Option (ℕ × ℕ)) → is_checked x.state ≡ false → (a ≡ Clear → option_map extent_of x.stores ≡ told)
-    → Stores (unless_checked p at a x) told
-some-checked p at x Clear told e same = rw e (same refl)
-some-checked p at x Addressing told e same = refl
-some-checked p at x Protection told e same = refl
+some-checked : (w : WordAtHand) (x : Execution) (a : Checked) (told : Option (ℕ × ℕ)) → is_checked x.state ≡ false → (a ≡ Clear → option_map extent_of x.stores ≡ told)
+    → Stores (unless_checked w a x) told
+some-checked w x Clear told e same = rw e (same refl)
+some-checked w x Addressing told e same = refl
+some-checked w x Protection told e same = refl
 
 -- the run of so many bytes
 abbrev extent_at : ℕ → ℕ → Option (ℕ × ℕ)
@@ -95,38 +98,48 @@ by-skip true bytes count command c e = refl
 by-skip false bytes count command c e = ap (λ n. extent_at (if reads_backward command then c.address - (n - 1) else c.address) n) e
 
 -- the bytes that a word of an input stores, and the execution of one that meets no check
-abbrev input_bytes : DeviceView → Program → Ccw → ℕ → List ℕ
-input_bytes d p c total = stored_bytes (d.input (command_with p.progress c)) p.progress c (command_with p.progress c) (input_transfer c (total - moved_before p.progress))
+abbrev input_bytes : WordAtHand → ℕ → List ℕ
+input_bytes w total = stored_bytes w (input_transfer w.ccw (total - w.moved)).count
 
-abbrev input_lowest : DeviceView → Program → Ccw → ℕ → Option ℕ
-input_lowest d p c total = lowest_address (reads_backward (command_with p.progress c)) c.address (length (input_bytes d p c total))
+abbrev input_lowest : WordAtHand → ℕ → Option ℕ
+input_lowest w total = lowest_address (reads_backward w.command) w.ccw.address (length (input_bytes w total))
 
-abbrev input_after : DeviceView → Program → ℕ → Ccw → ℕ → Execution
-input_after d p at c total =
-    after_transfer d p at c (input_transfer c (total - moved_before p.progress)) (run_of (input_lowest d p c total) (input_bytes d p c total))
-    (InputChained (command_with p.progress c) (moved_before p.progress + (input_transfer c (total - moved_before p.progress)).count)) (record { command = command_with p.progress c; output = [] })
+abbrev input_after : WordAtHand → ℕ → Execution
+input_after w total = record (after_input w (input_transfer w.ccw (total - w.moved))) { stores = run_of (input_lowest w total) (input_bytes w total) }
 
-input-unchecked : (d : DeviceView) (p : Program) (at : ℕ) (c : Ccw) (total : ℕ) → is_checked (input_after d p at c total).state ≡ false
-input-unchecked d p at c total =
-    let left : ℕ = total - moved_before p.progress
-    in sym (checked-shape (input_after d p at c total).state)
-    ∙ transfer-ends d p at c left (not (nat_eq left c.count)) (run_of (input_lowest d p c total) (input_bytes d p c total))
-    (InputChained (command_with p.progress c) (moved_before p.progress + (input_transfer c left).count)) (record { command = command_with p.progress c; output = [] })
+input-unchecked : (w : WordAtHand) (total : ℕ) → is_checked (input_after w total).state ≡ false
+input-unchecked w total =
+    let n : ℕ = total - w.moved
+    in sym (checked-shape (input_after w total).state)
+    ∙ transfer-ends w n (not (nat_eq n w.ccw.count)) (InputChained w.command (w.moved + (input_transfer w.ccw n).count)) []
 
 input-stores : (d : DeviceView) (s : Storage) (p : Program) (at : ℕ) (c : Ccw) (total : ℕ) → length (d.input (command_with p.progress c)) ≡ total
-    → Stores (execute_begun d s p at c (command_with p.progress c) (Input total)) (stored_by p.progress c (Input total))
+    → Stores (execute_begun s (word_at_hand d p at c) (Input total)) (stored_by p.progress c (Input total))
 input-stores d s p at c total counted =
-    some-checked p at (input_after d p at c total) (access_of s p.key Store (length (input_bytes d p c total)) (input_lowest d p c total)) (stored_by p.progress c (Input total))
-    (input-unchecked d p at c total)
-    (λ clear. run-extent (reads_backward (command_with p.progress c)) s p.key c.address (input_bytes d p c total) clear
-    ∙ by-skip c.flags.skip (in_order (reads_backward (command_with p.progress c)) (take (min (total - moved_before p.progress) c.count) (drop (moved_before p.progress) (d.input (command_with p.progress c)))))
-    (min (total - moved_before p.progress) c.count) (command_with p.progress c) c
-    (length-moved (reads_backward (command_with p.progress c)) (d.input (command_with p.progress c)) (moved_before p.progress) total c.count counted))
+    let w : WordAtHand = word_at_hand d p at c
+    in some-checked w (input_after w total) (access_of s p.key Store (length (input_bytes w total)) (input_lowest w total)) (stored_by p.progress c (Input total))
+    (input-unchecked w total)
+    (λ clear. run-extent (reads_backward w.command) s p.key c.address (input_bytes w total) clear
+    ∙ by-skip c.flags.skip (in_order (reads_backward w.command) (take (min (total - w.moved) c.count) (drop w.moved w.input)))
+    (min (total - w.moved) c.count) w.command c
+    (length-moved (reads_backward w.command) w.input w.moved total c.count counted))
+
+-- the bytes of an output with those that a word fetches
+abbrev output_bytes : Storage → WordAtHand → ℕ → List ℕ
+output_bytes s w limit =
+    take limit (w.gathered ++ slice_range s.bytes w.ccw.address (w.ccw.address + (output_transfer w.ccw (limit - length w.gathered)).count))
+
+output-stores : (s : Storage) (w : WordAtHand) (limit : ℕ) → (after_output w (output_transfer w.ccw (limit - length w.gathered)) (output_bytes s w limit)).stores ≡ None
+output-stores s w limit =
+    transfer-stores w (output_transfer w.ccw (limit - length w.gathered)) (OutputChained w.command (output_bytes s w limit)) (output_bytes s w limit)
 
 begun-stores : (d : DeviceView) (s : Storage) (p : Program) (at : ℕ) (c : Ccw) (begin : Begin) → IsInputOf begin (d.input (command_with p.progress c))
-    → Stores (execute_begun d s p at c (command_with p.progress c) begin) (stored_by p.progress c begin)
+    → Stores (execute_begun s (word_at_hand d p at c) begin) (stored_by p.progress c begin)
 begun-stores d s p at c (Input total) counted = input-stores d s p at c total counted
-begun-stores d s p at c (Output limit) counted = none-checked p at _ _ refl
+begun-stores d s p at c (Output limit) counted =
+    let w : WordAtHand = word_at_hand d p at c
+    in let t : Transfer = output_transfer w.ccw (limit - length w.gathered)
+    in none-checked w (after_output w t (output_bytes s w limit)) (access_of s w.program.key Fetch t.count (Some w.ccw.address)) (output-stores s w limit)
 begun-stores d s p at c Control counted = if-none _ None None refl refl
 begun-stores d s p at c (Refused sense) counted = if-none _ None None refl refl
 begun-stores d s p at c NotYet counted = refl
@@ -150,28 +163,30 @@ stores-law d s p counted =
 abbrev StoresUnchecked : Execution → Type 0
 StoresUnchecked x = is_checked x.state ≡ true → option_map extent_of x.stores ≡ None
 
-some-unchecked : (p : Program) (at : ℕ) (x : Execution) (a : Checked) → is_checked x.state ≡ false → StoresUnchecked (unless_checked p at a x)
-some-unchecked p at x Clear e h = absurd (true≢false (sym h ∙ e))
-some-unchecked p at x Addressing e h = refl
-some-unchecked p at x Protection e h = refl
+some-unchecked : (w : WordAtHand) (x : Execution) (a : Checked) → is_checked x.state ≡ false → StoresUnchecked (unless_checked w a x)
+some-unchecked w x Clear e h = absurd (true≢false (sym h ∙ e))
+some-unchecked w x Addressing e h = refl
+some-unchecked w x Protection e h = refl
 
-none-unchecked : (p : Program) (at : ℕ) (x : Execution) (a : Checked) → x.stores ≡ None → StoresUnchecked (unless_checked p at a x)
-none-unchecked p at x Clear e h = ap (option_map extent_of) e
-none-unchecked p at x Addressing e h = refl
-none-unchecked p at x Protection e h = refl
+none-unchecked : (w : WordAtHand) (x : Execution) (a : Checked) → x.stores ≡ None → StoresUnchecked (unless_checked w a x)
+none-unchecked w x Clear e h = ap (option_map extent_of) e
+none-unchecked w x Addressing e h = refl
+none-unchecked w x Protection e h = refl
 
-begun-unchecked : (d : DeviceView) (s : Storage) (p : Program) (at : ℕ) (c : Ccw) (begin : Begin) → StoresUnchecked (execute_begun d s p at c (command_with p.progress c) begin)
-begun-unchecked d s p at c (Input total) =
-    some-unchecked p at (input_after d p at c total) (access_of s p.key Store (length (input_bytes d p c total)) (input_lowest d p c total)) (input-unchecked d p at c total)
-begun-unchecked d s p at c (Output limit) = none-unchecked p at _ _ refl
-begun-unchecked d s p at c Control = λ h. refl
-begun-unchecked d s p at c (Refused sense) = λ h. refl
-begun-unchecked d s p at c NotYet = λ h. refl
+begun-unchecked : (s : Storage) (w : WordAtHand) (begin : Begin) → StoresUnchecked (execute_begun s w begin)
+begun-unchecked s w (Input total) =
+    some-unchecked w (input_after w total) (access_of s w.program.key Store (length (input_bytes w total)) (input_lowest w total)) (input-unchecked w total)
+begun-unchecked s w (Output limit) =
+    let t : Transfer = output_transfer w.ccw (limit - length w.gathered)
+    in none-unchecked w (after_output w t (output_bytes s w limit)) (access_of s w.program.key Fetch t.count (Some w.ccw.address)) (output-stores s w limit)
+begun-unchecked s w Control = λ h. refl
+begun-unchecked s w (Refused sense) = λ h. refl
+begun-unchecked s w NotYet = λ h. refl
 
 unchecked-law : (d : DeviceView) (s : Storage) (p : Program) → is_checked (channel_execution d s p).state ≡ true → option_map extent_of (channel_execution d s p).stores ≡ None
 unfolding channel_execution
 unchecked-law d s p =
-    words-law (λ x y. StoresUnchecked x) d s s p refl refl (λ at h. refl) (λ at c e. begun-unchecked d s p at c (d.begin (command_with p.progress c)))
+    words-law (λ x y. StoresUnchecked x) d s s p refl refl (λ at h. refl) (λ at c e. begun-unchecked s (word_at_hand d p at c) (d.begin (command_with p.progress c)))
 
 one-word : (a b : Ccw) → Some a ≡ Some b → a ≡ b
 one-word a b e = cc

@@ -1,11 +1,10 @@
 -- An instruction that is suppressed leaves each place alone, in both of two cores or in neither.
 use Rattle.std.proofs.Common.{◌≡◌, ◌∙◌, ℕ, Bool, true, false, refl, ap, sym, Option, Some, None}
-use Rattle.std.specs.Prelude.{if◌then◌else◌, IfSome, ◌&&◌, nat_eq}
+use Rattle.std.specs.Prelude.{if◌then◌else◌, IfSome, ◌&&◌}
 use Rattle.s360_model.specs.Psw.{fixed_point_overflow_mask_of}
 use Rattle.s360_fixed.specs.declared.program_code.ProgramCode.TheVariants.{FixedPointOverflow}
-use Rattle.s360_fixed.specs.declared.setting.Setting.{Setting}
-use Rattle.s360_fixed.specs.declared.setting.Setting.TheVariants.{Kept, Code, SignedCode}
-use Rattle.s360_fixed.specs.Settings.{ended_with}
+use Rattle.s360_fixed.specs.declared.setting.CodeSetting.{CodeSetting}
+use Rattle.s360_fixed.specs.Alterations.{ended_by}
 use Rattle.s360_model.specs.Core.{Core}
 use Rattle.s360_store.specs.declared.place.Place.{Place}
 use Rattle.s360_fixed.specs.declared.ended.Ended.TheVariants.{Done, Program}
@@ -77,10 +76,8 @@ suppression-law o c d m n x y sources p n_binary u v alike k l law =
     (λ e h. refused-law o (program_code c) (program_code d) m n x y sources p (condition-suppresses o c n_binary) (condition-suppresses o d n_binary) u v e h alike k l law)
 
 -- an instruction that is completed with a condition code is not suppressed
-pub is_suppressed-setting : (operation : Operation) (psw : ℕ) (s : Setting) → is_suppressed operation (ended_with psw s) ≡ false
-is_suppressed-setting o psw Kept = refl
-is_suppressed-setting o psw (Code code) = refl
-is_suppressed-setting o psw (SignedCode code) = overflow-not (nat_eq code 3 && fixed_point_overflow_mask_of psw) where
+pub is_suppressed-setting : (operation : Operation) (psw : ℕ) (s : CodeSetting) → is_suppressed operation (ended_by s psw) ≡ false
+is_suppressed-setting o psw s = overflow-not (s.overflow && fixed_point_overflow_mask_of psw) where
   overflow-not : (b : Bool) → is_suppressed o (if b then Program FixedPointOverflow else Done) ≡ false
   overflow-not true = refl
   overflow-not false = refl

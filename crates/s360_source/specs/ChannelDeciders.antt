@@ -14,8 +14,8 @@ use Rattle.s360_channel.specs.declared.ccw.Ccw.{Ccw}
 use Rattle.s360_channel.specs.declared.configured_unit.ConfiguredUnit.{ConfiguredUnit}
 use Rattle.s360_channel.specs.declared.program.Program.{Program}
 use Rattle.s360_channel.specs.ConfiguredUnits.{control_of, unit_at}
-use Rattle.s360_channel.specs.Execution.{DeviceView, command_with, gathered_within, input_transfer, lowest_address}
-use Rattle.s360_channel.specs.Execution.{moved_before, output_transfer, stored_bytes}
+use Rattle.s360_channel.specs.Execution.{DeviceView, WordAtHand, command_with, gathered_before, input_transfer}
+use Rattle.s360_channel.specs.Execution.{lowest_address, output_transfer, stored_bytes, word_at_hand}
 use Rattle.s360_channel.specs.Units.{program_of}
 use Rattle.s360_channel.specs.Words.{reads_backward}
 use Rattle.s360_machine.specs.ChannelEvents.{at_device, view_of}
@@ -33,8 +33,8 @@ access_deciders s key kind count (Some address) = if is_inside s address count t
 -- the bytes of an input that a word stores
 abbrev pub stored_count : DeviceView → Program → Ccw → ℕ → ℕ
 stored_count d p c total =
-    let command : ℕ = command_with p.progress c
-    in length (stored_bytes (d.input command) p.progress c command (input_transfer c (total - moved_before p.progress)))
+    let w : WordAtHand = word_at_hand d p p.address c
+    in length (stored_bytes w (input_transfer c (total - w.moved)).count)
 
 -- the keys of what a word would store or fetch, by how the device begins its command
 abbrev pub begun_deciders : DeviceView → Storage → Program → Ccw → Begin → List Place
@@ -42,13 +42,16 @@ begun_deciders d s p c (Input total) =
     let count : ℕ = stored_count d p c total
     in access_deciders s p.key Store count (lowest_address (reads_backward (command_with p.progress c)) c.address count)
 begun_deciders d s p c (Output limit) =
-    let count : ℕ = (output_transfer c (limit - length (gathered_within limit p.progress))).count
+    let count : ℕ = (output_transfer c (limit - length (gathered_before p.progress))).count
     in access_deciders s p.key Fetch count (Some c.address)
 begun_deciders d s p c begin = []
 
 abbrev pub executed_deciders : DeviceView → Storage → Program → Option Ccw → List Place
 executed_deciders d s p None = []
 executed_deciders d s p (Some c) = begun_deciders d s p c (d.begin (command_with p.progress c))
+
+abbrev pub next_word_deciders : DeviceView → Storage → Program → List Place
+next_word_deciders d s p = executed_deciders d s p (executed_word s p)
 
 -- the device of a unit, as its channel sees it
 abbrev pub device_at : ConfiguredUnit → Media → DeviceView
@@ -58,7 +61,7 @@ device_at u m = at_device u m (λ M t d with_device. view_of t d)
 abbrev pub program_deciders : ConfiguredUnit → Machine → Program → List Place
 program_deciders u m p =
     let s : Storage = m.core.storage
-    in let keys : List Place = executed_deciders (device_at u m.media) s p (executed_word s p)
+    in let keys : List Place = next_word_deciders (device_at u m.media) s p
     in Run ∷ (media_place u ∷ (bytes_of_word (word_of s p) ++ (bytes_of_word (target_of s p) ++ keys)))
 
 -- a unit: its state alone where it executes no program

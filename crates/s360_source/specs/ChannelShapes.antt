@@ -17,7 +17,7 @@ use Rattle.s360_channel.specs.declared.program.Progress.TheVariants.{OutputChain
 use Rattle.s360_channel.specs.declared.unit_state.UnitState.{UnitState}
 use Rattle.s360_channel.specs.declared.unit_state.UnitState.TheVariants.{Active, Waiting}
 use Rattle.s360_channel.specs.ConfiguredUnits.{control_of, unit_at}
-use Rattle.s360_channel.specs.Execution.{Execution, Run, command_with, gathered_within, output_transfer}
+use Rattle.s360_channel.specs.Execution.{DeviceView, Execution, Run, channel_execution, command_with, gathered_before, output_transfer}
 use Rattle.s360_channel.specs.Programs.{ccw_at, goes_on_with_record, is_executable, is_first, is_loading, loading_word}
 use Rattle.s360_channel.specs.Units.{program_of}
 use Rattle.s360_channel.specs.Words.{ccw_of, is_transfer}
@@ -95,7 +95,7 @@ target_of s p = if is_loading p.progress then None else option_and_then (target_
 -- the bytes that a word of an output fetches, from where on and how many: as many of its count as the device takes
 abbrev pub fetched_by : Progress → Ccw → Begin → Option (ℕ × ℕ)
 fetched_by progress c (Output limit) =
-    Some (c.address, (output_transfer c (limit - length (gathered_within limit progress))).count)
+    Some (c.address, (output_transfer c (limit - length (gathered_before progress))).count)
 fetched_by progress c begin = None
 
 abbrev pub fetched_at : (ℕ → Begin) → Progress → Option Ccw → Option (ℕ × ℕ)
@@ -117,6 +117,9 @@ moves_of begin s p e = record {
 -- with the status with which it ends the program, if it does
 abbrev pub executed_of : (ℕ → Begin) → Storage → Program → Execution → Executed
 executed_of begin s p e = record { moves = moves_of begin s p e; status = status_of e.state }
+
+abbrev pub executed_by : DeviceView → Storage → Program → Executed
+executed_by d s p = executed_of d.begin s p (channel_execution d s p)
 
 abbrev pub executed_at : ConfiguredUnit → Machine → Program → Executed
 executed_at u m p = executed_of (begin_at u m.media) m.core.storage p (execution_at u m)

@@ -1,10 +1,10 @@
 //! The deciders of a channel event: what it does, and where, comes from these places. Source: GA22-6821, "Input/Output
 //! Operations", execution of input/output operations, and "System Structure", protection feature.
 ghost use Rattle.std.specs.Prelude.{◌≡◌, ◌++◌, OnOk};
+ghost use Rattle.s360_channel.specs.Steps.{device_view};
 ghost use Rattle.s360_machine.specs.Machine.{seen};
 ghost use Rattle.s360_source.specs.ChannelDeciders.{access_deciders, channel_deciders, device_at};
-ghost use Rattle.s360_source.specs.ChannelDeciders.{executed_deciders, program_deciders, unit_deciders};
-ghost use Rattle.s360_source.specs.ChannelShapes.{executed_word};
+ghost use Rattle.s360_source.specs.ChannelDeciders.{next_word_deciders, program_deciders, unit_deciders};
 
 use crate::access_keys::push_access_keys;
 use crate::channel::{push_word, state_of};
@@ -73,7 +73,7 @@ fn push_executed_deciders(
     unit: ConfiguredUnit,
     program: &Program,
 ) -> Result<(), AllocError>
-    ensures { OnOk result (found.new.items ≡ found.old.items ++ executed_deciders (device_at unit (seen machine.now.whole).media) machine.now.whole.core.storage program.now (executed_word machine.now.whole.core.storage program.now)) }
+    ensures { OnOk result (found.new.items ≡ found.old.items ++ next_word_deciders (device_at unit (seen machine.now.whole).media) machine.now.whole.core.storage program.now) }
 {
     let storage = machine.storage();
     match unit {
@@ -95,7 +95,7 @@ fn push_begun_deciders<D: Device>(
     program: &Program,
     device: &D,
 ) -> Result<(), AllocError>
-    ensures { OnOk result (found.new.items ≡ found.old.items ++ executed_deciders (record { begin = D.begin_of device.now; input = D.input_of device.now; exception = D.exception_of device.now }) storage.now program.now (executed_word storage.now program.now)) }
+    ensures { OnOk result (found.new.items ≡ found.old.items ++ next_word_deciders (device_view D.Device device.now) storage.now program.now) }
 {
     let Some(ccw) = executed_word(storage, program) else {
         return Ok(());
@@ -109,7 +109,7 @@ fn push_begun_deciders<D: Device>(
             push_access_deciders(found, storage, program.key, Access::Store, count, lowest)
         }
         Begin::Output(limit) => {
-            let left = limit - progress.count_within(limit);
+            let left = progress.left_within(limit);
             let count = output_transfer(&ccw, left).count;
             let first = Some(Location::new(ccw.address));
             push_access_deciders(found, storage, program.key, Access::Fetch, count, first)

@@ -84,7 +84,7 @@ pub(crate) fn fetched_by(progress: &Progress, ccw: &Ccw, begin: Begin) -> Option
 {
     match begin {
         Begin::Output(limit) => {
-            let left = limit - progress.count_within(limit);
+            let left = progress.left_within(limit);
             let count = output_transfer(ccw, left).count;
             Some((Location::new(ccw.address), count))
         }

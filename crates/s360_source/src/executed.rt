@@ -4,11 +4,11 @@ ghost use Rattle.std.specs.Prelude.{◌≡◌, ◌<◌, ◌^◌, IfOk, IfSome, f
 ghost use Rattle.std.specs.Option.{option_map_or};
 ghost use Rattle.s360_channel.specs.ConfiguredUnits.{control_of};
 ghost use Rattle.s360_channel.specs.Execution.{channel_execution};
-ghost use Rattle.s360_channel.specs.Steps.{state_after_step};
+ghost use Rattle.s360_channel.specs.Steps.{device_view, state_after_step};
 ghost use Rattle.s360_channel.specs.declared.program.Program.{Program as Programs};
 ghost use Rattle.s360_channel.specs.declared.unit_state.UnitState.TheVariants.{Active};
 ghost use Rattle.s360_machine.specs.Machine.{seen};
-ghost use Rattle.s360_source.specs.ChannelShapes.{executed_at, executed_of, executed_word, is_checked, meets_check};
+ghost use Rattle.s360_source.specs.ChannelShapes.{executed_at, executed_by, executed_word, is_checked, meets_check};
 ghost use Rattle.s360_source.specs.ChannelShapes.{moves_of, status_of};
 
 use crate::channel_moves::{ChannelMoves, fetched_by, stored_by, target_of, word_of};
@@ -57,7 +57,7 @@ fn executed_by<D: Device>(
     program: &Program,
     device: &D,
 ) -> Result<Executed, AllocError>
-    ensures { IfOk result (λ executed. executed ≡ executed_of (D.begin_of device.now) storage.now program.now (channel_execution (record { begin = D.begin_of device.now; input = D.input_of device.now; exception = D.exception_of device.now }) storage.now program.now)) }
+    ensures { IfOk result (λ executed. executed ≡ executed_by (device_view D.Device device.now) storage.now program.now) }
 {
     let status = status_after(alloc, storage, program, device)?;
     let moves = moves_by(storage, program, device, is_checked(&status));
@@ -71,8 +71,8 @@ fn moves_by<D: Device>(
     device: &D,
     checked: bool,
 ) -> ChannelMoves
-    requires checked { checked ≡ is_checked (channel_execution (record { begin = D.begin_of device.now; input = D.input_of device.now; exception = D.exception_of device.now }) storage.now program.now).state }
-    ensures { result ≡ moves_of (D.begin_of device.now) storage.now program.now (channel_execution (record { begin = D.begin_of device.now; input = D.input_of device.now; exception = D.exception_of device.now }) storage.now program.now) }
+    requires checked { checked ≡ is_checked (channel_execution (device_view D.Device device.now) storage.now program.now).state }
+    ensures { result ≡ moves_of (D.begin_of device.now) storage.now program.now (channel_execution (device_view D.Device device.now) storage.now program.now) }
 {
     let moves = ChannelMoves {
         word: word_of(storage, program),
@@ -101,7 +101,7 @@ fn status_after<D: Device>(
     program: &Program,
     device: &D,
 ) -> Result<Option<Csw>, AllocError>
-    ensures { IfOk result (λ status. status ≡ status_of (channel_execution (record { begin = D.begin_of device.now; input = D.input_of device.now; exception = D.exception_of device.now }) storage.now program.now).state) }
+    ensures { IfOk result (λ status. status ≡ status_of (channel_execution (device_view D.Device device.now) storage.now program.now).state) }
 {
     let mut plan = Plan::new(alloc);
     let step = channel_plan(alloc, storage, program, device, &mut plan)?;

@@ -1,20 +1,15 @@
 //! What the program does once its command line is read. Faults are found in the order of the steps.
 ghost use Rattle.std.specs.Prelude.{◌≡◌, ◌≢◌, ◌≤◌, true, false, length};
 ghost use Rattle.std.specs.Prelude.{IfErr, IfOk, IfSome, OnOk, Err};
-ghost use Rattle.std.specs.Io.KnownBytes.{Appends};
 ghost use Rattle.s360_model.specs.Storage.{is_storage_size};
-ghost use Rattle.s360_journal.specs.Recorded.{session_of};
-ghost use Rattle.s360_debug.specs.Debugger.{new_debugger};
-ghost use Rattle.s360_debug.specs.Lines.{lines_of};
-ghost use Rattle.s360_debug.specs.Script.{answers_of, state_after_lines};
+ghost use Rattle.s360_debug.specs.Script.{AreAnswered, session_after};
 ghost use Rattle.s360_setup.specs.Failures.{IsScriptFailure, IsAnsweringFailure};
 ghost use Rattle.s360dbg.specs.Failures.{IsRunFailure};
 ghost use Rattle.s360_setup.specs.declared.failure.Failure.TheVariants.{StorageSize};
 
-use s360_beginning::set_up;
 use s360_debug::carry_out;
 use s360_journal::Session;
-use s360_setup::{Failure, LIMIT, Options, Part, Program, open, tell};
+use s360_setup::{Failure, LIMIT, Options, Part, Program, open, set_up, tell};
 use std::alloc::Global;
 use std::io::{self, Input, IsTerminal, Read, Write};
 
@@ -60,8 +55,8 @@ fn answer<R: Read, W: Write + Drop>(
     writer: W,
 ) -> Result<W, Failure>
     ensures length { OnOk result (IfSome (R.remaining reader.old) (λ text. length text ≤ 1048576)) }
-    ensures answers { IfOk result (λ w. IfSome (R.remaining reader.old) (λ text. Appends (W.contents writer) (W.contents w) (answers_of (session_of session.old) text))) }
-    ensures state { OnOk result (IfSome (R.remaining reader.old) (λ text. session_of session.new ≡ (state_after_lines (new_debugger (session_of session.old)) (lines_of text)).session)) }
+    ensures answers { IfOk result (λ w. IfSome (R.remaining reader.old) (AreAnswered (W.contents writer) (W.contents w) session.old)) }
+    ensures state { OnOk result (IfSome (R.remaining reader.old) (λ text. session.new ≡ session_after session.old text)) }
     ensures failure { IfErr result IsScriptFailure }
 {
     Ok(carry_out(alloc, session, reader, writer)?)

@@ -2,18 +2,12 @@
 use Rattle.std.specs.Prelude.{◌≡◌, ℕ, IfSome, List, [], None, Option}
 use Rattle.std.specs.Io.KnownBytes.{Appends}
 use Rattle.s360_machine.specs.Machine.{Whole}
-use Rattle.s360_journal.specs.Standing.{Standing}
-use Rattle.s360_journal.specs.Recorded.{Recorded, session_of}
-use Rattle.s360_debug.specs.Debugger.{new_debugger}
-use Rattle.s360_debug.specs.Lines.{lines_of}
-use Rattle.s360_debug.specs.Script.{answers_of, state_after_lines}
+use Rattle.s360_journal.specs.Calls.{new_session}
+use Rattle.s360_journal.specs.Recorded.{Recorded}
+use Rattle.s360_debug.specs.Script.{answers_of, session_after}
 use Rattle.s360_remote.specs.Driven.{Driven, nothing_untold}
 use Rattle.s360gdb.specs.Conversation.{IsServedWhole}
 use Rattle.s360gdb.specs.Saving.{Known}
-
--- a machine of which no event stands yet
-abbrev pub new_session : Whole → Standing
-new_session start = record { start = start; events = []; limit = 10000000 }
 
 -- a recording as a target that nobody has asked anything of
 abbrev pub new_target : Recorded → Driven
@@ -21,8 +15,8 @@ new_target recorded = record { recorded = recorded; points = record { breaks = [
 
 -- a script of this text, where it is known, was carried out over a machine, and its answers are noted
 pub record IsFound (start : Whole) (script : Option (List ℕ)) (k l : Known) (recorded : Recorded) : Type 0 where
-  pub stands : IfSome script (λ text. session_of recorded ≡ (state_after_lines (new_debugger (new_session start)) (lines_of text)).session)
-  pub noted : IfSome script (λ text. Appends k.noted l.noted (answers_of (new_session start) text))
+  pub stands : IfSome script (λ text. recorded ≡ session_after (new_session start 10000000) text)
+  pub noted : IfSome script (λ text. Appends k.noted l.noted (answers_of (new_session start 10000000) text))
   pub asked : l.asked ≡ k.asked
 
 -- and gdb is served over what stands then

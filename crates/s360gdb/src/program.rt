@@ -15,12 +15,11 @@ use crate::file::write_file;
 use crate::host::Host;
 use crate::opening::Opening;
 use itoa::Buffer;
-use s360_beginning::set_up;
 use s360_debug::carry_out;
 use s360_journal::Session;
 use s360_machine::Machine;
 use s360_remote::{Connection, Errand, Replies, Target};
-use s360_setup::{Failure, Fault, LIMIT, Options, Part, Program, open, tell};
+use s360_setup::{Failure, Fault, LIMIT, Options, Part, Program, open, set_up, tell};
 use s360_text::{Untaken, write_whole};
 use std::alloc::AllocError;
 use std::io::{self, Input, Read, Write};
@@ -83,7 +82,7 @@ fn serve_after_script<F: Opening + Drop, N: Write + Drop, S: Read, R: Read, W: W
         files,
         notes,
     };
-    let mut target = Target::new(alloc, session, LIMIT);
+    let mut target = Target::new(alloc, session);
     serve(&mut host, &mut target, reader, writer)?;
     Ok(host)
 }

@@ -1,7 +1,7 @@
 use Rattle.std.proofs.Common.{rules, ◌≡◌, ◌≢◌, ◌+◌, ◌∙◌, ap, length, length-append, None, Some, [], ◌∷◌}
 use Rattle.s360_machine.specs.declared.refusal.Refusal.TheVariants.{Memory}
 use Rattle.s360_journal.specs.Standing.{Standing, refusal_in}
-use Rattle.s360_journal.proofs.RunningLemmas.{accepted-None, refused-Some, refused-runs}
+use Rattle.s360_journal.proofs.RunningLemmas.{accepted-None, refused-Some}
 use Rattle.s360_journal.specs.Recorded.{session_of}
 use Rattle.s360_debug.proofs.StandingLemmas.{OnOk-from}
 use Rattle.s360_debug.proofs.ReportLemmas.{accepted-text}
@@ -26,9 +26,8 @@ returns-in-Err-clause-text c =
 
 pub returns-in-Err-clause-state : goal.returns-in-Err-clause-state
 returns-in-Err-clause-state c =
-    let r = c.args.session.now
-    in let s = session_of r
+    let s = session_of c.args.session.now
     in let e = c.args.event
     in let other : c.in-Err.refusal ≢ Memory = λ same. search rules
     in let refused : refusal_in s e ≡ Some c.in-Err.refusal = refused-Some (refusal_in s e) c.forward.result c.in-Err.refusal c.in-Err.is other c.forward.ensures.refused
-    in OnOk-from c.refusal_text.result _ (ap (λ t. session_of t) c.in-Err.ensures.err ∙ (refused-runs r e c.in-Err.refusal refused).stands)
+    in OnOk-from c.refusal_text.result _ (rw refused c.in-Err.ensures.err)

@@ -1,5 +1,4 @@
-use Rattle.std.proofs.Common.{◌≡◌, ◌≢◌, ◌<◌, ◌+◌, ◌-◌, ◌∙◌, ap, get_or, pos, sym, suc, arith}
-use Rattle.s360_model.specs.ConditionCodes.{order_code}
+use Rattle.std.proofs.Common.{◌≡◌, ◌≢◌, ◌<◌, ◌+◌, ◌-◌, ◌∙◌, ap, get_or, sym, suc, arith}
 use Rattle.s360_logic.specs.Bytes.{byte_at}
 use Rattle.s360_logic.specs.LeftToRight.{comparison_code}
 use Rattle.s360_logic.proofs.FieldLemmas.{comparison_code-first, comparison_code-other, operand_bytes-at}

@@ -1,12 +1,12 @@
 use Rattle.std.proofs.Common.{◌≡◌, length}
 use Rattle.s360_logic.specs.Operands.{field_of, stored_in}
-use Rattle.s360_logic.specs.RightToLeft.{byte_from_right, digits_stored}
-use Rattle.s360_logic.proofs.RightToLeftLemmas.{LeadsTo}
+use Rattle.s360_logic.specs.RightToLeft.{digit_move}
+use Rattle.s360_logic.proofs.RightToLeftLemmas.{HasMade}
 use Rattle.s360_logic.proofs.right_to_left.make_digits.Given as goal
 
 abbrev pub invariant-loop-i : goal.invariant-loop-i
 invariant-loop-i l = record {
-  leads : LeadsTo l.row l.zone (byte_from_right (field_of l.fn.operand) (stored_in l.fn.operand) 0) (field_of l.fn.operand) l.second l.i l.held (stored_in l.operand) (digits_stored l.row l.zone (field_of l.fn.operand) l.second (stored_in l.fn.operand));
+  made : HasMade (digit_move l.row l.zone (field_of l.fn.operand) l.second) (stored_in l.fn.operand) l.i l.held (stored_in l.operand);
   storage : l.operand.storage ≡ l.fn.operand.storage;
   address : l.operand.address ≡ l.fn.operand.address;
   count : length l.operand.bytes ≡ length l.fn.operand.bytes;

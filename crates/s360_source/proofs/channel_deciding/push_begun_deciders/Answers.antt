@@ -2,6 +2,7 @@ use Rattle.std.proofs.Common.{◌≡◌, ◌++◌, ◌∙◌, ℕ, List, OnOk, S
 use Rattle.s360_store.specs.declared.place.Place.{Place}
 use Rattle.s360_device.specs.declared.device.Begin.TheVariants.{Input}
 use Rattle.s360_channel.specs.Execution.{DeviceView, command_with, lowest_address}
+use Rattle.s360_channel.specs.Steps.{device_view}
 use Rattle.s360_channel.specs.Words.{reads_backward}
 use Rattle.s360_source.specs.ChannelShapes.{executed_word}
 use Rattle.s360_source.proofs.ChannelDecidingLemmas.{input-keys}
@@ -9,7 +10,7 @@ use Rattle.s360_source.proofs.channel_deciding.push_begun_deciders.Goals as goal
 
 pub returns-in-Input : goal.returns-in-Input
 returns-in-Input g c =
-    let d : DeviceView = record { begin = g.D.Device.begin_of c.args.device.now; input = g.D.Device.input_of c.args.device.now; exception = g.D.Device.exception_of c.args.device.now }
+    let d : DeviceView = device_view g.D.Device c.args.device.now
     in let word : executed_word c.args.storage.now c.args.program.now ≡ Some c.in-Some.ccw = sym c.executed_word.ensures.word ∙ c.in-Some.is
     in let command : c.command_with-command.result ≡ command_with c.args.program.now.progress c.in-Some.ccw = c.command_with-command.ensures
     in let begun : Input c.in-Input.total ≡ d.begin (command_with c.args.program.now.progress c.in-Some.ccw) = c.in-Input.ensures.begun ∙ ap d.begin command

@@ -23,7 +23,7 @@ returns-in_ok-step-in-Reader c =
     in let change : c.map.result ≡ option_map (λ x. Reader x) c.in_ok-step-in-Reader.step.change = search rules
     in let control = rw (← c.put_unit.ensures.control) at c.requires.leaves.control
     in let media = IsMediaChangeTo-reader (media_of c.self.inside.devices) _ _ (device-step reader_kind same_reader same_reader-Decides c.self.inside.devices.reader _ _ _ run)
-    in channel-event _ _ _ _ _ _ _ _ _ _ c.self.view_is c.control-control.ensures.each run control c.put_unit.ensures.units (c.put_unit.ensures.media ∙ change) (rw c.in-Reader.is refl) (rw c.in-Reader.is (rw c.in-Reader.is at media))
+    in channel-event _ _ _ _ _ _ _ _ _ c.self.view_is c.control-control.ensures.each run control c.put_unit.ensures.units (c.put_unit.ensures.media ∙ change) (rw c.in-Reader.is refl) (rw c.in-Reader.is (rw c.in-Reader.is at media))
 
 pub returns-in_ok-step-in-Punch : goal.returns-in_ok-step-in-Punch
 returns-in_ok-step-in-Punch c =
@@ -31,7 +31,7 @@ returns-in_ok-step-in-Punch c =
     in let change : c.map-in-Punch.result ≡ option_map (λ x. Punch x) c.in_ok-step-in-Punch.step.change = search rules
     in let control = rw (← c.put_unit-in-Punch.ensures.control) at c.requires.leaves.control
     in let media = IsMediaChangeTo-punch (media_of c.self.inside.devices) _ _ (device-step punch_kind same_punch same_punch-Decides c.self.inside.devices.punch _ _ _ run)
-    in channel-event _ _ _ _ _ _ _ _ _ _ c.self.view_is c.control-control.ensures.each run control c.put_unit-in-Punch.ensures.units (c.put_unit-in-Punch.ensures.media ∙ change) (rw c.in-Punch.is refl) (rw c.in-Punch.is (rw c.in-Punch.is at media))
+    in channel-event _ _ _ _ _ _ _ _ _ c.self.view_is c.control-control.ensures.each run control c.put_unit-in-Punch.ensures.units (c.put_unit-in-Punch.ensures.media ∙ change) (rw c.in-Punch.is refl) (rw c.in-Punch.is (rw c.in-Punch.is at media))
 
 pub returns-in_ok-step-in-Printer : goal.returns-in_ok-step-in-Printer
 returns-in_ok-step-in-Printer c =
@@ -39,7 +39,7 @@ returns-in_ok-step-in-Printer c =
     in let change : c.map-in-Printer.result ≡ option_map (λ x. Printer x) c.in_ok-step-in-Printer.step.change = search rules
     in let control = rw (← c.put_unit-in-Printer.ensures.control) at c.requires.leaves.control
     in let media = IsMediaChangeTo-printer (media_of c.self.inside.devices) _ _ (device-step printer_kind same_printer same_printer-Decides c.self.inside.devices.printer _ _ _ run)
-    in channel-event _ _ _ _ _ _ _ _ _ _ c.self.view_is c.control-control.ensures.each run control c.put_unit-in-Printer.ensures.units (c.put_unit-in-Printer.ensures.media ∙ change) (rw c.in-Printer.is refl) (rw c.in-Printer.is (rw c.in-Printer.is at media))
+    in channel-event _ _ _ _ _ _ _ _ _ c.self.view_is c.control-control.ensures.each run control c.put_unit-in-Printer.ensures.units (c.put_unit-in-Printer.ensures.media ∙ change) (rw c.in-Printer.is refl) (rw c.in-Printer.is (rw c.in-Printer.is at media))
 
 pub returns-in_ok-step-in-Console : goal.returns-in_ok-step-in-Console
 returns-in_ok-step-in-Console c =
@@ -47,7 +47,7 @@ returns-in_ok-step-in-Console c =
     in let change : c.map-in-Console.result ≡ option_map (λ x. Console x) c.in_ok-step-in-Console.step.change = search rules
     in let control = rw (← c.put_unit-in-Console.ensures.control) at c.requires.leaves.control
     in let media = IsMediaChangeTo-console (media_of c.self.inside.devices) _ _ (device-step console_kind same_console same_console-Decides c.self.inside.devices.console _ _ _ run)
-    in channel-event _ _ _ _ _ _ _ _ _ _ c.self.view_is c.control-control.ensures.each run control c.put_unit-in-Console.ensures.units (c.put_unit-in-Console.ensures.media ∙ change) (rw c.in-Console.is refl) (rw c.in-Console.is (rw c.in-Console.is at media))
+    in channel-event _ _ _ _ _ _ _ _ _ c.self.view_is c.control-control.ensures.each run control c.put_unit-in-Console.ensures.units (c.put_unit-in-Console.ensures.media ∙ change) (rw c.in-Console.is refl) (rw c.in-Console.is (rw c.in-Console.is at media))
 
 pub returns-in_ok-step-in-Tape0 : goal.returns-in_ok-step-in-Tape0
 returns-in_ok-step-in-Tape0 c =
@@ -55,7 +55,7 @@ returns-in_ok-step-in-Tape0 c =
     in let change : c.map-in-Tape0.result ≡ option_map (λ x. Tape0 x) c.in_ok-step-in-Tape0.step.change = search rules
     in let control = rw (← c.put_unit-in-Tape0.ensures.control) at c.requires.leaves.control
     in let media = IsMediaChangeTo-tape0 (media_of c.self.inside.devices) _ _ (device-step tape_kind same_tape same_tape-Decides c.self.inside.devices.tape0 _ _ _ run)
-    in channel-event _ _ _ _ _ _ _ _ _ _ c.self.view_is c.control-control.ensures.each run control c.put_unit-in-Tape0.ensures.units (c.put_unit-in-Tape0.ensures.media ∙ change) (rw c.in-Tape0.is refl) (rw c.in-Tape0.is (rw c.in-Tape0.is at media))
+    in channel-event _ _ _ _ _ _ _ _ _ c.self.view_is c.control-control.ensures.each run control c.put_unit-in-Tape0.ensures.units (c.put_unit-in-Tape0.ensures.media ∙ change) (rw c.in-Tape0.is refl) (rw c.in-Tape0.is (rw c.in-Tape0.is at media))
 
 pub returns-in_ok-step-in-Tape1 : goal.returns-in_ok-step-in-Tape1
 returns-in_ok-step-in-Tape1 c =
@@ -63,4 +63,4 @@ returns-in_ok-step-in-Tape1 c =
     in let change : c.map-in-Tape1.result ≡ option_map (λ x. Tape1 x) c.in_ok-step-in-Tape1.step.change = search rules
     in let control = rw (← c.put_unit-in-Tape1.ensures.control) at c.requires.leaves.control
     in let media = IsMediaChangeTo-tape1 (media_of c.self.inside.devices) _ _ (device-step tape_kind same_tape same_tape-Decides c.self.inside.devices.tape1 _ _ _ run)
-    in channel-event _ _ _ _ _ _ _ _ _ _ c.self.view_is c.control-control.ensures.each run control c.put_unit-in-Tape1.ensures.units (c.put_unit-in-Tape1.ensures.media ∙ change) (rw c.in-Tape1.is refl) (rw c.in-Tape1.is (rw c.in-Tape1.is at media))
+    in channel-event _ _ _ _ _ _ _ _ _ c.self.view_is c.control-control.ensures.each run control c.put_unit-in-Tape1.ensures.units (c.put_unit-in-Tape1.ensures.media ∙ change) (rw c.in-Tape1.is refl) (rw c.in-Tape1.is (rw c.in-Tape1.is at media))
