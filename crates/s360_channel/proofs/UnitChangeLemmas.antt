@@ -1,11 +1,9 @@
 -- What an event alters of the units: done twice, the exchange restores both; and what is planned makes the units of it.
-use Rattle.std.proofs.Common.{◌≡◌, ◌≢◌, ◌<◌, ◌+◌, ◌++◌, ℕ, zero, suc, Bool, true, false, cond, not, nat_eq, ◌==◌, filter, List, [], ◌∷◌, length, map, take, get_or, refl, sym, ap, subst, ◌∙◌, arith, get_or-set_same, get_or-set_other, set-set, length-set, ext_get_or, if◌then◌else◌}
+use Rattle.std.proofs.Common.{◌≡◌, ◌≢◌, ◌<◌, ◌+◌, ◌++◌, ℕ, zero, suc, Bool, true, false, cond, not, nat_eq, ◌==◌, filter, List, [], ◌∷◌, length, map, take, get_or, refl, sym, ap, subst, ◌∙◌, arith, get_or-set_same, get_or-set_other, set-set, length-set, ext_get_or, if◌then◌else◌, append-nil, Option, Some, None}
 use Rattle.std.proofs.lemmas.Bool.Decides.{Decides-eqb}
-use Rattle.std.proofs.lemmas.List.{append-nil}
 use Rattle.std.proofs.lemmas.List.Elements.{filter_more}
 use Rattle.std.proofs.Math.Seq.{set-get_or}
 use Rattle.std.proofs.SliceLists.{any-default}
-use Rattle.std.specs.Prelude.{Option, Some, None}
 use Rattle.s360_model.specs.Exchanges.{back_if_any}
 use Rattle.s360_channel.specs.declared.configured_unit.ConfiguredUnit.{ConfiguredUnit}
 use Rattle.s360_channel.specs.declared.configured_unit.ConfiguredUnit.TheVariants.{Reader, Punch, Printer, Console, Tape0, Tape1}
@@ -13,10 +11,8 @@ use Rattle.s360_channel.specs.declared.unit_change.UnitChange.{UnitChange}
 use Rattle.s360_channel.specs.declared.unit_change.UnitChange.TheVariants.{One, Attention, Several}
 use Rattle.s360_channel.specs.declared.unit_control.UnitControl.{UnitControl}
 use Rattle.s360_channel.specs.Units.{idle_unit}
-use Rattle.s360_channel.specs.Differences.{same_unit}
-use Rattle.s360_channel.specs.ConfiguredUnits.{Units, HasEachUnit, configured_units, control_of, index_of, with_control_of}
-use Rattle.s360_channel.specs.ConfiguredUnits.{SeveralUnits}
-use Rattle.s360_channel.specs.Differences.{altered_units, state_place}
+use Rattle.s360_channel.specs.Differences.{same_unit, altered_units, state_place}
+use Rattle.s360_channel.specs.ConfiguredUnits.{Units, HasEachUnit, configured_units, control_of, index_of, with_control_of, SeveralUnits}
 use Rattle.s360_channel.specs.UnitChanges.{CanSwapUnits, IsUnitsChangeTo, places_of_units, unit_change_after_swap, units_after_swap}
 use Rattle.s360_channel.proofs.DifferenceLemmas.{same_unit-Decides}
 

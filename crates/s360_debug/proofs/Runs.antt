@@ -1,6 +1,5 @@
 -- The lines of a script that are answered so far.
-use Rattle.std.proofs.Common.{◌≡◌, ◌≤◌, ◌+◌, ◌++◌, ◌∷◌, [], ℕ, List, refl, sym, ap, ◌∙◌, Option, Some, None, Bool, true, false, nat_eq, length, append_assoc, add_assoc, arith, if◌then◌else◌, IfSome}
-use Rattle.std.proofs.lemmas.List.{append-nil, length-append}
+use Rattle.std.proofs.Common.{◌≡◌, ◌≤◌, ◌+◌, ◌++◌, ◌∷◌, [], ℕ, List, refl, sym, ap, ◌∙◌, Option, Some, None, Bool, true, false, nat_eq, length, append_assoc, add_assoc, arith, if◌then◌else◌, IfSome, append-nil, length-append}
 use Rattle.std.specs.Io.KnownBytes.{Appends}
 use Rattle.s360_journal.specs.Recorded.{Recorded}
 use Rattle.s360_language.specs.Reading.{reading_of}
@@ -154,7 +153,7 @@ IsStopped-unread old (Some text) d =
     }
 
 pub AreCarriedOut-cut : (old new remaining : Option (List ℕ)) (r t : Recorded)
-    → IfSome remaining (λ text. WasCut old new r t text) → IfSome remaining (λ text. AreCarriedOut r t text)
+    → WasCut remaining old new r t → IfSome remaining (λ text. AreCarriedOut r t text)
 AreCarriedOut-cut old new None r t h = tt
 AreCarriedOut-cut old new (Some text) r t h = record {
   done = h.done ++ h.next ∷ [];

@@ -1,16 +1,13 @@
 -- The numbers of each place.
 use denote.Param.Members.{Mut, Called}
-use Rattle.std.proofs.Common.{◌≡◌, ◌≢◌, ◌<◌, ◌≤◌, ◌+◌, ◌||◌, ℕ, zero, suc, Bool, true, false, cond, eqb, eqb-true, List, [], ◌∷◌, length, get_or, set, Option, Some, None, Vec, refl, ap, sym, subst, inl, inr, ◌∙◌, map, arith}
+use Rattle.std.proofs.Common.{◌≡◌, ◌≢◌, ◌<◌, ◌≤◌, ◌+◌, ◌||◌, ℕ, zero, suc, Bool, true, false, cond, eqb, eqb-true, List, [], ◌∷◌, length, get_or, set, Option, Some, None, Vec, refl, ap, sym, subst, inl, inr, ◌∙◌, map, arith, option_map, Ordering, Less, Equal, Greater}
 use Rattle.std.proofs.Math.ListN.{get_or-map}
 use Rattle.std.proofs.lemmas.Bool.Decides.{eqb_tells}
 use Rattle.std.proofs.lemmas.List.FromFn.{length-range_with_len}
 use Rattle.std.proofs.lemmas.Option.{get_or_from_slice_get, slice_get-get_or, slice_get-map, slice_get_past, slice_get_within}
 use Rattle.std.specs.Array.{IsFromFnResultFrom}
 use Rattle.std.specs.List.{AllZip, range_with_len, slice_get}
-use Rattle.std.specs.Option.{option_map}
 use Rattle.std.specs.Ordering.{is_eq, match_ordering}
-use Rattle.std.specs.declared.cmp.Ordering.{Ordering}
-use Rattle.std.specs.declared.cmp.Ordering.TheVariants.{Less, Equal, Greater}
 use Rattle.std.specs.BTreeMap.{insert_entry, is_at}
 use Rattle.std.specs.Map.{lookup, set_value}
 use Rattle.s360_index.proofs.SegmentLemmas.{slice_get-set_at, slice_get-set_other}
@@ -324,6 +321,13 @@ or-none false = refl
 
 pub Gains-one : (k : ℕ) (q : Place) (g h : Histories) → Changes (with_number k) q g h → Gains k (q ∷ []) g h
 Gains-one k q g h c p = c p ∙ ap (λ b. cond b (with_number k (numbers g p)) (numbers g p)) (sym (or-none (same_place q p)))
+
+pub Keeps-other : {A : Type 0} (psw : List ℕ) (rs : List (Vec ℕ A)) (s : Segments) (es fs : List (Place × Vec ℕ A))
+    → ((p : Place) → numbers_among (shown fs) p ≡ numbers_among (shown es) p) → Keeps (seen psw rs s es) (seen psw rs s fs)
+Keeps-other psw rs s es fs h Psw = refl
+Keeps-other psw rs s es fs h (Byte a) = refl
+Keeps-other {A} psw rs s es fs h (Register n) = ap (λ ns. numbers_or (slice_get (map (λ (v : Vec ℕ A). v.items) rs) n) ns) (h (Register n))
+Keeps-other psw rs s es fs h p = h p
 
 pub GainsInPart-none : (k : ℕ) (ps : List Place) (g h : Histories) → Keeps g h → GainsInPart k ps g h
 GainsInPart-none k ps g h same = record { each = λ p. inl (same p); outside = λ p o. same p }

@@ -1,7 +1,6 @@
 -- The bytes of storage in segments, after a change.
-use Rattle.std.proofs.Common.{◌≡◌, ◌≢◌, ◌<◌, ◌≤◌, ◌+◌, ◌++◌, ◌⊎◌, ◌∙◌, ℕ, zero, suc, Option, Some, None, Result, Ok, Err, List, [], ◌∷◌, true, false, refl, ap, sym, subst, inl, inr, set, length, arith, ◌-◌, take, replicate}
+use Rattle.std.proofs.Common.{◌≡◌, ◌≢◌, ◌<◌, ◌≤◌, ◌+◌, ◌++◌, ◌⊎◌, ◌∙◌, ℕ, zero, suc, Option, Some, None, Result, Ok, Err, List, [], ◌∷◌, true, false, refl, ap, sym, subst, inl, inr, set, length, arith, ◌-◌, take, replicate, OnErr, slice_index_or}
 use Rattle.std.specs.List.{AllZip, slice_get}
-use Rattle.std.specs.Prelude.{OnErr, slice_index_or}
 use Rattle.std.proofs.lemmas.Bool.{and_from, and_left, and_parts, and_right, cases_eq, cases_lt, cond-true, cond-false, le-leb, leb-true, lt-leb, lt-ltb, le-ltb, ltb-true}
 use Rattle.std.proofs.lemmas.List.{get_or_append_left, get_or-append_right, get_or_past, length-set, length_push, take_all}
 use Rattle.std.proofs.lemmas.List.Elements.{length_all_zip}
@@ -33,11 +32,9 @@ slice_get-set_at (x ∷ xs) zero y l = refl
 slice_get-set_at (x ∷ xs) (suc i) y l = slice_get-set_at xs i y (omega (arith, l))
 
 pub slice_get-set_other : {X : Type 0} (xs : List X) (i j : ℕ) (y : X) → j ≢ i → slice_get (set xs i y) j ≡ slice_get xs j
-slice_get-set_other [] i j y n = refl
 slice_get-set_other (x ∷ xs) zero zero y n = absurd (n refl)
-slice_get-set_other (x ∷ xs) zero (suc j) y n = refl
-slice_get-set_other (x ∷ xs) (suc i) zero y n = refl
 slice_get-set_other (x ∷ xs) (suc i) (suc j) y n = slice_get-set_other xs i j y (λ e. n (ap suc e))
+slice_get-set_other xs i j y n = refl
 
 -- which element it is
 pub cases_push : {X : Type 0} (xs : List X) (y x : X) (j : ℕ) → slice_get (xs ++ y ∷ []) j ≡ Some x → ((j ≡ length xs) × (x ≡ y)) ⊎ (slice_get xs j ≡ Some x)

@@ -1,4 +1,4 @@
--- For each place, the numbers of the changes that altered it.
+-- For each place, the numbers of the changes that altered it (kept).
 use Rattle.std.specs.Prelude.{◌≡◌, ℕ, true, false, if◌then◌else◌, Option, Some, None, List, [], ◌∷◌, slice_get, slice_index_or}
 use Rattle.s360_store.specs.declared.place.Place.{Place}
 use Rattle.s360_store.specs.declared.place.Place.TheVariants.{Psw, Register, Byte}
@@ -27,6 +27,11 @@ numbers h Psw = h.psw
 numbers h (Register n) = numbers_or (slice_get h.registers n) (numbers_among h.others (Register n))
 numbers h (Byte a) = slice_index_or h.bytes a []
 numbers h p = numbers_among h.others p
+
+-- of other places, one has its numbers changed so, and all others are as before
+abbrev pub ChangesAmong : (List ℕ → List ℕ) → Place → List (Place × List ℕ) → List (Place × List ℕ) → Type 0
+ChangesAmong change p old new =
+    (q : Place) → numbers_among new q ≡ (if same_place p q then change (numbers_among old q) else numbers_among old q)
 
 -- places have a number at their end, and all others are as before
 abbrev pub Gains : ℕ → List Place → Histories → Histories → Type 0

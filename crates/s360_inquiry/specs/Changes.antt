@@ -1,7 +1,6 @@
 -- The changes of a place (own profile): each is told by its number and its event, and by the place with its value before
 -- and after.
-use Rattle.std.specs.Prelude.{ℕ, ◌-◌, Option, Some, None, List, [], ◌∷◌, ◌++◌, codes, drop, length, min}
-use Rattle.std.specs.List.{flat_map}
+use Rattle.std.specs.Prelude.{ℕ, ◌-◌, Option, Some, None, List, [], ◌∷◌, ◌++◌, codes, drop, length, min, flat_map}
 use Rattle.s360_model.specs.Text.{decimal}
 use Rattle.s360_store.specs.declared.place.Place.{Place}
 use Rattle.s360_machine.specs.declared.event_kind.EventKind.{EventKind}
@@ -10,8 +9,8 @@ use Rattle.s360_journal.specs.Rerun.{changes_of, last_change_of}
 use Rattle.s360_journal.specs.Standing.{last_kind_of, machine_of}
 use Rattle.s360_journal.specs.Recorded.{Recorded, session_of, standing_events, with_standing}
 use Rattle.s360_language.specs.Names.{place_name}
+use Rattle.s360_language.specs.Values.{value_words}
 use Rattle.s360_inquiry.specs.Happenings.{happening_words}
-use Rattle.s360_inquiry.specs.Values.{value_words}
 
 -- a record of which the changes before that of a number stand
 abbrev pub just_before : Recorded → ℕ → Recorded

@@ -1,7 +1,6 @@
 -- A session's machine is its start with the standing events run again.
-use Rattle.std.proofs.Common.{arith, ◌+◌, ◌≡◌, ◌-◌, ◌++◌, ℕ, zero, suc, length, List, [], ◌∷◌, refl, ap, sym, ◌∙◌, map, reverse, subst, Option, Some, None, Ok}
+use Rattle.std.proofs.Common.{arith, ◌+◌, ◌≡◌, ◌-◌, ◌++◌, ℕ, zero, suc, length, List, [], ◌∷◌, refl, ap, sym, ◌∙◌, map, reverse, subst, Option, Some, None, Ok, slice_get}
 use Rattle.std.proofs.lemmas.List.{reverse-append, reverse-reverse, map_push, length-append}
-use Rattle.std.specs.List.{slice_get}
 use Rattle.s360_machine.specs.declared.event.Event.{Event}
 use Rattle.s360_machine.specs.declared.refusal.Refusal.{Refusal}
 use Rattle.s360_machine.specs.Machine.{Machine, Whole, storage_size, seen}
@@ -93,13 +92,11 @@ machine_of-view w xs limit s h e = sym (rerun-unwound w xs h) ∙ ap (λ t. mach
 
 -- the last of a list that is not empty
 last-at : {X : Type 0} (xs : List X) (n : ℕ) (x : X) → n + 1 ≡ length xs → slice_get xs n ≡ Some x → (ys : List X) × (xs ≡ ys ++ x ∷ [])
-last-at [] n x l h = absurd (omega (arith, l))
 last-at (y ∷ []) zero x l h = let same : y ≡ x = cc in ([], ap (λ z. z ∷ []) same)
-last-at (y ∷ []) (suc n) x l h = absurd (omega (arith, l))
-last-at (y ∷ z ∷ zs) zero x l h = absurd (omega (arith, l))
 last-at (y ∷ z ∷ zs) (suc n) x l h =
     let more : (ys : List _) × (z ∷ zs ≡ ys ++ x ∷ []) = last-at (z ∷ zs) n x (omega (arith, l)) h
     in (y ∷ more.0, ap (λ l. y ∷ l) more.1)
+last-at xs n x l h = absurd (omega (arith, l))
 
 pub last-split : {X : Type 0} (xs : List X) (x : X) → slice_get xs (length xs - 1) ≡ Some x → (ys : List X) × (xs ≡ ys ++ x ∷ [])
 last-split [] x h = absurd (cc)

@@ -1,8 +1,5 @@
 -- The numbers of the changes of a place, in an index of a session's changes and by the events run again.
-use Rattle.std.proofs.Common.{◌≡◌, ◌<◌, ◌≤◌, ◌+◌, ◌-◌, ◌++◌, ◌∙◌, inl, inr, ℕ, zero, suc, Bool, true, false, cond, ◌||◌, List, [], ◌∷◌, Option, Some, None, Result, Ok, Err, refl, ap, sym, subst, map, reverse, length, take, set, eqb, append-nil, arith}
-use Rattle.std.specs.Bool.{MatchBool}
-use Rattle.std.specs.Prelude.{IfSome, OnErr, OnOk}
-use Rattle.std.specs.Result.{is_err}
+use Rattle.std.proofs.Common.{◌≡◌, ◌<◌, ◌≤◌, ◌+◌, ◌-◌, ◌++◌, ◌∙◌, inl, inr, ℕ, zero, suc, Bool, true, false, cond, ◌||◌, List, [], ◌∷◌, Option, Some, None, Result, Ok, Err, refl, ap, sym, subst, map, reverse, length, take, set, eqb, append-nil, arith, MatchBool, IfSome, OnErr, OnOk, is_err}
 use Rattle.std.specs.List.{list_any, slice_get}
 use Rattle.std.proofs.lemmas.List.Folds.{list_any-append}
 use Rattle.std.proofs.lemmas.List.{append_assoc, length-append, length-map, length-reverse, length-set, length-take-le, map_push, reverse-append, reverse-reverse, take-set, take_at}
@@ -336,19 +333,6 @@ last-of ys k some is =
 pub ok-there : {A E : Type 0} (r : Result A E) (P : Type 0) → is_err r ≡ false → OnOk r P → P
 ok-there (Ok a) P h p = p
 ok-there (Err e) P h p = absurd (let no : true ≡ false = h in cc)
-
--- what a clause on a result comes to
-pub ok-from : {A E : Type 0} (r : Result A E) (P Q : Type 0) → (P → Q) → OnOk r P → OnOk r Q
-ok-from (Ok a) P Q f p = f p
-ok-from (Err e) P Q f p = p
-
-pub err-from : {A E : Type 0} (r : Result A E) (P Q : Type 0) → (P → Q) → OnErr r P → OnErr r Q
-err-from (Ok a) P Q f p = p
-err-from (Err e) P Q f p = f p
-
-pub err-any : {A E : Type 0} (r : Result A E) (P : Type 0) → P → OnErr r P
-err-any (Ok a) P p = tt
-err-any (Err e) P p = p
 
 -- spans of a change, some of which are past, and the numbers that were put at their places
 pub record Indexing (k : ℕ) (g h : Histories) (all left : List Span) : Type 0 where

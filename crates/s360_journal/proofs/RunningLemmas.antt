@@ -1,11 +1,7 @@
 -- A run, turn by turn.
-use Rattle.std.proofs.Common.{◌≡◌, ◌≢◌, ◌≤◌, ◌<◌, ◌+◌, ◌-◌, ◌++◌, ◌∷◌, ◌∙◌, [], ℕ, zero, suc, List, Option, Some, None, is_some, Bool, true, false, not, nat_eq, refl, sym, ap, subst, append_assoc, arith, drop, length, length-append, take, Ok, Err, IsOkUnless}
-use Rattle.std.specs.Prelude.{◌↔◌, IsTrue, MatchOption, OnErr, Result}
+use Rattle.std.proofs.Common.{◌≡◌, ◌≢◌, ◌≤◌, ◌<◌, ◌+◌, ◌-◌, ◌++◌, ◌∷◌, ◌∙◌, [], ℕ, zero, suc, List, Option, Some, None, is_some, Bool, true, false, not, nat_eq, refl, sym, ap, subst, append_assoc, arith, drop, length, length-append, take, Ok, Err, IsOkUnless, ◌↔◌, IsTrue, MatchOption, OnErr, Result, slice_get, eq-eqb, eqb-true, true≢false, append-nil, length-take}
 use Rattle.std.specs.Cmp.{both_ways}
-use Rattle.std.specs.List.{slice_get}
 use Rattle.std.specs.Option.{option_map, option_map_or, unwrap_or}
-use Rattle.std.proofs.lemmas.Bool.{eq-eqb, eqb-true, true≢false}
-use Rattle.std.proofs.lemmas.List.{append-nil, length-take}
 use Rattle.std.proofs.Math.Seq.{take-append_seam}
 use Rattle.s360_store.specs.declared.place.Place.{Place}
 use Rattle.s360_machine.specs.EventKinds.{kind_of_event}
@@ -188,17 +184,11 @@ pause-of idle altered reached ended stops reach s rest e h i k l =
 -- the last event, as its kind alone
 kind-cpu : (e : Event) → kind_of_event e ≡ cpu_kind → is_cpu e ≡ true
 kind-cpu Cpu h = refl
-kind-cpu (Channel u) h = absurd (cc)
-kind-cpu Tick h = absurd (cc)
-kind-cpu (Key k) h = absurd (cc)
-kind-cpu (patch p) h = absurd (cc)
+kind-cpu e h = absurd (cc)
 
 kind-other : (e : Event) → kind_of_event e ≢ cpu_kind → is_cpu e ≡ false
 kind-other Cpu h = absurd (h refl)
-kind-other (Channel u) h = refl
-kind-other Tick h = refl
-kind-other (Key k) h = refl
-kind-other (patch p) h = refl
+kind-other e h = refl
 
 pub last-cpu : (o : Option Event) → option_map kind_of_event o ≡ Some cpu_kind → option_map_or is_cpu o false ≡ true
 last-cpu None h = absurd (cc)

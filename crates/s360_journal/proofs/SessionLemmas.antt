@@ -1,16 +1,13 @@
 -- Events and changes of a session, side by side as entries.
-use Rattle.std.proofs.Common.{◌≡◌, ◌<◌, ◌+◌, ◌-◌, ◌++◌, ◌∙◌, ℕ, zero, suc, List, [], ◌∷◌, Some, None, Ok, refl, ap, sym, subst, map, reverse, length, take, set, arith}
-use Rattle.std.specs.List.{slice_get}
-use Rattle.std.specs.Prelude.{IfSome}
+use Rattle.std.proofs.Common.{◌≡◌, ◌<◌, ◌+◌, ◌-◌, ◌++◌, ◌∙◌, ℕ, zero, suc, List, [], ◌∷◌, Some, None, Ok, refl, ap, sym, subst, map, reverse, length, take, set, arith, slice_get, IfSome}
 use Rattle.std.proofs.lemmas.List.{length-append, length-map, reverse-append}
 use Rattle.std.proofs.lemmas.Option.{slice_get-get_or}
 use Rattle.s360_machine.specs.declared.event.Event.{Event}
-use Rattle.s360_machine.specs.Machine.{Whole, seen}
+use Rattle.s360_machine.specs.Machine.{Whole, seen, storage_size}
 use Rattle.s360_machine.specs.Change.{CanSwap, Change, HasRoom, NeedsNoRoom, after_swap, change_after_swap, places_of_change}
 use Rattle.s360_machine.specs.Packed.{IsSwapOf}
 use Rattle.s360_machine.specs.Planned.{IsChangeTo}
 use Rattle.s360_machine.specs.Refusals.{refusal_of}
-use Rattle.s360_machine.specs.Machine.{storage_size}
 use Rattle.s360_machine.specs.Step.{after, step}
 use Rattle.s360_journal.specs.Advances.{IsMade, LeadsOn, LedFrom}
 use Rattle.s360_journal.specs.History.{AreHistory, Entry, IsHistory, entries_of, unwound}
@@ -116,11 +113,9 @@ pub record Last (w : Whole) (es : List Event) (xs : List Change) (fs : List Even
   pub start : unwound w (reverse (entries_of es xs)) ≡ unwound (after_swap w x) (reverse (entries_of fs (take (length xs - 1) xs)))
 
 pub split-last : {X : Type 0} (xs : List X) (n : ℕ) → length xs ≡ n + 1 → (x : X) × (xs ≡ take n xs ++ x ∷ [])
-split-last [] n l = absurd (omega (arith, l))
 split-last (x ∷ []) zero l = (x, refl)
-split-last (x ∷ []) (suc n) l = absurd (omega (arith, l))
-split-last (x ∷ y ∷ ys) zero l = absurd (omega (arith, l))
 split-last (x ∷ y ∷ ys) (suc n) l = let more : (z : _) × (y ∷ ys ≡ take n (y ∷ ys) ++ z ∷ []) = split-last (y ∷ ys) n (omega (arith, l)) in (more.0, ap (λ k. x ∷ k) more.1)
+split-last xs n l = absurd (omega (arith, l))
 
 pub last-session : (w : Whole) (es : List Event) (xs : List Change) (fs : List Event) (e : Event) → AreHistory w es xs → es ≡ fs ++ e ∷ [] → (x : Change) × Last w es xs fs e x
 last-session w es xs fs e h is =

@@ -1,6 +1,5 @@
 -- Events, each in a byte with what it carries in lists apart.
-use Rattle.std.proofs.Common.{◌≡◌, ◌-◌, ◌++◌, ◌∙◌, List, [], ◌∷◌, Some, None, refl, ap, arith, length, reverse}
-use Rattle.std.specs.List.{slice_get}
+use Rattle.std.proofs.Common.{◌≡◌, ◌-◌, ◌++◌, ◌∙◌, List, [], ◌∷◌, Some, None, refl, ap, arith, length, reverse, slice_get}
 use Rattle.std.proofs.lemmas.List.{length-append, reverse-append}
 use Rattle.s360_word.specs.declared.unit.Unit.{Unit as UnitAddress}
 use Rattle.s360_machine.specs.declared.event.Event.{Event}
@@ -12,15 +11,10 @@ use Rattle.s360_journal.specs.Noted.{event_of_tag}
 -- the nearest of them
 pub first_of_events : (ts : List Tag) (us : List UnitAddress) (os : List Event) → AreEvents ts us os
     → event_of_tag (slice_get ts 0) (slice_get us 0) (slice_get os 0) ≡ slice_get (events_of ts us os) 0
-first_of_events [] us os h = refl
-first_of_events (cpu ∷ ts) us os h = refl
-first_of_events (tick ∷ ts) us os h = refl
 first_of_events (channel ∷ ts) [] os h = absurd h
-first_of_events (channel ∷ ts) (u ∷ us) os h = refl
 first_of_events (load ∷ ts) [] os h = absurd h
-first_of_events (load ∷ ts) (u ∷ us) os h = refl
 first_of_events (other ∷ ts) us [] h = absurd h
-first_of_events (other ∷ ts) us (e ∷ os) h = refl
+first_of_events ts us os h = refl
 
 -- as many as bytes
 pub length_of_events : (ts : List Tag) (us : List UnitAddress) (os : List Event) → AreEvents ts us os → length (events_of ts us os) ≡ length ts
@@ -58,11 +52,7 @@ cons_is_some h = cc
 pub none_of_events : (ts : List Tag) (us : List UnitAddress) (os : List Event) → AreEvents ts us os → events_of ts us os ≡ []
     → (ts ≡ []) × (us ≡ []) × (os ≡ [])
 none_of_events [] us os h none = (refl, h.0, h.1)
-none_of_events (cpu ∷ ts) us os h none = absurd (cons_is_some none)
-none_of_events (tick ∷ ts) us os h none = absurd (cons_is_some none)
 none_of_events (channel ∷ ts) [] os h none = absurd h
-none_of_events (channel ∷ ts) (u ∷ us) os h none = absurd (cons_is_some none)
 none_of_events (load ∷ ts) [] os h none = absurd h
-none_of_events (load ∷ ts) (u ∷ us) os h none = absurd (cons_is_some none)
 none_of_events (other ∷ ts) us [] h none = absurd h
-none_of_events (other ∷ ts) us (e ∷ os) h none = absurd (cons_is_some none)
+none_of_events ts us os h none = absurd (cons_is_some none)

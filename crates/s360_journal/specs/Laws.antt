@@ -1,7 +1,6 @@
 -- What the last change of a place, the breakpoints and the last stop are, in other words than those of their
 -- definitions.
-use Rattle.std.specs.Prelude.{◌≡◌, ◌≢◌, ◌<◌, ◌≤◌, ◌+◌, ◌↔◌, ◌⊎◌, ℕ, zero, suc, true, false, List, [], ◌∷◌, length, take, Option, Some, None, Ok}
-use Rattle.std.specs.List.{Contains}
+use Rattle.std.specs.Prelude.{◌≡◌, ◌≢◌, ◌<◌, ◌≤◌, ◌+◌, ◌↔◌, ◌⊎◌, ℕ, zero, suc, true, false, List, [], ◌∷◌, length, take, Option, Some, None, Ok, Contains}
 use Rattle.s360_store.specs.declared.place.Place.{Place}
 use Rattle.s360_machine.specs.declared.event.Event.{Event}
 use Rattle.s360_machine.specs.Machine.{Machine, seen, storage_size}
@@ -65,5 +64,6 @@ LastStopIsTheGreatest =
 -- what was taken back is run again by the next turn, which leads to the very record that was
 abbrev pub TurnRunsAgain : Type 0
 TurnRunsAgain =
-    (stops : WhereToStop) (reach : Reach) (r : Recorded) → AreAccepted (seen r.start) r.events → length r.events ≤ r.limit → 0 < r.standing → r.standing ≤ length r.events
+    (stops : WhereToStop) (reach : Reach) (r : Recorded)
+    → AreAccepted (seen r.start) r.events → length r.events ≤ r.limit → 0 < r.standing → r.standing ≤ length r.events
     → after_events (one_back r) (run_in stops Next reach (one_back r) 1).events ≡ r

@@ -4,16 +4,18 @@ ghost use Rattle.std.specs.Prelude.{IsOkUnless, MatchOption, max, min};
 ghost use Rattle.std.specs.Option.{unwrap_or};
 ghost use Rattle.s360_machine.specs.Machine.{seen, storage_size};
 ghost use Rattle.s360_machine.specs.declared.refusal.Refusal.TheVariants.{Memory};
-ghost use Rattle.s360_journal.specs.Recorded.{IsRunAgain, after_event, cut_to, next_recorded, session_of, standing_events, with_standing, without_last};
+ghost use Rattle.s360_journal.specs.Recorded.{IsOffered, IsRunAgain, after_event, cut_to, next_recorded, session_of};
+ghost use Rattle.s360_journal.specs.Recorded.{standing_events, with_standing, without_last};
 ghost use Rattle.s360_journal.specs.Reports.{IsReport};
 ghost use Rattle.s360_journal.specs.Rerun.{rerun, AreAccepted, changes_of, last_change_of};
 ghost use Rattle.s360_journal.specs.Returning.{one_back};
 ghost use Rattle.s360_journal.specs.Running.{next_event};
 ghost use Rattle.s360_journal.specs.Stops.{stop_of};
-ghost use Rattle.s360_journal.specs.Standing.{IsAfter, Standing, machine_of, refusal_in, alteration, last_kind_of};
+ghost use Rattle.s360_journal.specs.Standing.{IsAfter, Standing, before_last, machine_of, refusal_in, alteration, last_kind_of};
 ghost use Rattle.s360_journal.specs.Timelines.{HasRoomFor, IsNoted, dropped_with};
 ghost use Rattle.s360_journal.specs.Withdrawals.{AreAllowed, is_standing};
 ghost use Rattle.s360_machine.specs.declared.event.Event.{Event as AnEvent};
+ghost use Rattle.s360_machine.specs.declared.event.Event.TheVariants.{Cpu};
 
 use crate::breaks::Breaks;
 use crate::journal::Journal;
@@ -47,17 +49,13 @@ pub struct Session {
 }
 
 impl Model for Session {
-    ghost use Rattle.std.specs.Prelude.{◌≤◌, ◌+◌, ◌++◌, length};
-    ghost use Rattle.s360_machine.specs.Machine.{seen};
-    ghost use Rattle.s360_journal.specs.Advances.{AreLed, start_of};
-    ghost use Rattle.s360_journal.specs.Recorded.{Recorded};
-    ghost use Rattle.s360_journal.specs.Rerun.{AreAccepted};
+    ghost use Rattle.s360_journal.specs.Recorded.{IsSession, Recorded, recorded_of};
 
     ghost Value = { Recorded };
 
-    ghost view = { λ s. record { start = start_of s.journal.whole s.timeline.standing s.journal.changes; events = s.timeline.standing ++ s.timeline.rest; standing = length s.timeline.standing; limit = s.limit; dropped = s.dropped } };
+    ghost view = { λ s. recorded_of s.journal s.timeline s.limit s.dropped };
 
-    ghost invariant = { λ s. AreLed s.timeline.standing s.journal × AreAccepted (seen s.journal.whole) s.timeline.rest × (length s.timeline.standing + length s.timeline.rest ≤ s.limit) × (s.limit ≤ 10000000) };
+    ghost invariant = { λ s. IsSession s.journal s.timeline s.limit };
 }
 
 impl Session {
@@ -220,6 +218,7 @@ impl Session {
 
     /// Runs an event, which then stands, also where it alters nothing, and reports nothing of it: the next of the record, or
     /// else its last from now on. A refused one changes nothing.
+    #[inline(always)]
     pub fn advance(&mut self, event: Event) -> Result<(), Refusal>
         ensures ok { OnOk result (self.new ≡ after_event self.old event) }
         ensures stands { OnOk result (IsAfter (session_of self.new) (session_of self.old) event) }
@@ -229,9 +228,25 @@ impl Session {
     {
         match event {
             // So the compiler has the most frequent event for itself.
-            Event::Cpu => self.offer(Event::Cpu),
-            event => self.offer(event),
+            Event::Cpu => self.advance_cpu(),
+            event => self.advance_other(event),
         }
+    }
+
+    /// Runs an event of the CPU as `advance` does.
+    #[inline(never)]
+    fn advance_cpu(&mut self) -> Result<(), Refusal>
+        ensures { IsOffered self.old Cpu result self.new }
+    {
+        self.offer(Event::Cpu)
+    }
+
+    /// Runs any event as `advance` does.
+    #[inline(never)]
+    fn advance_other(&mut self, event: Event) -> Result<(), Refusal>
+        ensures { IsOffered self.old event result self.new }
+    {
+        self.offer(event)
     }
 
     /// Runs an event as `advance` does.
@@ -315,7 +330,7 @@ impl Session {
     /// Takes the last change that stands back. Its event stays in the record, and comes next. It takes no memory.
     pub fn step_back(&mut self) -> Result<(), NothingStands>
         ensures ok { self.new ≡ one_back self.old }
-        ensures stands { OnOk result (session_of self.new ≡ record (session_of self.old) { events = take (length (standing_events self.old) - 1) (standing_events self.old) }) }
+        ensures stands { OnOk result (session_of self.new ≡ before_last (session_of self.old)) }
         ensures some { OnOk result (0 < self.old.standing) }
         ensures err { OnErr result (self.new ≡ self.old) }
         ensures nothing { OnErr result (self.old.standing ≡ 0) }

@@ -23,13 +23,12 @@ pub(crate) struct Timeline {
 }
 
 impl Model for Timeline {
-    ghost use Rattle.std.specs.Prelude.{◌-◌, length, reverse};
     ghost use Rattle.s360_journal.specs.Timelines.{Timeline};
-    ghost use Rattle.s360_journal.specs.Events.{AreEvents, events_of};
+    ghost use Rattle.s360_journal.specs.Events.{AreEvents, timeline_of};
 
     ghost Value = { Timeline };
 
-    ghost view = { λ r. record { standing = reverse (events_of r.tags.past r.units.past r.others.past); rest = events_of r.tags.next r.units.next r.others.next; spare = record { events = r.tags.room - length r.tags.past; units = r.units.room - length r.units.past; others = r.others.room - length r.others.past } } };
+    ghost view = { λ r. timeline_of r.tags r.units r.others };
 
     ghost invariant = { λ r. AreEvents r.tags.past r.units.past r.others.past × AreEvents r.tags.next r.units.next r.others.next };
 }
@@ -183,25 +182,6 @@ impl Timeline {
             Tag::Channel => Some(Event::Channel(self.units.take_last()?)),
             Tag::Load => Some(Event::Key(Key::Load(self.units.take_last()?))),
             Tag::Other => self.others.take_last(),
-        }
-    }
-
-    /// Drops the first event of the rest, if there is one.
-    pub(crate) fn drop_next(&mut self)
-        ensures standing { self.new.standing ≡ self.old.standing }
-        ensures rest { self.new.rest ≡ drop 1 self.old.rest }
-    {
-        let Some(tag) = self.tags.take_first() else {
-            return;
-        };
-        match tag {
-            Tag::Cpu | Tag::Tick => {}
-            Tag::Channel | Tag::Load => {
-                let _unit = self.units.take_first();
-            }
-            Tag::Other => {
-                let _event = self.others.take_first();
-            }
         }
     }
 

@@ -1,6 +1,5 @@
 -- The places of a change as spans.
-use Rattle.std.proofs.Common.{◌≡◌, ◌<◌, ◌≤◌, ◌+◌, ◌++◌, ◌∙◌, ℕ, zero, suc, Bool, Option, Some, None, List, [], ◌∷◌, refl, ap, sym, map, drop, length, arith}
-use Rattle.std.specs.List.{slice_get}
+use Rattle.std.proofs.Common.{◌≡◌, ◌<◌, ◌≤◌, ◌+◌, ◌++◌, ◌∙◌, ℕ, zero, suc, Bool, Option, Some, None, List, [], ◌∷◌, refl, ap, sym, map, drop, length, arith, slice_get}
 use Rattle.std.proofs.lemmas.List.{append_assoc, drop-map, length-drop, map-append}
 use Rattle.s360_store.specs.declared.place.Place.{Place}
 use Rattle.s360_store.specs.declared.place.Place.TheVariants.{Psw as psw_place}
@@ -61,11 +60,8 @@ places-of-places [] = refl
 places-of-places (p ∷ ps) = ap (λ (qs : List Place). p ∷ qs) (places-of-places ps)
 
 pub no-more : (r : Row) → ((beside : Bool) (items bytes count : ℕ) → r ≡ More beside items bytes count → ⊥) → HasNoMore r
-no-more Nothing h = tt
-no-more (Psw psw) h = tt
-no-more (Register number word psw) h = tt
-no-more (Bytes count address psw) h = tt
 no-more (More beside items bytes count) h = absurd (h beside items bytes count refl)
+no-more r h = tt
 
 -- those of a change that stands within its row
 pub within-own : (r : Row) (is : List Item) (bs : List ℕ) (xs : List Beside) (x : Change) → HasNoMore r → IsOver r is bs → length xs ≡ beside_of_row r → change_of_row r (lists is bs xs) ≡ x → AreSpansOf (spans_of_row r) x

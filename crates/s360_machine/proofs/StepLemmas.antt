@@ -1,7 +1,5 @@
 -- A channel event of a unit.
-use Rattle.std.proofs.Common.{◌≡◌, ◌∙◌, Bool, true, false, refl, ap, subst, sym, if◌then◌else◌}
-use Rattle.std.specs.Option.{option_map}
-use Rattle.std.specs.Prelude.{Option, Some, None}
+use Rattle.std.proofs.Common.{◌≡◌, ◌∙◌, Bool, true, false, refl, ap, subst, sym, if◌then◌else◌, option_map, Option, Some, None}
 use Rattle.s360_model.specs.Storage.{Storage}
 use Rattle.s360_device.specs.Commands.{command_of}
 use Rattle.s360_device.specs.declared.device.Device.{Ghosts}
@@ -27,12 +25,11 @@ use Rattle.s360_machine.specs.ControlCells.{control_cells}
 use Rattle.s360_machine.specs.declared.media.MediaChange.{MediaChange}
 use Rattle.s360_channel.specs.declared.unit_change.UnitChange.TheVariants.{One}
 use Rattle.s360_channel.specs.UnitChanges.{IsUnitsChangeTo}
-use Rattle.s360_channel.specs.ConfiguredUnits.{HasEachUnit, Units}
+use Rattle.s360_channel.specs.ConfiguredUnits.{HasEachUnit, Units, control_of, with_control_of}
 use Rattle.s360_machine.specs.ChannelEvents.{ExecutesProgram, IsAlterationOf, StepsTo, after_ending, execution_at, execution_of, execution_with, media_after}
 use Rattle.s360_channel.specs.declared.configured_unit.ConfiguredUnit.{ConfiguredUnit}
 use Rattle.s360_machine.specs.Machine.{Spare, Whole, WithRoom, seen, seen_media}
 use Rattle.s360_machine.specs.Planned.{ExecutesAt, IsControlChangeTo, IsMediaChangeTo}
-use Rattle.s360_channel.specs.ConfiguredUnits.{control_of, with_control_of}
 use Rattle.s360_channel.proofs.UnitChangeLemmas.{IsUnitsChangeTo-one}
 use Rattle.s360_machine.proofs.IoLemmas.{IsDeviceStep, device-becomes, device-stays}
 

@@ -1,6 +1,5 @@
 -- An exchange of a change done twice restores the whole machine and the change.
-use Rattle.std.proofs.Common.{◌≡◌, ap, ◌∙◌, refl, subst, sym, List, [], ◌∷◌}
-use Rattle.std.specs.Prelude.{Option, Some, None}
+use Rattle.std.proofs.Common.{◌≡◌, ap, ◌∙◌, refl, subst, sym, List, [], ◌∷◌, Option, Some, None}
 use Rattle.s360_model.specs.Exchanges.{back_if_any}
 use Rattle.s360_model.specs.ExchangeLaws.{CanIfAny-again, after_if_any-twice, back_if_any-twice}
 use Rattle.s360_device.specs.DeviceLaws.{CanSwapDevice-again, device_after_swap-twice, device_change_after_swap-twice}
@@ -22,7 +21,8 @@ use Rattle.s360_channel.specs.UnitChanges.{CanSwapUnits, unit_change_after_swap,
 use Rattle.s360_channel.proofs.UnitChangeLemmas.{CanSwapUnits-again, places_of_units-back, unit_change_after_swap-twice, units_after_swap-twice}
 use Rattle.s360_machine.specs.declared.media.MediaChange.{MediaChange}
 use Rattle.s360_machine.specs.declared.media.MediaChange.TheVariants.{Reader, Punch, Printer, Console, Tape0, Tape1}
-use Rattle.s360_machine.specs.IoChanges.{CanSwapMedia, media_after_swap, media_change_after_swap, media_place, places_of_media, unit_of_change}
+use Rattle.s360_machine.specs.Differences.{media_place}
+use Rattle.s360_machine.specs.IoChanges.{CanSwapMedia, media_after_swap, media_change_after_swap, places_of_media, unit_of_change}
 use Rattle.s360_machine.specs.declared.beside.Beside.{Beside}
 use Rattle.s360_machine.specs.Changes.{change_of}
 use Rattle.s360_machine.specs.Machine.{Whole, WholeMedia}

@@ -1,8 +1,8 @@
 -- What the 1052 typed, and the lines that were entered, as a file (own profile). The console keeps them apart. So the file has
 -- first what was typed, in the lines of `show m`, and then the lines that were entered, as a script enters them.
-use Rattle.std.specs.Prelude.{ℕ, List, ◌++◌, codes, length, map, nat_eq}
-use Rattle.std.specs.List.{filter, flat_map}
-use Rattle.s360_language.specs.ShownItems.{sign_of, typed_line}
+use Rattle.std.specs.Prelude.{ℕ, List, ◌++◌, codes, length, map, nat_eq, filter, flat_map}
+use Rattle.s360_language.specs.ShownBytes.{sign_of}
+use Rattle.s360_language.specs.ShownItems.{typed_line}
 use Rattle.s360_print.specs.Console.{ConsoleMedia}
 
 -- a line that was entered, with the blanks at its end

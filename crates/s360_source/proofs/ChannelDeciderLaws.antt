@@ -1,9 +1,6 @@
 -- Machines that have the same at the deciders of a channel event have one shape of it.
-use Rattle.std.proofs.Common.{◌≡◌, ◌+◌, ◌-◌, ◌∙◌, ◌++◌, ℕ, Bool, true, false, List, [], ◌∷◌, refl, ap, sym, arith, length, subst, Option, Some, None, nat_eq}
-use Rattle.std.specs.List.{slice_range}
+use Rattle.std.proofs.Common.{◌≡◌, ◌+◌, ◌-◌, ◌∙◌, ◌++◌, ℕ, Bool, true, false, List, [], ◌∷◌, refl, ap, sym, arith, length, subst, Option, Some, None, nat_eq, slice_range, if◌then◌else◌, map, nat_le, take, length-append, length-take}
 use Rattle.std.specs.Option.{option_and_then, option_map, option_map_or}
-use Rattle.std.specs.Prelude.{if◌then◌else◌, map, nat_le, take}
-use Rattle.std.proofs.lemmas.List.{length-append, length-take}
 use Rattle.s360_model.specs.Core.{Core}
 use Rattle.s360_model.specs.Storage.{is_inside}
 use Rattle.s360_word.specs.declared.unit.Unit.{Unit as UnitAddress}
@@ -34,8 +31,7 @@ use Rattle.s360_channel.specs.declared.unit_control.UnitControl.{UnitControl}
 use Rattle.s360_channel.specs.declared.unit_state.UnitState.{UnitState as StateOfUnit}
 use Rattle.s360_channel.specs.declared.unit_state.UnitState.TheVariants.{Idle, Active, Waiting}
 use Rattle.s360_channel.specs.ConfiguredUnits.{control_of, unit_at}
-use Rattle.s360_channel.specs.Execution.{DeviceView, Execution, WordAtHand, access_of, after_input, after_output, channel_execution, command_ends, command_with, conclusion_of}
-use Rattle.s360_channel.specs.Execution.{execute_begun, input_transfer, lowest_address, next_ccw_address, output_transfer, run_of, stored_bytes, unless_checked, word_at_hand}
+use Rattle.s360_channel.specs.Execution.{DeviceView, Execution, WordAtHand, access_of, after_input, after_output, channel_execution, command_ends, command_with, conclusion_of, execute_begun, input_transfer, lowest_address, next_ccw_address, output_transfer, run_of, stored_bytes, unless_checked, word_at_hand}
 use Rattle.s360_channel.specs.Units.{program_of}
 use Rattle.s360_channel.specs.Words.{reads_backward}
 use Rattle.s360_machine.specs.ChannelEvents.{execution_at, execution_of, view_of}
@@ -47,9 +43,10 @@ use Rattle.s360_source.specs.Agreement.{AreAlike, HaveAllSame}
 use Rattle.s360_source.specs.declared.channel_moves.ChannelMoves.{ChannelMoves}
 use Rattle.s360_source.specs.ChannelDeciders.{access_deciders, begun_deciders, channel_deciders, device_at, executed_deciders, program_deciders, unit_deciders}
 use Rattle.s360_source.specs.ChannelShapes.{ChannelShape, begin_at, channel_shape, executed_at, executed_word, extent_of, fetched_at, is_checked, led_to, next_word, program_event_shape, state_shape, target_of, unit_event_shape, word_of}
-use Rattle.s360_source.specs.ChannelSources.{bytes_of_word, media_place}
+use Rattle.s360_source.specs.ChannelSources.{bytes_of_word}
 use Rattle.s360_source.specs.Deciders.{access_keys}
-use Rattle.s360_source.specs.EventSources.{unit_place}
+use Rattle.s360_channel.specs.Differences.{state_place}
+use Rattle.s360_machine.specs.Differences.{media_place}
 use Rattle.s360_source.specs.MachineAgreement.{HaveAllThere, HaveSameThere, MachinesAreAlike, SameDevice}
 use Rattle.s360_source.proofs.AccessLemmas.{access-same}
 use Rattle.s360_source.proofs.AgreementLemmas.{same-first, same-second}
@@ -129,9 +126,7 @@ begun-alike m n d p at c (Output limit) alike h =
     (access-of-law m n p.key t.count Fetch (Some c.address) alike h)
     (transfer-alike w t (take limit (w.gathered ++ xs)) (take limit (w.gathered ++ ys))
     (length-output limit w.gathered xs ys (length-range m.storage.bytes n.storage.bytes c.address t.count alike.size)))
-begun-alike m n d p at c Control alike h = (refl, refl)
-begun-alike m n d p at c (Refused sense) alike h = (refl, refl)
-begun-alike m n d p at c NotYet alike h = (refl, refl)
+begun-alike m n d p at c begin alike h = (refl, refl)
 
 -- the execution by a device that is the same
 device-alike : {M : Type 0} (t : Table M) (d e : DeviceWith M) (m n : Machine) (x y : StateOfUnit) (p : Program) → d ≡ e → x ≡ Active p → y ≡ Active p → AreAlike m.core n.core → WordsSame m n p
@@ -215,7 +210,7 @@ program-law u m n p alike one two run media word target keys =
     (has_loaded m.control.run_state u (Active p) x.state) (has_loaded n.control.run_state u (Active p) y.state) next led moves shaped.0 loads
 
 -- by the unit
-pub state-same : (u : ConfiguredUnit) (m n : Machine) → HaveSameThere m n (unit_place u) → control_of m.units u ≡ control_of n.units u
+pub state-same : (u : ConfiguredUnit) (m n : Machine) → HaveSameThere m n (state_place u) → control_of m.units u ≡ control_of n.units u
 state-same Reader m n h = h
 state-same Punch m n h = h
 state-same Printer m n h = h

@@ -1,9 +1,7 @@
 -- A channel event follows its sources: what is stored, the unit and its media, and the end of initial program loading.
-use Rattle.std.proofs.Common.{◌≡◌, ◌≢◌, ◌<◌, ◌≤◌, ◌+◌, ◌-◌, ◌∙◌, ◌++◌, ℕ, Bool, true, false, ◌&&◌, List, [], ◌∷◌, refl, ap, sym, arith, length, get_or, set, subst, Option, Some, None, nat_eq, inl, inr}
+use Rattle.std.proofs.Common.{◌≡◌, ◌≢◌, ◌<◌, ◌≤◌, ◌+◌, ◌-◌, ◌∙◌, ◌++◌, ℕ, Bool, true, false, ◌&&◌, List, [], ◌∷◌, refl, ap, sym, arith, length, get_or, set, subst, Option, Some, None, nat_eq, inl, inr, flat_map, if◌then◌else◌, MatchOption, nat_le, nat_lt}
 use Rattle.std.specs.Int.{bytes_high_first}
-use Rattle.std.specs.List.{flat_map}
 use Rattle.std.specs.Option.{option_and_then, option_map, option_map_or}
-use Rattle.std.specs.Prelude.{if◌then◌else◌, MatchOption, nat_le, nat_lt}
 use Rattle.std.proofs.lemmas.Bool.{cases_eq, cases_lt, eq-eqb, ne_eqb}
 use Rattle.std.proofs.lemmas.List.{get_or-set_other, get_or-set_same, get_or_past, length-set, set-get_or}
 use Rattle.s360_model.specs.Core.{Core, core_with_bytes}
@@ -116,41 +114,12 @@ ended-same t d b e f is ends = rw (is, ends) refl
 media-pair : (c u : ConfiguredUnit) (m n : Media) (e f : Option Ending) → (nat_eq (index_of c) (index_of u) ≡ true → SameDevice u m n × (e ≡ f))
     → (nat_eq (index_of c) (index_of u) ≡ false → SameDevice c m n) → SameDevice c (media_after u e m) (media_after u f n)
 media-pair Reader Reader m n e f same other = ended-same reader_table m.reader n.reader e f (same refl).0 (same refl).1
-media-pair Reader Punch m n e f same other = other refl
-media-pair Reader Printer m n e f same other = other refl
-media-pair Reader Console m n e f same other = other refl
-media-pair Reader Tape0 m n e f same other = other refl
-media-pair Reader Tape1 m n e f same other = other refl
-media-pair Punch Reader m n e f same other = other refl
 media-pair Punch Punch m n e f same other = ended-same punch_table m.punch n.punch e f (same refl).0 (same refl).1
-media-pair Punch Printer m n e f same other = other refl
-media-pair Punch Console m n e f same other = other refl
-media-pair Punch Tape0 m n e f same other = other refl
-media-pair Punch Tape1 m n e f same other = other refl
-media-pair Printer Reader m n e f same other = other refl
-media-pair Printer Punch m n e f same other = other refl
 media-pair Printer Printer m n e f same other = ended-same printer_table m.printer n.printer e f (same refl).0 (same refl).1
-media-pair Printer Console m n e f same other = other refl
-media-pair Printer Tape0 m n e f same other = other refl
-media-pair Printer Tape1 m n e f same other = other refl
-media-pair Console Reader m n e f same other = other refl
-media-pair Console Punch m n e f same other = other refl
-media-pair Console Printer m n e f same other = other refl
 media-pair Console Console m n e f same other = ended-same console_table m.console n.console e f (same refl).0 (same refl).1
-media-pair Console Tape0 m n e f same other = other refl
-media-pair Console Tape1 m n e f same other = other refl
-media-pair Tape0 Reader m n e f same other = other refl
-media-pair Tape0 Punch m n e f same other = other refl
-media-pair Tape0 Printer m n e f same other = other refl
-media-pair Tape0 Console m n e f same other = other refl
 media-pair Tape0 Tape0 m n e f same other = ended-same tape_table m.tape0 n.tape0 e f (same refl).0 (same refl).1
-media-pair Tape0 Tape1 m n e f same other = other refl
-media-pair Tape1 Reader m n e f same other = other refl
-media-pair Tape1 Punch m n e f same other = other refl
-media-pair Tape1 Printer m n e f same other = other refl
-media-pair Tape1 Console m n e f same other = other refl
-media-pair Tape1 Tape0 m n e f same other = other refl
 media-pair Tape1 Tape1 m n e f same other = ended-same tape_table m.tape1 n.tape1 e f (same refl).0 (same refl).1
+media-pair c u m n e f same other = other refl
 
 media-idle : (u : ConfiguredUnit) (m : Media) → media_after u None m ≡ m
 media-idle Reader m = refl
@@ -242,10 +211,7 @@ address-law x y address (Register r) alike l h = h.0
 address-law x y address (Key b) alike l h = h.0
 address-law x y address (Byte a) alike l h =
     bytes-law x y 2 2 (bytes_high_first 2 address) (bytes_high_first 2 address) [] a alike (omega (arith, l)) refl refl h (λ g. refl)
-address-law x y address run_place alike l h = refl
-address-law x y address External alike l h = refl
-address-law x y address (UnitState v) alike l h = refl
-address-law x y address (UnitMedia v) alike l h = refl
+address-law x y address q alike l h = refl
 
 -- and the PSW is loaded
 initial-law : (x y : Core) (q : Place) → HaveAllSame x y (made_of Psw (byte_places 0 8) itself q) → HaveSame (with_initial_psw x) (with_initial_psw y) q
@@ -253,10 +219,7 @@ initial-law x y Psw h = ap current_psw (number_at-same x y 8 0 h)
 initial-law x y (Register r) h = h.0
 initial-law x y (Key b) h = h.0
 initial-law x y (Byte a) h = h.0
-initial-law x y run_place h = refl
-initial-law x y External h = refl
-initial-law x y (UnitState v) h = refl
-initial-law x y (UnitMedia v) h = refl
+initial-law x y q h = refl
 
 load-core : (x y : Core) (address : ℕ) (q : Place) → AreAlike x y → 128 ≤ length x.storage.bytes → HaveAllSame x y (initial_sources q)
     → HaveSame (core_after_loading address x) (core_after_loading address y) q
@@ -268,10 +231,7 @@ load-core x y address Psw alike l h =
 load-core x y address (Register r) alike l h = address-law x y address (Register r) alike l h
 load-core x y address (Byte a) alike l h = address-law x y address (Byte a) alike l h
 load-core x y address (Key b) alike l h = address-law x y address (Key b) alike l h
-load-core x y address run_place alike l h = refl
-load-core x y address External alike l h = refl
-load-core x y address (UnitState v) alike l h = refl
-load-core x y address (UnitMedia v) alike l h = refl
+load-core x y address q alike l h = refl
 
 idle-law : (o : Option ConfiguredUnit) (u : ConfiguredUnit) (us vs : Units) → length us ≡ 6 → length vs ≡ 6
     → MatchOption o (Unit {0}) (λ c. control_of us c ≡ control_of vs c)
@@ -356,11 +316,8 @@ event-idle u m e =
     ∙ ap (λ (x : Media). record m { media = x }) (media-idle u m.media)
 
 not-loaded : (r : RunState) (u : ConfiguredUnit) (x y : StateOfUnit) → program_of x ≡ None → has_loaded r u x y ≡ false
-not-loaded Operating u x y e = refl
-not-loaded Stopped u x y e = refl
 not-loaded (Loading unit) u (Active p) y e = absurd (cc)
-not-loaded (Loading unit) u Idle y e = refl
-not-loaded (Loading unit) u (Waiting csw) y e = refl
+not-loaded r u x y e = refl
 
 unit-idle : (u : ConfiguredUnit) (m : Machine) → program_of (control_of m.units u).state ≡ None → after_loading u m (after_channel u m) ≡ m
 unit-idle u m e =

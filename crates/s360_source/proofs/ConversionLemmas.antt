@@ -1,6 +1,5 @@
 -- CONVERT TO BINARY follows its sources. A number that does not fit a word interrupts after the register has it.
-use Rattle.std.proofs.Common.{◌≡◌, ◌∙◌, ℕ, ℤ, Bool, true, false, List, [], ◌∷◌, refl, ap, sym, Option, Some, None}
-use Rattle.std.specs.Prelude.{if◌then◌else◌}
+use Rattle.std.proofs.Common.{◌≡◌, ◌∙◌, ℕ, ℤ, Bool, true, false, List, [], ◌∷◌, refl, ap, sym, Option, Some, None, if◌then◌else◌}
 use Rattle.s360_model.specs.Arithmetic.{word_of}
 use Rattle.s360_model.specs.Core.{Core}
 use Rattle.s360_model.specs.Numbers.{fits_word}
@@ -32,10 +31,8 @@ use Rattle.s360_source.proofs.EffectLemmas.{register-keeps, register-law}
 use Rattle.s360_source.proofs.SuppressionLemmas.{Suppresses, refused, unless_met-is}
 
 access-suppresses : (s a p : Bool) → Suppresses ConvertToBinary (program_code (record no_conditions { specification = s; addressing = a; protection = p }))
-access-suppresses true a p = refl
-access-suppresses false true p = refl
-access-suppresses false false true = refl
 access-suppresses false false false = tt
+access-suppresses s a p = refl
 
 ended-not : (b : Bool) → is_suppressed ConvertToBinary (if b then Done else Program FixedPointDivide) ≡ false
 ended-not true = refl

@@ -1,8 +1,7 @@
 -- Events follow their sources: ticks, keys, patches, and of the CPU's events external interruptions and instructions that no
 -- interruption follows.
-use Rattle.std.proofs.Common.{◌≡◌, ◌≤◌, ◌+◌, ◌-◌, ◌/◌, ◌∙◌, ℕ, Bool, true, false, ◌&&◌, List, [], ◌∷◌, refl, ap, sym, arith, length, get_or, set, nat_eq}
+use Rattle.std.proofs.Common.{◌≡◌, ◌≤◌, ◌+◌, ◌-◌, ◌/◌, ◌∙◌, ℕ, Bool, true, false, ◌&&◌, List, [], ◌∷◌, refl, ap, sym, arith, length, get_or, set, nat_eq, if◌then◌else◌, nat_le, nat_lt, slice_index}
 use Rattle.std.specs.Int.{bytes_high_first}
-use Rattle.std.specs.Prelude.{if◌then◌else◌, nat_le, nat_lt, slice_index}
 use Rattle.s360_model.specs.Core.{Core, core_with_bytes, core_with_key}
 use Rattle.s360_model.specs.Storage.{block_size, fetch_bit_of_block, key_of_block, with_fetch_bit}
 use Rattle.s360_psw.specs.declared.class.Class.TheVariants.{External as external_class}
@@ -30,14 +29,11 @@ use Rattle.s360_source.proofs.StoreLemmas.{beside-run, in-run}
 
 -- what machines have the same, their cores have
 there-core : (m n : Machine) (p : Place) → HaveSameThere m n p → HaveSame m.core n.core p
-there-core m n Psw h = h
-there-core m n (Register r) h = h
-there-core m n (Byte a) h = h
-there-core m n (Key b) h = h
 there-core m n Run h = refl
 there-core m n External h = refl
 there-core m n (UnitState u) h = refl
 there-core m n (UnitMedia u) h = refl
+there-core m n p h = h
 
 pub there-cores : (m n : Machine) (ps : List Place) → HaveAllThere m n ps → HaveAllSame m.core n.core ps
 there-cores m n [] h = tt
@@ -46,10 +42,7 @@ there-cores m n (p ∷ ps) h = (there-core m n p h.0, there-cores m n ps h.1)
 -- an external interruption with one code
 pub external-law : (m n : Machine) (p : Place) → MachinesAreAlike m n → external_code m.control.external ≡ external_code n.control.external
     → HaveAllThere m n (external_sources p) → HaveSameThere (after_external m) (after_external n) p
-external-law m n Run alike e h = h.0
 external-law m n External alike e h = refl
-external-law m n (UnitState u) alike e h = h.0
-external-law m n (UnitMedia u) alike e h = h.0
 external-law m n Psw alike e h =
     rw e (interruption-law m.core n.core external_class (external_code n.control.external) NotAvailable Psw alike.cores alike.permanent (there-cores m n (byte_places 88 8) h))
 external-law m n (Register r) alike e h =
@@ -59,6 +52,7 @@ external-law m n (Key b) alike e h =
 external-law m n (Byte a) alike e h =
     rw e (interruption-law m.core n.core external_class (external_code n.control.external) NotAvailable (Byte a) alike.cores alike.permanent
     (there-cores m n (if nat_le 24 a && nat_lt a 32 then Psw ∷ [] else (Byte a ∷ [])) h))
+external-law m n p alike e h = h.0
 
 -- bytes that are put from an address on
 pub bytes-law : (m n : Core) (a count : ℕ) (run other : List ℕ) (sources : List Place) (k : ℕ) → AreAlike m n → a + length run ≤ length m.storage.bytes
@@ -91,11 +85,6 @@ run-of word other c d e = run-if (runs_out word) c ∙ e ∙ sym (run-if (runs_o
 
 ticked-law : (m n : Machine) (p : Place) → MachinesAreAlike m n → HaveAllThere m n (tick_sources true p)
     → HaveSameThere (record m { core = core_after_tick m.core; control = control_after_tick (timer_of m.core) m.control }) (record n { core = core_after_tick n.core; control = control_after_tick (timer_of n.core) n.control }) p
-ticked-law m n Psw alike h = h.0
-ticked-law m n (Register r) alike h = h.0
-ticked-law m n (Key b) alike h = h.0
-ticked-law m n (UnitState u) alike h = h.0
-ticked-law m n (UnitMedia u) alike h = h.0
 ticked-law m n (Byte a) alike h =
     bytes-law m.core n.core timer_location 4 (bytes_high_first 4 (timer_after_tick (timer_of m.core))) (bytes_high_first 4 (timer_after_tick (timer_of n.core))) (byte_places timer_location 4) a alike.cores
     (omega (arith, alike.permanent)) refl refl (there-cores m n (bytes_made_of timer_location 4 (byte_places timer_location 4) itself (Byte a)) h)
@@ -104,6 +93,7 @@ ticked-law m n External alike h =
     let timer : timer_of m.core ≡ timer_of n.core = timer-same m.core n.core (there-cores m n (byte_places timer_location 4) h.1)
     in ap (λ w. (control_after_tick w m.control).external) timer ∙ external-of (timer_of n.core) m.control n.control h.0
 ticked-law m n Run alike h = run-of (timer_of m.core) (timer_of n.core) m.control n.control h.0
+ticked-law m n p alike h = h.0
 
 after-tick-true : (m : Machine) → is_operating m.control.run_state ≡ true → after_tick m ≡ record m { core = core_after_tick m.core; control = control_after_tick (timer_of m.core) m.control }
 after-tick-true m e = rw e refl
@@ -154,35 +144,14 @@ fetch-beside false m block key = (refl, refl, refl)
 
 pub patch-law : (m n : Machine) (patch : Patch) (p : Place) → MachinesAreAlike m n → IsInside patch m
     → HaveAllThere m n (patch_sources patch p) → HaveSameThere (after_patch m patch) (after_patch n patch) p
-patch-law m n (Bytes at bytes) Psw alike i h = h.0
-patch-law m n (Bytes at bytes) (Register r) alike i h = h.0
-patch-law m n (Bytes at bytes) (Key b) alike i h = h.0
 patch-law m n (Bytes at bytes) (Byte a) alike i h =
     bytes-law m.core n.core at (length bytes) bytes bytes [] a alike.cores i refl refl (there-cores m n (bytes_made_of at (length bytes) [] itself (Byte a)) h) (λ g. refl)
-patch-law m n (Bytes at bytes) Run alike i h = h.0
-patch-law m n (Bytes at bytes) External alike i h = h.0
-patch-law m n (Bytes at bytes) (UnitState u) alike i h = h.0
-patch-law m n (Bytes at bytes) (UnitMedia u) alike i h = h.0
 patch-law m n (register_patch r word) (Register k) alike i h =
     set-same m.core.registers n.core.registers r k word word (registers-alike m.core n.core alike.cores) (λ e. refl)
     (λ ne. (same-else (nat_eq r k) m.core n.core [] (Register k ∷ []) (there-cores m n (made_of (Register r) [] itself (Register k)) h) (is-other r k ne)).0)
-patch-law m n (register_patch r word) Psw alike i h = h.0
-patch-law m n (register_patch r word) (Byte a) alike i h = h.0
-patch-law m n (register_patch r word) (Key b) alike i h = h.0
-patch-law m n (register_patch r word) Run alike i h = h.0
-patch-law m n (register_patch r word) External alike i h = h.0
-patch-law m n (register_patch r word) (UnitState u) alike i h = h.0
-patch-law m n (register_patch r word) (UnitMedia u) alike i h = h.0
 patch-law m n (StorageKey at key) (Key b) alike i h =
     key-patched m.core n.core (at / block_size) b (with_fetch_bit key (fetch_bit_of_block (slice_index m.core.storage.keys (at / block_size)))) (with_fetch_bit key (fetch_bit_of_block (slice_index n.core.storage.keys (at / block_size)))) alike.cores h.0
     (λ here. ap (λ x. with_fetch_bit key (fetch_bit_of_block x)) (rw here at h.0))
-patch-law m n (StorageKey at key) Psw alike i h = h.0
-patch-law m n (StorageKey at key) (Register r) alike i h = h.0
-patch-law m n (StorageKey at key) (Byte a) alike i h = h.0
-patch-law m n (StorageKey at key) Run alike i h = h.0
-patch-law m n (StorageKey at key) External alike i h = h.0
-patch-law m n (StorageKey at key) (UnitState u) alike i h = h.0
-patch-law m n (StorageKey at key) (UnitMedia u) alike i h = h.0
 patch-law m n (FetchBit at bit) (Key b) alike i h = fetch-patched m.core.storage.fetch_protection n.core.storage.fetch_protection m.core n.core (at / block_size) b bit alike.cores.option alike.cores h.0
 patch-law m n (FetchBit at bit) Psw alike i h =
     (fetch-beside m.core.storage.fetch_protection m.core (at / block_size) (bit_key m.core at bit)).0 ∙ h.0 ∙ sym (fetch-beside n.core.storage.fetch_protection n.core (at / block_size) (bit_key n.core at bit)).0
@@ -190,15 +159,5 @@ patch-law m n (FetchBit at bit) (Register r) alike i h =
     ap (λ (x : List ℕ). get_or x r 0) (fetch-beside m.core.storage.fetch_protection m.core (at / block_size) (bit_key m.core at bit)).1 ∙ h.0 ∙ sym (ap (λ (x : List ℕ). get_or x r 0) (fetch-beside n.core.storage.fetch_protection n.core (at / block_size) (bit_key n.core at bit)).1)
 patch-law m n (FetchBit at bit) (Byte a) alike i h =
     ap (λ (x : List ℕ). get_or x a 0) (fetch-beside m.core.storage.fetch_protection m.core (at / block_size) (bit_key m.core at bit)).2 ∙ h.0 ∙ sym (ap (λ (x : List ℕ). get_or x a 0) (fetch-beside n.core.storage.fetch_protection n.core (at / block_size) (bit_key n.core at bit)).2)
-patch-law m n (FetchBit at bit) Run alike i h = h.0
-patch-law m n (FetchBit at bit) External alike i h = h.0
-patch-law m n (FetchBit at bit) (UnitState u) alike i h = h.0
-patch-law m n (FetchBit at bit) (UnitMedia u) alike i h = h.0
 patch-law m n (psw_patch psw) Psw alike i h = refl
-patch-law m n (psw_patch psw) (Register r) alike i h = h.0
-patch-law m n (psw_patch psw) (Byte a) alike i h = h.0
-patch-law m n (psw_patch psw) (Key b) alike i h = h.0
-patch-law m n (psw_patch psw) Run alike i h = h.0
-patch-law m n (psw_patch psw) External alike i h = h.0
-patch-law m n (psw_patch psw) (UnitState u) alike i h = h.0
-patch-law m n (psw_patch psw) (UnitMedia u) alike i h = h.0
+patch-law m n patch p alike i h = h.0

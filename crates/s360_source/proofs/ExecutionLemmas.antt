@@ -1,8 +1,5 @@
 -- What one channel command word does, in two storages: by the words that the channel fetches, and by the bytes of an output.
-use Rattle.std.proofs.Common.{◌≡◌, ◌≤◌, ◌+◌, ◌-◌, ◌∙◌, ◌++◌, ℕ, Bool, true, false, ◌&&◌, not, List, [], refl, ap, sym, subst, take, length, Option, Some, None, true≢false, nat_eq}
-use Rattle.std.specs.List.{slice_range}
-use Rattle.std.specs.Prelude.{if◌then◌else◌, MatchOption, min, nat_lt}
-use Rattle.std.proofs.lemmas.Bool.{leb-true}
+use Rattle.std.proofs.Common.{◌≡◌, ◌≤◌, ◌+◌, ◌-◌, ◌∙◌, ◌++◌, ℕ, Bool, true, false, ◌&&◌, not, List, [], refl, ap, sym, subst, take, length, Option, Some, None, true≢false, nat_eq, slice_range, if◌then◌else◌, MatchOption, min, nat_lt, leb-true}
 use Rattle.s360_model.specs.Storage.{Storage, is_inside}
 use Rattle.s360_store.specs.Protection.{access}
 use Rattle.s360_store.specs.declared.protection.Access.TheVariants.{Fetch, Store}
@@ -18,9 +15,7 @@ use Rattle.s360_channel.specs.declared.program.Progress.TheVariants.{First, Load
 use Rattle.s360_channel.specs.declared.unit_state.UnitState.{UnitState}
 use Rattle.s360_channel.specs.declared.unit_state.UnitState.TheVariants.{Waiting}
 use Rattle.s360_channel.specs.declared.transfer.Transfer.{Transfer}
-use Rattle.s360_channel.specs.Execution.{DeviceView, Execution, Run, WordAtHand, access_of, after_check, after_input, after_output, after_transfer, command_ends, command_with, conclusion_of}
-use Rattle.s360_channel.specs.Execution.{ends_with, execute_begun, execute_fetched, execute_input, execute_output, gathered_before, goes_on_after, input_transfer, is_clean}
-use Rattle.s360_channel.specs.Execution.{lowest_address, output_transfer, run_of, stored_bytes, storing, transfer_with, unless_checked, word_at_hand}
+use Rattle.s360_channel.specs.Execution.{DeviceView, Execution, Run, WordAtHand, access_of, after_check, after_input, after_output, after_transfer, command_ends, command_with, conclusion_of, ends_with, execute_begun, execute_fetched, execute_input, execute_output, gathered_before, goes_on_after, input_transfer, is_clean, lowest_address, output_transfer, run_of, stored_bytes, storing, transfer_with, unless_checked, word_at_hand}
 use Rattle.s360_channel.specs.Programs.{ccw_at, executed_at, goes_on_with_record, is_executable, is_first, is_loading, loading_word, next_ccw, next_ccw_with, transferred_to}
 use Rattle.s360_channel.specs.Words.{ccw_of, is_transfer, meets_program_check, meets_protection_check, reads_backward}
 use Rattle.s360_source.specs.ChannelShapes.{executed_word, if_executable, is_checked, led_to, next_word, state_shape, word_taken}
@@ -36,22 +31,21 @@ Broken R p = (at : ℕ) → R (after_check p at meets_program_check) (after_chec
 
 executed-some : (R : Execution → Execution → Type 0) (d : DeviceView) (s t : Storage) (p : Program) (same : Bool) (at : ℕ) (c : Ccw) (b : Bool)
     → (not (is_transfer c) && is_executable same c) ≡ b → Broken R p → Begun R d s t p (if_executable same (Some c))
-    → R (execute_fetched d s p (executed_at same at (Some c))) (execute_fetched d t p (executed_at same at (Some c)))
+    → R (execute_fetched d s p (executed_at same at c)) (execute_fetched d t p (executed_at same at c))
 executed-some R d s t p same at c true e broken begun = rw e (begun at c (rw e refl))
 executed-some R d s t p same at c false e broken begun = rw e (broken at)
 
-executed-any : (R : Execution → Execution → Type 0) (d : DeviceView) (s t : Storage) (p : Program) (same : Bool) (at : ℕ) (o : Option Ccw)
-    → Broken R p → Begun R d s t p (if_executable same o)
-    → R (execute_fetched d s p (executed_at same at o)) (execute_fetched d t p (executed_at same at o))
-executed-any R d s t p same at None broken begun = broken at
-executed-any R d s t p same at (Some c) broken begun = executed-some R d s t p same at c (not (is_transfer c) && is_executable same c) refl broken begun
+executed-any : (R : Execution → Execution → Type 0) (d : DeviceView) (s t : Storage) (p : Program) (same : Bool) (at : ℕ) (c : Ccw)
+    → Broken R p → Begun R d s t p (if_executable same (Some c))
+    → R (execute_fetched d s p (executed_at same at c)) (execute_fetched d t p (executed_at same at c))
+executed-any R d s t p same at c broken begun = executed-some R d s t p same at c (not (is_transfer c) && is_executable same c) refl broken begun
 
 -- where a transfer in channel leads to
 transferred : (R : Execution → Execution → Type 0) (d : DeviceView) (s t : Storage) (p : Program) (same : Bool) (at : ℕ) (c : Ccw) (o : Option Ccw)
     → ccw_at s c.address ≡ o → ccw_at t c.address ≡ o → Broken R p → Begun R d s t p (if_executable same o)
     → R (execute_fetched d s p (transferred_to s same at c)) (execute_fetched d t p (transferred_to t same at c))
 transferred R d s t p same at c None e f broken begun = rw (e, f) (broken at)
-transferred R d s t p same at c (Some x) e f broken begun = rw (e, f) (executed-any R d s t p same c.address (Some x) broken begun)
+transferred R d s t p same at c (Some x) e f broken begun = rw (e, f) (executed-any R d s t p same c.address x broken begun)
 
 pub both-true : (a b : Bool) → (a && b) ≡ true → a ≡ true
 both-true true b e = refl
@@ -76,7 +70,7 @@ next-some R d s t p c true e led broken begun =
     = taken-true p.progress c (led_to s (Some c)) e ∙ ap (if_executable (goes_on_with_record p.progress)) (led-true s c is)
     in rw e (transferred R d s t p (goes_on_with_record p.progress) p.address c (ccw_at s c.address) refl there broken (λ at x f. begun at x (taken ∙ f)))
 next-some R d s t p c false e led broken begun =
-    rw e (executed-any R d s t p (goes_on_with_record p.progress) p.address (Some c) broken (λ at x f. begun at x (taken-false p.progress c (led_to s (Some c)) e ∙ f)))
+    rw e (executed-any R d s t p (goes_on_with_record p.progress) p.address c broken (λ at x f. begun at x (taken-false p.progress c (led_to s (Some c)) e ∙ f)))
 
 next-with : (R : Execution → Execution → Type 0) (d : DeviceView) (s t : Storage) (p : Program) (o : Option Ccw)
     → led_to s o ≡ led_to t o → Broken R p → Begun R d s t p (word_taken p.progress o (led_to s o))
@@ -107,10 +101,7 @@ by-progress : (R : Execution → Execution → Type 0) (d : DeviceView) (s t : S
     → next_word s p ≡ next_word t p → led_to s (next_word s p) ≡ led_to t (next_word t p) → Broken R p → Begun R d s t p (executed_word s p)
     → R (execute_fetched d s p (next_ccw s p)) (execute_fetched d t p (next_ccw t p))
 by-progress R d s t p Loading e word led broken begun = loads R d s t p e begun
-by-progress R d s t p First e word led broken begun = stands R d s t p (rw e refl) word led broken begun
-by-progress R d s t p CommandChained e word led broken begun = stands R d s t p (rw e refl) word led broken begun
-by-progress R d s t p (InputChained command moved) e word led broken begun = stands R d s t p (rw e refl) word led broken begun
-by-progress R d s t p (OutputChained command gathered) e word led broken begun = stands R d s t p (rw e refl) word led broken begun
+by-progress R d s t p progress e word led broken begun = stands R d s t p (rw e refl) word led broken begun
 
 pub words-law : (R : Execution → Execution → Type 0) (d : DeviceView) (s t : Storage) (p : Program)
     → next_word s p ≡ next_word t p → led_to s (next_word s p) ≡ led_to t (next_word t p) → Broken R p → Begun R d s t p (executed_word s p)
@@ -212,9 +203,7 @@ pub begun-law : (Holds : Type 0) (d : DeviceView) (s t : Storage) (p : Program) 
     → Follows Holds (execute_begun s (word_at_hand d p at c) begin) (execute_begun t (word_at_hand d p at c) begin)
 begun-law Holds d s t p at c (Input total) bytes = input-law Holds s t (word_at_hand d p at c) total
 begun-law Holds d s t p at c (Output limit) bytes = output-law Holds d s t p at c limit (λ k. bytes k limit refl)
-begun-law Holds d s t p at c Control bytes = λ h k. refl
-begun-law Holds d s t p at c (Refused sense) bytes = λ h k. refl
-begun-law Holds d s t p at c NotYet bytes = λ h k. refl
+begun-law Holds d s t p at c begin bytes = λ h k. refl
 
 -- what is stored lies inside storage
 abbrev pub StoresInside : Storage → Option Run → Type 0
@@ -257,9 +246,7 @@ begun-inside s w (Output limit) =
     let t : Transfer = output_transfer w.ccw (limit - length w.gathered)
     in output-inside s w t (take limit (w.gathered ++ slice_range s.bytes w.ccw.address (w.ccw.address + t.count)))
     (access_of s w.program.key Fetch t.count (Some w.ccw.address))
-begun-inside s w Control = tt
-begun-inside s w (Refused sense) = tt
-begun-inside s w NotYet = tt
+begun-inside s w begin = tt
 
 pub inside-law : (d : DeviceView) (s : Storage) (p : Program) → StoresInside s (execute_fetched d s p (next_ccw s p)).stores
 inside-law d s p =

@@ -1,11 +1,11 @@
 -- How the instructions of the format RX end: alike in cores that have the same at their deciders.
-use Rattle.std.proofs.Common.{◌≡◌, ◌+◌, ◌∙◌, ◌||◌, ℕ, Bool, false, true, List, [], ◌∷◌, refl, ap, sym, Option, is_none, nat_eq}
-use Rattle.std.specs.Prelude.{slice_index}
+use Rattle.std.proofs.Common.{◌≡◌, ◌+◌, ◌∙◌, ◌||◌, ℕ, Bool, false, true, List, [], ◌∷◌, refl, ap, sym, Option, is_none, nat_eq, slice_index}
 use Rattle.s360_model.specs.Arithmetic.{absolute_value, signed_complement, signed_difference, signed_sum}
 use Rattle.s360_model.specs.ConditionCodes.{signed_code}
 use Rattle.s360_model.specs.Core.{Core}
 use Rattle.s360_model.specs.Packed.{packed_value}
-use Rattle.s360_model.specs.Products.{division}
+use Rattle.s360_fixed.specs.declared.row.PairCombination.TheVariants.{Quotient}
+use Rattle.s360_fixed.specs.Outcomes.{pair_result, is_odd, unless_met}
 use Rattle.s360_model.specs.Psw.{protection_key_of}
 use Rattle.s360_model.specs.Storage.{doubleword_at, word_at}
 use Rattle.s360_store.specs.declared.place.Place.{Place}
@@ -15,12 +15,8 @@ use Rattle.s360_store.specs.declared.protection.Access.TheVariants.{Fetch, Store
 use Rattle.s360_store.specs.Spans.{byte_places}
 use Rattle.s360_fixed.specs.declared.form.Form.TheVariants.{Rx}
 use Rattle.s360_fixed.specs.declared.operation.Operation.{Operation}
-use Rattle.s360_fixed.specs.declared.operation.Operation.TheVariants.{Load, LoadHalfword, InsertCharacter, MultiplyHalfword, LoadAndTest, LoadNegative}
-use Rattle.s360_fixed.specs.declared.operation.Operation.TheVariants.{LoadComplement, LoadPositive, Add, AddHalfword, Subtract, SubtractHalfword}
-use Rattle.s360_fixed.specs.declared.operation.Operation.TheVariants.{AddLogical, SubtractLogical, And, Or, ExclusiveOr, Compare, CompareHalfword, CompareLogical}
-use Rattle.s360_fixed.specs.declared.operation.Operation.TheVariants.{Multiply, Divide, Store, StoreHalfword, StoreCharacter, ConvertToBinary, ConvertToDecimal}
+use Rattle.s360_fixed.specs.declared.operation.Operation.TheVariants.{Load, LoadHalfword, InsertCharacter, MultiplyHalfword, LoadAndTest, LoadNegative, LoadComplement, LoadPositive, Add, AddHalfword, Subtract, SubtractHalfword, AddLogical, SubtractLogical, And, Or, ExclusiveOr, Compare, CompareHalfword, CompareLogical, Multiply, Divide, Store, StoreHalfword, StoreCharacter, ConvertToBinary, ConvertToDecimal}
 use Rattle.s360_fixed.specs.Operands.{access_conditions, operand_address}
-use Rattle.s360_fixed.specs.Outcomes.{is_odd, unless_met}
 use Rattle.s360_fixed.specs.ProgramCodes.{Conditions}
 use Rattle.s360_fixed.specs.View.{Outcome}
 use Rattle.s360_source.specs.Agreement.{AreAlike, HaveAllSame}
@@ -55,9 +51,6 @@ met m n x b d alike psw a k = conditions-same m n (at m x b d) (at n x b d) 4 4 
 
 pub rx-ends : (operation : Operation) (r1 x2 b2 d2 : ℕ) → EndsAlike (Rx operation r1 x2 b2 d2)
 rx-ends Load r1 x b d m n next il alike psw a h k = accessed m n x b d 4 Fetch _ _ alike psw a k refl
-rx-ends LoadHalfword r1 x b d m n next il alike psw a h k = accessed m n x b d 2 Fetch _ _ alike psw a k refl
-rx-ends InsertCharacter r1 x b d m n next il alike psw a h k = accessed m n x b d 1 Fetch _ _ alike psw a k refl
-rx-ends MultiplyHalfword r1 x b d m n next il alike psw a h k = accessed m n x b d 2 Fetch _ _ alike psw a k refl
 rx-ends LoadAndTest r1 x b d m n next il alike psw a h k = accessed m n x b d 4 Fetch _ _ alike psw a k refl
 rx-ends LoadNegative r1 x b d m n next il alike psw a h k = accessed m n x b d 4 Fetch _ _ alike psw a k refl
 rx-ends AddLogical r1 x b d m n next il alike psw a h k = accessed m n x b d 4 Fetch _ _ alike psw a k refl
@@ -66,8 +59,11 @@ rx-ends And r1 x b d m n next il alike psw a h k = accessed m n x b d 4 Fetch _ 
 rx-ends Or r1 x b d m n next il alike psw a h k = accessed m n x b d 4 Fetch _ _ alike psw a k refl
 rx-ends ExclusiveOr r1 x b d m n next il alike psw a h k = accessed m n x b d 4 Fetch _ _ alike psw a k refl
 rx-ends Compare r1 x b d m n next il alike psw a h k = accessed m n x b d 4 Fetch _ _ alike psw a k refl
-rx-ends CompareHalfword r1 x b d m n next il alike psw a h k = accessed m n x b d 2 Fetch _ _ alike psw a k refl
 rx-ends CompareLogical r1 x b d m n next il alike psw a h k = accessed m n x b d 4 Fetch _ _ alike psw a k refl
+rx-ends LoadHalfword r1 x b d m n next il alike psw a h k = accessed m n x b d 2 Fetch _ _ alike psw a k refl
+rx-ends InsertCharacter r1 x b d m n next il alike psw a h k = accessed m n x b d 1 Fetch _ _ alike psw a k refl
+rx-ends MultiplyHalfword r1 x b d m n next il alike psw a h k = accessed m n x b d 2 Fetch _ _ alike psw a k refl
+rx-ends CompareHalfword r1 x b d m n next il alike psw a h k = accessed m n x b d 2 Fetch _ _ alike psw a k refl
 rx-ends LoadComplement r1 x b d m n next il alike psw a h k =
     accessed m n x b d 4 Fetch _ _ alike psw a k
     (overflow-same m n r1 _ _ (byte_places (at m x b d) 4) (Register r1 ∷ []) psw h (λ g. ap (λ w. signed_code (signed_complement w)) (word-same m n (at m x b d) (at n x b d) (address-same m n x b d a) g)))
@@ -94,14 +90,14 @@ rx-ends Multiply r1 x b d m n next il alike psw a h k =
     unless-same (pair_met r1 (access_conditions m (at m x b d) 4 4 Fetch) false) (pair_met r1 (access_conditions n (at n x b d) 4 4 Fetch) false) m n _ _
     (ap (λ c. pair_met r1 c false) (met m n x b d alike psw a k)) refl
 rx-ends Divide r1 x b d m n next il alike psw a h k =
-    let q : Option (ℕ × ℕ) = division (slice_index m.registers r1) (slice_index m.registers (r1 + 1)) (word_at m.storage.bytes (at m x b d))
-    in let r : Option (ℕ × ℕ) = division (slice_index n.registers r1) (slice_index n.registers (r1 + 1)) (word_at n.storage.bytes (at n x b d))
+    let q : Option (ℕ × ℕ) = pair_result Quotient (slice_index m.registers r1) (slice_index m.registers (r1 + 1)) (word_at m.storage.bytes (at m x b d))
+    in let r : Option (ℕ × ℕ) = pair_result Quotient (slice_index n.registers r1) (slice_index n.registers (r1 + 1)) (word_at n.storage.bytes (at n x b d))
     in let used : List Place = Register r1 ∷ (Register (r1 + 1) ∷ byte_places (at m x b d) 4)
     in let c : Conditions = pair_met r1 (access_conditions m (at m x b d) 4 4 Fetch) (is_none q)
     in let f : Conditions = pair_met r1 (access_conditions n (at n x b d) 4 4 Fetch) (is_none r)
     in let same : is_odd r1 ≡ false → HaveAllSame m n used = λ e. same-if (nat_eq r1 r1) m n used _ (unless-refused m n r1 true _ e h) (is-one r1 r1 refl)
     in let words : is_odd r1 ≡ false → q ≡ r
-    = λ e. all-alike division _ _ _ _ _ _ (same e).0 (same e).1.0 (word-same m n (at m x b d) (at n x b d) (address-same m n x b d a) (same e).1.1)
+    = λ e. all-alike (pair_result Quotient) _ _ _ _ _ _ (same e).0 (same e).1.0 (word-same m n (at m x b d) (at n x b d) (address-same m n x b d a) (same e).1.1)
     in pair-ends r1 c f m n _ _ (λ e. (rw e refl, rw e refl)) (λ e. unless-same c f m n _ _
     (ap (λ c. pair_met r1 c (is_none q)) (met m n x b d alike psw a k) ∙ ap (λ z. pair_met r1 (access_conditions n (at n x b d) 4 4 Fetch) (is_none z)) (words e))
     (division-ends m.psw r1 next q ∙ sym (division-ends n.psw r1 next r)))

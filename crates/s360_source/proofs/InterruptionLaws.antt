@@ -1,8 +1,6 @@
 -- An interruption follows its sources, and so does what happens in two steps.
-use Rattle.std.proofs.Common.{◌≤◌, ◌+◌, ◌-◌, ℕ, Bool, ◌&&◌, List, [], ◌∷◌, refl, ap, arith, length, get_or}
+use Rattle.std.proofs.Common.{◌≤◌, ◌+◌, ◌-◌, ℕ, Bool, ◌&&◌, List, [], ◌∷◌, refl, ap, arith, length, get_or, flat_map, nat_le, nat_lt}
 use Rattle.std.specs.Int.{bytes_high_first}
-use Rattle.std.specs.List.{flat_map}
-use Rattle.std.specs.Prelude.{nat_le, nat_lt}
 use Rattle.s360_model.specs.Core.{Core}
 use Rattle.s360_model.specs.Psw.{current_psw, stored_psw}
 use Rattle.s360_psw.specs.declared.class.Class.{Class}
@@ -40,10 +38,7 @@ interruption-law m n class code il (Byte k) alike l h =
     (omega (arith, old-inside class, l)) alike.size refl
     (λ a b. ap (λ x. get_or (bytes_high_first 8 (stored_psw x code (length_code_of il))) (k - old) 0) ((same-if test m n (Psw ∷ []) (Byte k ∷ []) h (in-run old 8 k a b)).0))
     (λ out. (same-else test m n (Psw ∷ []) (Byte k ∷ []) h (beside-run old 8 k out)).0)
-interruption-law m n class code il Run alike l h = refl
-interruption-law m n class code il external_place alike l h = refl
-interruption-law m n class code il (UnitState u) alike l h = refl
-interruption-law m n class code il (UnitMedia u) alike l h = refl
+interruption-law m n class code il p alike l h = refl
 
 -- the sources of the sources: two cores after a first step have the same at some places, where they had at the sources of each
 pub followed-law : (m n x y : Core) (sources : Sources) → ((q : Place) → HaveAllSame m n (sources q) → HaveSame x y q)

@@ -1,7 +1,6 @@
 -- What the channels make of an input/output instruction comes from its deciders.
-use Rattle.std.proofs.Common.{◌≡◌, ◌/◌, ◌∙◌, ℕ, Bool, true, false, ◌&&◌, ◌||◌, List, [], refl, ap, Option, Some, None, nat_eq, is_some}
+use Rattle.std.proofs.Common.{◌≡◌, ◌/◌, ◌∙◌, ℕ, Bool, true, false, ◌&&◌, ◌||◌, List, [], refl, ap, Option, Some, None, nat_eq, is_some, if◌then◌else◌, unwrap_or}
 use Rattle.std.specs.Option.{option_map_or}
-use Rattle.std.specs.Prelude.{if◌then◌else◌, unwrap_or}
 use Rattle.s360_model.specs.Core.{Core}
 use Rattle.s360_model.specs.Storage.{Storage, word_at}
 use Rattle.s360_word.specs.declared.unit.Unit.{Unit as UnitAddress}
@@ -20,10 +19,10 @@ use Rattle.s360_channel.specs.declared.io_instructions.IoResult.{IoResult}
 use Rattle.s360_channel.specs.declared.program.Progress.TheVariants.{First}
 use Rattle.s360_channel.specs.declared.unit_control.UnitControl.{UnitControl}
 use Rattle.s360_channel.specs.ConfiguredUnits.{active_beside, control_of, is_occupied, unit_at}
-use Rattle.s360_channel.specs.IoInstructions.{caw_location, with_code, halt_unit, halted_unit, not_operational, start_idle, start_program, start_unit, start_with, started, test_unit, with_status}
+use Rattle.s360_channel.specs.IoInstructions.{becomes, caw_location, with_code, halt_unit, halted_unit, not_operational, start_unit, start_with, started, test_unit, with_status}
 use Rattle.s360_channel.specs.Programs.{ccw_at, executed_at, next_ccw, next_ccw_with, program_at, transferred_to}
-use Rattle.s360_channel.specs.Units.{is_active, is_waiting}
-use Rattle.s360_channel.specs.Words.{caw_of, is_transfer, is_whole_caw, meets_program_check, no_unit_status}
+use Rattle.s360_channel.specs.Units.{idle_unit, is_active, is_waiting}
+use Rattle.s360_channel.specs.Words.{asks_attention, caw_of, is_transfer, is_whole_caw, meets_program_check, no_channel_status, no_unit_status}
 use Rattle.s360_machine.specs.InputOutput.{io_result}
 use Rattle.s360_machine.specs.Machine.{Machine}
 use Rattle.s360_source.specs.Agreement.{AreAlike, HaveAllSame}
@@ -47,12 +46,9 @@ own-same Tape0 m n h = h.0
 own-same Tape1 m n h = h.0
 
 beside-same : (u : ConfiguredUnit) (m n : Machine) → HaveAllThere m n (units_of_channel u) → active_beside m.units u ≡ active_beside n.units u
-beside-same Reader m n h = refl
-beside-same Punch m n h = refl
-beside-same Printer m n h = refl
-beside-same Console m n h = refl
 beside-same Tape0 m n h = ap (λ (x : UnitControl). if is_active x.state then Some Tape1 else None) h.1.0
 beside-same Tape1 m n h = ap (λ (x : UnitControl). if is_active x.state then Some Tape0 else None) h.1.0
+beside-same u m n h = refl
 
 -- START I/O: the first word of a program is no transfer in channel that leads anywhere
 never-led : (b : Bool) (x y z : Fetched) → (if b && false then x else z) ≡ (if b && false then y else z)
@@ -61,7 +57,7 @@ never-led false x y z = refl
 
 next-first : (s t : Storage) (a : ℕ) (o : Option Ccw) → next_ccw_with s First a o ≡ next_ccw_with t First a o
 next-first s t a None = refl
-next-first s t a (Some c) = never-led (is_transfer c) (transferred_to s false a c) (transferred_to t false a c) (executed_at false a (Some c))
+next-first s t a (Some c) = never-led (is_transfer c) (transferred_to s false a c) (transferred_to t false a c) (executed_at false a c)
 
 first-same : (m n : Core) (key a : ℕ) → AreAlike m n → HaveAllSame m n (bytes_of_word (standing_at m.storage a)) → next_ccw m.storage (program_at key a) ≡ next_ccw n.storage (program_at key a)
 first-same m n key a alike h = next-first m.storage n.storage a (ccw_at m.storage a) ∙ ap (next_ccw_with n.storage First a) (ccw-same m n a alike h)
@@ -75,20 +71,25 @@ caw-by false m n u key a alike h = refl
 caw-law : (m n : Core) (u : ConfiguredUnit) (caw : Caw) → AreAlike m n → HaveAllSame m n (first_word_deciders m.storage caw) → start_with m.storage u caw ≡ start_with n.storage u caw
 caw-law m n u caw alike h = caw-by (is_whole_caw caw) m n u caw.key caw.address alike h
 
-program-law : (m n : Core) (u : ConfiguredUnit) → AreAlike m n → HaveAllSame m n (first_program_deciders m.storage) → start_program m.storage u ≡ start_program n.storage u
+program-law : (m n : Core) (u : ConfiguredUnit) → AreAlike m n → HaveAllSame m n (first_program_deciders m.storage)
+    → start_with m.storage u (caw_of (word_at m.storage.bytes caw_location)) ≡ start_with n.storage u (caw_of (word_at n.storage.bytes caw_location))
 program-law m n u alike h =
     let first : List Place = first_word_deciders m.storage (caw_of (word_at m.storage.bytes caw_location))
     in caw-law m n u (caw_of (word_at m.storage.bytes caw_location)) alike (same-second m n (byte_places caw_location 4) first h)
     ∙ ap (λ (word : ℕ). start_with n.storage u (caw_of word)) (number_at-same m n 4 caw_location (same-first m n (byte_places caw_location 4) first h))
 
+-- START I/O of a unit that stands so
+abbrev start_by : Storage → ConfiguredUnit → Bool → Bool → Bool → Bool → IoResult
+start_by s u active waits occupied attention =
+    if active || (waits || occupied) then with_code 2
+    else if attention then with_status (record asks_attention { busy = true }) no_channel_status (becomes u idle_unit)
+    else start_with s u (caw_of (word_at s.bytes caw_location))
+
 start-by : (active waits occupied attention : Bool) (m n : Core) (u : ConfiguredUnit) → AreAlike m n
     → HaveAllSame m n (if active || (waits || (occupied || attention)) then [] else first_program_deciders m.storage)
-    → (if active || (waits || occupied) then with_code 2 else start_idle m.storage u attention) ≡ (if active || (waits || occupied) then with_code 2 else start_idle n.storage u attention)
-start-by true waits occupied attention m n u alike h = refl
-start-by false true occupied attention m n u alike h = refl
-start-by false false true attention m n u alike h = refl
-start-by false false false true m n u alike h = refl
+    → start_by m.storage u active waits occupied attention ≡ start_by n.storage u active waits occupied attention
 start-by false false false false m n u alike h = program-law m n u alike h
+start-by active waits occupied attention m n u alike h = refl
 
 start-law : (m n : Machine) (u : ConfiguredUnit) → MachinesAreAlike m n → HaveAllThere m n (start_deciders m u)
     → start_unit m.core.storage (is_occupied m.units u) u (control_of m.units u) ≡ start_unit n.core.storage (is_occupied n.units u) u (control_of n.units u)
@@ -166,6 +167,4 @@ io-law TestChannel unit m n alike h = tested-by (nat_eq (unit.0 / 0x100) 0) (nat
 
 pub channels-law : (ended : Ended) (m n : Machine) → MachinesAreAlike m n → HaveAllThere m n (channels_deciders ended m) → channels_result ended m ≡ channels_result ended n
 channels-law (Io operation unit) m n alike h = ap Some (io-law operation unit m n alike h)
-channels-law Done m n alike h = refl
-channels-law (program_ended code) m n alike h = refl
-channels-law (Svc code) m n alike h = refl
+channels-law ended m n alike h = refl

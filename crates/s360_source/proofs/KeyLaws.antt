@@ -1,7 +1,5 @@
 -- The keys of the operator follow their sources.
-use Rattle.std.proofs.Common.{◌≡◌, ◌≢◌, ℕ, true, List, refl, ap, sym, ◌∙◌, arith, length, get_or, set, Option, Some, None}
-use Rattle.std.specs.Prelude.{MatchOption}
-use Rattle.std.proofs.lemmas.List.{get_or-set_other, get_or-set_same}
+use Rattle.std.proofs.Common.{◌≡◌, ◌≢◌, ℕ, true, List, refl, ap, sym, ◌∙◌, arith, length, get_or, set, Option, Some, None, MatchOption, get_or-set_other, get_or-set_same}
 use Rattle.s360_store.specs.declared.place.Place.{Place}
 use Rattle.s360_store.specs.declared.place.Place.TheVariants.{Psw, Register, Byte, Key, Run, External, UnitState, UnitMedia}
 use Rattle.s360_device.specs.Reader.{with_end_key}
@@ -31,19 +29,11 @@ same-devices (Some c) f m n each h = each c h
 
 ended-file : (c : ConfiguredUnit) (m n : Media) → SameDevice c m n → SameDevice c (media_after_key EndOfFile m) (media_after_key EndOfFile n)
 ended-file Reader m n h = ap with_end_key h
-ended-file Punch m n h = h
-ended-file Printer m n h = h
-ended-file Console m n h = h
-ended-file Tape0 m n h = h
-ended-file Tape1 m n h = h
+ended-file c m n h = h
 
 entered : (line : List ℕ) (c : ConfiguredUnit) (m n : Media) → SameDevice c m n → SameDevice c (media_after_key (Enter line) m) (media_after_key (Enter line) n)
 entered line Console m n h = ap (λ (x : ConsoleDevice). record x { media = with_line x.media line }) h
-entered line Reader m n h = h
-entered line Punch m n h = h
-entered line Printer m n h = h
-entered line Tape0 m n h = h
-entered line Tape1 m n h = h
+entered line c m n h = h
 
 -- the console asks for attention
 abbrev asking : Units → Units
@@ -70,66 +60,15 @@ asked-at (Some c) us vs l k h = asked c us vs l k h
 -- each key, at each kind of place
 pub key-law : (m n : Machine) (key : OperatorKey) (p : Place) → MachinesAreAlike m n → HaveAllThere m n (key_sources key p) → HaveSameThere (after_key m key) (after_key n key) p
 key-law m n Start Run alike h = ap after_start h.0
-key-law m n Start Psw alike h = h.0
-key-law m n Start (Register r) alike h = h.0
-key-law m n Start (Byte a) alike h = h.0
-key-law m n Start (Key b) alike h = h.0
-key-law m n Start External alike h = h.0
-key-law m n Start (UnitState u) alike h = h.0
-key-law m n Start (UnitMedia u) alike h = h.0
 key-law m n Stop Run alike h = ap after_stop h.0
-key-law m n Stop Psw alike h = h.0
-key-law m n Stop (Register r) alike h = h.0
-key-law m n Stop (Byte a) alike h = h.0
-key-law m n Stop (Key b) alike h = h.0
-key-law m n Stop External alike h = h.0
-key-law m n Stop (UnitState u) alike h = h.0
-key-law m n Stop (UnitMedia u) alike h = h.0
 key-law m n Interrupt External alike h = ap (λ (x : ExternalConditions). record x { key = true }) h.0
-key-law m n Interrupt Run alike h = h.0
-key-law m n Interrupt Psw alike h = h.0
-key-law m n Interrupt (Register r) alike h = h.0
-key-law m n Interrupt (Byte a) alike h = h.0
-key-law m n Interrupt (Key b) alike h = h.0
-key-law m n Interrupt (UnitState u) alike h = h.0
-key-law m n Interrupt (UnitMedia u) alike h = h.0
 key-law m n EndOfFile (UnitMedia u) alike h = same-devices (unit_at u.0) (media_after_key EndOfFile) m.media n.media (λ c. ended-file c m.media n.media) h.0
-key-law m n EndOfFile Run alike h = h.0
-key-law m n EndOfFile External alike h = h.0
-key-law m n EndOfFile Psw alike h = h.0
-key-law m n EndOfFile (Register r) alike h = h.0
-key-law m n EndOfFile (Byte a) alike h = h.0
-key-law m n EndOfFile (Key b) alike h = h.0
-key-law m n EndOfFile (UnitState u) alike h = h.0
 key-law m n (Enter line) (UnitMedia u) alike h = same-devices (unit_at u.0) (media_after_key (Enter line)) m.media n.media (λ c. entered line c m.media n.media) h.0
-key-law m n (Enter line) Run alike h = h.0
-key-law m n (Enter line) External alike h = h.0
-key-law m n (Enter line) Psw alike h = h.0
-key-law m n (Enter line) (Register r) alike h = h.0
-key-law m n (Enter line) (Byte a) alike h = h.0
-key-law m n (Enter line) (Key b) alike h = h.0
-key-law m n (Enter line) (UnitState u) alike h = h.0
 key-law m n Request (UnitState u) alike h = asked-at (unit_at u.0) m.units n.units alike.first alike.second h.0
-key-law m n Request Run alike h = h.0
-key-law m n Request External alike h = h.0
-key-law m n Request Psw alike h = h.0
-key-law m n Request (Register r) alike h = h.0
-key-law m n Request (Byte a) alike h = h.0
-key-law m n Request (Key b) alike h = h.0
-key-law m n Request (UnitMedia u) alike h = h.0
 key-law m n Reset Run alike h = refl
 key-law m n Reset External alike h = refl
 key-law m n Reset (UnitState u) alike h = same-units (unit_at u.0) (after_key m Reset).units
-key-law m n Reset Psw alike h = h.0
-key-law m n Reset (Register r) alike h = h.0
-key-law m n Reset (Byte a) alike h = h.0
-key-law m n Reset (Key b) alike h = h.0
-key-law m n Reset (UnitMedia u) alike h = h.0
 key-law m n (Load unit) Run alike h = refl
 key-law m n (Load unit) External alike h = refl
 key-law m n (Load unit) (UnitState u) alike h = same-units (unit_at u.0) (after_key m (Load unit)).units
-key-law m n (Load unit) Psw alike h = h.0
-key-law m n (Load unit) (Register r) alike h = h.0
-key-law m n (Load unit) (Byte a) alike h = h.0
-key-law m n (Load unit) (Key b) alike h = h.0
-key-law m n (Load unit) (UnitMedia u) alike h = h.0
+key-law m n key p alike h = h.0

@@ -1,8 +1,6 @@
 -- TRANSLATE AND TEST follows its sources.
-use Rattle.std.proofs.Common.{◌≡◌, ◌≢◌, ◌+◌, ◌∙◌, ℕ, zero, suc, Bool, true, false, List, [], ◌∷◌, refl, ap, sym, arith, get_or, set, nat_eq, Option, Some, None, inl, inr}
-use Rattle.std.specs.Prelude.{if◌then◌else◌, slice_index}
+use Rattle.std.proofs.Common.{◌≡◌, ◌≢◌, ◌+◌, ◌∙◌, ℕ, zero, suc, Bool, true, false, List, [], ◌∷◌, refl, ap, sym, arith, get_or, set, nat_eq, Option, Some, None, inl, inr, if◌then◌else◌, slice_index, get_or-set_other}
 use Rattle.std.proofs.lemmas.Bool.{cases_Bool, cases_eq, eq-eqb, ne_eqb}
-use Rattle.std.proofs.lemmas.List.{get_or-set_other}
 use Rattle.s360_model.specs.Core.{Core}
 use Rattle.s360_model.specs.Psw.{with_instruction_address}
 use Rattle.s360_model.specs.Storage.{Storage}
@@ -159,10 +157,7 @@ search-law m n next il first table count (Byte a) alike h =
     ap (λ (s : Storage). byte_at s a) (storage-of (found_at table first 0 count m.storage) m next il first table count) ∙ h.0 ∙ sym (ap (λ (s : Storage). byte_at s a) (storage-of (found_at table first 0 count n.storage) n next il first table count))
 search-law m n next il first table count (Key b) alike h =
     ap (λ (s : Storage). slice_index s.keys b) (storage-of (found_at table first 0 count m.storage) m next il first table count) ∙ h.0 ∙ sym (ap (λ (s : Storage). slice_index s.keys b) (storage-of (found_at table first 0 count n.storage) n next il first table count))
-search-law m n next il first table count Run alike h = refl
-search-law m n next il first table count External alike h = refl
-search-law m n next il first table count (UnitState u) alike h = refl
-search-law m n next il first table count (UnitMedia u) alike h = refl
+search-law m n next il first table count p alike h = refl
 
 search-keeps : (q : Option ℕ) (m : Core) (next : ℕ) (il : InstructionLength) (first table count : ℕ) → KeepsSizes m (search_outcome q (seen m next il) first table count).core
 search-keeps None m next il first table count = psw-keeps m _

@@ -1,8 +1,6 @@
 -- The instructions of the format SS follow their sources.
-use Rattle.std.proofs.Common.{◌≡◌, ◌<◌, ◌+◌, ◌-◌, ◌*◌, ◌/◌, ◌%◌, ◌∙◌, ℕ, zero, suc, false, List, [], ◌∷◌, refl, ap, sym, arith, length, min, take, drop, nat_eq, bit_and, bit_or, bit_xor, ◌++◌, inl, inr, Option, None}
-use Rattle.std.specs.Prelude.{if◌then◌else◌}
+use Rattle.std.proofs.Common.{◌≡◌, ◌<◌, ◌+◌, ◌-◌, ◌*◌, ◌/◌, ◌%◌, ◌∙◌, ℕ, zero, suc, false, List, [], ◌∷◌, refl, ap, sym, arith, length, min, take, drop, nat_eq, bit_and, bit_or, bit_xor, ◌++◌, inl, inr, Option, None, if◌then◌else◌, ext_get_or, get_or-drop, get_or-take, length-drop, length-take}
 use Rattle.std.proofs.lemmas.Bool.{cases_Bool}
-use Rattle.std.proofs.lemmas.List.{ext_get_or, get_or-drop, get_or-take, length-drop, length-take}
 use Rattle.s360_model.specs.Core.{Core}
 use Rattle.s360_model.specs.Storage.{Storage}
 use Rattle.s360_psw.specs.declared.instruction_length.InstructionLength.{InstructionLength}
@@ -23,7 +21,7 @@ use Rattle.s360_logic.specs.LeftToRight.{comparison_code, function_address, left
 use Rattle.s360_logic.specs.Logic.{address_of, row_outcome}
 use Rattle.s360_logic.specs.declared.row.DigitRow.{DigitRow}
 use Rattle.s360_logic.specs.declared.row.DigitRow.TheVariants.{MoveWithOffset as move_with_offset, Pack as pack, Unpack as unpack}
-use Rattle.s360_logic.specs.RightToLeft.{DigitMove, byte_from_right, digit_move, digits, digits_stored, exchanged, zone_of}
+use Rattle.s360_logic.specs.RightToLeft.{DigitMove, byte_from_right, digits, digits_stored, exchanged, zone_of}
 use Rattle.s360_source.specs.Agreement.{AreAlike, HaveAllSame, HaveSame, KeepsSizes}
 use Rattle.s360_source.specs.declared.digits.DigitRow.TheVariants.{MoveWithOffset as with_offset, Pack as packed, Unpack as unpacked}
 use Rattle.s360_source.specs.declared.digits.Digits.{Digits}
@@ -59,10 +57,7 @@ stored-law m n next il s t f g bytes first count of_code Psw alike each code h =
 stored-law m n next il s t f g bytes first count of_code (Register i) alike each code h = h.0
 stored-law m n next il s t f g bytes first count of_code (Byte a) alike each code h = stored-follows m n f g bytes first alike each count a h
 stored-law m n next il s t f g bytes first count of_code (Key b) alike each code h = rw (left_to_right-keys f first count 0 m.storage, left_to_right-keys g first count 0 n.storage) h.0
-stored-law m n next il s t f g bytes first count of_code Run alike each code h = refl
-stored-law m n next il s t f g bytes first count of_code External alike each code h = refl
-stored-law m n next il s t f g bytes first count of_code (UnitState u) alike each code h = refl
-stored-law m n next il s t f g bytes first count of_code (UnitMedia u) alike each code h = refl
+stored-law m n next il s t f g bytes first count of_code p alike each code h = refl
 
 stored-keeps : (m : Core) (next : ℕ) (il : InstructionLength) (s : Option ℕ) (f : ℕ → Storage → ℕ) (first count : ℕ) → KeepsSizes m (stored_outcome m next il s f first count).core
 stored-keeps m next il s f first count = record {
@@ -219,7 +214,7 @@ at m next length b d = address_of (seen m next length) b d
 -- a row of digits and its operands
 abbrev moved : DigitRow → Core → ℕ → InstructionLength → ℕ → ℕ → ℕ → ℕ → ℕ → DigitMove
 moved row m next length l b1 d1 b2 d2 =
-    digit_move row (zone_of m.psw) (record { address = at m next length b1 d1; count = l / 16 + 1 }) (record { address = at m next length b2 d2; count = l % 16 + 1 })
+    record { row = row; zone = zone_of m.psw; first = record { address = at m next length b1 d1; count = l / 16 + 1 }; second = record { address = at m next length b2 d2; count = l % 16 + 1 } }
 
 pub ss-law : (operation : Operation) → StorageFollows operation
 ss-law Move m n next length l b1 d1 b2 d2 p alike d e =

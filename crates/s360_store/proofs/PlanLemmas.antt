@@ -1,7 +1,5 @@
 -- Places that are one, and what a put does to a plan.
-use Rattle.std.proofs.Common.{◌≡◌, ◌≢◌, ◌<◌, ◌≤◌, ◌-◌, ◌++◌, ◌⊎◌, inl, inr, ℕ, List, [], ◌∷◌, refl, ap, sym, ◌∙◌, length, arith, Bool, true, false, cond}
-use Rattle.std.proofs.Common.{Some, IsSome}
-use Rattle.std.proofs.lemmas.Bool.{eq-eqb, eqb-true}
+use Rattle.std.proofs.Common.{◌≡◌, ◌≢◌, ◌<◌, ◌≤◌, ◌-◌, ◌++◌, ◌⊎◌, inl, inr, ℕ, List, [], ◌∷◌, refl, ap, sym, ◌∙◌, length, arith, Bool, true, false, cond, Some, IsSome, eq-eqb, eqb-true}
 use Rattle.s360_model.specs.Core.{Core}
 use Rattle.s360_store.specs.declared.place.Place.{Place}
 use Rattle.s360_store.specs.declared.place.Place.TheVariants.{Psw, Register, Byte, Key, Run, External, UnitState, UnitMedia}
@@ -13,14 +11,12 @@ use Rattle.s360_store.proofs.PlaceLemmas.{with_value-twice}
 use Rattle.s360_store.proofs.ExchangeLemmas.{after_exchange-with_value}
 
 pub same_place-refl : (p : Place) → same_place p p ≡ true
-same_place-refl Psw = refl
 same_place-refl (Register n) = eq-eqb n n refl
 same_place-refl (Byte n) = eq-eqb n n refl
 same_place-refl (Key n) = eq-eqb n n refl
-same_place-refl Run = refl
-same_place-refl External = refl
 same_place-refl (UnitState u) = eq-eqb u.0 u.0 refl
 same_place-refl (UnitMedia u) = eq-eqb u.0 u.0 refl
+same_place-refl p = refl
 
 pub same_place-true : (p q : Place) → same_place p q ≡ true → p ≡ q
 same_place-true Psw Psw h = refl

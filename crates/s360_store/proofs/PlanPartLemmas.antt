@@ -1,5 +1,5 @@
 -- Puts one after another, the entries of a plan's map, and cells that ascend.
-use Rattle.std.proofs.Common.{◌≡◌, ◌<◌, ◌≤◌, ◌++◌, ◌⊎◌, IsSome, ℕ, Some, List, [], ◌∷◌, Bool, true, false, cond, refl, ap, sym, subst, length}
+use Rattle.std.proofs.Common.{◌≡◌, ◌<◌, ◌≤◌, ◌++◌, ◌⊎◌, IsSome, ℕ, Some, List, [], ◌∷◌, Bool, true, false, cond, refl, ap, sym, subst, length, Ordering, Less, Equal, Greater}
 use Rattle.std.specs.Map.{lookup}
 use Rattle.std.specs.declared.cmp.PartialEq
 use Rattle.indexmap.specs.IndexMap.{insert_entry}
@@ -9,18 +9,14 @@ use Rattle.s360_store.specs.declared.place.Place.{Place}
 use Rattle.s360_store.specs.declared.place.Place.TheVariants.{Psw, Register, Byte, Key, Run, External, UnitState, UnitMedia}
 use Rattle.s360_store.specs.declared.place.Cell.{Cell}
 use Rattle.s360_store.specs.Places.{same_place}
-use Rattle.s360_store.specs.Cells.{IsFresh, HasEachOnce}
+use Rattle.s360_store.specs.Cells.{IsFresh, HasEachOnce, places_of_cells}
 use Rattle.s360_store.specs.Plans.{after_put, planned_value}
-use Rattle.s360_store.specs.Cells.{places_of_cells}
 use Rattle.s360_store.specs.Order.{IsAscending, IsBefore, IsBeforeAll}
 use Rattle.s360_store.specs.PlanParts.{IsPlan, cells_of_entries}
 use Rattle.s360_store.proofs.OrderOfPlaces.{compare, compare_is}
 use Rattle.s360_store.proofs.AscendingLemmas.{IsBefore-trans}
 use Rattle.std.specs.Ordering.{is_lt, MatchOrdering}
-use Rattle.std.specs.declared.cmp.Ordering.{Ordering}
-use Rattle.std.specs.declared.cmp.Ordering.TheVariants.{Less, Equal, Greater}
-use Rattle.s360_store.proofs.PlanLemmas.{same_place-false, same_place-sym}
-use Rattle.s360_store.proofs.PlanLemmas.{HasEachOnce-after_put, length-after_put-le}
+use Rattle.s360_store.proofs.PlanLemmas.{same_place-false, same_place-sym, HasEachOnce-after_put, length-after_put-le}
 
 -- a put at any other place is a put to what follows
 pub after_put-behind : (cs rest : List Cell) (p : Place) (v : ℕ) → IsFresh p cs → after_put (cs ++ rest) p v ≡ cs ++ after_put rest p v
@@ -32,7 +28,8 @@ after_put-behind (c ∷ cs) rest p v h =
 abbrev pub equal : Place → Place → Bool
 equal = Param.read PartialEq.Ghosts.eq TheImpl.ghosts
 
-equal_is : (p q : Place) → equal p q ≡ same_place p q
+-- which is the test of the places
+pub equal_is : (p q : Place) → equal p q ≡ same_place p q
 equal_is Psw Psw = refl
 equal_is (Register n) (Register k) = refl
 equal_is (Byte n) (Byte k) = refl

@@ -1,14 +1,15 @@
 //! What the program does once its command line is read. Faults are found in the order of the steps.
-ghost use Rattle.std.specs.Prelude.{◌≡◌, ◌++◌, ℕ, List, true, false, IfErr, IfOk, OnOk, Err};
+ghost use Rattle.std.specs.Prelude.{◌≡◌, true, false, IfErr, IfOk, OnOk, Err};
 ghost use Rattle.std.specs.Io.KnownBytes.{Appends};
 ghost use Rattle.s360_model.specs.Storage.{is_storage_size};
+ghost use Rattle.s360_remote.specs.Replies.{Adds};
 ghost use Rattle.s360_setup.specs.Failures.{IsScriptFailure};
 ghost use Rattle.s360_setup.specs.Partial.{IsBegun};
 ghost use Rattle.s360gdb.specs.Beginning.{IsServedAfter};
-ghost use Rattle.s360gdb.specs.Conversation.{IsConversation, IsServedWhole};
+ghost use Rattle.s360gdb.specs.Conversation.{IsConversation, IsServedWhole, talking};
 ghost use Rattle.s360gdb.specs.Failures.{IsServingFailure, IsRunFailure, IsServingAfterFailure};
 ghost use Rattle.s360gdb.specs.Notes.{note_of_dropped};
-ghost use Rattle.s360gdb.specs.Saving.{IsRun, known_of};
+ghost use Rattle.s360gdb.specs.Saving.{Runs, known};
 ghost use Rattle.s360_setup.specs.declared.failure.Failure.TheVariants.{Memory, StorageSize};
 
 use crate::file::write_file;
@@ -18,9 +19,9 @@ use itoa::Buffer;
 use s360_debug::carry_out;
 use s360_journal::Session;
 use s360_machine::Machine;
-use s360_remote::{Connection, Errand, Replies, Target};
+use s360_remote::{Connection, Errand, Target, push_written};
 use s360_setup::{Failure, Fault, LIMIT, Options, Part, Program, open, set_up, tell};
-use s360_text::{Untaken, write_whole};
+use s360_text::{Text, Untaken, write_whole};
 use std::alloc::AllocError;
 use std::io::{self, Input, Read, Write};
 
@@ -67,7 +68,9 @@ fn serve_after_script<F: Opening + Drop, N: Write + Drop, S: Read, R: Read, W: W
     reader: &mut R,
     writer: &mut W,
 ) -> Result<Host<F, N>, Failure>
-    ensures served { IfOk result (λ after. IsServedAfter F.File.contents machine.whole (S.remaining script.old) (known_of F.asked N.contents host) (known_of F.asked N.contents after) (R.remaining reader.old) (R.remaining reader.new) (W.contents writer.old) (W.contents writer.new)) }
+    ensures served { IfOk result (λ after. IsServedAfter F.File.contents machine.whole (S.remaining script.old)
+        (known F.asked N.contents host) (known F.asked N.contents after)
+        (R.remaining reader.old) (R.remaining reader.new) (W.contents writer.old) (W.contents writer.new)) }
     ensures failure { IfErr result IsServingAfterFailure }
 {
     let Host {
@@ -95,11 +98,12 @@ fn serve<F: Opening, N: Write, R: Read, W: Write>(
     reader: &mut R,
     writer: &mut W,
 ) -> Result<(), Failure>
-    ensures served { OnOk result (IsServedWhole F.File.contents (R.remaining reader.old) (R.remaining reader.new) target.old (known_of F.asked N.contents host.old) target.new (known_of F.asked N.contents host.new) (W.contents writer.old) (W.contents writer.new)) }
+    ensures served { OnOk result (IsServedWhole F.File.contents (R.remaining reader.old) (R.remaining reader.new)
+        target.old (known F.asked N.contents host.old) target.new (known F.asked N.contents host.new)
+        (W.contents writer.old) (W.contents writer.new)) }
     ensures failure { IfErr result IsServingFailure }
 {
     let mut connection = Connection::new(host.alloc)?;
-    let mut replies = Replies::new(host.alloc);
     let mut chunk = [0; CHUNK];
     // Each read but the last gives a byte at least.
     for _read in 0..u64::MAX {
@@ -112,6 +116,7 @@ fn serve<F: Opening, N: Write, R: Read, W: Write>(
         if len == 0 {
             break;
         }
+        let mut replies = Text::new(host.alloc);
         let taken = take_all(host, &mut connection, target, &mut replies, &chunk[..len]);
         // What was answered before memory was wanted is written too.
         let written = write_whole(writer, replies.as_bytes());
@@ -119,7 +124,6 @@ fn serve<F: Opening, N: Write, R: Read, W: Write>(
         let Ok(()) = written else {
             return Err(Failure::Part(Part::Connection, Fault::WriteFailed));
         };
-        replies.clear();
     }
     Ok(())
 }
@@ -129,10 +133,12 @@ fn take_all<F: Opening, N: Write>(
     host: &mut Host<F, N>,
     connection: &mut Connection,
     target: &mut Target,
-    replies: &mut Replies,
+    replies: &mut Text,
     bytes: &[u8],
 ) -> Result<(), Failure>
-    ensures answered { OnOk result ((answers : List ℕ) × IsConversation F.File.contents bytes.now (record { connection = connection.old; target = target.old; known = known_of F.asked N.contents host.old }) (record { connection = connection.new; target = target.new; known = known_of F.asked N.contents host.new }) answers × (replies.new ≡ replies.old ++ answers)) }
+    ensures answered { OnOk result (Adds (IsConversation F.File.contents bytes.now
+        (talking connection.old target.old (known F.asked N.contents host.old))
+        (talking connection.new target.new (known F.asked N.contents host.new))) replies.old replies.new) }
     ensures failure { IfErr result (λ failure. failure ≡ Memory) }
 {
     for byte in bytes {
@@ -146,9 +152,9 @@ fn take_all<F: Opening, N: Write>(
 fn run_errand<F: Opening, N: Write>(
     host: &mut Host<F, N>,
     errand: Errand,
-    replies: &mut Replies,
+    replies: &mut Text,
 ) -> Result<(), AllocError>
-    ensures { OnOk result ((answers : List ℕ) × IsRun F.File.contents errand (known_of F.asked N.contents host.old) (known_of F.asked N.contents host.new) answers × (replies.new ≡ replies.old ++ answers)) }
+    ensures { OnOk result (Adds (Runs F.File.contents errand (known F.asked N.contents host.old) (known F.asked N.contents host.new)) replies.old replies.new) }
 {
     match errand {
         Errand::Nothing => Ok(()),
@@ -159,7 +165,7 @@ fn run_errand<F: Opening, N: Write>(
         }
         Errand::Write(file) => {
             let outcome = write_file(&mut host.files, &file);
-            replies.push_written(file.amount, outcome)
+            push_written(replies, file.amount, outcome)
         }
     }
 }
