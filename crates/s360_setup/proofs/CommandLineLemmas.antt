@@ -1,15 +1,19 @@
 -- What the parser of command lines says of those of the programs.
-use Rattle.std.proofs.Common.{◌≡◌, ◌∙◌, ap, refl, sym, subst, Bool, true, false, Some, None, codes}
-use Rattle.std.specs.List.{list_all}
+use Rattle.std.proofs.Common.{◌≡◌, ◌∙◌, ap, refl, sym, subst, true, Option, Some, None, codes}
+use Rattle.std.specs.List.{find}
+use Rattle.std.specs.Prelude.{option_and_then, option_map}
+use Rattle.std.specs.Str.{bytes_eq}
 use Rattle.clap.specs.Built.{AddsArg}
-use Rattle.clap.specs.Walk.{Text, Rule, first_of, one_of, rule_of, rows_of}
-use Rattle.clap.specs.Simple.{App, app_of, is_simple, matches_of, built, names_of, argument_words, with_rule, HasMatchesOf}
+use Rattle.clap.specs.Facts.{Entry}
+use Rattle.clap.specs.declared.parser.matches.Found.{Found}
+use Rattle.clap.specs.Walk.{Text, Rule, first_of, row_of, rule_of, rows_of}
+use Rattle.clap.specs.Simple.{App, app_of, is_simple, matches_of, with_rule, HasMatchesOf}
 use Rattle.clap.specs.declared.builder.arg.Arg.{Arg}
-use Rattle.clap.specs.Matches.{first_value, one_text, found_of}
+use Rattle.clap.specs.Matches.{first_value, found_of, matched_of}
 use Rattle.clap.specs.declared.builder.command.Command.{Command}
 use Rattle.clap.specs.declared.parser.matches.ArgMatches.{ArgMatches}
 use Rattle.clap.proofs.OnLiterals.{clap_on_literals}
-use Rattle.clap.proofs.WalkLemmas.{first_value-rows, one_text-rows}
+use Rattle.clap.proofs.WalkLemmas.{find_row, first_value-rows}
 use Rattle.clap.specs.Takes.{takes}
 use Rattle.clap.specs.Faults.{fault_of, is_simple_and_free}
 use Rattle.clap.specs.Values.{kind_of}
@@ -17,11 +21,9 @@ use Rattle.clap.specs.declared.error.Error.{Error}
 use Rattle.clap.specs.declared.error.kind.ErrorKind.TheVariants.{OutOfMemory}
 use Rattle.std.specs.Prelude.{List, [], Result, Ok, Err, IfErr}
 use Rattle.std.specs.Result.{IsErrAnd}
-use Rattle.s360_setup.specs.CommandLine.{command_line, given, has_flag}
+use Rattle.s360_setup.specs.CommandLine.{command_line, given, has_flag, is_by_words, source_of}
 use Rattle.s360_setup.specs.declared.program.Program.{Program}
 use Rattle.s360_setup.specs.declared.program.Program.TheVariants.{Debugger, Server}
-use Rattle.s360_setup.proofs.FlagLemmas.{flag-after}
-use Rattle.s360_setup.proofs.FlagRows.{fits_flag}
 
 -- a command with an argument more has its row
 pub app_of-added : (app : App) (row : Rule) (old new : Command) (a : Arg) → app_of old ≡ app → rule_of a ≡ row → a.global ≡ false
@@ -62,31 +64,18 @@ pub IfErr-passed_on : {T E : Type 0} (r : Result T E) (x : E) (P : E → Type 0)
 IfErr-passed_on (Ok v) x P h p = absurd h
 IfErr-passed_on (Err e) x P h p = subst P (sym h) p
 
-abbrev pub fits_flags : Program → Text → Type 0
-fits_flags p flag = list_all (fits_flag flag) (built (command_line p)).top.rules ≡ true
-
-pub fits_flags-protect0 : (p : Program) → fits_flags p (codes "protect0")
-unfolding command_line clap_on_literals
-fits_flags-protect0 Debugger = refl
-fits_flags-protect0 Server = refl
-
-pub fits_flags-protect1 : (p : Program) → fits_flags p (codes "protect1")
-unfolding command_line clap_on_literals
-fits_flags-protect1 Debugger = refl
-fits_flags-protect1 Server = refl
-
-pub fits_flags-fetch : (p : Program) → fits_flags p (codes "fetch")
-unfolding command_line clap_on_literals
-fits_flags-fetch Debugger = refl
-fits_flags-fetch Server = refl
+-- where the value of an argument comes from, by the rows
+source-rows : (f : Found) (id : Text) → option_and_then (λ a. a.source) (matched_of f id) ≡ source_of id (rows_of f)
+source-rows f id = by (find (λ e. bytes_eq e.0.now id) f.entries.items) ∙ ap (option_and_then (λ r. r.source)) (sym (find_row f.entries.items id))
+  where
+    by : (o : Option Entry) → option_and_then (λ a. a.source) (option_map (λ e. e.1) o) ≡ option_and_then (λ r. r.source) (option_map row_of o)
+    by None = refl
+    by (Some e) = refl
 
 -- what is read of a flag is whether the words give it
-pub flag-given : (p : Program) (command : Command) (words : List Text) (m : ArgMatches) (flag : Text) (b : Bool) → app_of command ≡ command_line p
-    → HasMatchesOf (app_of command) words m → fits_flags p flag → (one_text (found_of m) flag ≡ None → b ≡ false)
-    → (one_text (found_of m) flag ≡ Some (codes "true") → b ≡ true) → (one_text (found_of m) flag ≡ Some (codes "false") → b ≡ false) → b ≡ has_flag p flag words
+pub flag-given : (p : Program) (command : Command) (words : List Text) (m : ArgMatches) (flag : Text) → app_of command ≡ command_line p
+    → HasMatchesOf (app_of command) words m → is_by_words (option_and_then (λ a. a.source) (matched_of (found_of m) flag)) ≡ has_flag p flag words
 unfolding has_flag
-flag-given p command words m flag b is has fits none set unset =
-    let rows : rows_of (found_of m) ≡ matches_of (command_line p) words = (has (ap is_simple is ∙ command_line-is_simple p)).0 ∙ ap (λ a. matches_of a words) is in
-    let text : one_text (found_of m) flag ≡ one_of flag (matches_of (command_line p) words) = one_text-rows (found_of m) flag ∙ ap (one_of flag) rows in
-    flag-after flag (built (command_line p)).top.rules (names_of (built (command_line p))) (argument_words (command_line p) words) b fits
-    (λ e. none (text ∙ e)) (λ e. set (text ∙ e)) (λ e. unset (text ∙ e))
+flag-given p command words m flag is has =
+    ap is_by_words (source-rows (found_of m) flag)
+    ∙ ap (λ rows. is_by_words (source_of flag rows)) ((has (ap is_simple is ∙ command_line-is_simple p)).0 ∙ ap (λ a. matches_of a words) is)

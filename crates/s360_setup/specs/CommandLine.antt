@@ -1,10 +1,12 @@
 -- The command line (own profile): its options and its operand, a row each, as the parser of command lines sees them.
-use Rattle.std.specs.Prelude.{◌≡◌, ℕ, ◌<◌, ◌^◌, Bool, true, Option, Some, None, option_map, List, [], ◌∷◌, codes, ⊤}
+use Rattle.std.specs.Prelude.{◌≡◌, ℕ, ◌<◌, ◌^◌, Bool, true, false, Option, Some, None, option_map, option_and_then, List, [], ◌∷◌, find, codes, ⊤}
+use Rattle.std.specs.Str.{bytes_eq}
 use Rattle.std.specs.Str.Parse.{IsNumeral, digits_value}
-use Rattle.clap.specs.Walk.{Rule, Text, first_of}
+use Rattle.clap.specs.Walk.{Row, Rule, Text, first_of}
 use Rattle.clap.specs.Simple.{App, new_rule, new_shape, matches_of}
-use Rattle.clap.specs.Takes.{is_given}
 use Rattle.clap.specs.declared.builder.action.ArgAction.TheVariants.{Set, SetTrue}
+use Rattle.clap.specs.declared.parser.matches.ValueSource.{ValueSource}
+use Rattle.clap.specs.declared.parser.matches.ValueSource.TheVariants.{CommandLine}
 use Rattle.s360_setup.specs.Programs.{program_name}
 use Rattle.s360_setup.specs.declared.arguments.TapeOptions.{TapeOptions}
 use Rattle.s360_setup.specs.declared.program.Program.{Program}
@@ -45,9 +47,17 @@ command_line program = record {
 unfoldable pub given : Program → Text → List Text → Option Text
 given program name words = first_of name (matches_of (command_line program) words)
 
+-- where the value for a row comes from, and whether it comes from the words
+abbrev pub source_of : Text → List Row → Option ValueSource
+source_of name rows = option_and_then (λ r. r.source) (find (λ r. bytes_eq r.id name) rows)
+
+abbrev pub is_by_words : Option ValueSource → Bool
+is_by_words (Some CommandLine) = true
+is_by_words _ = false
+
 -- whether they give a flag
 unfoldable pub has_flag : Program → Text → List Text → Bool
-has_flag program name words = is_given name (matches_of (command_line program) words)
+has_flag program name words = is_by_words (source_of name (matches_of (command_line program) words))
 
 -- the tape whose file one option names, and that one flag protects
 pub record IsTape (program : Program) (option flag : Text) (words : List Text) (tape : TapeOptions) : Type 0 where

@@ -1,16 +1,17 @@
 //! The command line: `PROGRAM [--storage BYTES] [--fetch] [--reader FILE] [--tape0 FILE] [--tape1 FILE]
 //! [--protect0] [--protect1] [SCRIPT]`.
-ghost use Rattle.std.specs.Prelude.{◌≡◌, [], true, false, map, option_map, codes, IfOk, IfErr, OnOk};
+ghost use Rattle.std.specs.Prelude.{◌≡◌, [], true, false, map, option_map, option_and_then, codes, IfOk, IfErr, OnOk};
 ghost use Rattle.std.specs.Option.{SomeIff};
 ghost use Rattle.std.specs.Str.Parse.{digits_value};
-ghost use Rattle.clap.specs.Words.{app_of, fault_of, kind_of, rule_of, takes};
-ghost use Rattle.s360_setup.specs.CommandLine.{command_line, operand_row, option_row, flag_row, given, has_flag};
+ghost use Rattle.clap.specs.Words.{app_of, fault_of, found_of, kind_of, matched_of, rule_of, takes};
+ghost use Rattle.s360_setup.specs.CommandLine.{command_line, operand_row, option_row, flag_row, given, has_flag, is_by_words};
 ghost use Rattle.s360_setup.specs.CommandLine.{IsDecimalNumber, IsStorage, FitsStorage, IsTape};
 
 use crate::arguments::{Options, TapeOptions};
 use crate::program::Program;
 use clap::error::ErrorKind;
-use clap::{Arg, ArgAction, Command, Error};
+use clap::parser::ValueSource;
+use clap::{Arg, ArgAction, ArgMatches, Command, Error};
 use std::alloc::{AllocError, Global};
 use std::convert::AsStr;
 
@@ -59,15 +60,22 @@ pub fn options<'a, S: AsStr>(
         reader: matches.get_str("reader"),
         tape0: TapeOptions {
             file: matches.get_str("tape0"),
-            protected: matches.get_flag("protect0"),
+            protected: is_given(&matches, "protect0"),
         },
         tape1: TapeOptions {
             file: matches.get_str("tape1"),
-            protected: matches.get_flag("protect1"),
+            protected: is_given(&matches, "protect1"),
         },
-        fetch: matches.get_flag("fetch"),
+        fetch: is_given(&matches, "fetch"),
         script: matches.get_str("script"),
     })
+}
+
+/// Whether the words give a flag.
+fn is_given(matches: &ArgMatches<'_>, flag: &str) -> bool
+    ensures { result ≡ is_by_words (option_and_then (λ a. a.source) (matched_of (found_of matches.now) flag.now)) }
+{
+    matches!(matches.value_source(flag), Some(ValueSource::CommandLine))
 }
 
 /// The options and the operand, a row each.

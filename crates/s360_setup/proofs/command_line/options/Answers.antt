@@ -1,5 +1,5 @@
 use Rattle.std.proofs.Common.{◌∙◌, codes, map}
-use Rattle.s360_setup.proofs.CommandLineLemmas.{first_value-given, flag-given, fits_flags-fetch, fits_flags-protect0, fits_flags-protect1, no_fault-given, passes-given, IfErr-passed_on}
+use Rattle.s360_setup.proofs.CommandLineLemmas.{first_value-given, flag-given, no_fault-given, passes-given, IfErr-passed_on}
 use Rattle.s360_setup.proofs.command_line.options.Goals as goal
 
 pub returns-clause-reader : goal.returns-clause-reader
@@ -11,24 +11,22 @@ pub returns-clause-tape0 : goal.returns-clause-tape0
 returns-clause-tape0 g c = record {
   file = c.get_str-3.ensures
       ∙ first_value-given c.args.program c.in_ok-command_line.field-0 (map g.S.AsStr.text c.args.words.now) c.in_ok-matches.matches (codes "tape0") c.in_ok-command_line.ensures c.in_ok-matches.ensures.matches;
-  protected =
-      flag-given c.args.program c.in_ok-command_line.field-0 (map g.S.AsStr.text c.args.words.now) c.in_ok-matches.matches (codes "protect0") c.get_flag.result c.in_ok-command_line.ensures c.in_ok-matches.ensures.matches
-      (fits_flags-protect0 c.args.program) c.get_flag.ensures.none c.get_flag.ensures.value c.get_flag.ensures.other;
+  protected = c.is_given.ensures
+      ∙ flag-given c.args.program c.in_ok-command_line.field-0 (map g.S.AsStr.text c.args.words.now) c.in_ok-matches.matches (codes "protect0") c.in_ok-command_line.ensures c.in_ok-matches.ensures.matches;
 }
 
 pub returns-clause-tape1 : goal.returns-clause-tape1
 returns-clause-tape1 g c = record {
   file = c.get_str-4.ensures
       ∙ first_value-given c.args.program c.in_ok-command_line.field-0 (map g.S.AsStr.text c.args.words.now) c.in_ok-matches.matches (codes "tape1") c.in_ok-command_line.ensures c.in_ok-matches.ensures.matches;
-  protected =
-      flag-given c.args.program c.in_ok-command_line.field-0 (map g.S.AsStr.text c.args.words.now) c.in_ok-matches.matches (codes "protect1") c.get_flag-2.result c.in_ok-command_line.ensures c.in_ok-matches.ensures.matches
-      (fits_flags-protect1 c.args.program) c.get_flag-2.ensures.none c.get_flag-2.ensures.value c.get_flag-2.ensures.other;
+  protected = c.is_given-2.ensures
+      ∙ flag-given c.args.program c.in_ok-command_line.field-0 (map g.S.AsStr.text c.args.words.now) c.in_ok-matches.matches (codes "protect1") c.in_ok-command_line.ensures c.in_ok-matches.ensures.matches;
 }
 
 pub returns-clause-fetch : goal.returns-clause-fetch
 returns-clause-fetch g c =
-    flag-given c.args.program c.in_ok-command_line.field-0 (map g.S.AsStr.text c.args.words.now) c.in_ok-matches.matches (codes "fetch") c.get_flag-3.result c.in_ok-command_line.ensures c.in_ok-matches.ensures.matches
-    (fits_flags-fetch c.args.program) c.get_flag-3.ensures.none c.get_flag-3.ensures.value c.get_flag-3.ensures.other
+    c.is_given-3.ensures
+    ∙ flag-given c.args.program c.in_ok-command_line.field-0 (map g.S.AsStr.text c.args.words.now) c.in_ok-matches.matches (codes "fetch") c.in_ok-command_line.ensures c.in_ok-matches.ensures.matches
 
 pub returns-clause-script : goal.returns-clause-script
 returns-clause-script g c =
