@@ -10,7 +10,7 @@ use Rattle.indexmap.specs.IndexSet.{insert_all, insert_key}
 use Rattle.s360_store.specs.declared.place.Place.{Place}
 use Rattle.s360_store.specs.declared.place.Place.TheVariants.{Psw, Register, Byte, Key, Run, External, UnitState, UnitMedia}
 use Rattle.s360_store.specs.Places.{same_place}
-use Rattle.s360_store.proofs.PlanPartLemmas.{equal}
+use Rattle.s360_store.proofs.PlanPartLemmas.{equal, equal_is}
 use Rattle.s360_journal.specs.Recorded.{Recorded, with_standing}
 use Rattle.s360_inquiry.specs.declared.cause.Cause.{Cause}
 use Rattle.s360_inquiry.specs.declared.cause.Origin.{Origin}
@@ -25,17 +25,6 @@ abbrev joined_lines : List (List ℕ) → List ℕ
 joined_lines lines = flat_map (λ line. line) lines
 
 -- ---- places, each once
-
-equal_is : (p q : Place) → equal p q ≡ same_place p q
-equal_is Psw Psw = refl
-equal_is (Register n) (Register k) = refl
-equal_is (Byte n) (Byte k) = refl
-equal_is (Key n) (Key k) = refl
-equal_is Run Run = refl
-equal_is External External = refl
-equal_is (UnitState u) (UnitState v) = refl
-equal_is (UnitMedia u) (UnitMedia v) = refl
-equal_is p q = refl
 
 among-same : (ks : List Place) (p : Place) → list_any (equal p) ks ≡ list_any (same_place p) ks
 among-same [] p = refl

@@ -337,19 +337,6 @@ pub ok-there : {A E : Type 0} (r : Result A E) (P : Type 0) → is_err r ≡ fal
 ok-there (Ok a) P h p = p
 ok-there (Err e) P h p = absurd (let no : true ≡ false = h in cc)
 
--- what a clause on a result comes to
-pub ok-from : {A E : Type 0} (r : Result A E) (P Q : Type 0) → (P → Q) → OnOk r P → OnOk r Q
-ok-from (Ok a) P Q f p = f p
-ok-from (Err e) P Q f p = p
-
-pub err-from : {A E : Type 0} (r : Result A E) (P Q : Type 0) → (P → Q) → OnErr r P → OnErr r Q
-err-from (Ok a) P Q f p = p
-err-from (Err e) P Q f p = f p
-
-pub err-any : {A E : Type 0} (r : Result A E) (P : Type 0) → P → OnErr r P
-err-any (Ok a) P p = tt
-err-any (Err e) P p = p
-
 -- spans of a change, some of which are past, and the numbers that were put at their places
 pub record Indexing (k : ℕ) (g h : Histories) (all left : List Span) : Type 0 where
   pub past : List Place

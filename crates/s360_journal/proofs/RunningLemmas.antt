@@ -188,17 +188,11 @@ pause-of idle altered reached ended stops reach s rest e h i k l =
 -- the last event, as its kind alone
 kind-cpu : (e : Event) → kind_of_event e ≡ cpu_kind → is_cpu e ≡ true
 kind-cpu Cpu h = refl
-kind-cpu (Channel u) h = absurd (cc)
-kind-cpu Tick h = absurd (cc)
-kind-cpu (Key k) h = absurd (cc)
-kind-cpu (patch p) h = absurd (cc)
+kind-cpu e h = absurd (cc)
 
 kind-other : (e : Event) → kind_of_event e ≢ cpu_kind → is_cpu e ≡ false
 kind-other Cpu h = absurd (h refl)
-kind-other (Channel u) h = refl
-kind-other Tick h = refl
-kind-other (Key k) h = refl
-kind-other (patch p) h = refl
+kind-other e h = refl
 
 pub last-cpu : (o : Option Event) → option_map kind_of_event o ≡ Some cpu_kind → option_map_or is_cpu o false ≡ true
 last-cpu None h = absurd (cc)

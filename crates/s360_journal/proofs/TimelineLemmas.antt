@@ -12,15 +12,10 @@ use Rattle.s360_journal.specs.Noted.{event_of_tag}
 -- the nearest of them
 pub first_of_events : (ts : List Tag) (us : List UnitAddress) (os : List Event) → AreEvents ts us os
     → event_of_tag (slice_get ts 0) (slice_get us 0) (slice_get os 0) ≡ slice_get (events_of ts us os) 0
-first_of_events [] us os h = refl
-first_of_events (cpu ∷ ts) us os h = refl
-first_of_events (tick ∷ ts) us os h = refl
 first_of_events (channel ∷ ts) [] os h = absurd h
-first_of_events (channel ∷ ts) (u ∷ us) os h = refl
 first_of_events (load ∷ ts) [] os h = absurd h
-first_of_events (load ∷ ts) (u ∷ us) os h = refl
 first_of_events (other ∷ ts) us [] h = absurd h
-first_of_events (other ∷ ts) us (e ∷ os) h = refl
+first_of_events ts us os h = refl
 
 -- as many as bytes
 pub length_of_events : (ts : List Tag) (us : List UnitAddress) (os : List Event) → AreEvents ts us os → length (events_of ts us os) ≡ length ts

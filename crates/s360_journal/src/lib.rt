@@ -17,7 +17,6 @@ mod parted;
 mod places;
 mod report;
 mod running;
-mod same;
 mod session;
 mod timeline;
 mod withdrawing;

@@ -4,7 +4,6 @@ ghost use Rattle.std.specs.Prelude.{◌≡◌, ◌↔◌, IfOk, IsTrue};
 ghost use Rattle.s360_machine.specs.EventKinds.{kind_of_event};
 ghost use Rattle.s360_journal.specs.Noted.{event_noted, event_of_tag};
 
-use crate::same::is_same;
 use s360_machine::{Event, EventKind, Key, KeyKind};
 use s360_word::Unit;
 use std::alloc::AllocError;
@@ -79,7 +78,7 @@ impl Noted<'_> {
             (Noted::Cpu, Event::Cpu) | (Noted::Tick, Event::Tick) => true,
             (Noted::Channel(unit), Event::Channel(other)) => unit == *other,
             (Noted::Load(unit), Event::Key(Key::Load(other))) => unit == *other,
-            (Noted::Other(own), other) => is_same(own, other),
+            (Noted::Other(own), other) => own == other,
             _ => false,
         }
     }

@@ -130,18 +130,6 @@ impl<T> Parted<T> {
         self.items.push_reserved(item);
         self.standing += 1;
     }
-
-    /// Takes the first of those that come next out.
-    pub(crate) fn take_first(&mut self) -> Option<T>
-        ensures next { self.old.next ≡ option_to_list result ++ self.new.next }
-        ensures past { self.new.past ≡ self.old.past }
-        ensures none { result ≡ None → self.old.next ≡ [] }
-    {
-        if self.standing == self.items.len() {
-            return None;
-        }
-        Some(self.items.remove(self.standing))
-    }
 }
 
 impl<T: Drop> Parted<T> {

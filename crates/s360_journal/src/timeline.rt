@@ -186,25 +186,6 @@ impl Timeline {
         }
     }
 
-    /// Drops the first event of the rest, if there is one.
-    pub(crate) fn drop_next(&mut self)
-        ensures standing { self.new.standing ≡ self.old.standing }
-        ensures rest { self.new.rest ≡ drop 1 self.old.rest }
-    {
-        let Some(tag) = self.tags.take_first() else {
-            return;
-        };
-        match tag {
-            Tag::Cpu | Tag::Tick => {}
-            Tag::Channel | Tag::Load => {
-                let _unit = self.units.take_first();
-            }
-            Tag::Other => {
-                let _event = self.others.take_first();
-            }
-        }
-    }
-
     /// The first event of the rest.
     #[tactic(auto, using(crate::proofs::TimelineLemmas::first_of_events))]
     #[inline(always)]

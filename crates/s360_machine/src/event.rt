@@ -15,7 +15,7 @@ use s360_word::{ProtectionKey, RegisterNumber, Unit, Word};
 use std::alloc::AllocError;
 
 /// What a patch puts into the machine from outside. It ignores protection.
-#[derive(Clone, Debug)]
+#[derive(Clone, Debug, PartialEq, Eq)]
 pub enum Patch {
     /// Bytes from an address on, at most 256.
     Bytes { at: u32, bytes: Bytes },
@@ -43,7 +43,7 @@ impl Drop for Patch {
 }
 
 /// What happens to the machine at once.
-#[derive(Clone, Debug, Drop)]
+#[derive(Clone, Debug, PartialEq, Eq, Drop)]
 pub enum Event {
     /// The central processing unit takes an interruption, or executes an instruction with the
     /// interruption that it causes.

@@ -42,18 +42,12 @@ insert_if_read point at kind conditions low high =
     rw (parted_at 0x3B (two_texts at kind) conditions (two_without_semicolon at kind low high), two_read at kind low high) refl
 
 pub request_read_back : (request : Request) → IsRequest request → reading_of (request_text request) ≡ Ok request
-request_read_back Stopped is = refl
-request_read_back Registers is = refl
 request_read_back (WriteRegisters bytes) is = rw (bytes_read bytes is.0) refl
 request_read_back (Register number) is = rw (number_read number is) refl
 request_read_back (WriteRegister number word) is =
     rw (parted_at 0x3D (number_text number) (word_text word) (number_without_equals number is.0), number_read number is.0, word_read word is.1) refl
 request_read_back (Storage at count) is = rw (two_read at count is.0 is.1) refl
 request_read_back (WriteStorage at bytes) is = write_read at bytes is.0 is.1
-request_read_back Step is = refl
-request_read_back Continue is = refl
-request_read_back StepBack is = refl
-request_read_back ContinueBack is = refl
 request_read_back (Insert (Break Software) at kind) is = insert_read Software at kind is.0 is.1
 request_read_back (Insert (Break Hardware) at kind) is = insert_read Hardware at kind is.0 is.1
 request_read_back (Insert Write at kind) is = rw (two_read at kind is.0 is.1) refl
@@ -62,21 +56,10 @@ request_read_back (InsertIf Hardware at kind conditions) is = insert_if_read Har
 request_read_back (Remove (Break Software) at kind) is = rw (two_read at kind is.0 is.1) refl
 request_read_back (Remove (Break Hardware) at kind) is = rw (two_read at kind is.0 is.1) refl
 request_read_back (Remove Write at kind) is = rw (two_read at kind is.0 is.1) refl
-request_read_back Supported is = refl
 request_read_back (Description offset count) is = rw (two_read offset count is.0 is.1) refl
 request_read_back (MemoryMap offset count) is = rw (two_read offset count is.0 is.1) refl
-request_read_back HasMoved is = refl
 request_read_back (Select thread) is = rw (thread_read thread is) refl
 request_read_back (IsAlive thread) is = rw (thread_read thread is) refl
-request_read_back CurrentThread is = refl
-request_read_back Attached is = refl
-request_read_back FirstThreads is = refl
-request_read_back NextThreads is = refl
-request_read_back StopAcknowledging is = refl
 request_read_back (Command bytes) is = rw (bytes_read bytes is.0) refl
-request_read_back Extend is = refl
-request_read_back Restart is = refl
-request_read_back Run is = refl
-request_read_back Detach is = refl
-request_read_back Kill is = refl
 request_read_back (KillProcess number) is = rw (number_read number is) refl
+request_read_back other is = refl

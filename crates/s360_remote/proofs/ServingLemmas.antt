@@ -23,14 +23,6 @@ use Rattle.s360_remote.specs.declared.errand.Errand.TheVariants.{Nothing}
 use Rattle.s360_remote.specs.declared.error_number.ErrorNumber.TheVariants.{Memory}
 use Rattle.s360_remote.specs.declared.serving.Then.{Then}
 
-pub if-ok-map : {X E : Type 0} (r : Result X E) (P Q : X → Type 0) → ((x : X) → P x → Q x) → IfOk r P → IfOk r Q
-if-ok-map (Ok x) P Q f h = f x h
-if-ok-map (Err e) P Q f h = h
-
-pub on-err : {X E : Type 0} (r : Result X E) (A : Type 0) → A → OnErr r A
-on-err (Ok x) A a = tt
-on-err (Err e) A a = a
-
 -- a request that changes nothing was answered
 pub record ChangesNothing (request : Request) : Type 0 where
   pub registers : (x : Payload) → request ≡ WriteRegisters x → ⊥
@@ -50,12 +42,8 @@ pub record ChangesNothing (request : Request) : Type 0 where
   pub kill : request ≡ Kill → ⊥
 
 pub served-told : (request : Request) (d : Driven) → ChangesNothing request → IsServed request d d (then_after request) (framed (told request (machine_now d))) × IsBegun request d d
-served-told Stopped d h = ((refl, refl, refl), refl)
-served-told Registers d h = ((refl, refl, refl), refl)
 served-told (WriteRegisters x) d h = absurd (h.registers x refl)
-served-told (Register n) d h = ((refl, refl, refl), refl)
 served-told (WriteRegister x y) d h = absurd (h.register x y refl)
-served-told (Storage at count) d h = ((refl, refl, refl), refl)
 served-told (WriteStorage x y) d h = absurd (h.storage x y refl)
 served-told Step d h = absurd (h.step refl)
 served-told Continue d h = absurd (h.continue refl)
@@ -64,24 +52,12 @@ served-told ContinueBack d h = absurd (h.continue_back refl)
 served-told (Insert x y z) d h = absurd (h.insert x y z refl)
 served-told (InsertIf x y z w) d h = absurd (h.insert_if x y z w refl)
 served-told (Remove x y z) d h = absurd (h.remove x y z refl)
-served-told Supported d h = ((refl, refl, refl), refl)
-served-told (Description offset count) d h = ((refl, refl, refl), refl)
-served-told (MemoryMap offset count) d h = ((refl, refl, refl), refl)
 served-told HasMoved d h = absurd (h.has_moved refl)
-served-told Extend d h = ((refl, refl, refl), refl)
 served-told Restart d h = absurd (h.restart refl)
 served-told Run d h = absurd (h.run refl)
-served-told (Select thread) d h = ((refl, refl, refl), refl)
-served-told (IsAlive thread) d h = ((refl, refl, refl), refl)
-served-told CurrentThread d h = ((refl, refl, refl), refl)
-served-told Attached d h = ((refl, refl, refl), refl)
-served-told FirstThreads d h = ((refl, refl, refl), refl)
-served-told NextThreads d h = ((refl, refl, refl), refl)
-served-told StopAcknowledging d h = ((refl, refl, refl), refl)
 served-told (Command x) d h = absurd (h.command x refl)
-served-told Detach d h = ((refl, refl, refl), refl)
 served-told Kill d h = absurd (h.kill refl)
-served-told (KillProcess n) d h = ((refl, refl, refl), refl)
+served-told other d h = ((refl, refl, refl), refl)
 
 -- what it made and what it was answered
 pub told-served : (request : Request) (d : Driven) (next : Then) (old new : List ℕ) → ChangesNothing request → (next ≡ then_after request) × (new ≡ old ++ framed (told request (machine_now d)))
@@ -97,34 +73,7 @@ stays (WriteRegisters x) takes = refl
 stays (WriteStorage x y) takes = refl
 stays (InsertIf x y z w) takes = refl
 stays (Command x) takes = refl
-stays Stopped takes = absurd takes
-stays Registers takes = absurd takes
-stays (Register n) takes = absurd takes
-stays (WriteRegister x y) takes = absurd takes
-stays (Storage x y) takes = absurd takes
-stays Step takes = absurd takes
-stays Continue takes = absurd takes
-stays StepBack takes = absurd takes
-stays ContinueBack takes = absurd takes
-stays (Insert x y z) takes = absurd takes
-stays (Remove x y z) takes = absurd takes
-stays Supported takes = absurd takes
-stays (Description x y) takes = absurd takes
-stays (MemoryMap x y) takes = absurd takes
-stays HasMoved takes = absurd takes
-stays Extend takes = absurd takes
-stays Restart takes = absurd takes
-stays Run takes = absurd takes
-stays (Select x) takes = absurd takes
-stays (IsAlive x) takes = absurd takes
-stays CurrentThread takes = absurd takes
-stays Attached takes = absurd takes
-stays FirstThreads takes = absurd takes
-stays NextThreads takes = absurd takes
-stays StopAcknowledging takes = absurd takes
-stays Detach takes = absurd takes
-stays Kill takes = absurd takes
-stays (KillProcess n) takes = absurd takes
+stays other takes = absurd takes
 
 and-false : (b m : Bool) → m ≡ false → (b && m) ≡ false
 and-false true m h = h

@@ -116,41 +116,12 @@ ended-same t d b e f is ends = rw (is, ends) refl
 media-pair : (c u : ConfiguredUnit) (m n : Media) (e f : Option Ending) → (nat_eq (index_of c) (index_of u) ≡ true → SameDevice u m n × (e ≡ f))
     → (nat_eq (index_of c) (index_of u) ≡ false → SameDevice c m n) → SameDevice c (media_after u e m) (media_after u f n)
 media-pair Reader Reader m n e f same other = ended-same reader_table m.reader n.reader e f (same refl).0 (same refl).1
-media-pair Reader Punch m n e f same other = other refl
-media-pair Reader Printer m n e f same other = other refl
-media-pair Reader Console m n e f same other = other refl
-media-pair Reader Tape0 m n e f same other = other refl
-media-pair Reader Tape1 m n e f same other = other refl
-media-pair Punch Reader m n e f same other = other refl
 media-pair Punch Punch m n e f same other = ended-same punch_table m.punch n.punch e f (same refl).0 (same refl).1
-media-pair Punch Printer m n e f same other = other refl
-media-pair Punch Console m n e f same other = other refl
-media-pair Punch Tape0 m n e f same other = other refl
-media-pair Punch Tape1 m n e f same other = other refl
-media-pair Printer Reader m n e f same other = other refl
-media-pair Printer Punch m n e f same other = other refl
 media-pair Printer Printer m n e f same other = ended-same printer_table m.printer n.printer e f (same refl).0 (same refl).1
-media-pair Printer Console m n e f same other = other refl
-media-pair Printer Tape0 m n e f same other = other refl
-media-pair Printer Tape1 m n e f same other = other refl
-media-pair Console Reader m n e f same other = other refl
-media-pair Console Punch m n e f same other = other refl
-media-pair Console Printer m n e f same other = other refl
 media-pair Console Console m n e f same other = ended-same console_table m.console n.console e f (same refl).0 (same refl).1
-media-pair Console Tape0 m n e f same other = other refl
-media-pair Console Tape1 m n e f same other = other refl
-media-pair Tape0 Reader m n e f same other = other refl
-media-pair Tape0 Punch m n e f same other = other refl
-media-pair Tape0 Printer m n e f same other = other refl
-media-pair Tape0 Console m n e f same other = other refl
 media-pair Tape0 Tape0 m n e f same other = ended-same tape_table m.tape0 n.tape0 e f (same refl).0 (same refl).1
-media-pair Tape0 Tape1 m n e f same other = other refl
-media-pair Tape1 Reader m n e f same other = other refl
-media-pair Tape1 Punch m n e f same other = other refl
-media-pair Tape1 Printer m n e f same other = other refl
-media-pair Tape1 Console m n e f same other = other refl
-media-pair Tape1 Tape0 m n e f same other = other refl
 media-pair Tape1 Tape1 m n e f same other = ended-same tape_table m.tape1 n.tape1 e f (same refl).0 (same refl).1
+media-pair c u m n e f same other = other refl
 
 media-idle : (u : ConfiguredUnit) (m : Media) → media_after u None m ≡ m
 media-idle Reader m = refl

@@ -154,35 +154,14 @@ fetch-beside false m block key = (refl, refl, refl)
 
 pub patch-law : (m n : Machine) (patch : Patch) (p : Place) → MachinesAreAlike m n → IsInside patch m
     → HaveAllThere m n (patch_sources patch p) → HaveSameThere (after_patch m patch) (after_patch n patch) p
-patch-law m n (Bytes at bytes) Psw alike i h = h.0
-patch-law m n (Bytes at bytes) (Register r) alike i h = h.0
-patch-law m n (Bytes at bytes) (Key b) alike i h = h.0
 patch-law m n (Bytes at bytes) (Byte a) alike i h =
     bytes-law m.core n.core at (length bytes) bytes bytes [] a alike.cores i refl refl (there-cores m n (bytes_made_of at (length bytes) [] itself (Byte a)) h) (λ g. refl)
-patch-law m n (Bytes at bytes) Run alike i h = h.0
-patch-law m n (Bytes at bytes) External alike i h = h.0
-patch-law m n (Bytes at bytes) (UnitState u) alike i h = h.0
-patch-law m n (Bytes at bytes) (UnitMedia u) alike i h = h.0
 patch-law m n (register_patch r word) (Register k) alike i h =
     set-same m.core.registers n.core.registers r k word word (registers-alike m.core n.core alike.cores) (λ e. refl)
     (λ ne. (same-else (nat_eq r k) m.core n.core [] (Register k ∷ []) (there-cores m n (made_of (Register r) [] itself (Register k)) h) (is-other r k ne)).0)
-patch-law m n (register_patch r word) Psw alike i h = h.0
-patch-law m n (register_patch r word) (Byte a) alike i h = h.0
-patch-law m n (register_patch r word) (Key b) alike i h = h.0
-patch-law m n (register_patch r word) Run alike i h = h.0
-patch-law m n (register_patch r word) External alike i h = h.0
-patch-law m n (register_patch r word) (UnitState u) alike i h = h.0
-patch-law m n (register_patch r word) (UnitMedia u) alike i h = h.0
 patch-law m n (StorageKey at key) (Key b) alike i h =
     key-patched m.core n.core (at / block_size) b (with_fetch_bit key (fetch_bit_of_block (slice_index m.core.storage.keys (at / block_size)))) (with_fetch_bit key (fetch_bit_of_block (slice_index n.core.storage.keys (at / block_size)))) alike.cores h.0
     (λ here. ap (λ x. with_fetch_bit key (fetch_bit_of_block x)) (rw here at h.0))
-patch-law m n (StorageKey at key) Psw alike i h = h.0
-patch-law m n (StorageKey at key) (Register r) alike i h = h.0
-patch-law m n (StorageKey at key) (Byte a) alike i h = h.0
-patch-law m n (StorageKey at key) Run alike i h = h.0
-patch-law m n (StorageKey at key) External alike i h = h.0
-patch-law m n (StorageKey at key) (UnitState u) alike i h = h.0
-patch-law m n (StorageKey at key) (UnitMedia u) alike i h = h.0
 patch-law m n (FetchBit at bit) (Key b) alike i h = fetch-patched m.core.storage.fetch_protection n.core.storage.fetch_protection m.core n.core (at / block_size) b bit alike.cores.option alike.cores h.0
 patch-law m n (FetchBit at bit) Psw alike i h =
     (fetch-beside m.core.storage.fetch_protection m.core (at / block_size) (bit_key m.core at bit)).0 ∙ h.0 ∙ sym (fetch-beside n.core.storage.fetch_protection n.core (at / block_size) (bit_key n.core at bit)).0
@@ -190,15 +169,5 @@ patch-law m n (FetchBit at bit) (Register r) alike i h =
     ap (λ (x : List ℕ). get_or x r 0) (fetch-beside m.core.storage.fetch_protection m.core (at / block_size) (bit_key m.core at bit)).1 ∙ h.0 ∙ sym (ap (λ (x : List ℕ). get_or x r 0) (fetch-beside n.core.storage.fetch_protection n.core (at / block_size) (bit_key n.core at bit)).1)
 patch-law m n (FetchBit at bit) (Byte a) alike i h =
     ap (λ (x : List ℕ). get_or x a 0) (fetch-beside m.core.storage.fetch_protection m.core (at / block_size) (bit_key m.core at bit)).2 ∙ h.0 ∙ sym (ap (λ (x : List ℕ). get_or x a 0) (fetch-beside n.core.storage.fetch_protection n.core (at / block_size) (bit_key n.core at bit)).2)
-patch-law m n (FetchBit at bit) Run alike i h = h.0
-patch-law m n (FetchBit at bit) External alike i h = h.0
-patch-law m n (FetchBit at bit) (UnitState u) alike i h = h.0
-patch-law m n (FetchBit at bit) (UnitMedia u) alike i h = h.0
 patch-law m n (psw_patch psw) Psw alike i h = refl
-patch-law m n (psw_patch psw) (Register r) alike i h = h.0
-patch-law m n (psw_patch psw) (Byte a) alike i h = h.0
-patch-law m n (psw_patch psw) (Key b) alike i h = h.0
-patch-law m n (psw_patch psw) Run alike i h = h.0
-patch-law m n (psw_patch psw) External alike i h = h.0
-patch-law m n (psw_patch psw) (UnitState u) alike i h = h.0
-patch-law m n (psw_patch psw) (UnitMedia u) alike i h = h.0
+patch-law m n patch p alike i h = h.0

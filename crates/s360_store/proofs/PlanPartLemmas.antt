@@ -32,7 +32,8 @@ after_put-behind (c ∷ cs) rest p v h =
 abbrev pub equal : Place → Place → Bool
 equal = Param.read PartialEq.Ghosts.eq TheImpl.ghosts
 
-equal_is : (p q : Place) → equal p q ≡ same_place p q
+-- which is the test of the places
+pub equal_is : (p q : Place) → equal p q ≡ same_place p q
 equal_is Psw Psw = refl
 equal_is (Register n) (Register k) = refl
 equal_is (Byte n) (Byte k) = refl

@@ -1,7 +1,9 @@
 use Rattle.std.proofs.Common.{◌-◌, take}
+use Rattle.std.proofs.lemmas.Result.{on_ok_weaker}
 use Rattle.s360_machine.specs.Change.{Change}
 use Rattle.s360_machine.specs.ChangeSpans.{AreSpansOf, spans_within, spans_apart}
-use Rattle.s360_journal.proofs.IndexLemmas.{IsLastOf, err-any, index-all, indexing-all, indexing-begun, indexing-more, indexing-part, last-of, ok-from}
+use Rattle.s360_journal.proofs.IndexLemmas.{IsLastOf, index-all, indexing-all, indexing-begun, indexing-more, indexing-part, last-of}
+use Rattle.s360_journal.proofs.RunningLemmas.{OnErr-from}
 use Rattle.s360_journal.proofs.SizeLemmas.{spans-within}
 use Rattle.s360_journal.proofs.indexing.put_last.Goals as goal
 
@@ -15,7 +17,7 @@ pub returns-in-Within-clause-ok : goal.returns-in-Within-clause-ok
 returns-in-Within-clause-ok c =
     let last : (x : Change) × IsLastOf c.args.changes.now c.args.number x = last-of c.args.changes.now c.args.number c.requires.some c.requires.last
     in let spans : AreSpansOf (spans_within c.in-Within.spans) last.0 = rw last.1.found_last at c.in-Within.ensures
-    in ok-from c.put_within.result _ _ (index-all c.args.index.now c.put_within.new.index (take (c.args.number - 1) c.args.changes.now) c.args.changes.now last.0 c.args.number
+    in on_ok_weaker c.put_within.result (index-all c.args.index.now c.put_within.new.index (take (c.args.number - 1) c.args.changes.now) c.args.changes.now last.0 c.args.number
     (spans_within c.in-Within.spans) last.1.split last.1.count spans c.requires.index) c.put_within.ensures.ok
 
 pub loop-span-init : goal.loop-span-init
@@ -34,7 +36,7 @@ pub returns-in_err-put_apart-in-Apart-clause-err : goal.returns-in_err-put_apart
 returns-in_err-put_apart-in-Apart-clause-err c =
     let last : (x : Change) × IsLastOf c.args.changes.now c.args.number x = last-of c.args.changes.now c.args.number c.requires.some c.requires.last
     in let spans : AreSpansOf (spans_apart c.into_iter-span-iterator.result) last.0 = rw c.into_iter-span-iterator.ensures.into_iter_gives (rw last.1.found_last at c.in-Apart.ensures)
-    in rw last.1.found (err-any c.from_residual.result _ (indexing-part c.args.index.now c.loop-span.index c.put_apart.new.index (take (c.args.number - 1) c.args.changes.now) last.0 c.args.number
+    in rw last.1.found (OnErr-from c.from_residual.result _ (indexing-part c.args.index.now c.loop-span.index c.put_apart.new.index (take (c.args.number - 1) c.args.changes.now) last.0 c.args.number
     (spans_apart c.into_iter-span-iterator.result) (spans_apart c.loop-span.span-iterator) (spans_apart c.next.new.self) c.in-Some.span c.in-Some.ensures.steps last.1.count spans c.requires.index c.loop-span.invariant c.in_err-put_apart-in-Apart.ensures.err))
 
 pub returns-in-None-clause-ok : goal.returns-in-None-clause-ok

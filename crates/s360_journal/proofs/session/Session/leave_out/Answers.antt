@@ -4,7 +4,7 @@ use Rattle.s360_journal.specs.Standing.{Standing}
 use Rattle.s360_journal.specs.Withdrawals.{AreAllowed}
 use Rattle.s360_machine.specs.Machine.{seen, storage_size}
 use Rattle.s360_journal.proofs.AloneLemmas.{StaysAlone-more, StaysAlone-taken, alone-count, alone-cut, session-cut, standing-within, withdrawn-alone}
-use Rattle.s360_journal.proofs.IndexLemmas.{ok-from}
+use Rattle.std.proofs.lemmas.Result.{on_ok_weaker}
 use Rattle.s360_journal.proofs.WithdrawalLemmas.{Without, Without-allowed, Without-back, Without-room, Without-run}
 use Rattle.s360_journal.proofs.session.Session.leave_out.Goals.{After-back-withdrawn}
 use Rattle.s360_journal.proofs.session.Session.leave_out.Goals as goal
@@ -49,5 +49,5 @@ returns c =
     in let stays : StaysAlone c.cut.new.self c.run_all_again.new.self
     = StaysAlone-more c.cut.new.self c.take_back_to.new.self c.run_all_again.new.self c.take_back_to.ensures.alone
     (StaysAlone-more c.take_back_to.new.self c.back-withdrawn.new.self c.run_all_again.new.self (alone a) c.run_all_again.ensures.alone)
-    in ok-from c.run_all_again.result _ _ (λ run. withdrawn-alone c.args.self.now c.cut.new.self c.run_all_again.new.self c.args.number c.requires.recorded within.0 within.1 c.cut.ensures stays
+    in on_ok_weaker c.run_all_again.result (λ run. withdrawn-alone c.args.self.now c.cut.new.self c.run_all_again.new.self c.args.number c.requires.recorded within.0 within.1 c.cut.ensures stays
     (Without-run (session_of c.cut.new.self) (session_of c.back-withdrawn.new.self) (session_of c.run_all_again.new.self) c.in_ok-later.later.standing c.args.number (without a) run)) c.run_all_again.ensures.stands

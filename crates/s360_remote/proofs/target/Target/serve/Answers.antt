@@ -1,4 +1,6 @@
-use Rattle.s360_remote.proofs.ServingLemmas.{ChangesNothing, if-ok-map, on-err, served-told, told-served}
+use Rattle.std.proofs.lemmas.Result.{IfOk-weaker}
+use Rattle.s360_journal.proofs.RunningLemmas.{OnErr-from}
+use Rattle.s360_remote.proofs.ServingLemmas.{ChangesNothing, served-told, told-served}
 use Rattle.s360_remote.proofs.target.Target.serve.Goals as goal
 
 pub returns-in_default : goal.returns-in_default
@@ -21,6 +23,6 @@ returns-in_default c =
       kill = c.in_default.not-Kill;
     }
     in record {
-      served = if-ok-map c.tell.result _ _ (λ next h. told-served c.args.request c.args.self.now next c.args.replies.now c.tell.new.replies nothing h) c.tell.ensures;
-      begun = on-err c.tell.result _ (served-told c.args.request c.args.self.now nothing).1;
+      served = IfOk-weaker c.tell.result _ _ (λ next h. told-served c.args.request c.args.self.now next c.args.replies.now c.tell.new.replies nothing h) c.tell.ensures;
+      begun = OnErr-from c.tell.result _ (served-told c.args.request c.args.self.now nothing).1;
     }
