@@ -134,29 +134,18 @@ if_jumps false to there stack rest h = let same : At there ≡ At to = next_of (
 -- a jump alone leads to an offset: its own
 jumps_to : (t : Target) (instruction : Instruction) (stack rest : List ℕ) (to : ℕ) → after_instruction t instruction stack ≡ Ok (At to, rest) → jump_of instruction ≡ Some to
 jumps_to t (Binary op) (b ∷ a ∷ stack) rest to h = absurd (with_follows _ stack rest to h)
-jumps_to t (Binary op) (b ∷ []) rest to h = cc
-jumps_to t (Binary op) [] rest to h = cc
 jumps_to t (Unary op) (a ∷ stack) rest to h = absurd (with_follows _ stack rest to h)
-jumps_to t (Unary op) [] rest to h = cc
 jumps_to t (Ref width) (a ∷ stack) rest to h = absurd (with_follows _ stack rest to h)
-jumps_to t (Ref width) [] rest to h = cc
 jumps_to t (Const n) stack rest to h = absurd (onwards_follows (n ∷ stack) rest to h)
 jumps_to t (Reg number) stack rest to h = absurd (with_follows _ stack rest to h)
 jumps_to t (Pick depth) stack rest to h = absurd (with_follows _ stack rest to h)
 jumps_to t Pop (a ∷ stack) rest to h = let other : Following ≡ At to = next_of (Following, stack) (At to, rest) h in cc
-jumps_to t Pop [] rest to h = cc
 jumps_to t Swap (b ∷ a ∷ stack) rest to h = absurd (onwards_follows (a ∷ b ∷ stack) rest to h)
-jumps_to t Swap (b ∷ []) rest to h = cc
-jumps_to t Swap [] rest to h = cc
 jumps_to t Rot (c ∷ b ∷ a ∷ stack) rest to h = absurd (onwards_follows (b ∷ a ∷ c ∷ stack) rest to h)
-jumps_to t Rot (c ∷ b ∷ []) rest to h = cc
-jumps_to t Rot (c ∷ []) rest to h = cc
-jumps_to t Rot [] rest to h = cc
 jumps_to t (IfGoto there) (a ∷ stack) rest to h = ap (λ (n : ℕ). Some n) (if_jumps (nat_eq a 0) to there stack rest h)
-jumps_to t (IfGoto there) [] rest to h = cc
 jumps_to t (Goto there) stack rest to h = let same : At there ≡ At to = next_of (At there, stack) (At to, rest) h in cc
 jumps_to t End (a ∷ stack) rest to h = let other : Ended a ≡ At to = next_of (Ended a, stack) (At to, rest) h in cc
-jumps_to t End [] rest to h = cc
+jumps_to t instruction stack rest to h = cc
 
 -- a jump reaches its instruction: those before it are passed over
 record IsReached (t : Target) (bytes : List ℕ) (at to : ℕ) (more : List Placed) (stack : List ℕ) : Type 0 where

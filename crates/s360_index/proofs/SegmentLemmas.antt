@@ -33,11 +33,9 @@ slice_get-set_at (x ∷ xs) zero y l = refl
 slice_get-set_at (x ∷ xs) (suc i) y l = slice_get-set_at xs i y (omega (arith, l))
 
 pub slice_get-set_other : {X : Type 0} (xs : List X) (i j : ℕ) (y : X) → j ≢ i → slice_get (set xs i y) j ≡ slice_get xs j
-slice_get-set_other [] i j y n = refl
 slice_get-set_other (x ∷ xs) zero zero y n = absurd (n refl)
-slice_get-set_other (x ∷ xs) zero (suc j) y n = refl
-slice_get-set_other (x ∷ xs) (suc i) zero y n = refl
 slice_get-set_other (x ∷ xs) (suc i) (suc j) y n = slice_get-set_other xs i j y (λ e. n (ap suc e))
+slice_get-set_other xs i j y n = refl
 
 -- which element it is
 pub cases_push : {X : Type 0} (xs : List X) (y x : X) (j : ℕ) → slice_get (xs ++ y ∷ []) j ≡ Some x → ((j ≡ length xs) × (x ≡ y)) ⊎ (slice_get xs j ≡ Some x)

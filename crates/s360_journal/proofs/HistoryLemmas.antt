@@ -93,13 +93,11 @@ machine_of-view w xs limit s h e = sym (rerun-unwound w xs h) ∙ ap (λ t. mach
 
 -- the last of a list that is not empty
 last-at : {X : Type 0} (xs : List X) (n : ℕ) (x : X) → n + 1 ≡ length xs → slice_get xs n ≡ Some x → (ys : List X) × (xs ≡ ys ++ x ∷ [])
-last-at [] n x l h = absurd (omega (arith, l))
 last-at (y ∷ []) zero x l h = let same : y ≡ x = cc in ([], ap (λ z. z ∷ []) same)
-last-at (y ∷ []) (suc n) x l h = absurd (omega (arith, l))
-last-at (y ∷ z ∷ zs) zero x l h = absurd (omega (arith, l))
 last-at (y ∷ z ∷ zs) (suc n) x l h =
     let more : (ys : List _) × (z ∷ zs ≡ ys ++ x ∷ []) = last-at (z ∷ zs) n x (omega (arith, l)) h
     in (y ∷ more.0, ap (λ l. y ∷ l) more.1)
+last-at xs n x l h = absurd (omega (arith, l))
 
 pub last-split : {X : Type 0} (xs : List X) (x : X) → slice_get xs (length xs - 1) ≡ Some x → (ys : List X) × (xs ≡ ys ++ x ∷ [])
 last-split [] x h = absurd (cc)

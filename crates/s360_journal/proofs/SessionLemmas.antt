@@ -116,11 +116,9 @@ pub record Last (w : Whole) (es : List Event) (xs : List Change) (fs : List Even
   pub start : unwound w (reverse (entries_of es xs)) ≡ unwound (after_swap w x) (reverse (entries_of fs (take (length xs - 1) xs)))
 
 pub split-last : {X : Type 0} (xs : List X) (n : ℕ) → length xs ≡ n + 1 → (x : X) × (xs ≡ take n xs ++ x ∷ [])
-split-last [] n l = absurd (omega (arith, l))
 split-last (x ∷ []) zero l = (x, refl)
-split-last (x ∷ []) (suc n) l = absurd (omega (arith, l))
-split-last (x ∷ y ∷ ys) zero l = absurd (omega (arith, l))
 split-last (x ∷ y ∷ ys) (suc n) l = let more : (z : _) × (y ∷ ys ≡ take n (y ∷ ys) ++ z ∷ []) = split-last (y ∷ ys) n (omega (arith, l)) in (more.0, ap (λ k. x ∷ k) more.1)
+split-last xs n l = absurd (omega (arith, l))
 
 pub last-session : (w : Whole) (es : List Event) (xs : List Change) (fs : List Event) (e : Event) → AreHistory w es xs → es ≡ fs ++ e ∷ [] → (x : Change) × Last w es xs fs e x
 last-session w es xs fs e h is =

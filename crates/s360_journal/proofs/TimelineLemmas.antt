@@ -53,11 +53,7 @@ cons_is_some h = cc
 pub none_of_events : (ts : List Tag) (us : List UnitAddress) (os : List Event) → AreEvents ts us os → events_of ts us os ≡ []
     → (ts ≡ []) × (us ≡ []) × (os ≡ [])
 none_of_events [] us os h none = (refl, h.0, h.1)
-none_of_events (cpu ∷ ts) us os h none = absurd (cons_is_some none)
-none_of_events (tick ∷ ts) us os h none = absurd (cons_is_some none)
 none_of_events (channel ∷ ts) [] os h none = absurd h
-none_of_events (channel ∷ ts) (u ∷ us) os h none = absurd (cons_is_some none)
 none_of_events (load ∷ ts) [] os h none = absurd h
-none_of_events (load ∷ ts) (u ∷ us) os h none = absurd (cons_is_some none)
 none_of_events (other ∷ ts) us [] h none = absurd h
-none_of_events (other ∷ ts) us (e ∷ os) h none = absurd (cons_is_some none)
+none_of_events ts us os h none = absurd (cons_is_some none)

@@ -298,26 +298,18 @@ bytes-few (Run a n ∷ is) bs e =
 
 -- a row that has all but its bytes within itself
 within-items : (r : Row) → HasNoMore r → items_of_row r ≡ 0
-within-items Nothing h = refl
-within-items (Psw psw) h = refl
-within-items (Register n word psw) h = refl
-within-items (Bytes count address psw) h = refl
 within-items (More beside items bytes count) h = absurd h
+within-items r h = refl
 
 pub within-beside : (r : Row) → HasNoMore r → beside_of_row r ≡ 0
-within-beside Nothing h = refl
-within-beside (Psw psw) h = refl
-within-beside (Register n word psw) h = refl
-within-beside (Bytes count address psw) h = refl
 within-beside (More beside items bytes count) h = absurd h
+within-beside r h = refl
 
 -- a change that has all but its bytes within its row is one change more
 within-bytes : (row : Row) (bs : List ℕ) → HasNoMore row → IsOver row [] bs → length bs ≡ bytes_of_row row
-within-bytes Nothing bs h o = ap length o.1
-within-bytes (Psw psw) bs h o = ap length o.1
-within-bytes (Register r word psw) bs h o = ap length o.1
 within-bytes (Bytes count address psw) bs h o = o.1
 within-bytes (More beside items bytes count) bs h o = absurd h
+within-bytes row bs h o = ap length o.1
 
 pub appended-row : (old : Lists) (new : List ℕ) (cells : List Cell) (b : Beside) (row : Row) (bytes : List ℕ) → IsRowOf cells row bytes → IsNothing b → new ≡ old.bytes ++ bytes
     → IsAppended old (lists old.items new old.beside) row (change_of cells b)
@@ -669,11 +661,9 @@ values-of-items (Run a n ∷ is) bs h e f =
     ∙ take-append-drop n bs
 
 values-of-row : (r : Row) (is : List Item) (bs : List ℕ) → IsOver r is bs → byte_values (cells_of_row r is bs) ≡ bs
-values-of-row Nothing is bs h = sym h.1
-values-of-row (Psw psw) is bs h = sym h.1
-values-of-row (Register n word psw) is bs h = sym h.1
 values-of-row (Bytes count address psw) is bs h = values-of-bytes address bs
 values-of-row (More beside items bytes count) is bs h = values-of-items is bs h.3.whole h.3.all h.3.fit
+values-of-row r is bs h = sym h.1
 
 cells-with : (cells : List Cell) (o : Option Beside) → (change_with cells o).cells ≡ cells
 cells-with cells None = refl

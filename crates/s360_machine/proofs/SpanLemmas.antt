@@ -61,11 +61,8 @@ places-of-places [] = refl
 places-of-places (p ∷ ps) = ap (λ (qs : List Place). p ∷ qs) (places-of-places ps)
 
 pub no-more : (r : Row) → ((beside : Bool) (items bytes count : ℕ) → r ≡ More beside items bytes count → ⊥) → HasNoMore r
-no-more Nothing h = tt
-no-more (Psw psw) h = tt
-no-more (Register number word psw) h = tt
-no-more (Bytes count address psw) h = tt
 no-more (More beside items bytes count) h = absurd (h beside items bytes count refl)
+no-more r h = tt
 
 -- those of a change that stands within its row
 pub within-own : (r : Row) (is : List Item) (bs : List ℕ) (xs : List Beside) (x : Change) → HasNoMore r → IsOver r is bs → length xs ≡ beside_of_row r → change_of_row r (lists is bs xs) ≡ x → AreSpansOf (spans_of_row r) x

@@ -6,10 +6,8 @@ use Rattle.s360_psw.specs.declared.pending.Pending.{Pending}
 use Rattle.s360_psw.specs.Pending.{lets_interrupt, next_interruption_of}
 
 none-of-masks : (e a b x y z : Bool) → (e || a) || b ≡ false → cond (e && x) (Some External) (cond ((a && y) || (b && z)) (Some InputOutput) None) ≡ None
-none-of-masks true a b x y z h = absurd (cc)
-none-of-masks false true b x y z h = absurd (cc)
-none-of-masks false false true x y z h = absurd (cc)
 none-of-masks false false false x y z h = refl
+none-of-masks e a b x y z h = absurd (cc)
 
 pub masks-are-zero : (psw : ℕ) (p : Pending) → lets_interrupt psw ≡ false → next_interruption_of psw p ≡ None
 masks-are-zero psw p h = none-of-masks (external_mask_of psw) (channel_mask_of psw 0) (channel_mask_of psw 1) _ _ _ h

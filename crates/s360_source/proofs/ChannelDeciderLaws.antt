@@ -129,9 +129,7 @@ begun-alike m n d p at c (Output limit) alike h =
     (access-of-law m n p.key t.count Fetch (Some c.address) alike h)
     (transfer-alike w t (take limit (w.gathered ++ xs)) (take limit (w.gathered ++ ys))
     (length-output limit w.gathered xs ys (length-range m.storage.bytes n.storage.bytes c.address t.count alike.size)))
-begun-alike m n d p at c Control alike h = (refl, refl)
-begun-alike m n d p at c (Refused sense) alike h = (refl, refl)
-begun-alike m n d p at c NotYet alike h = (refl, refl)
+begun-alike m n d p at c begin alike h = (refl, refl)
 
 -- the execution by a device that is the same
 device-alike : {M : Type 0} (t : Table M) (d e : DeviceWith M) (m n : Machine) (x y : StateOfUnit) (p : Program) → d ≡ e → x ≡ Active p → y ≡ Active p → AreAlike m.core n.core → WordsSame m n p

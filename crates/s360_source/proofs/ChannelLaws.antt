@@ -213,10 +213,7 @@ address-law x y address (Register r) alike l h = h.0
 address-law x y address (Key b) alike l h = h.0
 address-law x y address (Byte a) alike l h =
     bytes-law x y 2 2 (bytes_high_first 2 address) (bytes_high_first 2 address) [] a alike (omega (arith, l)) refl refl h (λ g. refl)
-address-law x y address run_place alike l h = refl
-address-law x y address External alike l h = refl
-address-law x y address (UnitState v) alike l h = refl
-address-law x y address (UnitMedia v) alike l h = refl
+address-law x y address q alike l h = refl
 
 -- and the PSW is loaded
 initial-law : (x y : Core) (q : Place) → HaveAllSame x y (made_of Psw (byte_places 0 8) itself q) → HaveSame (with_initial_psw x) (with_initial_psw y) q
@@ -224,10 +221,7 @@ initial-law x y Psw h = ap current_psw (number_at-same x y 8 0 h)
 initial-law x y (Register r) h = h.0
 initial-law x y (Key b) h = h.0
 initial-law x y (Byte a) h = h.0
-initial-law x y run_place h = refl
-initial-law x y External h = refl
-initial-law x y (UnitState v) h = refl
-initial-law x y (UnitMedia v) h = refl
+initial-law x y q h = refl
 
 load-core : (x y : Core) (address : ℕ) (q : Place) → AreAlike x y → 128 ≤ length x.storage.bytes → HaveAllSame x y (initial_sources q)
     → HaveSame (core_after_loading address x) (core_after_loading address y) q
@@ -239,10 +233,7 @@ load-core x y address Psw alike l h =
 load-core x y address (Register r) alike l h = address-law x y address (Register r) alike l h
 load-core x y address (Byte a) alike l h = address-law x y address (Byte a) alike l h
 load-core x y address (Key b) alike l h = address-law x y address (Key b) alike l h
-load-core x y address run_place alike l h = refl
-load-core x y address External alike l h = refl
-load-core x y address (UnitState v) alike l h = refl
-load-core x y address (UnitMedia v) alike l h = refl
+load-core x y address q alike l h = refl
 
 idle-law : (o : Option ConfiguredUnit) (u : ConfiguredUnit) (us vs : Units) → length us ≡ 6 → length vs ≡ 6
     → MatchOption o (Unit {0}) (λ c. control_of us c ≡ control_of vs c)
@@ -327,11 +318,8 @@ event-idle u m e =
     ∙ ap (λ (x : Media). record m { media = x }) (media-idle u m.media)
 
 not-loaded : (r : RunState) (u : ConfiguredUnit) (x y : StateOfUnit) → program_of x ≡ None → has_loaded r u x y ≡ false
-not-loaded Operating u x y e = refl
-not-loaded Stopped u x y e = refl
 not-loaded (Loading unit) u (Active p) y e = absurd (cc)
-not-loaded (Loading unit) u Idle y e = refl
-not-loaded (Loading unit) u (Waiting csw) y e = refl
+not-loaded r u x y e = refl
 
 unit-idle : (u : ConfiguredUnit) (m : Machine) → program_of (control_of m.units u).state ≡ None → after_loading u m (after_channel u m) ≡ m
 unit-idle u m e =

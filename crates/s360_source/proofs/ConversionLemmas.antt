@@ -32,10 +32,8 @@ use Rattle.s360_source.proofs.EffectLemmas.{register-keeps, register-law}
 use Rattle.s360_source.proofs.SuppressionLemmas.{Suppresses, refused, unless_met-is}
 
 access-suppresses : (s a p : Bool) → Suppresses ConvertToBinary (program_code (record no_conditions { specification = s; addressing = a; protection = p }))
-access-suppresses true a p = refl
-access-suppresses false true p = refl
-access-suppresses false false true = refl
 access-suppresses false false false = tt
+access-suppresses s a p = refl
 
 ended-not : (b : Bool) → is_suppressed ConvertToBinary (if b then Done else Program FixedPointDivide) ≡ false
 ended-not true = refl

@@ -66,10 +66,7 @@ next-same x y next Psw h = ap (λ z. with_instruction_address z next) h
 next-same x y next (Register r) h = h
 next-same x y next (Byte a) h = h
 next-same x y next (Key b) h = h
-next-same x y next Run h = refl
-next-same x y next External h = refl
-next-same x y next (UnitState u) h = refl
-next-same x y next (UnitMedia u) h = refl
+next-same x y next q h = refl
 
 next-alike : (x y : Core) (next : ℕ) → AreAlike x y → AreAlike (with_next_address next x) (with_next_address next y)
 next-alike x y next a = record { first = a.first; second = a.second; size = a.size; blocks = a.blocks; option = a.option }
@@ -180,18 +177,11 @@ csw-law m n (Status unit channel) places Psw alike l h = h.0
 csw-law m n (Status unit channel) places (Register r) alike l h = h.0
 csw-law m n (Status unit channel) places (Key b) alike l h = h.0
 csw-law m n (Status unit channel) places (Byte k) alike l h = stored-csw m n status_location k (bytes_high_first 2 (status_halfword unit channel)) places alike (omega (arith, l)) h
-csw-law m n (Status unit channel) places Run alike l h = refl
-csw-law m n (Status unit channel) places External alike l h = refl
-csw-law m n (Status unit channel) places (UnitState u) alike l h = refl
-csw-law m n (Status unit channel) places (UnitMedia u) alike l h = refl
 csw-law m n (Csw csw) places Psw alike l h = h.0
 csw-law m n (Csw csw) places (Register r) alike l h = h.0
 csw-law m n (Csw csw) places (Key b) alike l h = h.0
 csw-law m n (Csw csw) places (Byte k) alike l h = stored-csw m n csw_location k (bytes_high_first 8 (csw_doubleword csw)) places alike (omega (arith, l)) h
-csw-law m n (Csw csw) places Run alike l h = refl
-csw-law m n (Csw csw) places External alike l h = refl
-csw-law m n (Csw csw) places (UnitState u) alike l h = refl
-csw-law m n (Csw csw) places (UnitMedia u) alike l h = refl
+csw-law m n stores places p alike l h = refl
 
 -- the PSW is another function of itself; the sources are as before
 with-psw : (f : ℕ → ℕ) (m n : Core) (q : Place) → HaveSame m n q → HaveSame (core_with_psw (f m.psw) m) (core_with_psw (f n.psw) n) q
@@ -199,10 +189,7 @@ with-psw f m n Psw h = ap f h
 with-psw f m n (Register r) h = h
 with-psw f m n (Byte a) h = h
 with-psw f m n (Key b) h = h
-with-psw f m n Run h = refl
-with-psw f m n External h = refl
-with-psw f m n (UnitState u) h = refl
-with-psw f m n (UnitMedia u) h = refl
+with-psw f m n q h = refl
 
 with-psws : (f : ℕ → ℕ) (m n : Core) (ps : List Place) → HaveAllSame m n ps → HaveAllSame (core_with_psw (f m.psw) m) (core_with_psw (f n.psw) n) ps
 with-psws f m n [] h = tt
@@ -246,10 +233,7 @@ plain-law m n x y sources Psw each h = each Psw (there-cores m n (sources Psw) h
 plain-law m n x y sources (Register r) each h = each (Register r) (there-cores m n (sources (Register r)) h)
 plain-law m n x y sources (Byte a) each h = each (Byte a) (there-cores m n (sources (Byte a)) h)
 plain-law m n x y sources (Key b) each h = each (Key b) (there-cores m n (sources (Key b)) h)
-plain-law m n x y sources Run each h = h.0
-plain-law m n x y sources External each h = h.0
-plain-law m n x y sources (UnitState u) each h = h.0
-plain-law m n x y sources (UnitMedia u) each h = h.0
+plain-law m n x y sources p each h = h.0
 
 -- one that the channels execute
 channels-law : (m n : Machine) (r : IoResult) (next : ℕ) (places : List Place) (p : Place) → MachinesAreAlike m n
@@ -259,18 +243,14 @@ channels-law m n r next places Psw alike h = io-core-law m.core n.core r next pl
 channels-law m n r next places (Register k) alike h = io-core-law m.core n.core r next places (Register k) alike.cores alike.permanent (there-cores m n (csw_sources r.stores places itself (Register k)) h)
 channels-law m n r next places (Byte a) alike h = io-core-law m.core n.core r next places (Byte a) alike.cores alike.permanent (there-cores m n (csw_sources r.stores places itself (Byte a)) h)
 channels-law m n r next places (Key b) alike h = io-core-law m.core n.core r next places (Key b) alike.cores alike.permanent (there-cores m n (csw_sources r.stores places itself (Key b)) h)
-channels-law m n r next places Run alike h = h.0
-channels-law m n r next places External alike h = h.0
-channels-law m n r next places (UnitMedia u) alike h = h.0
 channels-law m n r next places (UnitState u) alike h = units-law (unit_at u.0) m.units n.units r.unit alike.first alike.second h.0
+channels-law m n r next places p alike h = h.0
 
 -- the machine after an instruction, by how that ends
 after-plain : (m : Machine) (ended : Ended) → (instruction m.core).outcome.ended ≡ ended → channels_result ended m ≡ None
     → after_instruction m ≡ record m { core = core_after_ended (instruction m.core).outcome.ended (instruction m.core) }
-after-plain m Done e none = rw e refl
-after-plain m (Program code) e none = rw e refl
-after-plain m (Svc code) e none = rw e refl
 after-plain m (Io operation unit) e none = absurd (cc)
+after-plain m ended e none = rw e refl
 
 -- the machine after an instruction that the channels execute
 abbrev after_channels : Machine → IoResult → ℕ → Machine
@@ -331,14 +311,12 @@ taken-core m n i p alike h =
 -- the unit that interrupts: its status word is stored, and then its interruption happens
 taking-law : (m n : Machine) (i : Interrupting) (p : Place) → MachinesAreAlike m n → HaveAllThere m n (unit_sources i.unit p)
     → HaveSameThere (after_taking i.unit i.condition m) (after_taking i.unit i.condition n) p
-taking-law m n i Run alike h = h.0
-taking-law m n i External alike h = h.0
-taking-law m n i (UnitMedia u) alike h = h.0
 taking-law m n i (UnitState u) alike h = unit-set-at (unit_at u.0) m.units n.units (index_of i.unit) i.condition.unit alike.first alike.second h.0
 taking-law m n i Psw alike h = taken-core m n i Psw alike (there-cores m n (unit_sources i.unit Psw) h)
 taking-law m n i (Register r) alike h = taken-core m n i (Register r) alike (there-cores m n (unit_sources i.unit (Register r)) h)
 taking-law m n i (Byte a) alike h = taken-core m n i (Byte a) alike (there-cores m n (unit_sources i.unit (Byte a)) h)
 taking-law m n i (Key b) alike h = taken-core m n i (Key b) alike (there-cores m n (unit_sources i.unit (Key b)) h)
+taking-law m n i p alike h = h.0
 
 with-condition : (m : Machine) (u : ConfiguredUnit) (c : Option Condition) → condition_of (control_of m.units u) ≡ c
     → after_interrupting m u ≡ option_map_or (λ (i : Interrupting). after_taking i.unit i.condition m) (option_map (λ x. record { unit = u; condition = x }) (condition_of (control_of m.units u))) m
@@ -362,14 +340,10 @@ Makes m (input_output i) x = (i ≡ interrupting m) × (x ≡ after_input_output
 Makes m (executing shape r) x = (shape ≡ instruction_shape m.core) × (r ≡ channels_result (instruction_shape m.core).ended m) × (x ≡ after_instruction m)
 
 makes-case : (case : CpuCase) (m : Machine) → Makes m (shape_of_case case m) (after_case case m)
-makes-case Halted m = refl
 makes-case (Interrupted external_class) m = (refl, refl)
 makes-case (Interrupted InputOutput) m = (refl, refl)
-makes-case (Interrupted MachineCheck) m = refl
-makes-case (Interrupted program_class) m = refl
-makes-case (Interrupted Supervisor) m = refl
-makes-case Waiting m = refl
 makes-case Executing m = (refl, refl, refl)
+makes-case case m = refl
 
 makes-law : (m n x y : Machine) (shape : CpuShape) (p : Place) → MachinesAreAlike m n → Makes m shape x → Makes n shape y
     → HaveAllThere m n (cpu_sources shape m.core.storage p) → HaveSameThere x y p

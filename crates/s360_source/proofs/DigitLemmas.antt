@@ -155,12 +155,9 @@ digits-law m n next il d f g (Register r) alike each h = h.0
 digits-law m n next il d f g (Key b) alike each h =
     ap (λ (x : List ℕ). get_or x b 0) (keys-stay (fetched_before d.row) f d.first.address d.first.count d.second.address d.second.count m.storage d.first.count) ∙ h.0
     ∙ sym (ap (λ (x : List ℕ). get_or x b 0) (keys-stay (fetched_before d.row) g d.first.address d.first.count d.second.address d.second.count n.storage d.first.count))
-digits-law m n next il d f g Run alike each h = refl
-digits-law m n next il d f g External alike each h = refl
-digits-law m n next il d f g (UnitState u) alike each h = refl
-digits-law m n next il d f g (UnitMedia u) alike each h = refl
 digits-law m n next il d f g (Byte a) alike each h =
     (state-follows m n d f g alike each d.first.count).stored a h
+digits-law m n next il d f g p alike each h = refl
 
 digits-keep : (m : Core) (next : ℕ) (il : InstructionLength) (needed : ℕ → ℕ) (f : (ℕ → ℕ) → ℕ → ℕ) (c1 c2 a1 a2 : ℕ) → KeepsSizes m (digits_done m next il needed f a1 c1 a2 c2).core
 digits-keep m next il needed f c1 c2 a1 a2 = record {

@@ -18,18 +18,8 @@ use Rattle.s360_source.proofs.SuppressionLemmas.{suppression-law}
 -- where no condition is met, none is met of a quotient
 divides-not : (a b c d e f g h i j k : Bool)
     → program_code (record { odd_address = a; outside_first = b; protected_first = c; outside_rest = d; protected_rest = e; operation = f; privileged = g; specification = h; addressing = i; protection = j; divide = k }) ≡ None → k ≡ false
-divides-not true b c d e f g h i j k n = absurd (cc)
-divides-not false true c d e f g h i j k n = absurd (cc)
-divides-not false false true d e f g h i j k n = absurd (cc)
-divides-not false false false true e f g h i j k n = absurd (cc)
-divides-not false false false false true f g h i j k n = absurd (cc)
-divides-not false false false false false true g h i j k n = absurd (cc)
-divides-not false false false false false false true h i j k n = absurd (cc)
-divides-not false false false false false false false true i j k n = absurd (cc)
-divides-not false false false false false false false false true j k n = absurd (cc)
-divides-not false false false false false false false false false true k n = absurd (cc)
-divides-not false false false false false false false false false false true n = absurd (cc)
 divides-not false false false false false false false false false false false n = refl
+divides-not a b c d e f g h i j k n = absurd (cc)
 
 has-quotient : (c : Conditions) → program_code c ≡ None → c.divide ≡ false
 has-quotient c = divides-not c.odd_address c.outside_first c.protected_first c.outside_rest c.protected_rest c.operation c.privileged c.specification c.addressing c.protection c.divide

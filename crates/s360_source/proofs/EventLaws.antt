@@ -30,14 +30,11 @@ use Rattle.s360_source.proofs.StoreLemmas.{beside-run, in-run}
 
 -- what machines have the same, their cores have
 there-core : (m n : Machine) (p : Place) → HaveSameThere m n p → HaveSame m.core n.core p
-there-core m n Psw h = h
-there-core m n (Register r) h = h
-there-core m n (Byte a) h = h
-there-core m n (Key b) h = h
 there-core m n Run h = refl
 there-core m n External h = refl
 there-core m n (UnitState u) h = refl
 there-core m n (UnitMedia u) h = refl
+there-core m n p h = h
 
 pub there-cores : (m n : Machine) (ps : List Place) → HaveAllThere m n ps → HaveAllSame m.core n.core ps
 there-cores m n [] h = tt
@@ -46,10 +43,7 @@ there-cores m n (p ∷ ps) h = (there-core m n p h.0, there-cores m n ps h.1)
 -- an external interruption with one code
 pub external-law : (m n : Machine) (p : Place) → MachinesAreAlike m n → external_code m.control.external ≡ external_code n.control.external
     → HaveAllThere m n (external_sources p) → HaveSameThere (after_external m) (after_external n) p
-external-law m n Run alike e h = h.0
 external-law m n External alike e h = refl
-external-law m n (UnitState u) alike e h = h.0
-external-law m n (UnitMedia u) alike e h = h.0
 external-law m n Psw alike e h =
     rw e (interruption-law m.core n.core external_class (external_code n.control.external) NotAvailable Psw alike.cores alike.permanent (there-cores m n (byte_places 88 8) h))
 external-law m n (Register r) alike e h =
@@ -59,6 +53,7 @@ external-law m n (Key b) alike e h =
 external-law m n (Byte a) alike e h =
     rw e (interruption-law m.core n.core external_class (external_code n.control.external) NotAvailable (Byte a) alike.cores alike.permanent
     (there-cores m n (if nat_le 24 a && nat_lt a 32 then Psw ∷ [] else (Byte a ∷ [])) h))
+external-law m n p alike e h = h.0
 
 -- bytes that are put from an address on
 pub bytes-law : (m n : Core) (a count : ℕ) (run other : List ℕ) (sources : List Place) (k : ℕ) → AreAlike m n → a + length run ≤ length m.storage.bytes
@@ -91,11 +86,6 @@ run-of word other c d e = run-if (runs_out word) c ∙ e ∙ sym (run-if (runs_o
 
 ticked-law : (m n : Machine) (p : Place) → MachinesAreAlike m n → HaveAllThere m n (tick_sources true p)
     → HaveSameThere (record m { core = core_after_tick m.core; control = control_after_tick (timer_of m.core) m.control }) (record n { core = core_after_tick n.core; control = control_after_tick (timer_of n.core) n.control }) p
-ticked-law m n Psw alike h = h.0
-ticked-law m n (Register r) alike h = h.0
-ticked-law m n (Key b) alike h = h.0
-ticked-law m n (UnitState u) alike h = h.0
-ticked-law m n (UnitMedia u) alike h = h.0
 ticked-law m n (Byte a) alike h =
     bytes-law m.core n.core timer_location 4 (bytes_high_first 4 (timer_after_tick (timer_of m.core))) (bytes_high_first 4 (timer_after_tick (timer_of n.core))) (byte_places timer_location 4) a alike.cores
     (omega (arith, alike.permanent)) refl refl (there-cores m n (bytes_made_of timer_location 4 (byte_places timer_location 4) itself (Byte a)) h)
@@ -104,6 +94,7 @@ ticked-law m n External alike h =
     let timer : timer_of m.core ≡ timer_of n.core = timer-same m.core n.core (there-cores m n (byte_places timer_location 4) h.1)
     in ap (λ w. (control_after_tick w m.control).external) timer ∙ external-of (timer_of n.core) m.control n.control h.0
 ticked-law m n Run alike h = run-of (timer_of m.core) (timer_of n.core) m.control n.control h.0
+ticked-law m n p alike h = h.0
 
 after-tick-true : (m : Machine) → is_operating m.control.run_state ≡ true → after_tick m ≡ record m { core = core_after_tick m.core; control = control_after_tick (timer_of m.core) m.control }
 after-tick-true m e = rw e refl

@@ -107,10 +107,7 @@ by-progress : (R : Execution → Execution → Type 0) (d : DeviceView) (s t : S
     → next_word s p ≡ next_word t p → led_to s (next_word s p) ≡ led_to t (next_word t p) → Broken R p → Begun R d s t p (executed_word s p)
     → R (execute_fetched d s p (next_ccw s p)) (execute_fetched d t p (next_ccw t p))
 by-progress R d s t p Loading e word led broken begun = loads R d s t p e begun
-by-progress R d s t p First e word led broken begun = stands R d s t p (rw e refl) word led broken begun
-by-progress R d s t p CommandChained e word led broken begun = stands R d s t p (rw e refl) word led broken begun
-by-progress R d s t p (InputChained command moved) e word led broken begun = stands R d s t p (rw e refl) word led broken begun
-by-progress R d s t p (OutputChained command gathered) e word led broken begun = stands R d s t p (rw e refl) word led broken begun
+by-progress R d s t p progress e word led broken begun = stands R d s t p (rw e refl) word led broken begun
 
 pub words-law : (R : Execution → Execution → Type 0) (d : DeviceView) (s t : Storage) (p : Program)
     → next_word s p ≡ next_word t p → led_to s (next_word s p) ≡ led_to t (next_word t p) → Broken R p → Begun R d s t p (executed_word s p)
@@ -212,9 +209,7 @@ pub begun-law : (Holds : Type 0) (d : DeviceView) (s t : Storage) (p : Program) 
     → Follows Holds (execute_begun s (word_at_hand d p at c) begin) (execute_begun t (word_at_hand d p at c) begin)
 begun-law Holds d s t p at c (Input total) bytes = input-law Holds s t (word_at_hand d p at c) total
 begun-law Holds d s t p at c (Output limit) bytes = output-law Holds d s t p at c limit (λ k. bytes k limit refl)
-begun-law Holds d s t p at c Control bytes = λ h k. refl
-begun-law Holds d s t p at c (Refused sense) bytes = λ h k. refl
-begun-law Holds d s t p at c NotYet bytes = λ h k. refl
+begun-law Holds d s t p at c begin bytes = λ h k. refl
 
 -- what is stored lies inside storage
 abbrev pub StoresInside : Storage → Option Run → Type 0
@@ -257,9 +252,7 @@ begun-inside s w (Output limit) =
     let t : Transfer = output_transfer w.ccw (limit - length w.gathered)
     in output-inside s w t (take limit (w.gathered ++ slice_range s.bytes w.ccw.address (w.ccw.address + t.count)))
     (access_of s w.program.key Fetch t.count (Some w.ccw.address))
-begun-inside s w Control = tt
-begun-inside s w (Refused sense) = tt
-begun-inside s w NotYet = tt
+begun-inside s w begin = tt
 
 pub inside-law : (d : DeviceView) (s : Storage) (p : Program) → StoresInside s (execute_fetched d s p (next_ccw s p)).stores
 inside-law d s p =

@@ -40,10 +40,7 @@ interruption-law m n class code il (Byte k) alike l h =
     (omega (arith, old-inside class, l)) alike.size refl
     (λ a b. ap (λ x. get_or (bytes_high_first 8 (stored_psw x code (length_code_of il))) (k - old) 0) ((same-if test m n (Psw ∷ []) (Byte k ∷ []) h (in-run old 8 k a b)).0))
     (λ out. (same-else test m n (Psw ∷ []) (Byte k ∷ []) h (beside-run old 8 k out)).0)
-interruption-law m n class code il Run alike l h = refl
-interruption-law m n class code il external_place alike l h = refl
-interruption-law m n class code il (UnitState u) alike l h = refl
-interruption-law m n class code il (UnitMedia u) alike l h = refl
+interruption-law m n class code il p alike l h = refl
 
 -- the sources of the sources: two cores after a first step have the same at some places, where they had at the sources of each
 pub followed-law : (m n x y : Core) (sources : Sources) → ((q : Place) → HaveAllSame m n (sources q) → HaveSame x y q)

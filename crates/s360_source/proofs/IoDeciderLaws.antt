@@ -47,12 +47,9 @@ own-same Tape0 m n h = h.0
 own-same Tape1 m n h = h.0
 
 beside-same : (u : ConfiguredUnit) (m n : Machine) → HaveAllThere m n (units_of_channel u) → active_beside m.units u ≡ active_beside n.units u
-beside-same Reader m n h = refl
-beside-same Punch m n h = refl
-beside-same Printer m n h = refl
-beside-same Console m n h = refl
 beside-same Tape0 m n h = ap (λ (x : UnitControl). if is_active x.state then Some Tape1 else None) h.1.0
 beside-same Tape1 m n h = ap (λ (x : UnitControl). if is_active x.state then Some Tape0 else None) h.1.0
+beside-same u m n h = refl
 
 -- START I/O: the first word of a program is no transfer in channel that leads anywhere
 never-led : (b : Bool) (x y z : Fetched) → (if b && false then x else z) ≡ (if b && false then y else z)
@@ -84,11 +81,8 @@ program-law m n u alike h =
 start-by : (active waits occupied attention : Bool) (m n : Core) (u : ConfiguredUnit) → AreAlike m n
     → HaveAllSame m n (if active || (waits || (occupied || attention)) then [] else first_program_deciders m.storage)
     → (if active || (waits || occupied) then with_code 2 else start_idle m.storage u attention) ≡ (if active || (waits || occupied) then with_code 2 else start_idle n.storage u attention)
-start-by true waits occupied attention m n u alike h = refl
-start-by false true occupied attention m n u alike h = refl
-start-by false false true attention m n u alike h = refl
-start-by false false false true m n u alike h = refl
 start-by false false false false m n u alike h = program-law m n u alike h
+start-by active waits occupied attention m n u alike h = refl
 
 start-law : (m n : Machine) (u : ConfiguredUnit) → MachinesAreAlike m n → HaveAllThere m n (start_deciders m u)
     → start_unit m.core.storage (is_occupied m.units u) u (control_of m.units u) ≡ start_unit n.core.storage (is_occupied n.units u) u (control_of n.units u)
@@ -166,6 +160,4 @@ io-law TestChannel unit m n alike h = tested-by (nat_eq (unit.0 / 0x100) 0) (nat
 
 pub channels-law : (ended : Ended) (m n : Machine) → MachinesAreAlike m n → HaveAllThere m n (channels_deciders ended m) → channels_result ended m ≡ channels_result ended n
 channels-law (Io operation unit) m n alike h = ap Some (io-law operation unit m n alike h)
-channels-law Done m n alike h = refl
-channels-law (program_ended code) m n alike h = refl
-channels-law (Svc code) m n alike h = refl
+channels-law ended m n alike h = refl

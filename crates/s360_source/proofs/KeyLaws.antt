@@ -31,19 +31,11 @@ same-devices (Some c) f m n each h = each c h
 
 ended-file : (c : ConfiguredUnit) (m n : Media) → SameDevice c m n → SameDevice c (media_after_key EndOfFile m) (media_after_key EndOfFile n)
 ended-file Reader m n h = ap with_end_key h
-ended-file Punch m n h = h
-ended-file Printer m n h = h
-ended-file Console m n h = h
-ended-file Tape0 m n h = h
-ended-file Tape1 m n h = h
+ended-file c m n h = h
 
 entered : (line : List ℕ) (c : ConfiguredUnit) (m n : Media) → SameDevice c m n → SameDevice c (media_after_key (Enter line) m) (media_after_key (Enter line) n)
 entered line Console m n h = ap (λ (x : ConsoleDevice). record x { media = with_line x.media line }) h
-entered line Reader m n h = h
-entered line Punch m n h = h
-entered line Printer m n h = h
-entered line Tape0 m n h = h
-entered line Tape1 m n h = h
+entered line c m n h = h
 
 -- the console asks for attention
 abbrev asking : Units → Units

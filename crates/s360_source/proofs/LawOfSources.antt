@@ -38,10 +38,7 @@ not-outside false false e = refl
 
 inside-of : (m : Machine) (p : Patch) → refusal_of_patch (storage_size m) p ≡ None → IsInside p m
 inside-of m (Bytes at bytes) e = ltb-false (storage_size m) (at + length bytes) (not-outside (nat_lt 256 (length bytes)) (nat_lt (storage_size m) (at + length bytes)) e)
-inside-of m (Register n word) e = tt
-inside-of m (StorageKey at storage_key) e = tt
-inside-of m (FetchBit at bit) e = tt
-inside-of m (Psw psw) e = tt
+inside-of m p e = tt
 
 pub event-law : (m n : Machine) (e : Event) (p : Place) → MachinesAreAlike m n → refusal_of (storage_size m) e ≡ None → shape m e ≡ shape n e
     → HaveAllThere m n (sources m e p) → HaveSameThere (after m e) (after n e) p

@@ -75,10 +75,7 @@ load-law m n next il r1 r3 a Psw alike h = ap (λ x. with_instruction_address x 
 load-law m n next il r1 r3 a (Register r) alike h = load-register-law m n r1 r3 a r alike h
 load-law m n next il r1 r3 a (Byte k) alike h = rw (loaded-storage m.storage.bytes r1 a (register_count r1 r3) m, loaded-storage n.storage.bytes r1 a (register_count r1 r3) n) h.0
 load-law m n next il r1 r3 a (Key k) alike h = rw (loaded-storage m.storage.bytes r1 a (register_count r1 r3) m, loaded-storage n.storage.bytes r1 a (register_count r1 r3) n) h.0
-load-law m n next il r1 r3 a Run alike h = refl
-load-law m n next il r1 r3 a External alike h = refl
-load-law m n next il r1 r3 a (UnitState u) alike h = refl
-load-law m n next il r1 r3 a (UnitMedia u) alike h = refl
+load-law m n next il r1 r3 a p alike h = refl
 
 loaded-keeps : (m : Core) (next : ℕ) (il : InstructionLength) (xs : List ℕ) (r1 a k : ℕ) → KeepsSizes m (completed (seen m next il) (with_registers_loaded xs r1 a k m)).core
 loaded-keeps m next il xs r1 a k = record {
@@ -146,10 +143,7 @@ store-law m n next il r1 r3 a Psw alike inside h = ap (λ x. with_instruction_ad
 store-law m n next il r1 r3 a (Register r) alike inside h = rw (stored-registers m.registers r1 a (register_count r1 r3) m, stored-registers n.registers r1 a (register_count r1 r3) n) h.0
 store-law m n next il r1 r3 a (Byte x) alike inside h = store-byte-law m n r1 r3 a x alike inside h
 store-law m n next il r1 r3 a (Key k) alike inside h = rw (stored-keys m.registers r1 a (register_count r1 r3) m, stored-keys n.registers r1 a (register_count r1 r3) n) h.0
-store-law m n next il r1 r3 a Run alike inside h = refl
-store-law m n next il r1 r3 a External alike inside h = refl
-store-law m n next il r1 r3 a (UnitState u) alike inside h = refl
-store-law m n next il r1 r3 a (UnitMedia u) alike inside h = refl
+store-law m n next il r1 r3 a p alike inside h = refl
 
 stored-option : (xs : List ℕ) (r1 a k : ℕ) (m : Core) → (with_registers_stored xs r1 a k m).storage.fetch_protection ≡ m.storage.fetch_protection
 stored-option xs r1 a zero m = refl

@@ -81,7 +81,5 @@ rs-ends ShiftLeftDouble r1 r3 b d m n next il alike psw a h k =
     (overflow-same m n r1 _ _ (Register r1 ∷ (Register (r1 + 1) ∷ [])) (if nat_eq (r1 + 1) r1 then (Register r1 ∷ (Register (r1 + 1) ∷ [])) else (Register r1 ∷ [])) psw
     (unless-refused m n r1 (fixed_point_overflow_mask_of m.psw) _ e h)
     (λ g. all-alike (λ x y i. signed_pair_code (times_power (signed_pair x y) (i % 64))) _ _ _ _ (operand_address m.registers 0 b d) (operand_address n.registers 0 b d) g.0 g.1.0 (base-same m n b d a))))
-rs-ends ShiftRightDouble r1 r3 b d m n next il alike psw a h k = unless-same (register_pair_conditions r1) (register_pair_conditions r1) m n _ _ refl refl
-rs-ends ShiftLeftDoubleLogical r1 r3 b d m n next il alike psw a h k = unless-same (register_pair_conditions r1) (register_pair_conditions r1) m n _ _ refl refl
-rs-ends ShiftRightDoubleLogical r1 r3 b d m n next il alike psw a h k = unless-same (register_pair_conditions r1) (register_pair_conditions r1) m n _ _ refl refl
 rs-ends other r1 r3 b d m n next il alike psw a h k = refl
+rs-ends other r1 r3 b d m n next il alike psw a h k = unless-same (register_pair_conditions r1) (register_pair_conditions r1) m n _ _ refl refl

@@ -159,10 +159,7 @@ search-law m n next il first table count (Byte a) alike h =
     ap (λ (s : Storage). byte_at s a) (storage-of (found_at table first 0 count m.storage) m next il first table count) ∙ h.0 ∙ sym (ap (λ (s : Storage). byte_at s a) (storage-of (found_at table first 0 count n.storage) n next il first table count))
 search-law m n next il first table count (Key b) alike h =
     ap (λ (s : Storage). slice_index s.keys b) (storage-of (found_at table first 0 count m.storage) m next il first table count) ∙ h.0 ∙ sym (ap (λ (s : Storage). slice_index s.keys b) (storage-of (found_at table first 0 count n.storage) n next il first table count))
-search-law m n next il first table count Run alike h = refl
-search-law m n next il first table count External alike h = refl
-search-law m n next il first table count (UnitState u) alike h = refl
-search-law m n next il first table count (UnitMedia u) alike h = refl
+search-law m n next il first table count p alike h = refl
 
 search-keeps : (q : Option ℕ) (m : Core) (next : ℕ) (il : InstructionLength) (first table count : ℕ) → KeepsSizes m (search_outcome q (seen m next il) first table count).core
 search-keeps None m next il first table count = psw-keeps m _

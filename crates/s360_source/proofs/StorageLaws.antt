@@ -59,10 +59,7 @@ stored-law m n next il s t f g bytes first count of_code Psw alike each code h =
 stored-law m n next il s t f g bytes first count of_code (Register i) alike each code h = h.0
 stored-law m n next il s t f g bytes first count of_code (Byte a) alike each code h = stored-follows m n f g bytes first alike each count a h
 stored-law m n next il s t f g bytes first count of_code (Key b) alike each code h = rw (left_to_right-keys f first count 0 m.storage, left_to_right-keys g first count 0 n.storage) h.0
-stored-law m n next il s t f g bytes first count of_code Run alike each code h = refl
-stored-law m n next il s t f g bytes first count of_code External alike each code h = refl
-stored-law m n next il s t f g bytes first count of_code (UnitState u) alike each code h = refl
-stored-law m n next il s t f g bytes first count of_code (UnitMedia u) alike each code h = refl
+stored-law m n next il s t f g bytes first count of_code p alike each code h = refl
 
 stored-keeps : (m : Core) (next : ℕ) (il : InstructionLength) (s : Option ℕ) (f : ℕ → Storage → ℕ) (first count : ℕ) → KeepsSizes m (stored_outcome m next il s f first count).core
 stored-keeps m next il s f first count = record {

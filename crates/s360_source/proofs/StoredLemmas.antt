@@ -179,9 +179,7 @@ begun-unchecked s w (Input total) =
 begun-unchecked s w (Output limit) =
     let t : Transfer = output_transfer w.ccw (limit - length w.gathered)
     in none-unchecked w (after_output w t (output_bytes s w limit)) (access_of s w.program.key Fetch t.count (Some w.ccw.address)) (output-stores s w limit)
-begun-unchecked s w Control = λ h. refl
-begun-unchecked s w (Refused sense) = λ h. refl
-begun-unchecked s w NotYet = λ h. refl
+begun-unchecked s w begin = λ h. refl
 
 unchecked-law : (d : DeviceView) (s : Storage) (p : Program) → is_checked (channel_execution d s p).state ≡ true → option_map extent_of (channel_execution d s p).stores ≡ None
 unfolding channel_execution

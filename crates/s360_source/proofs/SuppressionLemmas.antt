@@ -25,18 +25,9 @@ Suppresses operation code = IfSome code (λ c. suppresses operation c ≡ true)
 
 codes-suppress : (operation : Operation) (a b c d e f g h i j k : Bool) → converts_to_binary operation ≡ false
     → Suppresses operation (program_code (record { odd_address = a; outside_first = b; protected_first = c; outside_rest = d; protected_rest = e; operation = f; privileged = g; specification = h; addressing = i; protection = j; divide = k }))
-codes-suppress o true b c d e f g h i j k n = refl
-codes-suppress o false true c d e f g h i j k n = refl
-codes-suppress o false false true d e f g h i j k n = refl
-codes-suppress o false false false true e f g h i j k n = refl
-codes-suppress o false false false false true f g h i j k n = refl
-codes-suppress o false false false false false true g h i j k n = refl
-codes-suppress o false false false false false false true h i j k n = refl
-codes-suppress o false false false false false false false true i j k n = refl
-codes-suppress o false false false false false false false false true j k n = refl
-codes-suppress o false false false false false false false false false true k n = refl
 codes-suppress o false false false false false false false false false false true n = rw n refl
 codes-suppress o false false false false false false false false false false false n = tt
+codes-suppress o a b c d e f g h i j k n = refl
 
 pub condition-suppresses : (operation : Operation) (c : Conditions) → converts_to_binary operation ≡ false → Suppresses operation (program_code c)
 condition-suppresses operation c n =

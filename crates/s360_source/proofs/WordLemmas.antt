@@ -55,10 +55,7 @@ by-progress s p Loading e =
     let taken : executed_word s p ≡ Some (ccw_of loading_word) = rw e refl
     in let is : is_loading p.progress ≡ true = rw e refl
     in rw (taken, is) refl
-by-progress s p First e = stands s p (rw e refl)
-by-progress s p CommandChained e = stands s p (rw e refl)
-by-progress s p (InputChained command moved) e = stands s p (rw e refl)
-by-progress s p (OutputChained command gathered) e = stands s p (rw e refl)
+by-progress s p progress e = stands s p (rw e refl)
 
 pub word-executed : (s : Storage) (p : Program) → word_in (next_ccw s p) ≡ executed_word s p
 word-executed s p = by-progress s p p.progress refl

@@ -64,13 +64,7 @@ IsAscending-run cs a bs h b = IsAscending-bytes (psw_cell 0 ∷ cs) a bs h (inl 
 -- the PSW stands apart from the other places
 psw-beside : (m : Core) (p : Place) (v q : ℕ) → IsBefore Psw p → with_value (core_with_psw q m) p v ≡ core_with_psw q (with_value m p v)
 psw-beside m Psw v q h = absurd (not-before-itself Psw h)
-psw-beside m (Register r) v q h = refl
-psw-beside m (Byte a) v q h = refl
-psw-beside m (Key b) v q h = refl
-psw-beside m Run v q h = refl
-psw-beside m External v q h = refl
-psw-beside m (UnitState u) v q h = refl
-psw-beside m (UnitMedia u) v q h = refl
+psw-beside m p v q h = refl
 
 psw-apart : (m : Core) (cs : List Cell) (q : ℕ) → IsBeforeAll Psw (places_of_cells cs) → after_exchange (core_with_psw q m) cs ≡ core_with_psw q (after_exchange m cs)
 psw-apart m [] q h = refl

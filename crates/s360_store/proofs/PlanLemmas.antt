@@ -13,14 +13,12 @@ use Rattle.s360_store.proofs.PlaceLemmas.{with_value-twice}
 use Rattle.s360_store.proofs.ExchangeLemmas.{after_exchange-with_value}
 
 pub same_place-refl : (p : Place) → same_place p p ≡ true
-same_place-refl Psw = refl
 same_place-refl (Register n) = eq-eqb n n refl
 same_place-refl (Byte n) = eq-eqb n n refl
 same_place-refl (Key n) = eq-eqb n n refl
-same_place-refl Run = refl
-same_place-refl External = refl
 same_place-refl (UnitState u) = eq-eqb u.0 u.0 refl
 same_place-refl (UnitMedia u) = eq-eqb u.0 u.0 refl
+same_place-refl p = refl
 
 pub same_place-true : (p q : Place) → same_place p q ≡ true → p ≡ q
 same_place-true Psw Psw h = refl
