@@ -1,9 +1,11 @@
 -- What a session is seen as: the events that were recorded, of which the first ones stand.
-use Rattle.std.specs.Prelude.{◌≡◌, ℕ, ◌+◌, ◌-◌, ◌++◌, if◌then◌else◌, List, [], ◌∷◌, take, drop, length, slice_get, Option, Some, None}
+use Rattle.std.specs.Prelude.{◌≡◌, ℕ, ◌+◌, ◌-◌, ◌++◌, if◌then◌else◌, List, [], ◌∷◌, take, drop, length, slice_get, ⊤, Option, Some, None, MatchOption, Result, Err, IsOkUnless, OnErr, OnOk}
 use Rattle.s360_machine.specs.declared.event.Event.{Event}
-use Rattle.s360_machine.specs.Machine.{Whole}
+use Rattle.s360_machine.specs.Machine.{Whole, seen, storage_size}
+use Rattle.s360_machine.specs.declared.refusal.Refusal.{Refusal}
+use Rattle.s360_machine.specs.declared.refusal.Refusal.TheVariants.{Memory}
 use Rattle.s360_journal.specs.Offers.{with_events}
-use Rattle.s360_journal.specs.Standing.{IsAfter, Standing, refusal_in}
+use Rattle.s360_journal.specs.Standing.{IsAfter, Standing, machine_of, refusal_in}
 use Rattle.s360_journal.specs.Timelines.{dropped_with, is_first}
 use Rattle.s360_journal.specs.Withdrawals.{without_event}
 
@@ -43,6 +45,14 @@ cut_to r es n = record r { events = es; standing = n; dropped = dropped_with (re
 -- an event more stands: the next of the record, or else its last from now on
 abbrev pub after_event : Recorded → Event → Recorded
 after_event r e = if is_first (rest_of r) e then with_standing r (r.standing + 1) else cut_to r (standing_events r ++ e ∷ []) (r.standing + 1)
+
+-- an event was offered: what it leaves, or why it is refused; and no event has altered the size of storage
+pub record IsOffered (r : Recorded) (e : Event) (result : Result ⊤ Refusal) (t : Recorded) : Type 0 where
+  pub ok : OnOk result (t ≡ after_event r e)
+  pub stands : OnOk result (IsAfter (session_of t) (session_of r) e)
+  pub err : OnErr result (t ≡ r)
+  pub refused : MatchOption (refusal_in (session_of r) e) (IsOkUnless result Memory) (λ q. result ≡ Err q)
+  pub size : storage_size (machine_of (session_of r)) ≡ storage_size (seen r.start)
 
 -- and events one after another
 abbrev pub after_events : Recorded → List Event → Recorded

@@ -4,7 +4,7 @@ ghost use Rattle.std.specs.Prelude.{IsOkUnless, MatchOption, max, min};
 ghost use Rattle.std.specs.Option.{unwrap_or};
 ghost use Rattle.s360_machine.specs.Machine.{seen, storage_size};
 ghost use Rattle.s360_machine.specs.declared.refusal.Refusal.TheVariants.{Memory};
-ghost use Rattle.s360_journal.specs.Recorded.{IsRunAgain, after_event, cut_to, next_recorded, session_of, standing_events, with_standing, without_last};
+ghost use Rattle.s360_journal.specs.Recorded.{IsOffered, IsRunAgain, after_event, cut_to, next_recorded, session_of, standing_events, with_standing, without_last};
 ghost use Rattle.s360_journal.specs.Reports.{IsReport};
 ghost use Rattle.s360_journal.specs.Rerun.{rerun, AreAccepted, changes_of, last_change_of};
 ghost use Rattle.s360_journal.specs.Returning.{one_back};
@@ -14,6 +14,7 @@ ghost use Rattle.s360_journal.specs.Standing.{IsAfter, Standing, machine_of, ref
 ghost use Rattle.s360_journal.specs.Timelines.{HasRoomFor, IsNoted, dropped_with};
 ghost use Rattle.s360_journal.specs.Withdrawals.{AreAllowed, is_standing};
 ghost use Rattle.s360_machine.specs.declared.event.Event.{Event as AnEvent};
+ghost use Rattle.s360_machine.specs.declared.event.Event.TheVariants.{Cpu};
 
 use crate::breaks::Breaks;
 use crate::journal::Journal;
@@ -220,6 +221,7 @@ impl Session {
 
     /// Runs an event, which then stands, also where it alters nothing, and reports nothing of it: the next of the record, or
     /// else its last from now on. A refused one changes nothing.
+    #[inline(always)]
     pub fn advance(&mut self, event: Event) -> Result<(), Refusal>
         ensures ok { OnOk result (self.new ≡ after_event self.old event) }
         ensures stands { OnOk result (IsAfter (session_of self.new) (session_of self.old) event) }
@@ -229,9 +231,25 @@ impl Session {
     {
         match event {
             // So the compiler has the most frequent event for itself.
-            Event::Cpu => self.offer(Event::Cpu),
-            event => self.offer(event),
+            Event::Cpu => self.advance_cpu(),
+            event => self.advance_other(event),
         }
+    }
+
+    /// Runs an event of the CPU as `advance` does.
+    #[inline(never)]
+    fn advance_cpu(&mut self) -> Result<(), Refusal>
+        ensures { IsOffered self.old Cpu result self.new }
+    {
+        self.offer(Event::Cpu)
+    }
+
+    /// Runs any event as `advance` does.
+    #[inline(never)]
+    fn advance_other(&mut self, event: Event) -> Result<(), Refusal>
+        ensures { IsOffered self.old event result self.new }
+    {
+        self.offer(event)
     }
 
     /// Runs an event as `advance` does.

@@ -86,9 +86,12 @@ fetch_protection-after_exchange m (c ∷ cs) = fetch_protection-after_exchange (
 
 -- what fits in either case fits where fetches are protected
 Fits-any : (b : Bool) (p : Place) (v : ℕ) → Fits b p v → Fits true p v
+Fits-any true p v h = h
+Fits-any false Psw v h = h
+Fits-any false (Register n) v h = h
+Fits-any false (Byte a) v h = h
 Fits-any false (Key k) v h = omega (arith, h)
 Fits-any false p v h = absurd h
-Fits-any b p v h = h
 
 pub AllFit-any : (b : Bool) (cs : List Cell) → AllFit b cs → AllFit true cs
 AllFit-any b [] h = tt
