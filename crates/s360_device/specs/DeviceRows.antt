@@ -1,4 +1,4 @@
--- What the code says of a row, by the row of the table (kept).
+-- What the code says of a row, by the row of the table.
 use Rattle.std.specs.Prelude.{◌≡◌, ℕ, Bool, true, false, List, reverse}
 use Rattle.s360_device.specs.declared.row.Given.{Given}
 use Rattle.s360_device.specs.declared.row.Row.{Row as Said}

@@ -1,4 +1,4 @@
--- An event as it was recorded (kept).
+-- An event as it was recorded.
 use Rattle.std.specs.Option.{option_map}
 use Rattle.std.specs.Prelude.{Option, Some, None}
 use Rattle.s360_word.specs.declared.unit.Unit.{Unit as UnitAddress}

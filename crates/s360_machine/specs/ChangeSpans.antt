@@ -1,4 +1,4 @@
--- The places of a change as spans, in their order (kept).
+-- The places of a change as spans, in their order.
 use Rattle.std.specs.Option.{option_copied}
 use Rattle.std.specs.Prelude.{◌≡◌, ◌++◌, ℕ, Option, Some, None, List, [], ◌∷◌, drop, map}
 use Rattle.s360_store.specs.declared.place.Place.TheVariants.{Psw as psw_place, Register as register_place}

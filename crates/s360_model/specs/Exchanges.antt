@@ -1,4 +1,4 @@
--- An exchange of one thing with another, which may be there or not: each becomes something of both (kept).
+-- An exchange of one thing with another, which may be there or not: each becomes something of both.
 use Rattle.std.specs.Prelude.{ℕ, Option, Some, None}
 
 -- it can be made
