@@ -79,12 +79,7 @@ fn push_key(text: &mut Text, machine: &Machine, at: u32) -> Result<(), AllocErro
 }
 
 /// Adds the value of a place of a unit; or the refusal where the machine does not have the unit.
-fn push_unit(
-    text: &mut Text,
-    machine: &Machine,
-    unit: Unit,
-    place: Place,
-) -> Result<(), AllocError>
+fn push_unit(text: &mut Text, machine: &Machine, unit: Unit, place: Place) -> Result<(), AllocError>
     ensures { OnOk result (text.new ≡ text.old ++ text_of_unit (seen machine.now.whole) unit place (unit_at unit.0)) }
 {
     let Some(_configured) = ConfiguredUnit::at(unit) else {
@@ -95,12 +90,7 @@ fn push_unit(
 }
 
 /// Adds the value of a place behind a name, and the line's end.
-fn push_line(
-    text: &mut Text,
-    name: &str,
-    machine: &Machine,
-    place: Place,
-) -> Result<(), AllocError>
+fn push_line(text: &mut Text, name: &str, machine: &Machine, place: Place) -> Result<(), AllocError>
     ensures { OnOk result (text.new ≡ text.old ++ value_line name.now (seen machine.now.whole) place) }
 {
     text.push_text(name)?;

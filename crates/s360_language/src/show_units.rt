@@ -17,7 +17,11 @@ use s360_word::Word;
 use std::alloc::AllocError;
 
 /// Adds what the channel does for a unit, after a blank, and whether the unit asks for attention.
-pub(crate) fn push_control(text: &mut Text, state: &UnitState, attention: bool) -> Result<(), AllocError>
+pub(crate) fn push_control(
+    text: &mut Text,
+    state: &UnitState,
+    attention: bool,
+) -> Result<(), AllocError>
     ensures { OnOk result (text.new ≡ text.old ++ control_words state.now attention) }
 {
     push_state(text, state)?;

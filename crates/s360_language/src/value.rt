@@ -73,11 +73,7 @@ fn push_key(text: &mut Text, storage: &Storage, block: u32) -> Result<(), AllocE
 }
 
 /// Adds a storage key, and behind it the fetch bit if fetches are protected.
-fn push_block_key(
-    text: &mut Text,
-    fetch_protection: bool,
-    key: BlockKey,
-) -> Result<(), AllocError>
+fn push_block_key(text: &mut Text, fetch_protection: bool, key: BlockKey) -> Result<(), AllocError>
     ensures { OnOk result (text.new ≡ text.old ++ block_key_words fetch_protection key) }
 {
     text.push_numbered(" ", u64::from(key.key().number()), 1)?;

@@ -100,12 +100,7 @@ impl Text {
     }
 
     /// Adds a name, and behind it the low digits of a number in hexadecimal, so many of them.
-    pub fn push_numbered(
-        &mut self,
-        name: &str,
-        number: u64,
-        width: u8,
-    ) -> Result<(), AllocError>
+    pub fn push_numbered(&mut self, name: &str, number: u64, width: u8) -> Result<(), AllocError>
         ensures { OnOk result (self.new ≡ self.old ++ (name.now ++ hex_text width number)) }
     {
         self.push_text(name)?;
