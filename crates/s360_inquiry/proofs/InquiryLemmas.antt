@@ -23,15 +23,6 @@ use Rattle.s360_debug.specs.Answers.{changed_after}
 use Rattle.s360_inquiry.specs.Changes.{event_words, kind_of_change, last_change_in, machine_after}
 use Rattle.s360_inquiry.specs.Histories.{altered_next, history_line, lines_from, places_words, report_words}
 
--- ---- lists that are told item by item
-
--- one item more
-pub told-more : {A : Type 0} (told : A → List ℕ) (xs : List A) (i : ℕ) (d : A) → i < length xs
-    → flat_map told (take (i + 1) xs) ≡ flat_map told (take i xs) ++ told (get_or xs i d)
-told-more told xs i d inside =
-    ap (λ ys. flat_map told ys) (take_more xs i d inside)
-    ∙ (flat_map-append told (take i xs) (get_or xs i d ∷ []) ∙ ap (λ t. flat_map told (take i xs) ++ t) (append-nil (told (get_or xs i d))))
-
 -- ---- a text that is added to a part at a time
 
 pub pushed-thrice : (old first second third s t u : List ℕ) → first ≡ old ++ s → second ≡ first ++ t → third ≡ second ++ u

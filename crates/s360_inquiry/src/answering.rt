@@ -57,7 +57,7 @@ fn text_of_inquiry(
         Inquiry::Changes { place, most } => answer_changes(alloc, recording, place, most),
         Inquiry::History { most } => answer_history(alloc, recording, most),
         Inquiry::Dump { at, count } => dump_of(alloc, recording.machine().storage(), at, count),
-        Inquiry::Units => units_of(alloc, recording),
+        Inquiry::Units => units_of(alloc, recording.machine()),
         Inquiry::Where => where_of(alloc, recording),
     }
 }

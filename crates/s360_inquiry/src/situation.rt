@@ -1,8 +1,6 @@
 //! How the machine stands: its units, and what it does next.
 ghost use Rattle.std.specs.Prelude.{◌≡◌, ◌++◌, IfOk, OnOk};
-ghost use Rattle.s360_journal.specs.Standing.{machine_of};
 ghost use Rattle.s360_machine.specs.Machine.{seen};
-ghost use Rattle.s360_journal.specs.Recorded.{session_of};
 ghost use Rattle.s360_inquiry.specs.Situations.{next_text, pending_lines, pending_text, unit_and_device, units_text};
 ghost use Rattle.s360_inquiry.specs.Situations.{where_text};
 
@@ -16,16 +14,8 @@ use s360_store::Place;
 use s360_text::Text;
 use std::alloc::{AllocError, Global};
 
-/// A line for each unit: what the channel does for it, its sense, and its media in numbers.
-pub(crate) fn units_of(alloc: Global, recording: &Session) -> Result<Text, AllocError>
-    ensures { IfOk result (λ text. text ≡ units_text (machine_of (session_of recording.now))) }
-{
-    let text = text_of_units(alloc, recording.machine())?;
-    Ok(text)
-}
-
-/// A line for each unit of a machine.
-fn text_of_units(alloc: Global, machine: &Machine) -> Result<Text, AllocError>
+/// A line for each unit of a machine: what the channel does for it, its sense, and its media in numbers.
+pub(crate) fn units_of(alloc: Global, machine: &Machine) -> Result<Text, AllocError>
     ensures { IfOk result (λ text. text ≡ units_text (seen machine.now.whole)) }
 {
     let mut text = Text::new(alloc);

@@ -1,31 +1,36 @@
 -- Texts with one part more at the end.
-use Rattle.std.proofs.Common.{◌≡◌, ◌<◌, ◌≤◌, ◌+◌, ◌-◌, ◌/◌, ◌%◌, ◌^◌, ◌++◌, ℕ, List, [], ◌∷◌, ap, sym, ◌∙◌, refl, drop, take, get_or, length, map, min, nat_eq, false, append_assoc, arith, codes}
-use Rattle.std.proofs.lemmas.List.{append-nil, take_min, take_more, get_or-drop, length-drop}
+use Rattle.std.proofs.Common.{◌≡◌, ◌<◌, ◌+◌, ◌++◌, ℕ, List, [], ◌∷◌, ap, sym, ◌∙◌, refl, take, get_or, length, map, min, nat_eq, false, append_assoc, codes}
+use Rattle.std.proofs.lemmas.List.{append-nil, take_min, take_more}
 use Rattle.std.proofs.lemmas.List.Folds.{flat_map-map}
 use Rattle.std.proofs.lemmas.List.FromFn.{map-range_with_len_more}
 use Rattle.std.proofs.lemmas.Grind.{flat_map-append}
-use Rattle.std.specs.List.{flat_map, range_with_len, slice_range}
+use Rattle.std.specs.List.{flat_map, range_with_len}
 use Rattle.s360_model.specs.Text.{hex_text, hex_bytes}
 use Rattle.s360_language.specs.ShownItems.{block_begin}
-use Rattle.s360_language.specs.ShownUnits.{csw_words}
 
-hex_bytes-push : (bytes : List ℕ) (byte : ℕ) → hex_bytes (bytes ++ byte ∷ []) ≡ hex_bytes bytes ++ hex_text 2 byte
-hex_bytes-push [] byte = append-nil (hex_text 2 byte)
-hex_bytes-push (b ∷ bytes) byte =
-    ap (λ t. hex_text 2 b ++ t) (hex_bytes-push bytes byte) ∙ sym (append_assoc (hex_text 2 b) (hex_bytes bytes) (hex_text 2 byte))
+-- an item of a list is told more, after a text
+pub told-more : {A : Type 0} (told : A → List ℕ) (xs : List A) (i : ℕ) (d : A) (old text new : List ℕ) → i < length xs
+    → text ≡ old ++ flat_map told (take i xs) → new ≡ text ++ told (get_or xs i d) → new ≡ old ++ flat_map told (take (i + 1) xs)
+told-more told xs i d old text new inside h k =
+    k
+    ∙ ap (λ (t : List ℕ). t ++ told (get_or xs i d)) h
+    ∙ append_assoc old (flat_map told (take i xs)) (told (get_or xs i d))
+    ∙ ap (λ (t : List ℕ). old ++ t)
+    (sym (
+    ap (λ ys. flat_map told ys) (take_more xs i d inside)
+    ∙ (flat_map-append told (take i xs) (get_or xs i d ∷ []) ∙ ap (λ t. flat_map told (take i xs) ++ t) (append-nil (told (get_or xs i d))))
+    ))
 
-hex_bytes-taken : (bytes : List ℕ) (i : ℕ) → i < length bytes → hex_bytes (take (i + 1) bytes) ≡ hex_bytes (take i bytes) ++ hex_text 2 (get_or bytes i 0)
-hex_bytes-taken bytes i inside = ap hex_bytes (take_more bytes i 0 inside) ∙ hex_bytes-push (take i bytes) (get_or bytes i 0)
+hex_bytes-told : (bytes : List ℕ) → hex_bytes bytes ≡ flat_map (λ byte. hex_text 2 byte) bytes
+hex_bytes-told [] = refl
+hex_bytes-told (b ∷ bytes) = ap (λ t. hex_text 2 b ++ t) (hex_bytes-told bytes)
 
--- the digits of one byte more, after a text
+-- the digits of one byte more
 pub digits-pushed : (bytes old text new : List ℕ) (i byte : ℕ) → text ≡ old ++ hex_bytes (take i bytes) → i < length bytes → byte ≡ get_or bytes i 0
     → new ≡ text ++ hex_text 2 byte → new ≡ old ++ hex_bytes (take (i + 1) bytes)
 digits-pushed bytes old text new i byte h inside e k =
-    k
-    ∙ ap (λ (t : List ℕ). t ++ hex_text 2 byte) h
-    ∙ ap (λ (b : ℕ). (old ++ hex_bytes (take i bytes)) ++ hex_text 2 b) e
-    ∙ append_assoc old (hex_bytes (take i bytes)) (hex_text 2 (get_or bytes i 0))
-    ∙ ap (λ (t : List ℕ). old ++ t) (sym (hex_bytes-taken bytes i inside))
+    told-more (λ b. hex_text 2 b) bytes i 0 old text new inside (h ∙ ap (λ t. old ++ t) (hex_bytes-told (take i bytes))) (k ∙ ap (λ b. text ++ hex_text 2 b) e)
+    ∙ ap (λ t. old ++ t) (sym (hex_bytes-told (take (i + 1) bytes)))
 
 -- the first bytes of a block that has any
 pub begin-pushed : (old text new bytes : List ℕ) (count : ℕ) → false ≡ nat_eq (length bytes) 0 → count ≡ min 32 (length bytes) → text ≡ old ++ codes " "

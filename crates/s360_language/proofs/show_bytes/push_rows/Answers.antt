@@ -8,6 +8,7 @@ loop-number-preserved c =
     rw (
       told-next (numbered_row c.args.row c.args.at c.args.size c.args.bytes.now) 0 c.loop-number.number c.loop-number.number (omega arith),
       c.in_ok-push_row.ensures,
+      c.from.ensures,
       c.loop-number.invariant,
       c.min-end.ensures,
     ) (simp append_assoc)
