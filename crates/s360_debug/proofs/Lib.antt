@@ -1,4 +1,3 @@
-pub mod DecimalLemmas
 pub mod PlaceNameLemmas
 pub mod LineLemmas
 pub mod StandingLemmas

@@ -6,6 +6,9 @@ ghost use Rattle.s360_model.specs.Text.{decimal};
 ghost use Rattle.s360_journal.specs.Breakpoints.{with_address, without_address};
 ghost use Rattle.s360_journal.specs.Standing.{last_kind_of};
 ghost use Rattle.s360_language.specs.declared.command.LineFault.TheVariants.{Memory};
+ghost use Rattle.s360_machine.specs.Machine.{seen};
+ghost use Rattle.s360_language.specs.Names.{refused_text};
+ghost use Rattle.s360_language.specs.Shown.{shown_text};
 ghost use Rattle.s360_debug.specs.Answers.{answer_to, state_after, StandsPartly};
 ghost use Rattle.s360_debug.specs.Answers.{after_offer, text_of_event};
 ghost use Rattle.s360_debug.specs.Debugger.{debugger};
@@ -19,8 +22,8 @@ ghost use Rattle.s360_journal.specs.Withdrawals.{is_standing};
 use crate::open_line::OpenLine;
 use crate::running::answer_run;
 use s360_journal::{Breaks, Places, Report, Session, Withdrawal};
-use s360_language::{Command, LineFault, push_event, push_place, refusal_text, text_of_shown};
-use s360_machine::{Event, EventKind, Refusal};
+use s360_language::{Command, LineFault, Shown, push_event, push_place, push_refusal, push_shown};
+use s360_machine::{Event, EventKind, Machine, Refusal};
 use s360_text::Text;
 use std::alloc::{AllocError, Global};
 
@@ -43,7 +46,7 @@ pub fn answer(
 {
     match command {
         Command::Back => answer_back(alloc, session),
-        Command::Standing => standing_text(alloc, session.standing()),
+        Command::Standing => text_of_number(alloc, "standing ", session.standing()),
         Command::Last(place) => last_text(alloc, session.last_change(place)),
         Command::Show(shown) => text_of_shown(alloc, session.machine(), shown),
         Command::Break { at } => answer_break(alloc, breaks, at),
@@ -56,6 +59,15 @@ pub fn answer(
             None => unreachable!(),
         },
     }
+}
+
+/// What is shown of a part of the machine.
+fn text_of_shown(alloc: Global, machine: &Machine, shown: Shown) -> Result<Text, AllocError>
+    ensures { IfOk result (λ text. text ≡ shown_text (seen machine.now.whole) shown) }
+{
+    let mut text = Text::new(alloc);
+    push_shown(&mut text, machine, shown)?;
+    Ok(text)
 }
 
 /// Offers an event, and answers its report or its refusal.
@@ -72,6 +84,15 @@ fn answer_event(alloc: Global, session: &mut Session, event: Event) -> Result<Te
         Err(Refusal::Memory) => Err(AllocError),
         Err(refusal) => refusal_text(alloc, refusal),
     }
+}
+
+/// What a refusal answers.
+fn refusal_text(alloc: Global, refusal: Refusal) -> Result<Text, AllocError>
+    ensures { IfOk result (λ text. text ≡ refused_text refusal) }
+{
+    let mut text = Text::new(alloc);
+    push_refusal(&mut text, refusal)?;
+    Ok(text)
 }
 
 /// The report of the change with this number.
@@ -130,16 +151,14 @@ fn answer_back(alloc: Global, session: &mut Session) -> Result<Text, AllocError>
 fn text_of_back(alloc: Global, number: u32, kind: Option<EventKind>) -> Result<Text, AllocError>
     ensures { IfOk result (λ text. text ≡ back_text number kind) }
 {
+    let Some(kind) = kind else {
+        return text_of_line(alloc, "nothing stands");
+    };
     let mut text = Text::new(alloc);
-    match kind {
-        None => text.push_text("nothing stands")?,
-        Some(kind) => {
-            text.push_text("back ")?;
-            text.push_decimal(u64::from(number))?;
-            text.push_text(" ")?;
-            push_event(&mut text, kind)?;
-        }
-    }
+    text.push_text("back ")?;
+    text.push_decimal(u64::from(number))?;
+    text.push_text(" ")?;
+    push_event(&mut text, kind)?;
     text.push_text("\n")?;
     Ok(text)
 }
@@ -168,6 +187,17 @@ pub fn text_of_line(alloc: Global, words: &str) -> Result<Text, AllocError>
     Ok(text)
 }
 
+/// A line of these words and a number.
+fn text_of_number(alloc: Global, words: &str, number: u32) -> Result<Text, AllocError>
+    ensures { IfOk result (λ text. text ≡ words.now ++ decimal number ++ codes "\n") }
+{
+    let mut text = Text::new(alloc);
+    text.push_text(words)?;
+    text.push_decimal(u64::from(number))?;
+    text.push_text("\n")?;
+    Ok(text)
+}
+
 /// Clears a breakpoint. Room for its text is made first, so that want of memory leaves all as it was.
 fn answer_clear(alloc: Global, breaks: &mut Breaks, at: u32) -> Result<Text, AllocError>
     ensures text { IfOk result (λ text. text ≡ breaks_text (without_address breaks.old at)) }
@@ -190,45 +220,28 @@ fn answer_until(alloc: Global, session: &mut Session, breaks: &Breaks) -> Result
     Ok(line.finish(session.back_until(breaks)))
 }
 
-/// Withdraws a change. Room for its text is made first, so that want of memory leaves all changes standing.
+/// Withdraws a change. Its text is made first, so that want of memory leaves all changes standing.
 fn answer_withdraw(alloc: Global, session: &mut Session, number: u32) -> Result<Text, AllocError>
     ensures text { IfOk result (λ text. text ≡ withdrawal_text number (is_standing number (standing_events session.old))) }
     ensures state { OnOk result (session.new ≡ withdrawn number session.old) }
     ensures memory { OnErr result (session.new ≡ session.old) }
 {
-    let line = OpenLine::new(alloc, "withdrawn ")?;
+    let text = text_of_number(alloc, "withdrawn ", number)?;
     match session.withdraw(number) {
-        Ok(()) => Ok(line.finish(number)),
+        Ok(()) => Ok(text),
         Err(Withdrawal::NoSuchChange) => text_of_line(alloc, "no such change"),
         Err(Withdrawal::Memory) => Err(AllocError),
     }
-}
-
-/// The number of changes that stand.
-fn standing_text(alloc: Global, number: u32) -> Result<Text, AllocError>
-    ensures { IfOk result (λ text. text ≡ codes "standing " ++ decimal number ++ codes "\n") }
-{
-    let mut text = Text::new(alloc);
-    text.push_text("standing ")?;
-    text.push_decimal(u64::from(number))?;
-    text.push_text("\n")?;
-    Ok(text)
 }
 
 /// The number of a place's last change.
 fn last_text(alloc: Global, number: Option<u32>) -> Result<Text, AllocError>
     ensures { IfOk result (λ text. text ≡ last_text number) }
 {
-    let mut text = Text::new(alloc);
     match number {
-        None => text.push_text("last none")?,
-        Some(number) => {
-            text.push_text("last ")?;
-            text.push_decimal(u64::from(number))?;
-        }
+        None => text_of_line(alloc, "last none"),
+        Some(number) => text_of_number(alloc, "last ", number),
     }
-    text.push_text("\n")?;
-    Ok(text)
 }
 
 /// What a faulty line answers. Want of memory is no fault of the line, and has no text.

@@ -1,7 +1,8 @@
 //! A line that is begun before the number at its end is known.
-ghost use Rattle.std.specs.Prelude.{◌≡◌, ◌≤◌, ◌+◌, ◌++◌, IfOk, codes, length, vec_len, vec_capacity};
+ghost use Rattle.std.specs.Prelude.{◌≡◌, ◌++◌, IfOk, codes};
 ghost use Rattle.s360_model.specs.Text.{decimal};
 
+use itoa::Buffer;
 use s360_text::Text;
 use std::alloc::{AllocError, Global};
 use std::marker::Model;
@@ -42,21 +43,11 @@ impl OpenLine {
         ensures { result ≡ self ++ decimal number ++ codes "\n" }
     {
         let OpenLine { mut bytes, alloc } = self;
-        put_decimal(&mut bytes, number);
+        let mut digits = Buffer::new();
+        let Ok(()) = bytes.extend_from_slice(digits.format(number).as_bytes()) else {
+            unreachable!()
+        };
         bytes.push_reserved(b'\n');
         Text::of_bytes(alloc, bytes)
     }
-}
-
-/// Adds a number in decimal, for which there is room.
-fn put_decimal(bytes: &mut Vec<u8>, number: u32)
-    requires { vec_len bytes.old + length (decimal number) ≤ vec_capacity bytes.old }
-    ensures items { bytes.new.items ≡ bytes.old.items ++ decimal number }
-    ensures len { vec_len bytes.new ≡ vec_len bytes.old + length (decimal number) }
-    ensures capacity { vec_capacity bytes.new ≡ vec_capacity bytes.old }
-{
-    if number >= 10 {
-        put_decimal(bytes, number / 10);
-    }
-    bytes.push_reserved(b'0' + (number % 10) as u8);
 }

@@ -1,10 +1,8 @@
 -- A text that is told item by item, and the changes of a record.
-use Rattle.std.proofs.Common.{◌≡◌, ◌<◌, ◌≤◌, ◌+◌, ◌-◌, ◌++◌, ℕ, zero, suc, Bool, true, false, List, [], ◌∷◌, Option, Some, None, ap, sym, ◌∙◌, refl, arith, get_or, length, length-append, length-take, map, min, take, drop, append_assoc, codes}
+use Rattle.std.proofs.Common.{◌≡◌, ◌<◌, ◌≤◌, ◌+◌, ◌-◌, ◌++◌, ℕ, zero, suc, Bool, true, false, List, [], ◌∷◌, Option, Some, None, ap, sym, ◌∙◌, refl, arith, get_or, length, length-append, length-take, min, take, drop, append_assoc, codes}
 use Rattle.std.proofs.lemmas.List.{append-nil, take_more}
-use Rattle.std.proofs.lemmas.List.Folds.{flat_map-map}
-use Rattle.std.proofs.lemmas.List.FromFn.{map-range_with_len_more}
 use Rattle.std.proofs.lemmas.Grind.{flat_map-append}
-use Rattle.std.specs.List.{flat_map, range_with_len, slice_get}
+use Rattle.std.specs.List.{flat_map, slice_get}
 use Rattle.std.specs.Option.{unwrap_or}
 use Rattle.std.specs.Prelude.{if◌then◌else◌}
 use Rattle.s360_store.specs.declared.place.Place.{Place}
@@ -20,34 +18,12 @@ use Rattle.s360_journal.specs.declared.report.Report.{Report}
 use Rattle.s360_journal.specs.declared.report.Report.TheVariants.{Changed, Idle}
 use Rattle.s360_journal.proofs.SessionLemmas.{last-there}
 use Rattle.s360_journal.specs.Recorded.{Recorded, next_recorded, session_of, standing_events, with_standing}
+use Rattle.s360_language.proofs.ShownLemmas.{pushed, told-next}
 use Rattle.s360_debug.specs.Answers.{changed_after}
 use Rattle.s360_inquiry.specs.Changes.{event_words, kind_of_change, last_change_in, machine_after}
 use Rattle.s360_inquiry.specs.Histories.{altered_next, history_line, lines_from, places_words, report_words}
 
--- ---- lists that are told item by item
-
--- one item more
-pub told-more : {A : Type 0} (told : A → List ℕ) (xs : List A) (i : ℕ) (d : A) → i < length xs
-    → flat_map told (take (i + 1) xs) ≡ flat_map told (take i xs) ++ told (get_or xs i d)
-told-more told xs i d inside =
-    ap (λ ys. flat_map told ys) (take_more xs i d inside)
-    ∙ (flat_map-append told (take i xs) (get_or xs i d ∷ []) ∙ ap (λ t. flat_map told (take i xs) ++ t) (append-nil (told (get_or xs i d))))
-
--- numbers that follow one another
-pub told-next : (told : ℕ → List ℕ) (first count next : ℕ) → first + count ≡ next
-    → flat_map told (range_with_len first (count + 1)) ≡ flat_map told (range_with_len first count) ++ told next
-told-next told first count next at =
-    let joined : (ns : List ℕ) → flat_map (λ t. t) (map told ns) ≡ flat_map told ns = λ ns. flat_map-map (λ t. t) told ns
-    in sym (joined (range_with_len first (count + 1)))
-    ∙ (ap (λ ts. flat_map (λ t. t) ts) (map-range_with_len_more told first count next at)
-    ∙ (flat_map-append (λ t. t) (map told (range_with_len first count)) (told next ∷ [])
-    ∙ (ap (λ t. t ++ flat_map (λ t. t) (told next ∷ [])) (joined (range_with_len first count))
-    ∙ ap (λ t. flat_map told (range_with_len first count) ++ t) (append-nil (told next)))))
-
 -- ---- a text that is added to a part at a time
-
-pub pushed : (old first second s t : List ℕ) → first ≡ old ++ s → second ≡ first ++ t → second ≡ old ++ (s ++ t)
-pushed old first second s t begun more = more ∙ ap (λ (x : List ℕ). x ++ t) begun ∙ append_assoc old s t
 
 pub pushed-thrice : (old first second third s t u : List ℕ) → first ≡ old ++ s → second ≡ first ++ t → third ≡ second ++ u
     → third ≡ old ++ ((s ++ t) ++ u)

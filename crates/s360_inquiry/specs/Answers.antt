@@ -1,13 +1,14 @@
 -- What an inquiry is answered, and where the recording stands then (own profile). Each line of an answer is ended by one line
 -- feed. No inquiry alters the record.
 use Rattle.std.specs.Prelude.{ℕ, nat_eq, if◌then◌else◌, Option, Some, List}
+use Rattle.s360_language.specs.declared.show_bytes.Row.TheVariants.{Signs}
+use Rattle.s360_language.specs.ShownBytes.{storage_rows}
 use Rattle.s360_journal.specs.Standing.{machine_of}
 use Rattle.s360_journal.specs.Recorded.{Recorded, session_of, with_standing}
 use Rattle.s360_inquiry.specs.declared.inquiry.Inquiry.{Inquiry}
 use Rattle.s360_inquiry.specs.declared.inquiry.Inquiry.TheVariants.{Who, Why, Goto, Changes, History, Dump, Units, Where}
 use Rattle.s360_inquiry.specs.Causes.{why_text}
 use Rattle.s360_inquiry.specs.Changes.{changes_text, last_change_in, stands_after_who, who_text}
-use Rattle.s360_inquiry.specs.Dumps.{dump_text}
 use Rattle.s360_inquiry.specs.Going.{goto_number, goto_text, stands_after_goto}
 use Rattle.s360_inquiry.specs.Histories.{history_text}
 use Rattle.s360_inquiry.specs.Situations.{units_text, where_text}
@@ -23,7 +24,7 @@ answer_to i (Why place depth) = why_text i.recorded place depth
 answer_to i (Goto mark) = goto_text i.recorded (goto_number i.recorded i.stood mark)
 answer_to i (Changes place most) = changes_text i.recorded place most
 answer_to i (History most) = history_text i.recorded most
-answer_to i (Dump at count) = dump_text (machine_of (session_of i.recorded)).core.storage at count
+answer_to i (Dump at count) = storage_rows Signs (machine_of (session_of i.recorded)).core.storage at count
 answer_to i Units = units_text (machine_of (session_of i.recorded))
 answer_to i Where = where_text i.recorded
 

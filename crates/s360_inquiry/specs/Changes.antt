@@ -10,8 +10,8 @@ use Rattle.s360_journal.specs.Rerun.{changes_of, last_change_of}
 use Rattle.s360_journal.specs.Standing.{last_kind_of, machine_of}
 use Rattle.s360_journal.specs.Recorded.{Recorded, session_of, standing_events, with_standing}
 use Rattle.s360_language.specs.Names.{place_name}
+use Rattle.s360_language.specs.Values.{value_words}
 use Rattle.s360_inquiry.specs.Happenings.{happening_words}
-use Rattle.s360_inquiry.specs.Values.{value_words}
 
 -- a record of which the changes before that of a number stand
 abbrev pub just_before : Recorded → ℕ → Recorded

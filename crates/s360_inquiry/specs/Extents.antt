@@ -9,10 +9,10 @@ use Rattle.s360_store.specs.Spans.{byte_places}
 use Rattle.s360_machine.specs.Machine.{Machine}
 use Rattle.s360_journal.specs.Recorded.{Recorded}
 use Rattle.s360_language.specs.Names.{place_name}
+use Rattle.s360_language.specs.Values.{value_words}
 use Rattle.s360_inquiry.specs.declared.extent.Extent.{Extent}
 use Rattle.s360_inquiry.specs.declared.extent.Extent.TheVariants.{Bytes, Place as Alone}
 use Rattle.s360_inquiry.specs.Changes.{last_change_in}
-use Rattle.s360_inquiry.specs.Values.{value_words}
 
 -- that of a place alone, the first place of one, and all its places
 abbrev pub extent_of : Place → Extent

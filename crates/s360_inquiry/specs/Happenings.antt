@@ -8,6 +8,7 @@ use Rattle.s360_model.specs.Psw.{instruction_address_of}
 use Rattle.s360_model.specs.Storage.{Storage, doubleword_at}
 use Rattle.s360_model.specs.Text.{hex_bytes, hex_text}
 use Rattle.s360_word.specs.declared.unit.Unit.{Unit}
+use Rattle.s360_store.specs.declared.place.Place.TheVariants.{Run}
 use Rattle.s360_psw.specs.declared.class.Class.{Class}
 use Rattle.s360_psw.specs.declared.class.Class.TheVariants.{External}
 use Rattle.s360_fixed.specs.Fetching.{length_at}
@@ -25,7 +26,7 @@ use Rattle.s360_machine.specs.declared.cpu.CpuCase.TheVariants.{Halted, Interrup
 use Rattle.s360_machine.specs.Cpu.{cpu_case}
 use Rattle.s360_machine.specs.Machine.{Machine}
 use Rattle.s360_language.specs.Names.{event_name}
-use Rattle.s360_inquiry.specs.Values.{run_words}
+use Rattle.s360_language.specs.Values.{value_words}
 
 -- the bytes of the instruction at an address, as many as its first byte says, without those outside storage
 abbrev pub fetched_bytes : Storage → ℕ → List ℕ
@@ -41,7 +42,7 @@ class_words class = codes " interrupted io"
 
 -- a machine that is stopped or loads is told by its run state
 abbrev pub case_words : CpuCase → Machine → List ℕ
-case_words Halted m = run_words m.control.run_state
+case_words Halted m = value_words m Run
 case_words (Interrupted class) m = class_words class
 case_words Waiting m = codes " waits"
 case_words Executing m = instruction_words m.core.storage (instruction_address_of m.core.psw)

@@ -1,10 +1,8 @@
 pub mod Reading
 pub mod Happenings
-pub mod Values
 pub mod Going
 pub mod Changes
 pub mod Histories
-pub mod Dumps
 pub mod Extents
 pub mod Causes
 pub mod Situations

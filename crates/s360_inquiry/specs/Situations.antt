@@ -2,6 +2,7 @@
 use Rattle.std.specs.Prelude.{ℕ, if◌then◌else◌, List, [], ◌++◌, codes}
 use Rattle.std.specs.List.{flat_map}
 use Rattle.s360_model.specs.Text.{hex_text}
+use Rattle.s360_store.specs.declared.place.Place.TheVariants.{UnitState as unit_state, UnitMedia}
 use Rattle.s360_channel.specs.declared.configured_unit.ConfiguredUnit.{ConfiguredUnit}
 use Rattle.s360_channel.specs.ConfiguredUnits.{address_of_unit, configured_units, control_of}
 use Rattle.s360_channel.specs.Units.{is_pending}
@@ -10,14 +11,15 @@ use Rattle.s360_journal.specs.Standing.{machine_of}
 use Rattle.s360_journal.specs.Recorded.{Recorded, session_of}
 use Rattle.s360_language.specs.Shown.{shown_text}
 use Rattle.s360_language.specs.declared.command.Shown.TheVariants.{External, Psw, UnitState}
-use Rattle.s360_language.specs.ShownUnits.{control_words, device_words}
+use Rattle.s360_language.specs.Values.{value_words}
 use Rattle.s360_inquiry.specs.Going.{stands_line}
 use Rattle.s360_inquiry.specs.Happenings.{cpu_words}
 
 -- a unit by its address: what the channel does for it, and its device
 abbrev pub unit_and_device : Machine → ConfiguredUnit → List ℕ
 unit_and_device m u =
-    hex_text 3 (address_of_unit u) ++ control_words (control_of m.units u).state (control_of m.units u).attention ++ device_words m u ++ codes "\n"
+    hex_text 3 (address_of_unit u) ++ value_words m (unit_state (record { 0 = address_of_unit u })) ++ value_words m (UnitMedia (record { 0 = address_of_unit u }))
+    ++ codes "\n"
 
 abbrev pub units_text : Machine → List ℕ
 units_text m = flat_map (unit_and_device m) configured_units

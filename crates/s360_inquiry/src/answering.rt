@@ -1,16 +1,19 @@
 //! What an inquiry is answered. Each has its row in `text_of_inquiry`.
 ghost use Rattle.std.specs.Prelude.{◌≡◌, IfOk, OnErr, OnOk};
 ghost use Rattle.s360_journal.specs.Recorded.{with_standing};
+ghost use Rattle.s360_language.specs.ShownBytes.{storage_rows};
+ghost use Rattle.s360_language.specs.declared.show_bytes.Row.TheVariants.{Signs};
 ghost use Rattle.s360_inquiry.specs.Answers.{answer_to, stands_after, state_after};
 
 use crate::change::{answer_changes, answer_who};
-use crate::dump::dump_of;
 use crate::going::answer_goto;
 use crate::history::answer_history;
 use crate::inquiry::Inquiry;
 use crate::situation::{units_of, where_of};
 use crate::why::answer_why;
 use s360_journal::Session;
+use s360_language::{Row, push_storage};
+use s360_store::Storage;
 use s360_text::Text;
 use std::alloc::{AllocError, Global};
 
@@ -54,7 +57,16 @@ fn text_of_inquiry(
         Inquiry::Changes { place, most } => answer_changes(alloc, recording, place, most),
         Inquiry::History { most } => answer_history(alloc, recording, most),
         Inquiry::Dump { at, count } => dump_of(alloc, recording.machine().storage(), at, count),
-        Inquiry::Units => units_of(alloc, recording),
+        Inquiry::Units => units_of(alloc, recording.machine()),
         Inquiry::Where => where_of(alloc, recording),
     }
+}
+
+/// The bytes from an address on, with their signs.
+fn dump_of(alloc: Global, storage: &Storage, at: u32, count: u32) -> Result<Text, AllocError>
+    ensures { IfOk result (λ text. text ≡ storage_rows Signs storage.now at count) }
+{
+    let mut text = Text::new(alloc);
+    push_storage(&mut text, storage, Row::Signs, at, count)?;
+    Ok(text)
 }

@@ -5,14 +5,13 @@ ghost use Rattle.s360_journal.specs.Recorded.{with_standing};
 ghost use Rattle.s360_inquiry.specs.Changes.{change_text, changes_text, event_words, just_before, kind_words, last_change_in};
 ghost use Rattle.s360_inquiry.specs.Changes.{kind_of_change, last_of, machine_after, stands_after_who, told_changes};
 ghost use Rattle.s360_inquiry.specs.Changes.{told_text, who_text};
-ghost use Rattle.s360_inquiry.specs.Values.{value_words};
+ghost use Rattle.s360_language.specs.Values.{value_words};
 
 use crate::going::go_to;
 use crate::happening::push_happening;
-use crate::value::{push_value, text_of_value};
 use s360_debug::text_of_line;
 use s360_journal::Session;
-use s360_language::push_place;
+use s360_language::{push_place, push_value};
 use s360_machine::{EventKind, Machine};
 use s360_store::Place;
 use s360_text::Text;
@@ -57,7 +56,8 @@ fn value_after(
     ensures memory { OnErr result (recording.new ≡ with_standing recording.old recording.new.standing) }
 {
     go_to(recording, number)?;
-    let value = text_of_value(alloc, recording.machine(), place)?;
+    let mut value = Text::new(alloc);
+    push_value(&mut value, recording.machine(), place)?;
     Ok((value, recording.last_event()))
 }
 

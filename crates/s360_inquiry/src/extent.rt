@@ -5,9 +5,8 @@ ghost use Rattle.s360_machine.specs.Machine.{seen};
 ghost use Rattle.s360_inquiry.specs.Extents.{extent_name, extent_of, extent_words, extents_of, first_place, joined};
 ghost use Rattle.s360_inquiry.specs.Extents.{is_joined, places_of_extent, run_words_of, same_change, with_place};
 
-use crate::value::push_value;
 use s360_journal::Session;
-use s360_language::{push_digits, push_place};
+use s360_language::{push_digits, push_place, push_value};
 use s360_machine::Machine;
 use s360_store::{Place, Storage};
 use s360_text::Text;

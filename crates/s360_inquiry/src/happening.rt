@@ -7,13 +7,12 @@ ghost use Rattle.s360_inquiry.specs.Happenings.{command_word_at, command_words, 
 ghost use Rattle.s360_inquiry.specs.Happenings.{happening_words, instruction_words, program_words};
 ghost use Rattle.s360_inquiry.specs.Happenings.{channel_words, class_words, state_words, transfer_words, turn_words, word_behind, words_of_unit};
 
-use crate::value::push_run;
 use s360_channel::{Ccw, Program, UnitState, ccw_at};
 use s360_fixed::length_of;
-use s360_language::{push_digits, push_event};
+use s360_language::{push_digits, push_event, push_value};
 use s360_machine::{CpuCase, EventKind, Machine};
 use s360_psw::Class;
-use s360_store::Storage;
+use s360_store::{Place, Storage};
 use s360_text::Text;
 use s360_word::Unit;
 use std::alloc::AllocError;
@@ -50,7 +49,7 @@ fn push_turn(text: &mut Text, machine: &Machine) -> Result<(), AllocError>
     ensures { OnOk result (text.new ≡ text.old ++ turn_words (seen machine.now.whole)) }
 {
     match machine.cpu_case() {
-        CpuCase::Halted => push_run(text, machine.run()),
+        CpuCase::Halted => push_value(text, machine, Place::Run),
         CpuCase::Interrupted(class) => text.push_text(class_words(class)),
         CpuCase::Waiting => text.push_text(" waits"),
         CpuCase::Executing => {

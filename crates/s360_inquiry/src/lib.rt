@@ -5,7 +5,6 @@ mod answering;
 mod cause;
 mod change;
 mod decider;
-mod dump;
 mod extent;
 mod going;
 mod happening;
@@ -15,7 +14,6 @@ mod inquiry_reader;
 mod place_set;
 mod situation;
 mod unit;
-mod value;
 mod why;
 
 pub use answering::answer_inquiry;

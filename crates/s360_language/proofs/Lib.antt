@@ -1,2 +1,2 @@
 pub mod WordLemmas
-mod ShownLemmas
+pub mod ShownLemmas

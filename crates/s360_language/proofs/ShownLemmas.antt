@@ -1,47 +1,36 @@
--- Lines of bytes, one byte and one line more at the end.
-use Rattle.std.proofs.Common.{◌≡◌, ◌<◌, ◌≤◌, ◌+◌, ◌-◌, ◌/◌, ◌%◌, ◌^◌, ◌++◌, ℕ, List, [], ◌∷◌, ap, sym, ◌∙◌, refl, drop, take, get_or, length, map, min, nat_eq, false, append_assoc, arith, codes}
-use Rattle.std.proofs.lemmas.List.{append-nil, take_min, take_more, get_or-drop, length-drop}
+-- Texts with one part more at the end.
+use Rattle.std.proofs.Common.{◌≡◌, ◌<◌, ◌+◌, ◌++◌, ℕ, List, [], ◌∷◌, ap, sym, ◌∙◌, refl, take, get_or, length, map, min, nat_eq, false, append_assoc, codes}
+use Rattle.std.proofs.lemmas.List.{append-nil, take_min, take_more}
 use Rattle.std.proofs.lemmas.List.Folds.{flat_map-map}
 use Rattle.std.proofs.lemmas.List.FromFn.{map-range_with_len_more}
 use Rattle.std.proofs.lemmas.Grind.{flat_map-append}
-use Rattle.std.specs.List.{flat_map, range_with_len, slice_range}
+use Rattle.std.specs.List.{flat_map, range_with_len}
 use Rattle.s360_model.specs.Text.{hex_text, hex_bytes}
 use Rattle.s360_language.specs.ShownItems.{block_begin}
-use Rattle.s360_language.specs.ShownUnits.{csw_words}
 
-hex_bytes-push : (bytes : List ℕ) (byte : ℕ) → hex_bytes (bytes ++ byte ∷ []) ≡ hex_bytes bytes ++ hex_text 2 byte
-hex_bytes-push [] byte = append-nil (hex_text 2 byte)
-hex_bytes-push (b ∷ bytes) byte =
-    ap (λ t. hex_text 2 b ++ t) (hex_bytes-push bytes byte) ∙ sym (append_assoc (hex_text 2 b) (hex_bytes bytes) (hex_text 2 byte))
+-- an item of a list is told more, after a text
+pub told-more : {A : Type 0} (told : A → List ℕ) (xs : List A) (i : ℕ) (d : A) (old text new : List ℕ) → i < length xs
+    → text ≡ old ++ flat_map told (take i xs) → new ≡ text ++ told (get_or xs i d) → new ≡ old ++ flat_map told (take (i + 1) xs)
+told-more told xs i d old text new inside h k =
+    k
+    ∙ ap (λ (t : List ℕ). t ++ told (get_or xs i d)) h
+    ∙ append_assoc old (flat_map told (take i xs)) (told (get_or xs i d))
+    ∙ ap (λ (t : List ℕ). old ++ t)
+    (sym (
+    ap (λ ys. flat_map told ys) (take_more xs i d inside)
+    ∙ (flat_map-append told (take i xs) (get_or xs i d ∷ []) ∙ ap (λ t. flat_map told (take i xs) ++ t) (append-nil (told (get_or xs i d))))
+    ))
 
-slice_range-more : (bytes : List ℕ) (first end : ℕ) → first ≤ end → end < length bytes
-    → slice_range bytes first (end + 1) ≡ slice_range bytes first end ++ get_or bytes end 0 ∷ []
-slice_range-more bytes first end order inside =
-    let count : end + 1 - first ≡ end - first + 1 = omega (arith, order)
-    in let at : first + (end - first) ≡ end = omega (arith, order)
-    in let room : end - first < length (drop first bytes) = omega (arith, length-drop first bytes, order, inside)
-    in let last : get_or (drop first bytes) (end - first) 0 ≡ get_or bytes end 0
-    = get_or-drop first bytes (end - first) 0 ∙ ap (λ i. get_or bytes i 0) at
-    in rw (count, take_more (drop first bytes) (end - first) 0 room, last) refl
+hex_bytes-told : (bytes : List ℕ) → hex_bytes bytes ≡ flat_map (λ byte. hex_text 2 byte) bytes
+hex_bytes-told [] = refl
+hex_bytes-told (b ∷ bytes) = ap (λ t. hex_text 2 b ++ t) (hex_bytes-told bytes)
 
 -- the digits of one byte more
-pub hex_bytes-more : (bytes : List ℕ) (first end : ℕ) → first ≤ end → end < length bytes
-    → hex_bytes (slice_range bytes first (end + 1)) ≡ hex_bytes (slice_range bytes first end) ++ hex_text 2 (get_or bytes end 0)
-hex_bytes-more bytes first end order inside =
-    ap hex_bytes (slice_range-more bytes first end order inside) ∙ hex_bytes-push (slice_range bytes first end) (get_or bytes end 0)
-
-hex_bytes-taken : (bytes : List ℕ) (i : ℕ) → i < length bytes → hex_bytes (take (i + 1) bytes) ≡ hex_bytes (take i bytes) ++ hex_text 2 (get_or bytes i 0)
-hex_bytes-taken bytes i inside = ap hex_bytes (take_more bytes i 0 inside) ∙ hex_bytes-push (take i bytes) (get_or bytes i 0)
-
--- and after a text
 pub digits-pushed : (bytes old text new : List ℕ) (i byte : ℕ) → text ≡ old ++ hex_bytes (take i bytes) → i < length bytes → byte ≡ get_or bytes i 0
     → new ≡ text ++ hex_text 2 byte → new ≡ old ++ hex_bytes (take (i + 1) bytes)
 digits-pushed bytes old text new i byte h inside e k =
-    k
-    ∙ ap (λ (t : List ℕ). t ++ hex_text 2 byte) h
-    ∙ ap (λ (b : ℕ). (old ++ hex_bytes (take i bytes)) ++ hex_text 2 b) e
-    ∙ append_assoc old (hex_bytes (take i bytes)) (hex_text 2 (get_or bytes i 0))
-    ∙ ap (λ (t : List ℕ). old ++ t) (sym (hex_bytes-taken bytes i inside))
+    told-more (λ b. hex_text 2 b) bytes i 0 old text new inside (h ∙ ap (λ t. old ++ t) (hex_bytes-told (take i bytes))) (k ∙ ap (λ b. text ++ hex_text 2 b) e)
+    ∙ ap (λ t. old ++ t) (sym (hex_bytes-told (take (i + 1) bytes)))
 
 -- the first bytes of a block that has any
 pub begin-pushed : (old text new bytes : List ℕ) (count : ℕ) → false ≡ nat_eq (length bytes) 0 → count ≡ min 32 (length bytes) → text ≡ old ++ codes " "
@@ -54,20 +43,17 @@ begin-pushed old text new (byte ∷ bytes) count some e h k =
     ∙ ap (λ (shown : List ℕ). (old ++ codes " ") ++ hex_bytes shown) (take_min 32 (byte ∷ bytes))
     ∙ append_assoc old (codes " ") (hex_bytes (take 32 (byte ∷ bytes)))
 
--- one line more
-pub lines-more : (line : ℕ → List ℕ) (n : ℕ) → flat_map line (range_with_len 0 (n + 1)) ≡ flat_map line (range_with_len 0 n) ++ line n
-lines-more line n =
-    let joined : (ns : List ℕ) → flat_map (λ t. t) (map line ns) ≡ flat_map line ns = λ ns. flat_map-map (λ t. t) line ns
-    in let at : 0 + n ≡ n = omega arith
-    in sym (joined (range_with_len 0 (n + 1)))
-    ∙ (ap (λ ts. flat_map (λ t. t) ts) (map-range_with_len_more line 0 n n at)
-    ∙ (flat_map-append (λ t. t) (map line (range_with_len 0 n)) (line n ∷ [])
-    ∙ (ap (λ t. t ++ flat_map (λ t. t) (line n ∷ [])) (joined (range_with_len 0 n)) ∙ ap (λ t. flat_map line (range_with_len 0 n) ++ t) (append-nil (line n)))))
+-- numbers that follow one another are told one more
+pub told-next : (told : ℕ → List ℕ) (first count next : ℕ) → first + count ≡ next
+    → flat_map told (range_with_len first (count + 1)) ≡ flat_map told (range_with_len first count) ++ told next
+told-next told first count next at =
+    let joined : (ns : List ℕ) → flat_map (λ t. t) (map told ns) ≡ flat_map told ns = λ ns. flat_map-map (λ t. t) told ns
+    in sym (joined (range_with_len first (count + 1)))
+    ∙ (ap (λ ts. flat_map (λ t. t) ts) (map-range_with_len_more told first count next at)
+    ∙ (flat_map-append (λ t. t) (map told (range_with_len first count)) (told next ∷ [])
+    ∙ (ap (λ t. t ++ flat_map (λ t. t) (told next ∷ [])) (joined (range_with_len first count))
+    ∙ ap (λ t. flat_map told (range_with_len first count) ++ t) (append-nil (told next)))))
 
--- the two words of a channel status word, one after the other
-pub csw_words-pushed : (text first both : List ℕ) (doubleword : ℕ) → first ≡ text ++ hex_text 8 (doubleword / 2 ^ 32)
-    → both ≡ first ++ (codes " " ++ hex_text 8 (doubleword % 2 ^ 32)) → both ≡ text ++ csw_words doubleword
-unfolding csw_words
-csw_words-pushed text first both doubleword e f =
-    f ∙ ap (λ t. t ++ (codes " " ++ hex_text 8 (doubleword % 2 ^ 32))) e
-    ∙ append_assoc text (hex_text 8 (doubleword / 2 ^ 32)) (codes " " ++ hex_text 8 (doubleword % 2 ^ 32))
+-- a text that is added to a part at a time
+pub pushed : (old first second s t : List ℕ) → first ≡ old ++ s → second ≡ first ++ t → second ≡ old ++ (s ++ t)
+pushed old first second s t begun more = more ∙ ap (λ (x : List ℕ). x ++ t) begun ∙ append_assoc old s t

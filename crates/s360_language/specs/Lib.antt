@@ -3,7 +3,9 @@ pub mod Words
 pub mod Digits
 pub mod Lines
 pub mod Names
+pub mod ShownBytes
 pub mod ShownUnits
+pub mod Values
 pub mod ShownItems
 pub mod ShownImages
 pub mod Shown

@@ -1,7 +1,8 @@
 -- The printed names of places, events, refusals, run states and external conditions (own profile).
 use Rattle.std.specs.Prelude.{ℕ, ◌*◌, Bool, true, false, List, ◌++◌, codes}
-use Rattle.s360_model.specs.Text.{decimal, hex_text}
+use Rattle.s360_model.specs.Text.{hex_text}
 use Rattle.s360_model.specs.Storage.{block_size}
+use Rattle.s360_text.specs.Counts.{counted}
 use Rattle.s360_store.specs.declared.place.Place.{Place}
 use Rattle.s360_store.specs.declared.place.Place.TheVariants.{Psw, Register, Byte, Key, Run, External, UnitState, UnitMedia}
 use Rattle.s360_machine.specs.declared.event_kind.EventKind.{EventKind}
@@ -62,19 +63,20 @@ refusal_name JournalFull = codes "journal full"
 
 -- what a refusal answers: its number and its name
 abbrev pub refused_text : Refusal → List ℕ
-refused_text r = codes "refused " ++ decimal (number_of_refusal r) ++ codes " " ++ refusal_name r ++ codes "\n"
+refused_text r = counted (codes "refused ") (number_of_refusal r) ++ codes " " ++ refusal_name r ++ codes "\n"
 
+-- after a blank
 abbrev pub run_state_name : RunState → List ℕ
-run_state_name Operating = codes "operating"
-run_state_name Stopped = codes "stopped"
-run_state_name (Loading unit) = codes "loading " ++ hex_text 3 unit.0
+run_state_name Operating = codes " operating"
+run_state_name Stopped = codes " stopped"
+run_state_name (Loading unit) = codes " loading " ++ hex_text 3 unit.0
 
--- the conditions of the timer and of the interrupt key
+-- the conditions of the timer and of the interrupt key, after a blank
 abbrev pub conditions_name : Bool → Bool → List ℕ
-conditions_name false false = codes "none"
-conditions_name true false = codes "timer"
-conditions_name false true = codes "key"
-conditions_name true true = codes "timer key"
+conditions_name false false = codes " none"
+conditions_name true false = codes " timer"
+conditions_name false true = codes " key"
+conditions_name true true = codes " timer key"
 
 abbrev pub external_name : ExternalConditions → List ℕ
 external_name e = conditions_name e.timer e.key

@@ -1,8 +1,6 @@
 -- What is shown of the file of a tape (own profile). Each line is ended by one line feed.
-use Rattle.std.specs.Prelude.{ℕ, ◌+◌, ◌*◌, Option, Some, List, ◌++◌, codes, length, min}
-use Rattle.std.specs.List.{flat_map, range_with_len, slice_range}
-use Rattle.std.specs.Int.{div_ceil}
-use Rattle.s360_model.specs.Text.{decimal, hex_bytes}
+use Rattle.std.specs.Prelude.{ℕ, Option, Some, List, ◌++◌, codes, length}
+use Rattle.s360_text.specs.Counts.{counted}
 use Rattle.s360_word.specs.declared.unit.Unit.{Unit}
 use Rattle.s360_tape.specs.Images.{tape_file}
 use Rattle.s360_tape.specs.Tape.{Tape}
@@ -11,18 +9,13 @@ use Rattle.s360_channel.specs.declared.configured_unit.ConfiguredUnit.TheVariant
 use Rattle.s360_machine.specs.declared.refusal.Refusal.TheVariants.{NoSuchUnit}
 use Rattle.s360_machine.specs.Machine.{Machine}
 use Rattle.s360_channel.specs.ConfiguredUnits.{unit_at}
+use Rattle.s360_language.specs.declared.show_bytes.Row.TheVariants.{Plain}
 use Rattle.s360_language.specs.Names.{refused_text}
+use Rattle.s360_language.specs.ShownBytes.{in_rows}
 
--- of a file the line with this number: 32 bytes as digits, or those that are left
-abbrev pub image_line : List ℕ → ℕ → List ℕ
-image_line file number = hex_bytes (slice_range file (number * 32) (min (length file) (number * 32 + 32))) ++ codes "\n"
-
-abbrev pub file_lines : List ℕ → List ℕ
-file_lines file = flat_map (image_line file) (range_with_len 0 (div_ceil (length file) 32))
-
--- how many bytes a file has, and all of them
+-- how many bytes a file has, and all of them, 32 a line
 abbrev pub file_text : List ℕ → List ℕ
-file_text file = codes "image " ++ decimal (length file) ++ codes "\n" ++ file_lines file
+file_text file = counted (codes "image ") (length file) ++ codes "\n" ++ in_rows Plain 0 32 file
 
 -- the file of the blocks and marks of a tape
 abbrev pub tape_image : Tape → List ℕ

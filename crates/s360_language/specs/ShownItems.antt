@@ -1,7 +1,8 @@
 -- What is shown of an item of a unit's media (own profile). Each line is ended by one line feed.
-use Rattle.std.specs.Prelude.{ℕ, Option, Some, None, List, [], ◌∷◌, ◌++◌, codes, length, map, take}
-use Rattle.std.specs.Option.{option_map_or, unwrap_or}
-use Rattle.s360_model.specs.Text.{decimal, hex_bytes}
+use Rattle.std.specs.Prelude.{ℕ, Option, Some, None, List, [], ◌∷◌, ◌++◌, codes, length, take}
+use Rattle.std.specs.Option.{option_map_or}
+use Rattle.s360_model.specs.Text.{hex_bytes}
+use Rattle.s360_text.specs.Counts.{counted}
 use Rattle.s360_word.specs.declared.unit.Unit.{Unit}
 use Rattle.s360_device.specs.declared.card.PunchStacker.{PunchStacker}
 use Rattle.s360_device.specs.declared.card.PunchStacker.TheVariants.{P1, P2, Rp3 as punch_rp3}
@@ -15,7 +16,6 @@ use Rattle.s360_print.specs.declared.typed_line.TypedItem.{TypedItem}
 use Rattle.s360_print.specs.declared.typed_line.TypedItem.TheVariants.{Text, Return, Alarm}
 use Rattle.s360_print.specs.Console.{Console}
 use Rattle.s360_print.specs.Printer.{Printer}
-use Rattle.s360_print.specs.Signs.{ascii_of}
 use Rattle.s360_tape.specs.declared.item.Item.{Item}
 use Rattle.s360_tape.specs.declared.item.Item.TheVariants.{Block, Mark}
 use Rattle.s360_tape.specs.Tape.{Tape}
@@ -24,20 +24,16 @@ use Rattle.s360_channel.specs.declared.configured_unit.ConfiguredUnit.TheVariant
 use Rattle.s360_machine.specs.declared.refusal.Refusal.TheVariants.{NoSuchUnit}
 use Rattle.s360_machine.specs.Machine.{Machine}
 use Rattle.s360_channel.specs.ConfiguredUnits.{unit_at}
-use Rattle.s360_text.specs.Blanks.{without_blanks}
 use Rattle.s360_language.specs.Names.{refused_text}
+use Rattle.s360_language.specs.ShownBytes.{signs_behind, trimmed}
 
--- the sign of an EBCDIC byte, or a period where it has none
-unfoldable pub sign_of : ℕ → ℕ
-sign_of byte = unwrap_or (ascii_of byte) 46
-
--- the line of an item: what the line begins with, and the item's bytes as signs, without the blanks at the end
+-- the line of an item: what the line begins with, and behind it the item's bytes as signs, without the blanks at the end
 abbrev pub item_line : List ℕ → List ℕ → List ℕ
-item_line begun bytes = without_blanks (begun ++ codes " " ++ map sign_of bytes) ++ codes "\n"
+item_line begun bytes = begun ++ signs_behind (trimmed bytes) ++ codes "\n"
 
 -- there is no such item
 abbrev pub no_item : List ℕ
-no_item = codes "none" ++ codes "\n"
+no_item = codes "none\n"
 
 -- what has a card of the reader: the stacker to which it was fed, else the hopper
 abbrev pub holder_name : Option ReadStacker → List ℕ
@@ -61,7 +57,7 @@ punched_card p number = option_map_or (λ c. item_line (stacker_name c.stacker) 
 
 -- where a line was printed
 abbrev pub place_of_record : Record → List ℕ
-place_of_record r = codes "page " ++ decimal r.page ++ codes " line " ++ decimal r.line
+place_of_record r = counted (codes "page ") r.page ++ counted (codes " line ") r.line
 
 -- a line that was printed
 abbrev pub record_line : Record → List ℕ
@@ -71,7 +67,7 @@ record_line r = item_line (place_of_record r) r.bytes
 abbrev pub typed_line : TypedItem → List ℕ
 typed_line (Text line) = item_line (codes "type") line
 typed_line (Return line) = item_line (codes "return") line
-typed_line Alarm = codes "alarm" ++ codes "\n"
+typed_line Alarm = codes "alarm\n"
 
 -- a line that was printed, and an item that was typed, by its number
 abbrev pub printed_record : Printer → ℕ → List ℕ
@@ -87,8 +83,8 @@ block_begin (byte ∷ bytes) = codes " " ++ hex_bytes (take 32 (byte ∷ bytes))
 
 -- a block, with the number of its bytes, or a mark
 abbrev pub tape_item_line : Item → List ℕ
-tape_item_line (Block bytes) = codes "block " ++ decimal (length bytes) ++ block_begin bytes ++ codes "\n"
-tape_item_line Mark = codes "mark" ++ codes "\n"
+tape_item_line (Block bytes) = counted (codes "block ") (length bytes) ++ block_begin bytes ++ codes "\n"
+tape_item_line Mark = codes "mark\n"
 
 -- a block or mark of a tape, by its number
 abbrev pub tape_item : Tape → ℕ → List ℕ

@@ -1,7 +1,7 @@
--- What is shown of the units and their devices (own profile). Each line is ended by one line feed.
-use Rattle.std.specs.Prelude.{ℕ, ◌+◌, ◌*◌, ◌/◌, ◌%◌, ◌^◌, Bool, if◌then◌else◌, Option, Some, None, List, [], ◌++◌, codes, length, slice_index}
-use Rattle.s360_model.specs.Text.{decimal, hex_bytes, hex_text}
-use Rattle.s360_word.specs.declared.unit.Unit.{Unit}
+-- What is shown of what the channel does for a unit, and of its device (own profile).
+use Rattle.std.specs.Prelude.{ℕ, ◌+◌, ◌*◌, ◌/◌, ◌%◌, ◌^◌, Bool, if◌then◌else◌, List, [], ◌++◌, codes, length, slice_index}
+use Rattle.s360_model.specs.Text.{hex_bytes, hex_text}
+use Rattle.s360_text.specs.Counts.{counted}
 use Rattle.s360_device.specs.Punch.{Punch}
 use Rattle.s360_device.specs.Reader.{Reader}
 use Rattle.s360_print.specs.Console.{Console}
@@ -13,23 +13,20 @@ use Rattle.s360_channel.specs.declared.unit_state.UnitState.TheVariants.{Idle, A
 use Rattle.s360_channel.specs.Words.{csw_doubleword}
 use Rattle.s360_channel.specs.declared.configured_unit.ConfiguredUnit.{ConfiguredUnit}
 use Rattle.s360_channel.specs.declared.configured_unit.ConfiguredUnit.TheVariants.{Reader as reader_unit, Punch as punch_unit, Printer as printer_unit, Console as console_unit, Tape0, Tape1}
-use Rattle.s360_machine.specs.declared.refusal.Refusal.TheVariants.{NoSuchUnit}
 use Rattle.s360_machine.specs.Machine.{Machine}
-use Rattle.s360_channel.specs.ConfiguredUnits.{attention_at, state_at, unit_at}
-use Rattle.s360_language.specs.Names.{refused_text}
 
 -- of a program its key, zeros and the address of its next channel command word, as a channel address word has them
 abbrev pub program_word : Program → ℕ
 program_word p = p.key * 2 ^ 28 + p.address % 2 ^ 24
 
--- the two words of a channel status word
+-- the two words of a channel status word that waits
 unfoldable pub csw_words : ℕ → List ℕ
-csw_words doubleword = hex_text 8 (doubleword / 2 ^ 32) ++ (codes " " ++ hex_text 8 (doubleword % 2 ^ 32))
+csw_words doubleword = (codes " waiting " ++ hex_text 8 (doubleword / 2 ^ 32)) ++ (codes " " ++ hex_text 8 (doubleword % 2 ^ 32))
 
 abbrev pub state_name : UnitState → List ℕ
 state_name Idle = codes " idle"
 state_name (Active p) = codes " active " ++ hex_text 8 (program_word p)
-state_name (Waiting csw) = codes " waiting " ++ csw_words (csw_doubleword csw)
+state_name (Waiting csw) = csw_words (csw_doubleword csw)
 
 abbrev pub attention_name : Bool → List ℕ
 attention_name attention = if attention then codes " attention" else []
@@ -38,37 +35,22 @@ attention_name attention = if attention then codes " attention" else []
 abbrev pub control_words : UnitState → Bool → List ℕ
 control_words state attention = state_name state ++ attention_name attention
 
-abbrev pub unit_line : Unit → UnitState → Bool → List ℕ
-unit_line unit state attention = hex_text 3 unit.0 ++ control_words state attention ++ codes "\n"
-
--- a unit's state, if the machine has it
-abbrev pub text_of_state : Unit → Option UnitState → Bool → List ℕ
-text_of_state unit None attention = refused_text NoSuchUnit
-text_of_state unit (Some state) attention = unit_line unit state attention
-
-abbrev pub unit_text : Machine → Unit → List ℕ
-unit_text m unit = text_of_state unit (state_at m.units unit) (attention_at m.units unit)
-
 -- the first sense byte, which is all that the devices of channel 0 have
 abbrev pub sense_text : List ℕ → List ℕ
 sense_text sense = codes " sense " ++ hex_text 2 (slice_index sense 0)
 
 abbrev pub key_text : Bool → List ℕ
-key_text pressed = if pressed then codes "on" else codes "off"
-
--- a count behind its name
-unfoldable pub counted : List ℕ → ℕ → List ℕ
-counted name count = name ++ decimal count
+key_text pressed = if pressed then codes " eof on" else codes " eof off"
 
 -- the cards that were fed, of all, and the end-of-file key
 abbrev pub reader_words : Reader → List ℕ
 reader_words r =
-    sense_text r.sense ++ codes " next " ++ decimal (length r.media.stackers) ++ codes " of " ++ decimal (length r.media.cards)
-    ++ codes " eof " ++ key_text r.media.end_of_file
+    sense_text r.sense ++ counted (codes " next ") (length r.media.stackers) ++ counted (codes " of ") (length r.media.cards)
+    ++ key_text r.media.end_of_file
 
 -- the cards that were punched
 abbrev pub punch_words : Punch → List ℕ
-punch_words p = sense_text p.sense ++ codes " cards " ++ decimal (length p.media)
+punch_words p = sense_text p.sense ++ counted (codes " cards ") (length p.media)
 
 -- where the carriage stands, and the lines that were printed
 abbrev pub printer_words : Printer → List ℕ
@@ -88,7 +70,7 @@ loaded_text unloaded = if unloaded then codes " unloaded" else codes " loaded"
 
 abbrev pub tape_words : Tape → List ℕ
 tape_words t =
-    codes " sense " ++ hex_bytes t.sense ++ codes " position " ++ decimal t.media.position ++ codes " of " ++ decimal (length t.media.items)
+    codes " sense " ++ hex_bytes t.sense ++ counted (codes " position ") t.media.position ++ counted (codes " of ") (length t.media.items)
     ++ loaded_text t.media.unloaded
 
 -- a unit's device
@@ -99,14 +81,3 @@ device_words m printer_unit = printer_words m.media.printer
 device_words m console_unit = console_words m.media.console
 device_words m Tape0 = tape_words m.media.tape0
 device_words m Tape1 = tape_words m.media.tape1
-
--- the line of a unit's device, if the machine has it
-abbrev pub device_line : Machine → Unit → ConfiguredUnit → List ℕ
-device_line m unit configured = hex_text 3 unit.0 ++ device_words m configured ++ codes "\n"
-
-abbrev pub text_of_device : Machine → Unit → Option ConfiguredUnit → List ℕ
-text_of_device m unit None = refused_text NoSuchUnit
-text_of_device m unit (Some configured) = device_line m unit configured
-
-abbrev pub device_text : Machine → Unit → List ℕ
-device_text m unit = text_of_device m unit (unit_at unit.0)

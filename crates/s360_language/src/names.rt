@@ -1,6 +1,5 @@
 //! The printed names of places, events, refusals, run states and external conditions.
-ghost use Rattle.std.specs.Prelude.{◌≡◌, ◌++◌, IfOk, OnOk};
-ghost use Rattle.s360_model.specs.Text.{hex_text};
+ghost use Rattle.std.specs.Prelude.{◌≡◌, ◌++◌, OnOk};
 ghost use Rattle.s360_language.specs.Names.{event_name, external_name, key_name, patch_name};
 ghost use Rattle.s360_language.specs.Names.{place_name, refusal_name, refused_text};
 ghost use Rattle.s360_language.specs.Names.{run_state_name};
@@ -8,7 +7,7 @@ ghost use Rattle.s360_language.specs.Names.{run_state_name};
 use s360_machine::{EventKind, ExternalConditions, KeyKind, PatchKind, Refusal, RunState};
 use s360_store::{BLOCK_SIZE, Place};
 use s360_text::Text;
-use std::alloc::{AllocError, Global};
+use std::alloc::AllocError;
 
 /// Adds a place's name.
 pub fn push_place(text: &mut Text, place: Place) -> Result<(), AllocError>
@@ -16,27 +15,14 @@ pub fn push_place(text: &mut Text, place: Place) -> Result<(), AllocError>
 {
     match place {
         Place::Psw => text.push_text("p"),
-        Place::Register(number) => push_numbered(text, "r", u64::from(number), 1),
-        Place::Byte(address) => push_numbered(text, "s", u64::from(address), 6),
-        Place::Key(block) => push_numbered(text, "k", u64::from(block) * u64::from(BLOCK_SIZE), 6),
+        Place::Register(number) => text.push_numbered("r", u64::from(number), 1),
+        Place::Byte(address) => text.push_numbered("s", u64::from(address), 6),
+        Place::Key(block) => text.push_numbered("k", u64::from(block) * u64::from(BLOCK_SIZE), 6),
         Place::Run => text.push_text("run"),
         Place::External => text.push_text("ext"),
-        Place::UnitState(unit) => push_numbered(text, "u", u64::from(unit.0), 3),
-        Place::UnitMedia(unit) => push_numbered(text, "d", u64::from(unit.0), 3),
+        Place::UnitState(unit) => text.push_numbered("u", u64::from(unit.0), 3),
+        Place::UnitMedia(unit) => text.push_numbered("d", u64::from(unit.0), 3),
     }
-}
-
-/// Adds a name that ends in a number of so many hexadecimal digits.
-pub(crate) fn push_numbered(
-    text: &mut Text,
-    name: &str,
-    number: u64,
-    width: u8,
-) -> Result<(), AllocError>
-    ensures { OnOk result (text.new ≡ text.old ++ (name.now ++ hex_text width number)) }
-{
-    text.push_text(name)?;
-    text.push_hex(number, width)
 }
 
 /// Adds the name of a key.
@@ -51,7 +37,7 @@ fn push_key(text: &mut Text, key: KeyKind) -> Result<(), AllocError>
         KeyKind::EndOfFile => text.push_text("key eof"),
         KeyKind::Request => text.push_text("key request"),
         KeyKind::Enter => text.push_text("enter"),
-        KeyKind::Load(unit) => push_numbered(text, "load ", u64::from(unit.0), 3),
+        KeyKind::Load(unit) => text.push_numbered("load ", u64::from(unit.0), 3),
     }
 }
 
@@ -74,7 +60,7 @@ pub fn push_event(text: &mut Text, kind: EventKind) -> Result<(), AllocError>
 {
     match kind {
         EventKind::Cpu => text.push_text("cpu"),
-        EventKind::Channel(unit) => push_numbered(text, "channel ", u64::from(unit.0), 3),
+        EventKind::Channel(unit) => text.push_numbered("channel ", u64::from(unit.0), 3),
         EventKind::Tick => text.push_text("tick"),
         EventKind::Key(key) => push_key(text, key),
         EventKind::Patch(patch) => text.push_text(name_of_patch(patch)),
@@ -95,46 +81,35 @@ fn name_of_refusal(refusal: Refusal) -> &'static str
     }
 }
 
-/// What a refusal answers: its number and its name.
-pub fn refusal_text(alloc: Global, refusal: Refusal) -> Result<Text, AllocError>
-    ensures { IfOk result (λ text. text ≡ refused_text refusal) }
-{
-    let mut text = Text::new(alloc);
-    push_refusal(&mut text, refusal)?;
-    Ok(text)
-}
-
-/// Adds what a refusal answers.
+/// Adds what a refusal answers: its number and its name.
 pub fn push_refusal(text: &mut Text, refusal: Refusal) -> Result<(), AllocError>
     ensures { OnOk result (text.new ≡ text.old ++ refused_text refusal) }
 {
-    text.push_text("refused ")?;
-    text.push_decimal(u64::from(refusal.number()))?;
+    text.push_counted("refused ", u64::from(refusal.number()))?;
     text.push_text(" ")?;
     text.push_text(name_of_refusal(refusal))?;
-    text.push_text("\n")?;
-    Ok(())
+    text.push_text("\n")
 }
 
-/// Adds the name of a run state.
-pub fn push_run_state(text: &mut Text, run: RunState) -> Result<(), AllocError>
+/// Adds the name of a run state after a blank.
+pub(crate) fn push_run_state(text: &mut Text, run: RunState) -> Result<(), AllocError>
     ensures { OnOk result (text.new ≡ text.old ++ run_state_name run) }
 {
     match run {
-        RunState::Operating => text.push_text("operating"),
-        RunState::Stopped => text.push_text("stopped"),
-        RunState::Loading(unit) => push_numbered(text, "loading ", u64::from(unit.0), 3),
+        RunState::Operating => text.push_text(" operating"),
+        RunState::Stopped => text.push_text(" stopped"),
+        RunState::Loading(unit) => text.push_numbered(" loading ", u64::from(unit.0), 3),
     }
 }
 
-/// The name of the external conditions that are pending.
-pub fn name_of_external(external: ExternalConditions) -> &'static str
+/// The name of the external conditions that are pending, after a blank.
+pub(crate) fn name_of_external(external: ExternalConditions) -> &'static str
     ensures { result.now ≡ external_name external }
 {
     match (external.timer, external.key) {
-        (false, false) => "none",
-        (true, false) => "timer",
-        (false, true) => "key",
-        (true, true) => "timer key",
+        (false, false) => " none",
+        (true, false) => " timer",
+        (false, true) => " key",
+        (true, true) => " timer key",
     }
 }

@@ -1,177 +1,99 @@
-//! What is shown of the machine. Each part has its row in `text_of_shown`.
-ghost use Rattle.std.specs.Prelude.{◌≡◌, ◌++◌, ◌≤◌, ◌<◌, length, IfOk, OnOk};
+//! What is shown of the machine. Each part has its row in `push_shown`.
+ghost use Rattle.std.specs.Prelude.{◌≡◌, ◌≤◌, ◌++◌, OnOk};
+ghost use Rattle.s360_channel.specs.ConfiguredUnits.{unit_at};
 ghost use Rattle.s360_machine.specs.Machine.{seen};
-ghost use Rattle.s360_language.specs.Shown.{shown_text, registers_text, after_registers, register_word};
-ghost use Rattle.s360_language.specs.Shown.{psw_text, storage_text, bytes_line};
-ghost use Rattle.s360_language.specs.Shown.{block_key_words, external_text, fetch_words, key_line, key_text};
+ghost use Rattle.s360_language.specs.Shown.{key_text, psw_text, register_line, registers_text, shown_text, text_of_unit, value_line};
 
 use crate::command::Shown;
-use crate::names::{name_of_external, push_run_state, refusal_text};
-use crate::show_image::image_of;
-use crate::show_items::item_of;
-use crate::show_units::{device_of, unit_of};
-use s360_machine::{ExternalConditions, Machine, Refusal};
-use s360_psw::InstructionLength;
-use s360_store::{BLOCK_SIZE, BlockKey, Storage};
+use crate::names::push_refusal;
+use crate::show_bytes::{Row, push_storage};
+use crate::show_image::push_image;
+use crate::show_items::push_item;
+use crate::value::push_value;
+use s360_machine::{ConfiguredUnit, Machine, Refusal};
+use s360_store::{BLOCK_SIZE, Place};
 use s360_text::Text;
-use s360_word::RegisterNumber;
-use std::alloc::{AllocError, Global};
+use s360_word::Unit;
+use std::alloc::AllocError;
 
-/// A line shows so many bytes.
-const BYTES_A_LINE: u32 = 16;
-
-/// What is shown of a part of the machine; or the refusal where it does not have that part.
-pub fn text_of_shown(alloc: Global, machine: &Machine, shown: Shown) -> Result<Text, AllocError>
-    ensures { IfOk result (λ text. text ≡ shown_text (seen machine.now.whole) shown) }
+/// Adds what is shown of a part of the machine; or the refusal where it does not have that part.
+pub fn push_shown(text: &mut Text, machine: &Machine, shown: Shown) -> Result<(), AllocError>
+    ensures { OnOk result (text.new ≡ text.old ++ shown_text (seen machine.now.whole) shown) }
 {
     match shown {
-        Shown::Registers => registers_of(alloc, machine),
-        Shown::Psw => psw_of(alloc, machine),
-        Shown::Storage { at, count } => storage_of(alloc, machine.storage(), at, count),
-        Shown::StorageKey { at } => key_of(alloc, machine.storage(), at),
-        Shown::External => external_of(alloc, machine.external()),
-        Shown::UnitState(unit) => unit_of(alloc, machine, unit),
-        Shown::Device(unit) => device_of(alloc, machine, unit),
-        Shown::Item { unit, number } => item_of(alloc, machine, unit, number),
-        Shown::Image(unit) => image_of(alloc, machine, unit),
+        Shown::Registers => push_registers(text, machine),
+        Shown::Psw => push_psw(text, machine),
+        Shown::Storage { at, count } => {
+            push_storage(text, machine.storage(), Row::Digits, at, count)
+        }
+        Shown::StorageKey { at } => push_key(text, machine, at),
+        Shown::External => push_line(text, "ext", machine, Place::External),
+        Shown::UnitState(unit) => push_unit(text, machine, unit, Place::UnitState(unit)),
+        Shown::Device(unit) => push_unit(text, machine, unit, Place::UnitMedia(unit)),
+        Shown::Item { unit, number } => push_item(text, machine, unit, number as usize),
+        Shown::Image(unit) => push_image(text, machine, unit),
     }
 }
 
-/// The sixteen general registers, four a line.
-fn registers_of(alloc: Global, machine: &Machine) -> Result<Text, AllocError>
-    ensures { IfOk result (λ text. text ≡ registers_text machine.now.whole.core.registers) }
+/// Adds the sixteen general registers, four a line.
+fn push_registers(text: &mut Text, machine: &Machine) -> Result<(), AllocError>
+    ensures { OnOk result (text.new ≡ text.old ++ registers_text (seen machine.now.whole)) }
 {
-    let mut text = Text::new(alloc);
-    push_registers(&mut text, machine, 0)?;
-    push_registers(&mut text, machine, 4)?;
-    push_registers(&mut text, machine, 8)?;
-    push_registers(&mut text, machine, 12)?;
-    Ok(text)
+    push_four_registers(text, machine, 0)?;
+    push_four_registers(text, machine, 4)?;
+    push_four_registers(text, machine, 8)?;
+    push_four_registers(text, machine, 12)
 }
 
 /// Adds the line of four registers from this one on.
-fn push_registers(text: &mut Text, machine: &Machine, first: u8) -> Result<(), AllocError>
+fn push_four_registers(text: &mut Text, machine: &Machine, first: u8) -> Result<(), AllocError>
     requires { first ≤ 12 }
-    ensures { OnOk result (text.new ≡ after_registers text.old machine.now.whole.core.registers first) }
+    ensures { OnOk result (text.new ≡ text.old ++ register_line (seen machine.now.whole) first) }
 {
-    text.push_text("r")?;
-    text.push_hex(u64::from(first), 1)?;
-    push_register(text, machine, first)?;
-    push_register(text, machine, first + 1)?;
-    push_register(text, machine, first + 2)?;
-    push_register(text, machine, first + 3)?;
-    text.push_text("\n")?;
-    Ok(())
+    text.push_numbered("r", u64::from(first), 1)?;
+    push_value(text, machine, Place::Register(first))?;
+    push_value(text, machine, Place::Register(first + 1))?;
+    push_value(text, machine, Place::Register(first + 2))?;
+    push_value(text, machine, Place::Register(first + 3))?;
+    text.push_text("\n")
 }
 
-/// Adds a register's word after a blank.
-fn push_register(text: &mut Text, machine: &Machine, number: u8) -> Result<(), AllocError>
-    requires { number < 16 }
-    ensures { OnOk result (text.new ≡ text.old ++ register_word machine.now.whole.core.registers number) }
+/// Adds the PSW and the run state.
+fn push_psw(text: &mut Text, machine: &Machine) -> Result<(), AllocError>
+    ensures { OnOk result (text.new ≡ text.old ++ psw_text (seen machine.now.whole)) }
 {
-    text.push_text(" ")?;
-    text.push_hex(u64::from(machine.register(RegisterNumber::new(number))), 8)
+    text.push_text("psw")?;
+    push_value(text, machine, Place::Psw)?;
+    push_value(text, machine, Place::Run)?;
+    text.push_text("\n")
 }
 
-/// The PSW, with no interruption code and no instruction length, and the run state.
-fn psw_of(alloc: Global, machine: &Machine) -> Result<Text, AllocError>
-    ensures { IfOk result (λ text. text ≡ psw_text (seen machine.now.whole)) }
+/// Adds the storage key of the block that an address lies in; or the refusal where it is not inside.
+fn push_key(text: &mut Text, machine: &Machine, at: u32) -> Result<(), AllocError>
+    ensures { OnOk result (text.new ≡ text.old ++ key_text (seen machine.now.whole) at) }
 {
-    let mut text = Text::new(alloc);
-    text.push_text("psw ")?;
-    text.push_hex(machine.psw().stored(0, InstructionLength::NotAvailable), 16)?;
-    text.push_text(" ")?;
-    push_run_state(&mut text, machine.run())?;
-    text.push_text("\n")?;
-    Ok(text)
-}
-
-/// The bytes from an address on, sixteen a line; or the refusal where they are not inside.
-fn storage_of(alloc: Global, storage: &Storage, at: u32, count: u32) -> Result<Text, AllocError>
-    ensures { IfOk result (λ text. text ≡ storage_text storage.now at count) }
-{
-    if u64::from(at) + u64::from(count) > u64::from(storage.size()) {
-        return refusal_text(alloc, Refusal::OutsideStorage);
+    if at >= machine.storage().size() {
+        return push_refusal(text, Refusal::OutsideStorage);
     }
-    let mut text = Text::new(alloc);
-    for line in 0..count.div_ceil(BYTES_A_LINE) {
-        let first = at + line * BYTES_A_LINE;
-        let end = (at + count).min(first + BYTES_A_LINE);
-        push_line(&mut text, storage, first, end)?;
-    }
-    Ok(text)
+    push_line(text, "key", machine, Place::Key(at / BLOCK_SIZE))
 }
 
-/// Adds the line of the bytes from one address to another.
-fn push_line(text: &mut Text, storage: &Storage, first: u32, end: u32) -> Result<(), AllocError>
-    requires order { first ≤ end }
-    requires inside { end ≤ length storage.now.bytes }
-    ensures { OnOk result (text.new ≡ text.old ++ bytes_line storage.now.bytes first end) }
+/// Adds the value of a place of a unit; or the refusal where the machine does not have the unit.
+fn push_unit(text: &mut Text, machine: &Machine, unit: Unit, place: Place) -> Result<(), AllocError>
+    ensures { OnOk result (text.new ≡ text.old ++ text_of_unit (seen machine.now.whole) unit place (unit_at unit.0)) }
 {
-    text.push_hex(u64::from(first), 6)?;
-    text.push_text(" ")?;
-    for address in first..end {
-        text.push_hex(u64::from(storage.byte(address)), 2)?;
-    }
-    text.push_text("\n")?;
-    Ok(())
+    let Some(_configured) = ConfiguredUnit::at(unit) else {
+        return push_refusal(text, Refusal::NoSuchUnit);
+    };
+    text.push_hex(u64::from(unit.address()), 3)?;
+    push_line(text, "", machine, place)
 }
 
-/// The storage key of the block that an address lies in; or the refusal where it is not inside.
-fn key_of(alloc: Global, storage: &Storage, at: u32) -> Result<Text, AllocError>
-    ensures { IfOk result (λ text. text ≡ key_text storage.now at) }
+/// Adds the value of a place behind a name, and the line's end.
+fn push_line(text: &mut Text, name: &str, machine: &Machine, place: Place) -> Result<(), AllocError>
+    ensures { OnOk result (text.new ≡ text.old ++ value_line name.now (seen machine.now.whole) place) }
 {
-    if at >= storage.size() {
-        return refusal_text(alloc, Refusal::OutsideStorage);
-    }
-    line_of_key(
-        alloc,
-        storage.fetch_protection(),
-        storage.block_key(at / BLOCK_SIZE),
-    )
-}
-
-/// What the line of a storage key says of the fetch bit, if fetches are protected.
-fn fetch_words(fetch_protection: bool, key: BlockKey) -> &'static str
-    ensures { result.now ≡ fetch_words fetch_protection key }
-{
-    match (fetch_protection, key.fetch_bit()) {
-        (false, _) => "",
-        (true, false) => " fetch 0",
-        (true, true) => " fetch 1",
-    }
-}
-
-/// The line of a storage key.
-fn line_of_key(alloc: Global, fetch_protection: bool, key: BlockKey) -> Result<Text, AllocError>
-    ensures { IfOk result (λ text. text ≡ key_line fetch_protection key) }
-{
-    let mut text = Text::new(alloc);
-    text.push_text("key ")?;
-    push_block_key(&mut text, fetch_protection, key)?;
-    text.push_text("\n")?;
-    Ok(text)
-}
-
-/// Adds a storage key, and behind it the fetch bit if fetches are protected.
-pub fn push_block_key(
-    text: &mut Text,
-    fetch_protection: bool,
-    key: BlockKey,
-) -> Result<(), AllocError>
-    ensures { OnOk result (text.new ≡ text.old ++ block_key_words fetch_protection key) }
-{
-    text.push_hex(u64::from(key.key().number()), 1)?;
-    text.push_text(fetch_words(fetch_protection, key))
-}
-
-/// The external conditions that are pending.
-fn external_of(alloc: Global, external: ExternalConditions) -> Result<Text, AllocError>
-    ensures { IfOk result (λ text. text ≡ external_text external) }
-{
-    let mut text = Text::new(alloc);
-    text.push_text("ext ")?;
-    text.push_text(name_of_external(external))?;
-    text.push_text("\n")?;
-    Ok(text)
+    text.push_text(name)?;
+    push_value(text, machine, place)?;
+    text.push_text("\n")
 }

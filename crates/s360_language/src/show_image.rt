@@ -1,59 +1,44 @@
 //! What is shown of the file of a tape, as which it could be kept. docs/reference/images.md has its format.
-ghost use Rattle.std.specs.Prelude.{◌≡◌, ◌++◌, IfOk, OnOk};
+ghost use Rattle.std.specs.Prelude.{◌≡◌, ◌++◌, OnOk};
 ghost use Rattle.s360_machine.specs.Machine.{seen};
-ghost use Rattle.s360_language.specs.ShownImages.{file_lines, file_text, image_text, tape_image};
+ghost use Rattle.s360_language.specs.ShownImages.{file_text, image_text, tape_image};
 ghost use Rattle.s360_device.specs.DeviceChanges.{bare};
 ghost use Rattle.s360_tape.specs.WholeTape.{seen as seen_tape};
 
-use crate::names::refusal_text;
-use crate::show_units::push_digits;
+use crate::names::push_refusal;
+use crate::show_bytes::{Row, push_rows};
 use s360_machine::{Machine, Refusal};
-use s360_tape::Tape;
+use s360_tape::{Tape, image_of};
 use s360_text::Text;
 use s360_word::Unit;
-use std::alloc::{AllocError, Global};
+use std::alloc::AllocError;
 
 /// A line shows so many bytes.
 const BYTES_A_LINE: usize = 32;
 
-/// The file of a unit's tape; or the refusal where the machine has no tape there.
-pub(crate) fn image_of(alloc: Global, machine: &Machine, unit: Unit) -> Result<Text, AllocError>
-    ensures { IfOk result (λ text. text ≡ image_text (seen machine.now.whole) unit) }
+/// Adds the file of a unit's tape; or the refusal where the machine has no tape there.
+pub(crate) fn push_image(text: &mut Text, machine: &Machine, unit: Unit) -> Result<(), AllocError>
+    ensures { OnOk result (text.new ≡ text.old ++ image_text (seen machine.now.whole) unit) }
 {
     match machine.tape(unit) {
-        Some(tape) => image_of_tape(alloc, tape),
-        None => refusal_text(alloc, Refusal::NoSuchUnit),
+        Some(tape) => push_tape(text, tape),
+        None => push_refusal(text, Refusal::NoSuchUnit),
     }
 }
 
-/// The file of a tape.
-fn image_of_tape(alloc: Global, tape: &Tape) -> Result<Text, AllocError>
-    ensures { IfOk result (λ text. text ≡ tape_image (seen_tape (bare tape.now))) }
+/// Adds the file of a tape.
+fn push_tape(text: &mut Text, tape: &Tape) -> Result<(), AllocError>
+    ensures { OnOk result (text.new ≡ text.old ++ tape_image (seen_tape (bare tape.now))) }
 {
-    text_of_file(alloc, &s360_tape::image_of(alloc, tape)?)
+    let file = image_of(text.alloc(), tape)?;
+    push_file(text, &file)
 }
 
-/// How many bytes a file has, and all of them.
-fn text_of_file(alloc: Global, file: &[u8]) -> Result<Text, AllocError>
-    ensures { IfOk result (λ text. text ≡ file_text file.now) }
+/// Adds how many bytes a file has, and all of them.
+fn push_file(text: &mut Text, file: &[u8]) -> Result<(), AllocError>
+    ensures { OnOk result (text.new ≡ text.old ++ file_text file.now) }
 {
-    let mut text = Text::new(alloc);
-    text.push_text("image ")?;
-    text.push_decimal(file.len() as u64)?;
+    text.push_counted("image ", file.len() as u64)?;
     text.push_text("\n")?;
-    push_lines(&mut text, file)?;
-    Ok(text)
-}
-
-/// Adds the lines of a file's bytes.
-fn push_lines(text: &mut Text, file: &[u8]) -> Result<(), AllocError>
-    ensures { OnOk result (text.new ≡ text.old ++ file_lines file.now) }
-{
-    for number in 0..file.len().div_ceil(BYTES_A_LINE) {
-        let first = number * BYTES_A_LINE;
-        let end = file.len().min(first + BYTES_A_LINE);
-        push_digits(text, &file[first..end])?;
-        text.push_text("\n")?;
-    }
-    Ok(())
+    push_rows(text, Row::Plain, 0, BYTES_A_LINE, file)
 }

@@ -5,9 +5,10 @@ ghost use Rattle.s360_packet.specs.Answers.{answer_text, stop_text, registers_te
 ghost use Rattle.s360_packet.specs.Hexadecimal.{number_text};
 ghost use Rattle.s360_packet.specs.Target.{register_text};
 
-use crate::pieces::{push_bytes, push_number, push_text, push_two_digits, push_word};
+use crate::pieces::{push_bytes, push_number, push_two_digits, push_word};
 use crate::target::{REGISTERS, RegisterValue, description, push_memory_map, push_part};
-use std::alloc::{AllocError, Global};
+use s360_text::Text;
+use std::alloc::AllocError;
 
 /// A word has so many digits.
 const WORD_DIGITS: usize = 8;
@@ -78,96 +79,96 @@ pub enum Answer<'a> {
 }
 
 /// Adds the text of an answer, the data of its packet.
-pub fn write_answer(alloc: Global, out: &mut Vec<u8>, answer: Answer<'_>) -> Result<(), AllocError>
-    ensures { OnOk result (out.new.items ≡ out.old.items ++ answer_text answer.entry) }
+pub fn write_answer(text: &mut Text, answer: Answer<'_>) -> Result<(), AllocError>
+    ensures { OnOk result (text.new ≡ text.old ++ answer_text answer.entry) }
 {
     match answer {
         Answer::Empty => Ok(()),
-        Answer::Done => push_text(out, "OK"),
+        Answer::Done => text.push_text("OK"),
         Answer::Error(number) => {
-            push_text(out, "E")?;
-            push_two_digits(out, number)
+            text.push_text("E")?;
+            push_two_digits(text, number)
         }
-        Answer::Bytes(bytes) => push_bytes(out, bytes),
-        Answer::Registers(words) => push_registers(out, words),
-        Answer::Register(value) => push_register(out, value),
-        Answer::Stopped(stop) => push_stop(alloc, out, stop),
-        Answer::Console(text) => {
-            push_text(out, "O")?;
-            push_bytes(out, text)
+        Answer::Bytes(bytes) => push_bytes(text, bytes),
+        Answer::Registers(words) => push_registers(text, words),
+        Answer::Register(value) => push_register(text, value),
+        Answer::Stopped(stop) => push_stop(text, stop),
+        Answer::Console(line) => {
+            text.push_text("O")?;
+            push_bytes(text, line)
         }
         Answer::Description { offset, count } => {
-            push_part(out, description().as_bytes(), offset, count)
+            push_part(text, description().as_bytes(), offset, count)
         }
         Answer::MemoryMap {
             size,
             offset,
             count,
-        } => push_memory_map(alloc, out, size, offset, count),
-        Answer::Moved(moved) => push_text(out, if moved { "1" } else { "0" }),
-        Answer::Supported { size } => push_supported(alloc, out, size),
-        Answer::Thread => push_text(out, "QC1"),
-        Answer::Attached => push_text(out, "1"),
-        Answer::FirstThreads => push_text(out, "m1"),
-        Answer::NoMoreThreads => push_text(out, "l"),
+        } => push_memory_map(text, size, offset, count),
+        Answer::Moved(moved) => text.push_text(if moved { "1" } else { "0" }),
+        Answer::Supported { size } => push_supported(text, size),
+        Answer::Thread => text.push_text("QC1"),
+        Answer::Attached => text.push_text("1"),
+        Answer::FirstThreads => text.push_text("m1"),
+        Answer::NoMoreThreads => text.push_text("l"),
     }
 }
 
 /// Adds why the machine stopped.
-fn push_stop(alloc: Global, out: &mut Vec<u8>, stop: Stop) -> Result<(), AllocError>
-    ensures { OnOk result (out.new.items ≡ out.old.items ++ stop_text stop) }
+fn push_stop(text: &mut Text, stop: Stop) -> Result<(), AllocError>
+    ensures { OnOk result (text.new ≡ text.old ++ stop_text stop) }
 {
     match stop {
-        Stop::Trap => push_text(out, "T05"),
-        Stop::Quiet => push_text(out, "T00"),
-        Stop::Interrupt => push_text(out, "T02"),
+        Stop::Trap => text.push_text("T05"),
+        Stop::Quiet => text.push_text("T00"),
+        Stop::Interrupt => text.push_text("T02"),
         Stop::Watch { at } => {
-            push_text(out, "T05watch:")?;
-            push_number(alloc, out, u64::from(at))?;
-            push_text(out, ";")
+            text.push_text("T05watch:")?;
+            push_number(text, u64::from(at))?;
+            text.push_text(";")
         }
-        Stop::Breakpoint => push_text(out, "T05swbreak:;"),
-        Stop::HistoryBegin => push_text(out, "T05replaylog:begin;"),
-        Stop::HistoryEnd => push_text(out, "T05replaylog:end;"),
+        Stop::Breakpoint => text.push_text("T05swbreak:;"),
+        Stop::HistoryBegin => text.push_text("T05replaylog:begin;"),
+        Stop::HistoryEnd => text.push_text("T05replaylog:end;"),
     }
 }
 
 /// Adds a register's value.
-fn push_register(out: &mut Vec<u8>, value: RegisterValue) -> Result<(), AllocError>
-    ensures { OnOk result (out.new.items ≡ out.old.items ++ register_text value) }
+fn push_register(text: &mut Text, value: RegisterValue) -> Result<(), AllocError>
+    ensures { OnOk result (text.new ≡ text.old ++ register_text value) }
 {
     match value {
-        RegisterValue::Word(word) => push_word(out, word),
-        RegisterValue::NoWord => push_lacking(out, WORD_DIGITS),
-        RegisterValue::NoDoubleword => push_lacking(out, 2 * WORD_DIGITS),
+        RegisterValue::Word(word) => push_word(text, word),
+        RegisterValue::NoWord => push_lacking(text, WORD_DIGITS),
+        RegisterValue::NoDoubleword => push_lacking(text, 2 * WORD_DIGITS),
     }
 }
 
 /// Adds the values of all registers.
-fn push_registers(out: &mut Vec<u8>, words: &[u32; REGISTERS]) -> Result<(), AllocError>
-    ensures { OnOk result (out.new.items ≡ out.old.items ++ registers_text words.now) }
+fn push_registers(text: &mut Text, words: &[u32; REGISTERS]) -> Result<(), AllocError>
+    ensures { OnOk result (text.new ≡ text.old ++ registers_text words.now) }
 {
     for word in words {
-        push_word(out, *word)?;
+        push_word(text, *word)?;
     }
-    push_lacking(out, LACKING_DIGITS)
+    push_lacking(text, LACKING_DIGITS)
 }
 
 /// Adds `x` for each of so many digits that there are not.
-fn push_lacking(out: &mut Vec<u8>, digits: usize) -> Result<(), AllocError>
-    ensures { OnOk result (out.new.items ≡ out.old.items ++ replicate digits 0x78) }
+fn push_lacking(text: &mut Text, digits: usize) -> Result<(), AllocError>
+    ensures { OnOk result (text.new ≡ text.old ++ replicate digits 0x78) }
 {
     for _ in 0..digits {
-        out.push(b'x')?;
+        text.push_byte(b'x')?;
     }
     Ok(())
 }
 
 /// Adds what the target can do.
-fn push_supported(alloc: Global, out: &mut Vec<u8>, size: u32) -> Result<(), AllocError>
-    ensures { OnOk result (out.new.items ≡ out.old.items ++ supported_text size) }
+fn push_supported(text: &mut Text, size: u32) -> Result<(), AllocError>
+    ensures { OnOk result (text.new ≡ text.old ++ supported_text size) }
 {
-    push_text(out, "PacketSize=")?;
-    push_number(alloc, out, u64::from(size))?;
-    push_text(out, FEATURES)
+    text.push_text("PacketSize=")?;
+    push_number(text, u64::from(size))?;
+    text.push_text(FEATURES)
 }

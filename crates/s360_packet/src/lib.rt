@@ -16,7 +16,7 @@ mod target;
 
 pub use answer::{Answer, Stop, write_answer};
 pub use condition::read_condition;
-pub use framing::frame;
+pub use framing::{frame, push_packet};
 pub use laws::{all_registers_are_each, packets_are_read_back, requests_are_read_back};
 pub use receiver::{Acknowledging, Received, Receiver, Stage};
 pub use request::{Breakpoint, Payload, Point, Request, RequestFault, Thread};

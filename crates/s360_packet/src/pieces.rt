@@ -5,41 +5,39 @@ ghost use Rattle.std.specs.Char.{digit_char};
 ghost use Rattle.s360_packet.specs.Framing.{two_digits};
 ghost use Rattle.s360_packet.specs.Hexadecimal.{bytes_text, word_text, number_text};
 
-use std::alloc::{AllocError, Global};
+use s360_text::Text;
+use std::alloc::AllocError;
 
 /// Adds a number without leading zeros.
-pub(crate) fn push_number(alloc: Global, out: &mut Vec<u8>, number: u64) -> Result<(), AllocError>
-    ensures { OnOk result (out.new.items ≡ out.old.items ++ number_text number) }
+pub(crate) fn push_number(text: &mut Text, number: u64) -> Result<(), AllocError>
+    ensures { OnOk result (text.new ≡ text.old ++ number_text number) }
 {
-    let digits = format!(in alloc; "{number:x}")?;
-    out.extend_from_slice(digits.as_bytes())?;
-    Ok(())
+    let digits = format!(in text.alloc(); "{number:x}")?;
+    text.push_text(&digits)
 }
 
 /// Adds a word in eight digits.
-pub(crate) fn push_word(out: &mut Vec<u8>, word: u32) -> Result<(), AllocError>
-    ensures { OnOk result (out.new.items ≡ out.old.items ++ word_text word) }
+pub(crate) fn push_word(text: &mut Text, word: u32) -> Result<(), AllocError>
+    ensures { OnOk result (text.new ≡ text.old ++ word_text word) }
 {
-    push_bytes(out, &word.to_be_bytes())
+    push_bytes(text, &word.to_be_bytes())
 }
 
 /// Adds bytes in two digits each.
-pub(crate) fn push_bytes(out: &mut Vec<u8>, bytes: &[u8]) -> Result<(), AllocError>
-    ensures { OnOk result (out.new.items ≡ out.old.items ++ bytes_text bytes.now) }
+pub(crate) fn push_bytes(text: &mut Text, bytes: &[u8]) -> Result<(), AllocError>
+    ensures { OnOk result (text.new ≡ text.old ++ bytes_text bytes.now) }
 {
     for byte in bytes {
-        push_two_digits(out, *byte)?;
+        push_two_digits(text, *byte)?;
     }
     Ok(())
 }
 
 /// Adds a byte in two hexadecimal digits.
-pub(crate) fn push_two_digits(out: &mut Vec<u8>, byte: u8) -> Result<(), AllocError>
-    ensures { OnOk result (out.new.items ≡ out.old.items ++ two_digits byte) }
+pub(crate) fn push_two_digits(text: &mut Text, byte: u8) -> Result<(), AllocError>
+    ensures { OnOk result (text.new ≡ text.old ++ two_digits byte) }
 {
-    out.push(digit_of(byte / 16))?;
-    out.push(digit_of(byte % 16))?;
-    Ok(())
+    text.push_bytes(&[digit_of(byte / 16), digit_of(byte % 16)])
 }
 
 /// The hexadecimal digit of a number below 16.
@@ -52,12 +50,4 @@ fn digit_of(value: u8) -> u8
     } else {
         b'a' + (value - 10)
     }
-}
-
-/// Adds a text.
-pub(crate) fn push_text(out: &mut Vec<u8>, text: &str) -> Result<(), AllocError>
-    ensures { OnOk result (out.new.items ≡ out.old.items ++ text.now) }
-{
-    out.extend_from_slice(text.as_bytes())?;
-    Ok(())
 }

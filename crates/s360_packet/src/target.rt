@@ -4,7 +4,8 @@
 ghost use Rattle.std.specs.Prelude.{◌≡◌, ◌++◌, OnOk, IfOk};
 ghost use Rattle.s360_packet.specs.Target.{description, memory_map, part_of, register_value};
 
-use std::alloc::{AllocError, Global};
+use s360_text::Text;
+use std::alloc::AllocError;
 
 /// How many registers the machine has for gdb, each of a word: the two words of the PSW, and the general registers.
 pub const REGISTERS: usize = 18;
@@ -108,37 +109,35 @@ pub fn register_value(words: &[u32; REGISTERS], number: u32) -> Option<RegisterV
 
 /// Adds a part of the memory map, of storage that has `size` bytes.
 pub(crate) fn push_memory_map(
-    alloc: Global,
-    out: &mut Vec<u8>,
+    text: &mut Text,
     size: u32,
     offset: u32,
     count: u32,
 ) -> Result<(), AllocError>
-    ensures { OnOk result (out.new.items ≡ out.old.items ++ part_of (memory_map size) offset count) }
+    ensures { OnOk result (text.new ≡ text.old ++ part_of (memory_map size) offset count) }
 {
-    let map = format!(in alloc;
+    let map = format!(in text.alloc();
         "<memory-map><memory type='ram' start='0x0' length='0x{size:x}'/></memory-map>"
     )?;
-    push_part(out, map.as_bytes(), offset, count)
+    push_part(text, map.as_bytes(), offset, count)
 }
 
-/// Adds a part of a text, so many bytes from an offset on, behind `m`, or behind `l` if it is the last.
+/// Adds a part of a whole text, so many bytes from an offset on, behind `m`, or behind `l` if it is the last.
 pub(crate) fn push_part(
-    out: &mut Vec<u8>,
-    text: &[u8],
+    text: &mut Text,
+    whole: &[u8],
     offset: u32,
     count: u32,
 ) -> Result<(), AllocError>
-    ensures { OnOk result (out.new.items ≡ out.old.items ++ part_of text.now offset count) }
+    ensures { OnOk result (text.new ≡ text.old ++ part_of whole.now offset count) }
 {
-    let rest = &text[text.len().min(offset as usize)..];
+    let rest = &whole[whole.len().min(offset as usize)..];
     let count = count as usize;
     if rest.len() <= count {
-        out.push(b'l')?;
-        out.extend_from_slice(rest)?;
+        text.push_text("l")?;
+        text.push_bytes(rest)
     } else {
-        out.push(b'm')?;
-        out.extend_from_slice(&rest[..count])?;
+        text.push_text("m")?;
+        text.push_bytes(&rest[..count])
     }
-    Ok(())
 }

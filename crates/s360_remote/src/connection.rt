@@ -8,12 +8,13 @@ ghost use Rattle.s360_remote.specs.Replies.{Adds};
 
 use crate::errand::Errand;
 use crate::error_number::ErrorNumber;
-use crate::replies::Replies;
 use crate::serving::Then;
 use crate::target::Target;
 use s360_packet::{
-    Acknowledging, Answer, Received, Receiver, Request, RequestFault, Stop, read_request,
+    Acknowledging, Answer, Received, Receiver, Request, RequestFault, Stop, push_packet,
+    read_request,
 };
+use s360_text::Text;
 use std::alloc::{AllocError, Global};
 use std::marker::Model;
 
@@ -65,7 +66,7 @@ impl Connection {
         &mut self,
         byte: u8,
         target: &mut Target,
-        replies: &mut Replies,
+        replies: &mut Text,
     ) -> Result<Errand, AllocError>
         ensures { IfOk result (λ errand. Adds (IsTaken self.old.ended byte self.old target.old self.new target.new errand) replies.old replies.new) }
     {
@@ -80,7 +81,7 @@ impl Connection {
     }
 
     /// Adds the byte that acknowledges what came, if one is sent.
-    fn acknowledge(&self, received: Received, replies: &mut Replies) -> Result<(), AllocError>
+    fn acknowledge(&self, received: Received, replies: &mut Text) -> Result<(), AllocError>
         ensures { OnOk result (replies.new ≡ replies.old ++ option_to_list (acknowledgement_of self.now.acknowledging received)) }
     {
         match received.acknowledgement(self.acknowledging) {
@@ -94,14 +95,14 @@ impl Connection {
         &mut self,
         received: Received,
         target: &mut Target,
-        replies: &mut Replies,
+        replies: &mut Text,
     ) -> Result<Errand, AllocError>
         ensures { IfOk result (λ errand. Adds (IsReceived received self.old target.old self.new target.new errand) replies.old replies.new) }
     {
         match received {
             Received::Packet => self.answer(target, replies),
             Received::TooLong => {
-                replies.push(ErrorNumber::Malformed.answer())?;
+                push_packet(replies, ErrorNumber::Malformed.answer())?;
                 Ok(Errand::Nothing)
             }
             Received::Damaged => Ok(Errand::Nothing),
@@ -113,13 +114,13 @@ impl Connection {
     }
 
     /// Carries out the request that came, and adds what is answered.
-    fn answer(&mut self, target: &mut Target, replies: &mut Replies) -> Result<Errand, AllocError>
+    fn answer(&mut self, target: &mut Target, replies: &mut Text) -> Result<Errand, AllocError>
         ensures { IfOk result (λ errand. Adds (HasAnswered self.old target.old self.new target.new errand) replies.old replies.new) }
     {
         let request = match read_request(self.alloc, self.receiver.data()) {
             Ok(request) => request,
             Err(fault) => {
-                replies.push(answer_to_fault(fault))?;
+                push_packet(replies, answer_to_fault(fault))?;
                 return Ok(Errand::Nothing);
             }
         };
@@ -127,31 +128,31 @@ impl Connection {
             self.tell_interruption(replies)?;
             return Ok(Errand::Nothing);
         }
-        let mut answered = Replies::new(self.alloc);
+        let mut answered = Text::new(self.alloc);
         match target.serve(request, &mut answered) {
             Ok(next) => {
-                replies.push_all(&answered)?;
+                replies.push_bytes(answered.as_bytes())?;
                 Ok(self.go_on(next))
             }
             Err(AllocError) => {
-                replies.push(ErrorNumber::Memory.answer())?;
+                push_packet(replies, ErrorNumber::Memory.answer())?;
                 Ok(Errand::Nothing)
             }
         }
     }
 
     /// Tells gdb that its user has interrupted the machine, which is over then; or that memory lacks for that.
-    fn tell_interruption(&mut self, replies: &mut Replies) -> Result<(), AllocError>
+    fn tell_interruption(&mut self, replies: &mut Text) -> Result<(), AllocError>
         ensures { OnOk result ((packets : List ℕ) × IsInterrupted self.old self.new packets × (replies.new ≡ replies.old ++ packets)) }
     {
-        let mut answered = Replies::new(self.alloc);
+        let mut answered = Text::new(self.alloc);
         match answered.push(Answer::Stopped(Stop::Interrupt)) {
             Ok(()) => {
-                replies.push_all(&answered)?;
+                replies.push_bytes(answered.as_bytes())?;
                 self.interrupted = false;
                 Ok(())
             }
-            Err(AllocError) => replies.push(ErrorNumber::Memory.answer()),
+            Err(AllocError) => push_packet(replies, ErrorNumber::Memory.answer()),
         }
     }
 

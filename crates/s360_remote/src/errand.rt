@@ -8,6 +8,6 @@ pub enum Errand {
     Nothing,
     /// It is to be told that a write dropped so many recorded changes, at least one, which its answer cannot tell.
     TellDropped(u32),
-    /// A file is to be written, and then it is to be answered how that ended (`Replies::push_written`).
+    /// A file is to be written, and then it is to be answered how that ended (`push_written`).
     Write(FileToWrite),
 }

@@ -10,7 +10,6 @@ mod monitor;
 mod points;
 mod readout;
 mod registers;
-mod replies;
 mod saving;
 mod serving;
 mod target;
@@ -23,7 +22,7 @@ pub use error_number::ErrorNumber;
 pub use laws::both_words_are_the_psw;
 pub use points::{Altered, Points, Watch};
 pub use registers::{patch_of_psw, patch_of_word, words_of};
-pub use replies::Replies;
+pub use saving::push_written;
 pub use serving::Then;
 pub use target::Target;
 

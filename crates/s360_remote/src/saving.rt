@@ -8,19 +8,20 @@ ghost use Rattle.s360_remote.specs.Serving.{machine_now};
 ghost use Rattle.s360_remote.specs.Replies.{Adds};
 
 use crate::error_number::ErrorNumber;
-use crate::replies::Replies;
 use crate::serving::{Then, tell_line};
 use crate::target::Target;
 use s360_debug::text_of_fault;
 use s360_language::LineFault;
+use s360_packet::push_packet;
 use s360_saving::{Amount, SaveFault, Saving, file_for, outcome_text};
+use s360_text::Text;
 use std::alloc::AllocError;
 
 /// Hands up the file that a line asks for, or tells what is wrong with the line.
 pub(crate) fn save(
     target: &Target,
     asked: Result<Saving<'_>, LineFault>,
-    replies: &mut Replies,
+    replies: &mut Text,
 ) -> Result<Then, AllocError>
     ensures { IfOk result (λ next. Adds (IsSavingServed asked.entry (machine_now target.now) next) replies.old replies.new) }
 {
@@ -33,31 +34,29 @@ pub(crate) fn save(
     }
 }
 
-impl Replies {
-    /// Adds what answers a line whose file was written or not, or that memory lacks for that.
-    pub fn push_written(
-        &mut self,
-        amount: Amount,
-        outcome: Result<(), SaveFault>,
-    ) -> Result<(), AllocError>
-        ensures { OnOk result ((packets : List ℕ) × IsWrittenTold amount outcome packets × (self.new ≡ self.old ++ packets)) }
-    {
-        let mut answered = Replies::new(self.alloc);
-        match answered.push_outcome(amount, outcome) {
-            Ok(()) => self.push_all(&answered),
-            Err(AllocError) => self.push(ErrorNumber::Memory.answer()),
-        }
+/// Adds what answers a line whose file was written or not, or that memory lacks for that.
+pub fn push_written(
+    replies: &mut Text,
+    amount: Amount,
+    outcome: Result<(), SaveFault>,
+) -> Result<(), AllocError>
+    ensures { OnOk result ((packets : List ℕ) × IsWrittenTold amount outcome packets × (replies.new ≡ replies.old ++ packets)) }
+{
+    let mut answered = Text::new(replies.alloc());
+    match push_outcome(&mut answered, amount, outcome) {
+        Ok(()) => replies.push_bytes(answered.as_bytes()),
+        Err(AllocError) => push_packet(replies, ErrorNumber::Memory.answer()),
     }
+}
 
-    /// Tells how the writing of a file ended.
-    fn push_outcome(
-        &mut self,
-        amount: Amount,
-        outcome: Result<(), SaveFault>,
-    ) -> Result<(), AllocError>
-        ensures { OnOk result (self.new ≡ self.old ++ framed (line_text (outcome_text amount outcome))) }
-    {
-        let text = outcome_text(self.alloc, amount, outcome)?;
-        tell_line(&text, self)
-    }
+/// Tells how the writing of a file ended.
+fn push_outcome(
+    replies: &mut Text,
+    amount: Amount,
+    outcome: Result<(), SaveFault>,
+) -> Result<(), AllocError>
+    ensures { OnOk result (replies.new ≡ replies.old ++ framed (line_text (outcome_text amount outcome))) }
+{
+    let text = outcome_text(replies.alloc(), amount, outcome)?;
+    tell_line(&text, replies)
 }

@@ -23,15 +23,15 @@ use crate::error_number::ErrorNumber;
 use crate::monitor::monitor;
 use crate::points::{Altered, Watch};
 use crate::registers::words_of;
-use crate::replies::Replies;
 use crate::saving::save;
 use crate::target::Target;
 use byteorder::{BigEndian, ByteOrder};
 use s360_journal::{Pause, Reach};
-use s360_language::refusal_text;
+use s360_language::push_refusal;
 use s360_machine::{EventKind, Refusal};
 use s360_packet::{
-    Answer, Payload, Point, REGISTERS, Request, RequestFault, Stop, Thread, register_value,
+    Answer, Payload, Point, REGISTERS, Request, RequestFault, Stop, Thread, push_packet,
+    register_value,
 };
 use s360_saving::{FileToWrite, read_saving};
 use s360_text::Text;
@@ -60,7 +60,7 @@ const ALL_REGISTERS: usize = 268;
 impl Target {
     /// Carries a request out, and adds what is answered. After want of memory some first events of the request may stand,
     /// and some first bytes of the answer may be there.
-    pub fn serve(&mut self, request: Request, replies: &mut Replies) -> Result<Then, AllocError>
+    pub fn serve(&mut self, request: Request, replies: &mut Text) -> Result<Then, AllocError>
         ensures served { IfOk result (λ next. Adds (IsServed request self.old self.new next) replies.old replies.new) }
         ensures begun { OnErr result (IsBegun request self.old self.new) }
     {
@@ -89,7 +89,7 @@ impl Target {
             Request::HasMoved => self.tell_moved(replies),
             Request::Run => {
                 self.start_anew();
-                replies.push(Answer::Stopped(Stop::Trap))?;
+                push_packet(replies, Answer::Stopped(Stop::Trap))?;
                 Ok(Then::GoOn)
             }
             Request::Restart => {
@@ -102,7 +102,7 @@ impl Target {
     }
 
     /// Answers a request that changes nothing.
-    fn tell(&self, request: &Request, replies: &mut Replies) -> Result<Then, AllocError>
+    fn tell(&self, request: &Request, replies: &mut Text) -> Result<Then, AllocError>
         ensures { IfOk result (λ next. (next ≡ then_after request.now) × (replies.new ≡ replies.old ++ framed (told_to request.now self.now))) }
     {
         self.push_told(request, replies)?;
@@ -110,69 +110,75 @@ impl Target {
     }
 
     /// Adds what answers a request that changes nothing.
-    fn push_told(&self, request: &Request, replies: &mut Replies) -> Result<(), AllocError>
+    fn push_told(&self, request: &Request, replies: &mut Text) -> Result<(), AllocError>
         ensures { OnOk result (replies.new ≡ replies.old ++ framed (told_to request.now self.now)) }
     {
         match *request {
             Request::Registers => self.tell_registers(replies),
             Request::Register(number) => self.tell_register(number, replies),
             Request::Storage { at, count } => self.tell_storage(at, count, replies),
-            Request::Supported => replies.push(Answer::Supported {
-                size: crate::PACKET_SIZE,
-            }),
+            Request::Supported => push_packet(
+                replies,
+                Answer::Supported {
+                    size: crate::PACKET_SIZE,
+                },
+            ),
             Request::Description { offset, count } => {
-                replies.push(Answer::Description { offset, count })
+                push_packet(replies, Answer::Description { offset, count })
             }
-            Request::MemoryMap { offset, count } => replies.push(Answer::MemoryMap {
-                size: self.machine().storage().size(),
-                offset,
-                count,
-            }),
+            Request::MemoryMap { offset, count } => push_packet(
+                replies,
+                Answer::MemoryMap {
+                    size: self.machine().storage().size(),
+                    offset,
+                    count,
+                },
+            ),
             Request::Select(thread) | Request::IsAlive(thread) => {
-                replies.push(thread_answer(thread))
+                push_packet(replies, thread_answer(thread))
             }
-            Request::CurrentThread => replies.push(Answer::Thread),
-            Request::Attached => replies.push(Answer::Attached),
-            Request::FirstThreads => replies.push(Answer::FirstThreads),
-            Request::NextThreads => replies.push(Answer::NoMoreThreads),
-            Request::Stopped => replies.push(Answer::Stopped(Stop::Trap)),
-            _ => replies.push(Answer::Done),
+            Request::CurrentThread => push_packet(replies, Answer::Thread),
+            Request::Attached => push_packet(replies, Answer::Attached),
+            Request::FirstThreads => push_packet(replies, Answer::FirstThreads),
+            Request::NextThreads => push_packet(replies, Answer::NoMoreThreads),
+            Request::Stopped => push_packet(replies, Answer::Stopped(Stop::Trap)),
+            _ => push_packet(replies, Answer::Done),
         }
     }
 
     /// Tells all registers.
-    fn tell_registers(&self, replies: &mut Replies) -> Result<(), AllocError>
+    fn tell_registers(&self, replies: &mut Text) -> Result<(), AllocError>
         ensures { OnOk result (replies.new ≡ replies.old ++ framed (registers_text (words_of (machine_now self.now)))) }
     {
-        replies.push(Answer::Registers(&words_of(self.machine())))
+        push_packet(replies, Answer::Registers(&words_of(self.machine())))
     }
 
     /// Tells one register.
-    fn tell_register(&self, number: u32, replies: &mut Replies) -> Result<(), AllocError>
+    fn tell_register(&self, number: u32, replies: &mut Text) -> Result<(), AllocError>
         ensures { OnOk result (replies.new ≡ replies.old ++ framed (register_of_number (machine_now self.now) number)) }
     {
         match register_value(&words_of(self.machine()), number) {
-            Some(value) => replies.push(Answer::Register(value)),
-            None => replies.push(ErrorNumber::Malformed.answer()),
+            Some(value) => push_packet(replies, Answer::Register(value)),
+            None => push_packet(replies, ErrorNumber::Malformed.answer()),
         }
     }
 
     /// Tells bytes of storage.
-    fn tell_storage(&self, at: u32, count: u32, replies: &mut Replies) -> Result<(), AllocError>
+    fn tell_storage(&self, at: u32, count: u32, replies: &mut Text) -> Result<(), AllocError>
         ensures { OnOk result (replies.new ≡ replies.old ++ framed (storage_text (machine_now self.now) at count)) }
     {
         let storage = self.machine().storage();
         if count == 0 {
-            return replies.push(ErrorNumber::Malformed.answer());
+            return push_packet(replies, ErrorNumber::Malformed.answer());
         }
         if u64::from(at) + u64::from(count) > u64::from(storage.size()) {
-            return replies.push(ErrorNumber::Address.answer());
+            return push_packet(replies, ErrorNumber::Address.answer());
         }
-        replies.push(Answer::Bytes(storage.bytes(at, count)))
+        push_packet(replies, Answer::Bytes(storage.bytes(at, count)))
     }
 
     /// Tells what gdb is still to be told, or goes on and tells why the machine pauses.
-    fn resume(&mut self, reach: Reach, replies: &mut Replies) -> Result<Then, AllocError>
+    fn resume(&mut self, reach: Reach, replies: &mut Text) -> Result<Then, AllocError>
         ensures served { IfOk result (λ next. Adds (IsResumedOn reach self.old self.new next) replies.old replies.new) }
         ensures begun { OnErr result (IsResumedBegun (told_first self.old) self.old self.new (HasGoneOn reach self.old self.new)) }
     {
@@ -184,7 +190,7 @@ impl Target {
     }
 
     /// Tells what gdb is still to be told, or goes back and tells why the machine pauses.
-    fn resume_back(&mut self, reach: Reach, replies: &mut Replies) -> Result<Then, AllocError>
+    fn resume_back(&mut self, reach: Reach, replies: &mut Text) -> Result<Then, AllocError>
         ensures served { IfOk result (λ next. Adds (IsResumedBack reach self.old self.new next) replies.old replies.new) }
         ensures begun { OnErr result (IsResumedBegun (told_first self.old) self.old self.new (HasGoneBack reach self.old self.new)) }
     {
@@ -196,12 +202,12 @@ impl Target {
     }
 
     /// Tells whether the last line of gdb's user moved the machine.
-    fn tell_moved(&mut self, replies: &mut Replies) -> Result<Then, AllocError>
+    fn tell_moved(&mut self, replies: &mut Text) -> Result<Then, AllocError>
         ensures state { OnOk result (self.new ≡ after_asking self.old) }
         ensures answer { IfOk result (λ next. (next ≡ GoOn) × (replies.new ≡ replies.old ++ packet_of (Moved self.old.untold.moved))) }
         ensures memory { OnErr result (self.new ≡ self.old) }
     {
-        replies.push(Answer::Moved(self.untold.moved))?;
+        push_packet(replies, Answer::Moved(self.untold.moved))?;
         if self.untold.moved {
             self.untold.altered = Altered::new();
             self.untold.stop = true;
@@ -219,16 +225,12 @@ impl Target {
     }
 
     /// Gives all registers the words of these bytes; what the machine lacks is left out.
-    fn write_all_registers(
-        &mut self,
-        bytes: &[u8],
-        replies: &mut Replies,
-    ) -> Result<Then, AllocError>
+    fn write_all_registers(&mut self, bytes: &[u8], replies: &mut Text) -> Result<Then, AllocError>
         ensures served { IfOk result (λ next. Adds (AreAllWritten bytes.now self.old self.new next) replies.old replies.new) }
         ensures begun { OnErr result (AreAllBegun bytes.now self.old self.new) }
     {
         if bytes.len() != ALL_REGISTERS {
-            replies.push(ErrorNumber::Malformed.answer())?;
+            push_packet(replies, ErrorNumber::Malformed.answer())?;
             return Ok(Then::GoOn);
         }
         let mut words = [0; REGISTERS];
@@ -243,7 +245,7 @@ impl Target {
         point: Point,
         at: u32,
         kind: u32,
-        replies: &mut Replies,
+        replies: &mut Text,
     ) -> Result<Then, AllocError>
         ensures points { self.new ≡ with_points self.old (points_with point at kind self.old) }
         ensures answer { IfOk result (λ next. (next ≡ GoOn) × (replies.new ≡ replies.old ++ packet_of (insert_answer point at kind self.old))) }
@@ -253,7 +255,7 @@ impl Target {
             Point::Write => match self.watch_in_storage(at, kind) {
                 Some(watch) => self.points.add_watch(watch),
                 None => {
-                    replies.push(ErrorNumber::Address.answer())?;
+                    push_packet(replies, ErrorNumber::Address.answer())?;
                     return Ok(Then::GoOn);
                 }
             },
@@ -266,7 +268,7 @@ impl Target {
         &mut self,
         at: u32,
         conditions: &[u8],
-        replies: &mut Replies,
+        replies: &mut Text,
     ) -> Result<Then, AllocError>
         ensures served { IfOk result (λ next. Adds (IsInsertedIf (conditions_in conditions.now) at self.old self.new next) replies.old replies.new) }
         ensures begun { OnErr result (IsInsertIfBegun (conditions_in conditions.now) at self.old self.new) }
@@ -275,7 +277,7 @@ impl Target {
             Ok(conditions) => self.points.add_break_if(at, conditions)?,
             Err(RequestFault::Memory) => return Err(AllocError),
             Err(_) => {
-                replies.push(ErrorNumber::Malformed.answer())?;
+                push_packet(replies, ErrorNumber::Malformed.answer())?;
                 return Ok(Then::GoOn);
             }
         };
@@ -288,7 +290,7 @@ impl Target {
         point: Point,
         at: u32,
         kind: u32,
-        replies: &mut Replies,
+        replies: &mut Text,
     ) -> Result<Then, AllocError>
         ensures points { self.new ≡ with_points self.old (points_without point at kind self.old) }
         ensures answer { IfOk result (λ next. (next ≡ GoOn) × (replies.new ≡ replies.old ++ packet_of Done)) }
@@ -301,7 +303,7 @@ impl Target {
                 }
             }
         }
-        replies.push(Answer::Done)?;
+        push_packet(replies, Answer::Done)?;
         Ok(Then::GoOn)
     }
 
@@ -317,7 +319,7 @@ impl Target {
     }
 
     /// Carries a line of gdb's user out, and tells its answer, or hands up the file that it saves.
-    fn answer_line(&mut self, line: &Payload, replies: &mut Replies) -> Result<Then, AllocError>
+    fn answer_line(&mut self, line: &Payload, replies: &mut Text) -> Result<Then, AllocError>
         ensures served { IfOk result (λ next. Adds (IsCommandServed (saving_of line.now) line.now self.old self.new next) replies.old replies.new) }
         ensures begun { OnErr result (IsCommandBegun (saving_of line.now) line.now self.old self.new) }
     {
@@ -338,7 +340,7 @@ impl Target {
     }
 
     /// Carries a line out that saves nothing, and tells its answer. A line without one is done.
-    fn answer_at_once(&mut self, line: &[u8], replies: &mut Replies) -> Result<Then, AllocError>
+    fn answer_at_once(&mut self, line: &[u8], replies: &mut Text) -> Result<Then, AllocError>
         ensures served { IfOk result (λ next. (next ≡ GoOn) × Adds (IsAnsweredAtOnce line.now self.old self.new) replies.old replies.new) }
         ensures begun { OnErr result (IsBegunAtOnce line.now self.old self.new) }
     {
@@ -353,19 +355,19 @@ impl Target {
     fn tell_written(
         &self,
         written: Result<(), ErrorNumber>,
-        replies: &mut Replies,
+        replies: &mut Text,
     ) -> Result<Then, AllocError>
         ensures told { IfOk result (λ next. Adds (IsTold written self.now.recorded.dropped next) replies.old replies.new) }
         ensures memory { OnOk result (written ≢ Err Memory) }
     {
         match written {
             Ok(()) => {
-                replies.push(Answer::Done)?;
+                push_packet(replies, Answer::Done)?;
                 Ok(after_write(self.session.dropped()))
             }
             Err(ErrorNumber::Memory) => Err(AllocError),
             Err(fault) => {
-                replies.push(fault.answer())?;
+                push_packet(replies, fault.answer())?;
                 Ok(Then::GoOn)
             }
         }
@@ -376,7 +378,7 @@ impl Target {
         &mut self,
         pause: Pause,
         reach: Reach,
-        replies: &mut Replies,
+        replies: &mut Text,
     ) -> Result<Then, AllocError>
         ensures state { self.new ≡ record self.old { untold = record self.old.untold { altered = drop 1 self.old.untold.altered } } }
         ensures next { IfOk result (λ next. next ≡ GoOn) }
@@ -389,24 +391,19 @@ impl Target {
     }
 
     /// Adds what tells why the machine pauses. If nothing is left to do, or an event was refused, a text says so before the stop.
-    fn push_pause(
-        &self,
-        pause: Pause,
-        reach: Reach,
-        replies: &mut Replies,
-    ) -> Result<(), AllocError>
+    fn push_pause(&self, pause: Pause, reach: Reach, replies: &mut Text) -> Result<(), AllocError>
         ensures { OnOk result (replies.new ≡ replies.old ++ pause_told reach self.now pause) }
     {
         match pause {
             Pause::Refused(refusal) => {
                 self.tell_refusal(refusal, replies)?;
-                replies.push(Answer::Stopped(Stop::Quiet))
+                push_packet(replies, Answer::Stopped(Stop::Quiet))
             }
             Pause::Idle => {
                 self.tell_idle(replies)?;
-                replies.push(Answer::Stopped(Stop::Quiet))
+                push_packet(replies, Answer::Stopped(Stop::Quiet))
             }
-            Pause::Break | Pause::Done => replies.push(Answer::Stopped(Stop::Breakpoint)),
+            Pause::Break | Pause::Done => push_packet(replies, Answer::Stopped(Stop::Breakpoint)),
             Pause::RecordEnd => push_end(
                 reach,
                 "end of what was recorded\n",
@@ -419,24 +416,28 @@ impl Target {
                 Stop::HistoryBegin,
                 replies,
             ),
-            Pause::Watch => replies.push(Answer::Stopped(match self.untold.altered.first() {
-                Some(at) => Stop::Watch { at },
-                None => Stop::Trap,
-            })),
-            Pause::Stepped => replies.push(Answer::Stopped(Stop::Trap)),
+            Pause::Watch => push_packet(
+                replies,
+                Answer::Stopped(match self.untold.altered.first() {
+                    Some(at) => Stop::Watch { at },
+                    None => Stop::Trap,
+                }),
+            ),
+            Pause::Stepped => push_packet(replies, Answer::Stopped(Stop::Trap)),
         }
     }
 
     /// Tells gdb's user why an event was refused.
-    fn tell_refusal(&self, refusal: Refusal, replies: &mut Replies) -> Result<(), AllocError>
+    fn tell_refusal(&self, refusal: Refusal, replies: &mut Text) -> Result<(), AllocError>
         ensures { OnOk result (replies.new ≡ replies.old ++ console_packet (refused_text refusal)) }
     {
-        let text = refusal_text(self.alloc, refusal)?;
-        replies.push(Answer::Console(text.as_bytes()))
+        let mut text = Text::new(self.alloc);
+        push_refusal(&mut text, refusal)?;
+        push_packet(replies, Answer::Console(text.as_bytes()))
     }
 
     /// Tells gdb's user why nothing is left to do.
-    fn tell_idle(&self, replies: &mut Replies) -> Result<(), AllocError>
+    fn tell_idle(&self, replies: &mut Text) -> Result<(), AllocError>
         ensures { OnOk result (replies.new ≡ replies.old ++ idle_told self.now) }
     {
         let machine = self.machine();
@@ -445,40 +446,43 @@ impl Target {
             self.session.last_event(),
             machine.psw().wait(),
         );
-        replies.push(Answer::Console(words.as_bytes()))
+        push_packet(replies, Answer::Console(words.as_bytes()))
     }
 }
 
 /// Tells a stop.
-fn tell_stop(stop: Stop, replies: &mut Replies) -> Result<Then, AllocError>
+fn tell_stop(stop: Stop, replies: &mut Text) -> Result<Then, AllocError>
     ensures { IfOk result (λ next. (next ≡ GoOn) × (replies.new ≡ replies.old ++ stop_packet stop)) }
 {
-    replies.push(Answer::Stopped(stop))?;
+    push_packet(replies, Answer::Stopped(stop))?;
     Ok(Then::GoOn)
 }
 
 /// Tells whether a point was set, or no more can be.
-fn push_set(is_set: bool, replies: &mut Replies) -> Result<Then, AllocError>
+fn push_set(is_set: bool, replies: &mut Text) -> Result<Then, AllocError>
     ensures { IfOk result (λ next. (next ≡ GoOn) × (replies.new ≡ replies.old ++ packet_of (set_if is_set))) }
 {
-    replies.push(if is_set {
-        Answer::Done
-    } else {
-        ErrorNumber::Full.answer()
-    })?;
+    push_packet(
+        replies,
+        if is_set {
+            Answer::Done
+        } else {
+            ErrorNumber::Full.answer()
+        },
+    )?;
     Ok(Then::GoOn)
 }
 
 /// Adds what tells an end of the record: to a step these words, and else the stop at the end of what gdb knows as history.
-fn push_end(reach: Reach, words: &str, end: Stop, replies: &mut Replies) -> Result<(), AllocError>
+fn push_end(reach: Reach, words: &str, end: Stop, replies: &mut Text) -> Result<(), AllocError>
     ensures { OnOk result (replies.new ≡ replies.old ++ end_packets reach words.now end) }
 {
     match reach {
         Reach::Step => {
-            replies.push(Answer::Console(words.as_bytes()))?;
-            replies.push(Answer::Stopped(Stop::Quiet))
+            push_packet(replies, Answer::Console(words.as_bytes()))?;
+            push_packet(replies, Answer::Stopped(Stop::Quiet))
         }
-        Reach::Stop => replies.push(Answer::Stopped(end)),
+        Reach::Stop => push_packet(replies, Answer::Stopped(end)),
     }
 }
 
@@ -505,13 +509,13 @@ fn thread_answer(thread: Thread) -> Answer<'static>
 }
 
 /// Tells the answer of a line.
-pub(crate) fn tell_line(text: &Text, replies: &mut Replies) -> Result<(), AllocError>
+pub(crate) fn tell_line(text: &Text, replies: &mut Text) -> Result<(), AllocError>
     ensures { OnOk result (replies.new ≡ replies.old ++ framed (line_text text.now)) }
 {
     if text.as_bytes().is_empty() {
-        return replies.push(Answer::Done);
+        return push_packet(replies, Answer::Done);
     }
-    replies.push(Answer::Bytes(text.as_bytes()))
+    push_packet(replies, Answer::Bytes(text.as_bytes()))
 }
 
 /// How serving goes on after a write that dropped so many recorded changes.

@@ -1,7 +1,7 @@
 //! Whether two machines show the same.
 use crate::fault::Fault;
-use s360_debug::{Command, read_command};
-use s360_language::text_of_shown;
+use s360_debug::{Command, Text, read_command};
+use s360_language::push_shown;
 use s360_machine::Machine;
 use s360_store::Storage;
 use std::alloc::Global;
@@ -30,9 +30,11 @@ fn shows_same(alloc: Global, one: &Machine, other: &Machine, line: &str) -> Resu
     let Command::Show(shown) = read_command(alloc, line.as_bytes())? else {
         return Err(Fault::Unforeseen);
     };
-    let one = text_of_shown(alloc, one, shown)?;
-    let other = text_of_shown(alloc, other, shown)?;
-    Ok(one.as_bytes() == other.as_bytes())
+    let mut text = Text::new(alloc);
+    push_shown(&mut text, one, shown)?;
+    let mut other_text = Text::new(alloc);
+    push_shown(&mut other_text, other, shown)?;
+    Ok(text.as_bytes() == other_text.as_bytes())
 }
 
 /// Whether two machines show the same.

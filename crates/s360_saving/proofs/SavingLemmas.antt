@@ -1,10 +1,9 @@
 -- Lists that are saved item by item.
 use Rattle.std.proofs.Common.{◌≡◌, ◌<◌, ◌+◌, ◌++◌, ◌∙◌, ℕ, suc, List, [], ◌∷◌, Option, Some, None, ap, sym, subst, refl, arith, length, get_or, take, drop, append_assoc}
 use Rattle.std.proofs.Math.Seq.{drop-cons}
-use Rattle.std.proofs.lemmas.Grind.{flat_map-append}
-use Rattle.std.proofs.lemmas.List.{append-nil, take_more}
 use Rattle.std.proofs.lemmas.Option.{get_or_from_slice_get, slice_get-get_or, slice_get_within}
 use Rattle.std.specs.List.{flat_map, slice_get}
+use Rattle.s360_language.proofs.ShownLemmas.{told-more}
 use Rattle.s360_device.specs.Items.{item_in}
 use Rattle.s360_print.specs.declared.paper.Record.{Record}
 use Rattle.s360_saving.specs.declared.feeds.PageLine.{PageLine}
@@ -26,16 +25,12 @@ no_item (x ∷ xs) i inside none =
     in let lacks : None ≡ slice_get (x ∷ xs) i = none ∙ item_in-next (x ∷ xs) i
     in cc
 
--- one item more
-pub told-item : {X : Type 0} (told : X → List ℕ) (xs : List X) (i : ℕ) (x : X) → item_in xs (i + 1) ≡ Some x
-    → flat_map told (take (i + 1) xs) ≡ flat_map told (take i xs) ++ told x
-told-item told xs i x item =
+-- one item more, after a text
+pub told-item : {X : Type 0} (told : X → List ℕ) (xs : List X) (i : ℕ) (x : X) (old text new : List ℕ) → item_in xs (i + 1) ≡ Some x
+    → text ≡ old ++ flat_map told (take i xs) → new ≡ text ++ told x → new ≡ old ++ flat_map told (take (i + 1) xs)
+told-item told xs i x old text new item h k =
     let at : slice_get xs i ≡ Some x = sym (item_in-next xs i) ∙ item
-    in let inside : i < length xs = slice_get_within xs i x at
-    in ap (λ ys. flat_map told ys) (take_more xs i x inside)
-    ∙ (flat_map-append told (take i xs) (get_or xs i x ∷ [])
-    ∙ (ap (λ t. flat_map told (take i xs) ++ t) (append-nil (told (get_or xs i x)))
-    ∙ ap (λ y. flat_map told (take i xs) ++ told y) (is_there xs i x at)))
+    in told-more told xs i x old text new (slice_get_within xs i x at) h (k ∙ ap (λ y. text ++ told y) (sym (is_there xs i x at)))
 
 -- what is left from an item on
 drop_at : {X : Type 0} (xs : List X) (i : ℕ) (x : X) → slice_get xs i ≡ Some x → drop i xs ≡ x ∷ drop (i + 1) xs

@@ -2,7 +2,8 @@
 -- first what was typed, in the lines of `show m`, and then the lines that were entered, as a script enters them.
 use Rattle.std.specs.Prelude.{ℕ, List, ◌++◌, codes, length, map, nat_eq}
 use Rattle.std.specs.List.{filter, flat_map}
-use Rattle.s360_language.specs.ShownItems.{sign_of, typed_line}
+use Rattle.s360_language.specs.ShownBytes.{sign_of}
+use Rattle.s360_language.specs.ShownItems.{typed_line}
 use Rattle.s360_print.specs.Console.{ConsoleMedia}
 
 -- a line that was entered, with the blanks at its end

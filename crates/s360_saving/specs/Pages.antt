@@ -3,9 +3,8 @@
 use Rattle.std.specs.Prelude.{ℕ, ◌+◌, ◌-◌, ◌&&◌, nat_eq, nat_le, max, if◌then◌else◌, Option, Some, None, List, [], ◌∷◌, ◌++◌, length, map, replicate}
 use Rattle.std.specs.Option.{option_map_or}
 use Rattle.s360_device.specs.Items.{item_in}
-use Rattle.s360_language.specs.ShownItems.{sign_of}
+use Rattle.s360_language.specs.ShownBytes.{sign_of, trimmed}
 use Rattle.s360_print.specs.declared.paper.Record.{Record}
-use Rattle.s360_text.specs.Blanks.{without_blanks}
 use Rattle.s360_saving.specs.declared.feeds.PageLine.{PageLine}
 
 abbrev pub line_feeds : ℕ → List ℕ
@@ -37,11 +36,8 @@ abbrev pub place_of : Record → PageLine
 place_of r = record { page = r.page; line = r.line }
 
 -- the signs of a line, without the blanks at its end
-abbrev pub line_of : List ℕ → List ℕ
-line_of bytes = without_blanks (map sign_of bytes)
-
 abbrev pub line_of_record : Record → List ℕ
-line_of_record r = line_of r.bytes
+line_of_record r = map sign_of (trimmed r.bytes)
 
 -- the lines that were printed after one, if one was
 abbrev pub pages_from : Option PageLine → List Record → List ℕ

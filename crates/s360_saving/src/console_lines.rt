@@ -4,8 +4,8 @@ ghost use Rattle.std.specs.List.{flat_map};
 ghost use Rattle.s360_language.specs.ShownItems.{typed_line};
 ghost use Rattle.s360_saving.specs.ConsoleLines.{console_file, entered_line, line_count};
 
-use s360_language::{line_of_typed, push_signs};
-use s360_print::{ConsoleMedia, Line, TypedItem};
+use s360_language::{push_signs, push_typed};
+use s360_print::{ConsoleMedia, Line};
 use s360_text::Text;
 use std::alloc::{AllocError, Global};
 
@@ -14,18 +14,18 @@ pub(crate) fn console_file_of(alloc: Global, media: &ConsoleMedia) -> Result<Tex
     ensures { IfOk result (λ text. text ≡ console_file media.now.media) }
 {
     let mut text = Text::new(alloc);
-    push_all_typed(alloc, &mut text, media)?;
+    push_all_typed(&mut text, media)?;
     push_all_entered(&mut text, media)?;
     Ok(text)
 }
 
-/// Adds what was typed.
-fn push_all_typed(alloc: Global, text: &mut Text, media: &ConsoleMedia) -> Result<(), AllocError>
+/// Adds what was typed, as `show m` shows it.
+fn push_all_typed(text: &mut Text, media: &ConsoleMedia) -> Result<(), AllocError>
     ensures { OnOk result (text.new ≡ text.old ++ flat_map typed_line media.now.media.typed) }
 {
     for index in 0..media.typed_count() {
         if let Some(item) = media.typed(index + 1) {
-            push_typed(alloc, text, item)?;
+            push_typed(text, item)?;
         }
     }
     Ok(())
@@ -41,14 +41,6 @@ fn push_all_entered(text: &mut Text, media: &ConsoleMedia) -> Result<(), AllocEr
         }
     }
     Ok(())
-}
-
-/// Adds what was typed, as `show m` shows it.
-fn push_typed(alloc: Global, text: &mut Text, item: &TypedItem) -> Result<(), AllocError>
-    ensures { OnOk result (text.new ≡ text.old ++ typed_line item.now) }
-{
-    let line = line_of_typed(alloc, item)?;
-    text.push_bytes(line.as_bytes())
 }
 
 /// Adds a line that was entered, as a script enters it.

@@ -1,6 +1,6 @@
 //! What a line that saves is answered.
 ghost use Rattle.std.specs.Prelude.{◌≡◌, ◌++◌, IfOk, OnOk};
-ghost use Rattle.s360_saving.specs.Outcomes.{amount_text, counted, fault_name, outcome_text};
+ghost use Rattle.s360_saving.specs.Outcomes.{amount_text, fault_name, outcome_text, saved_count};
 
 use crate::file::Amount;
 use s360_text::Text;
@@ -51,10 +51,9 @@ fn push_amount(text: &mut Text, amount: Amount) -> Result<(), AllocError>
 
 /// Adds that so many of a kind were saved.
 fn push_count(text: &mut Text, count: u64, kind: &str) -> Result<(), AllocError>
-    ensures { OnOk result (text.new ≡ text.old ++ counted count kind.now) }
+    ensures { OnOk result (text.new ≡ text.old ++ saved_count count kind.now) }
 {
-    text.push_text("saved ")?;
-    text.push_decimal(count)?;
+    text.push_counted("saved ", count)?;
     text.push_text(" ")?;
     text.push_text(kind)?;
     if count == 1 {

@@ -1,9 +1,9 @@
 //! The file of what was printed.
 ghost use Rattle.std.specs.Prelude.{◌≡◌, ◌++◌, IfOk, OnOk};
-ghost use Rattle.s360_saving.specs.Pages.{line_end, line_of, line_of_record, page_count, pages_file, parting, place_of};
+ghost use Rattle.s360_saving.specs.Pages.{line_end, line_of_record, page_count, pages_file, parting, place_of};
 
 use crate::feeds::{LINE_FEED, PageLine, push_parting};
-use s360_language::push_signs;
+use s360_language::{push_signs, trimmed};
 use s360_print::{PrinterMedia, Record};
 use s360_text::Text;
 use std::alloc::{AllocError, Global};
@@ -16,7 +16,7 @@ pub(crate) fn pages_of(alloc: Global, media: &PrinterMedia) -> Result<Text, Allo
     let mut before = None;
     for index in 0..media.records() {
         if let Some(printed) = media.record(index + 1) {
-            push_record(alloc, &mut text, before, printed)?;
+            push_record(&mut text, before, printed)?;
             before = Some(place_of(printed));
         }
     }
@@ -36,7 +36,6 @@ pub(crate) fn page_count(media: &PrinterMedia) -> u32
 
 /// Adds a line that was printed, and what parts it from the one before it.
 fn push_record(
-    alloc: Global,
     text: &mut Text,
     before: Option<PageLine>,
     printed: &Record,
@@ -44,17 +43,7 @@ fn push_record(
     ensures { OnOk result (text.new ≡ text.old ++ (parting before (place_of printed.now) ++ line_of_record printed.now)) }
 {
     push_parting(text, before, place_of(printed))?;
-    push_line(alloc, text, printed.bytes.as_slice())
-}
-
-/// Adds the signs of a line, without the blanks at its end.
-fn push_line(alloc: Global, text: &mut Text, bytes: &[u8]) -> Result<(), AllocError>
-    ensures { OnOk result (text.new ≡ text.old ++ line_of bytes.now) }
-{
-    let mut line = Text::new(alloc);
-    push_signs(&mut line, bytes)?;
-    line.drop_blanks();
-    text.push_bytes(line.as_bytes())
+    push_signs(text, trimmed(printed.bytes.as_slice()))
 }
 
 /// Ends the last line, if there is one.

@@ -1,4 +1,4 @@
-pub mod Blanks
+pub mod Counts
 pub mod Digits
 pub mod Scripts
 pub mod Writing

@@ -1,8 +1,7 @@
 //! The text of an answer, made piece by piece.
-ghost use Rattle.std.specs.Prelude.{◌≡◌, ◌≤◌, ◌<◌, ◌++◌, ◌∷◌, [], OnOk, length, nat_eq};
-ghost use Rattle.std.specs.List.{suffix_len};
+ghost use Rattle.std.specs.Prelude.{◌≡◌, ◌<◌, ◌++◌, ◌∷◌, [], OnOk};
 ghost use Rattle.s360_model.specs.Text.{decimal, hex_text, hex_digit};
-ghost use Rattle.s360_text.specs.Blanks.{without_blanks};
+ghost use Rattle.s360_text.specs.Counts.{counted};
 
 use std::alloc::{AllocError, Global};
 use std::marker::Model;
@@ -38,6 +37,11 @@ impl Text {
         ensures { result ≡ bytes.items }
     {
         Text { bytes, alloc }
+    }
+
+    /// Where its memory is from.
+    pub fn alloc(&self) -> Global {
+        self.alloc
     }
 
     /// Its bytes.
@@ -86,21 +90,22 @@ impl Text {
         push_hex(&mut self.bytes, number, width)
     }
 
-    /// Drops the blanks at its end.
-    pub fn drop_blanks(&mut self)
-        ensures { self.new ≡ without_blanks self.old }
+    /// Adds a name, and behind it a number in decimal.
+    #[tactic(auto, unfolding(crate::specs::Counts::counted))]
+    pub fn push_counted(&mut self, name: &str, number: u64) -> Result<(), AllocError>
+        ensures { OnOk result (self.new ≡ self.old ++ counted name.now number) }
     {
-        let kept = self.bytes.len() - blanks_at_end(&self.bytes);
-        self.bytes.truncate(kept);
+        self.push_text(name)?;
+        self.push_decimal(number)
     }
-}
 
-/// How many blanks stand at the end of a text.
-fn blanks_at_end(text: &[u8]) -> usize
-    ensures count { result ≡ suffix_len (λ b. nat_eq b 32) text.now }
-    ensures within { result ≤ length text.now }
-{
-    text.iter().rev().take_while(|byte| **byte == b' ').count()
+    /// Adds a name, and behind it the low digits of a number in hexadecimal, so many of them.
+    pub fn push_numbered(&mut self, name: &str, number: u64, width: u8) -> Result<(), AllocError>
+        ensures { OnOk result (self.new ≡ self.old ++ (name.now ++ hex_text width number)) }
+    {
+        self.push_text(name)?;
+        self.push_hex(number, width)
+    }
 }
 
 /// Adds the low digits of a number in hexadecimal, the highest first.

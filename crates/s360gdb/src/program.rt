@@ -18,9 +18,9 @@ use itoa::Buffer;
 use s360_debug::carry_out;
 use s360_journal::Session;
 use s360_machine::Machine;
-use s360_remote::{Connection, Errand, Replies, Target};
+use s360_remote::{Connection, Errand, Target, push_written};
 use s360_setup::{Failure, Fault, LIMIT, Options, Part, Program, open, set_up, tell};
-use s360_text::{Untaken, write_whole};
+use s360_text::{Text, Untaken, write_whole};
 use std::alloc::AllocError;
 use std::io::{self, Input, Read, Write};
 
@@ -99,7 +99,6 @@ fn serve<F: Opening, N: Write, R: Read, W: Write>(
     ensures failure { IfErr result IsServingFailure }
 {
     let mut connection = Connection::new(host.alloc)?;
-    let mut replies = Replies::new(host.alloc);
     let mut chunk = [0; CHUNK];
     // Each read but the last gives a byte at least.
     for _read in 0..u64::MAX {
@@ -112,6 +111,7 @@ fn serve<F: Opening, N: Write, R: Read, W: Write>(
         if len == 0 {
             break;
         }
+        let mut replies = Text::new(host.alloc);
         let taken = take_all(host, &mut connection, target, &mut replies, &chunk[..len]);
         // What was answered before memory was wanted is written too.
         let written = write_whole(writer, replies.as_bytes());
@@ -119,7 +119,6 @@ fn serve<F: Opening, N: Write, R: Read, W: Write>(
         let Ok(()) = written else {
             return Err(Failure::Part(Part::Connection, Fault::WriteFailed));
         };
-        replies.clear();
     }
     Ok(())
 }
@@ -129,7 +128,7 @@ fn take_all<F: Opening, N: Write>(
     host: &mut Host<F, N>,
     connection: &mut Connection,
     target: &mut Target,
-    replies: &mut Replies,
+    replies: &mut Text,
     bytes: &[u8],
 ) -> Result<(), Failure>
     ensures answered { OnOk result ((answers : List ℕ) × IsConversation F.File.contents bytes.now (record { connection = connection.old; target = target.old; known = known_of F.asked N.contents host.old }) (record { connection = connection.new; target = target.new; known = known_of F.asked N.contents host.new }) answers × (replies.new ≡ replies.old ++ answers)) }
@@ -146,7 +145,7 @@ fn take_all<F: Opening, N: Write>(
 fn run_errand<F: Opening, N: Write>(
     host: &mut Host<F, N>,
     errand: Errand,
-    replies: &mut Replies,
+    replies: &mut Text,
 ) -> Result<(), AllocError>
     ensures { OnOk result ((answers : List ℕ) × IsRun F.File.contents errand (known_of F.asked N.contents host.old) (known_of F.asked N.contents host.new) answers × (replies.new ≡ replies.old ++ answers)) }
 {
@@ -159,7 +158,7 @@ fn run_errand<F: Opening, N: Write>(
         }
         Errand::Write(file) => {
             let outcome = write_file(&mut host.files, &file);
-            replies.push_written(file.amount, outcome)
+            push_written(replies, file.amount, outcome)
         }
     }
 }

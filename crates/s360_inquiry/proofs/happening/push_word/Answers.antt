@@ -1,4 +1,4 @@
-use Rattle.s360_inquiry.proofs.InquiryLemmas.{pushed}
+use Rattle.s360_language.proofs.ShownLemmas.{pushed}
 use Rattle.s360_inquiry.proofs.happening.push_word.Goals as goal
 
 pub returns : goal.returns

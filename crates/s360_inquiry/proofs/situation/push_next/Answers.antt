@@ -1,4 +1,5 @@
-use Rattle.s360_inquiry.proofs.InquiryLemmas.{pushed, pushed-thrice}
+use Rattle.s360_language.proofs.ShownLemmas.{pushed}
+use Rattle.s360_inquiry.proofs.InquiryLemmas.{pushed-thrice}
 use Rattle.s360_inquiry.proofs.situation.push_next.Goals as goal
 
 pub returns : goal.returns

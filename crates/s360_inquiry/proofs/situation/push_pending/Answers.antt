@@ -1,15 +1,11 @@
-use Rattle.std.proofs.Common.{append_assoc, arith}
+use Rattle.std.proofs.Common.{arith}
 use Rattle.s360_channel.specs.declared.configured_unit.ConfiguredUnit.TheVariants.{Reader}
 use Rattle.s360_channel.specs.ConfiguredUnits.{configured_units}
 use Rattle.s360_machine.specs.Machine.{seen}
 use Rattle.s360_inquiry.specs.Situations.{pending_text}
-use Rattle.s360_inquiry.proofs.InquiryLemmas.{told-more}
+use Rattle.s360_language.proofs.ShownLemmas.{told-more}
 use Rattle.s360_inquiry.proofs.situation.push_pending.Goals as goal
 
 pub loop-unit-preserved : goal.loop-unit-preserved
 loop-unit-preserved c =
-    rw (
-      told-more (pending_text (seen c.args.machine.now.whole)) configured_units c.loop-unit.unit-index Reader (omega arith),
-      c.in_ok-push_if_pending.ensures,
-      c.loop-unit.invariant,
-    ) (simp append_assoc)
+    told-more (pending_text (seen c.args.machine.now.whole)) configured_units c.loop-unit.unit-index Reader c.args.text.now _ _ (omega arith) c.loop-unit.invariant c.in_ok-push_if_pending.ensures

@@ -4,6 +4,6 @@ use Rattle.s360_packet.proofs.framing.push_escaped.Given as goal
 
 abbrev pub invariant-loop-byte : goal.invariant-loop-byte
 invariant-loop-byte l = record {
-  text : l.out.items ≡ l.fn.out.items ++ escaped (take l.byte-index l.bytes);
+  text : l.text ≡ l.initial.text ++ escaped (take l.byte-index l.bytes);
   total : l.total ≡ sum (escaped (take l.byte-index l.bytes)) % 256;
 }

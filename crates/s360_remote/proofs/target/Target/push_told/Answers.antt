@@ -7,9 +7,9 @@ pub returns-in-Registers : goal.returns-in-Registers
 returns-in-Registers c = rw c.in-Registers.is c.tell_registers.ensures
 
 pub returns-in-Supported : goal.returns-in-Supported
-returns-in-Supported c = rw c.in-Supported.is c.push.ensures
+returns-in-Supported c = rw c.in-Supported.is c.push_packet.ensures
 
 pub returns-in-MemoryMap : goal.returns-in-MemoryMap
 returns-in-MemoryMap c =
     let size : c.size.result ≡ storage_size (machine_now c.args.self.now) = search rules
-    in rw (c.in-MemoryMap.is, ← size) c.push-in-MemoryMap.ensures
+    in rw (c.in-MemoryMap.is, ← size) c.push_packet-in-MemoryMap.ensures

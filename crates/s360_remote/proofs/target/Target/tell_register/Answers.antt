@@ -9,4 +9,4 @@ returns-in-Some c =
     let words : c.words_of.result ≡ words_of (machine_now c.args.self.now) = c.words_of.ensures ∙ ap words_of c.machine.ensures.rerun
     in let found : register_value (words_of (machine_now c.args.self.now)) c.args.number ≡ Some c.in-Some.value
     = ap (λ ws. register_value ws c.args.number) (sym words) ∙ sym c.register_value.ensures ∙ c.in-Some.is
-    in rw found c.push.ensures
+    in rw found c.push_packet.ensures

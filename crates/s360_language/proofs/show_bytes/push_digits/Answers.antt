@@ -1,6 +1,6 @@
 use Rattle.std.proofs.Common.{◌<◌, length, arith}
 use Rattle.s360_language.proofs.ShownLemmas.{digits-pushed}
-use Rattle.s360_language.proofs.show_units.push_digits.Goals as goal
+use Rattle.s360_language.proofs.show_bytes.push_digits.Goals as goal
 
 pub loop-byte-preserved : goal.loop-byte-preserved
 loop-byte-preserved c =

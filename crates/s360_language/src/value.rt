@@ -1,36 +1,24 @@
 //! The value that a place has, in digits and words.
-ghost use Rattle.std.specs.Prelude.{◌≡◌, ◌++◌, IfOk, OnOk};
+ghost use Rattle.std.specs.Prelude.{◌≡◌, ◌++◌, OnOk};
 ghost use Rattle.s360_machine.specs.Machine.{seen};
-ghost use Rattle.s360_inquiry.specs.Values.{byte_words, control_words_of, device_words_of, external_words};
-ghost use Rattle.s360_inquiry.specs.Values.{key_words, psw_words, register_words, run_words, value_words};
+ghost use Rattle.s360_language.specs.Values.{block_key_words, byte_words, control_words_of, device_words_of, fetch_words};
+ghost use Rattle.s360_language.specs.Values.{key_words, psw_words, register_words, value_words};
 
-use s360_language::{name_of_external, push_block_key, push_control, push_device, push_run_state};
-use s360_machine::{ConfiguredUnit, ExternalConditions, Machine, RunState};
+use crate::names::{name_of_external, push_run_state};
+use crate::show_units::{push_control, push_device};
+use s360_machine::{ConfiguredUnit, Machine};
 use s360_psw::InstructionLength;
-use s360_store::{BLOCK_SIZE, Place, Storage};
+use s360_store::{BLOCK_SIZE, BlockKey, Place, Storage};
 use s360_text::Text;
 use s360_word::{RegisterNumber, Unit};
-use std::alloc::{AllocError, Global};
+use std::alloc::AllocError;
 
 /// So many general registers has the machine.
 const REGISTERS: u8 = 16;
 
-/// The value of a place after a blank; nothing of a place that the machine lacks.
-pub(crate) fn text_of_value(
-    alloc: Global,
-    machine: &Machine,
-    place: Place,
-) -> Result<Text, AllocError>
-    ensures { IfOk result (λ text. text ≡ value_words (seen machine.now.whole) place) }
-{
-    let mut text = Text::new(alloc);
-    push_value(&mut text, machine, place)?;
-    Ok(text)
-}
-
 /// Adds the value of a place after a blank; nothing of a place that the machine lacks.
 #[tactic(auto, unfolding(crate::specs::Values::value_words))]
-pub(crate) fn push_value(text: &mut Text, machine: &Machine, place: Place) -> Result<(), AllocError>
+pub fn push_value(text: &mut Text, machine: &Machine, place: Place) -> Result<(), AllocError>
     ensures { OnOk result (text.new ≡ text.old ++ value_words (seen machine.now.whole) place) }
 {
     match place {
@@ -38,8 +26,8 @@ pub(crate) fn push_value(text: &mut Text, machine: &Machine, place: Place) -> Re
         Place::Register(number) => push_register(text, machine, number),
         Place::Byte(at) => push_byte(text, machine.storage(), at),
         Place::Key(block) => push_key(text, machine.storage(), block),
-        Place::Run => push_run(text, machine.run()),
-        Place::External => push_external(text, machine.external()),
+        Place::Run => push_run_state(text, machine.run()),
+        Place::External => text.push_text(name_of_external(machine.external())),
         Place::UnitState(unit) => push_unit_state(text, machine, unit),
         Place::UnitMedia(unit) => push_unit_media(text, machine, unit),
     }
@@ -49,9 +37,8 @@ pub(crate) fn push_value(text: &mut Text, machine: &Machine, place: Place) -> Re
 fn push_psw(text: &mut Text, machine: &Machine) -> Result<(), AllocError>
     ensures { OnOk result (text.new ≡ text.old ++ psw_words machine.now.whole.core.psw) }
 {
-    text.push_text(" ")?;
-    text.push_hex(machine.psw().stored(0, InstructionLength::NotAvailable), 16)?;
-    Ok(())
+    let stored = machine.psw().stored(0, InstructionLength::NotAvailable);
+    text.push_numbered(" ", stored, 16)
 }
 
 /// Adds the word of a register.
@@ -61,9 +48,8 @@ fn push_register(text: &mut Text, machine: &Machine, number: u8) -> Result<(), A
     if number >= REGISTERS {
         return Ok(());
     }
-    text.push_text(" ")?;
-    text.push_hex(u64::from(machine.register(RegisterNumber::new(number))), 8)?;
-    Ok(())
+    let word = machine.register(RegisterNumber::new(number));
+    text.push_numbered(" ", u64::from(word), 8)
 }
 
 /// Adds a byte of storage.
@@ -73,9 +59,7 @@ fn push_byte(text: &mut Text, storage: &Storage, at: u32) -> Result<(), AllocErr
     if at >= storage.size() {
         return Ok(());
     }
-    text.push_text(" ")?;
-    text.push_hex(u64::from(storage.byte(at)), 2)?;
-    Ok(())
+    text.push_numbered(" ", u64::from(storage.byte(at)), 2)
 }
 
 /// Adds the storage key of a block, and its fetch bit if fetches are protected.
@@ -85,27 +69,26 @@ fn push_key(text: &mut Text, storage: &Storage, block: u32) -> Result<(), AllocE
     if block >= storage.size() / BLOCK_SIZE {
         return Ok(());
     }
-    text.push_text(" ")?;
-    push_block_key(text, storage.fetch_protection(), storage.block_key(block))?;
-    Ok(())
+    push_block_key(text, storage.fetch_protection(), storage.block_key(block))
 }
 
-/// Adds the name of a run state after a blank.
-pub(crate) fn push_run(text: &mut Text, state: RunState) -> Result<(), AllocError>
-    ensures { OnOk result (text.new ≡ text.old ++ run_words state) }
+/// Adds a storage key, and behind it the fetch bit if fetches are protected.
+fn push_block_key(text: &mut Text, fetch_protection: bool, key: BlockKey) -> Result<(), AllocError>
+    ensures { OnOk result (text.new ≡ text.old ++ block_key_words fetch_protection key) }
 {
-    text.push_text(" ")?;
-    push_run_state(text, state)?;
-    Ok(())
+    text.push_numbered(" ", u64::from(key.key().number()), 1)?;
+    text.push_text(fetch_words(fetch_protection, key))
 }
 
-/// Adds the names of the pending external conditions.
-fn push_external(text: &mut Text, external: ExternalConditions) -> Result<(), AllocError>
-    ensures { OnOk result (text.new ≡ text.old ++ external_words external) }
+/// What is said of the fetch bit behind a storage key, if fetches are protected.
+fn fetch_words(fetch_protection: bool, key: BlockKey) -> &'static str
+    ensures { result.now ≡ fetch_words fetch_protection key }
 {
-    text.push_text(" ")?;
-    text.push_text(name_of_external(external))?;
-    Ok(())
+    match (fetch_protection, key.fetch_bit()) {
+        (false, _) => "",
+        (true, false) => " fetch 0",
+        (true, true) => " fetch 1",
+    }
 }
 
 /// Adds what the channel does for a unit.
