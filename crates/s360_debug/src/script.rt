@@ -26,7 +26,7 @@ pub fn carry_out<R: Read, W: Write + Drop>(
     ensures state { OnOk result (IfSome (R.remaining reader.old) (λ text. session.new ≡ session_after session.old text)) }
     ensures unread { (result ≡ Err read_failed) ⊎ (result ≡ Err TooLong) → session.new ≡ session.old }
     ensures too_long { result ≡ Err TooLong → IfSome (R.remaining reader.old) (λ text. 1048576 < length text) }
-    ensures memory { result ≡ Err Memory → IfSome (R.remaining reader.old) (HasStopped None None session.old session.new) }
+    ensures memory { result ≡ Err Memory → HasStopped (R.remaining reader.old) None None session.old session.new }
     ensures write { result ≡ Err write_failed → IfSome (R.remaining reader.old) (λ text. AreCarriedOut session.old session.new text) }
 {
     let Ok(mut buffered) = BufWriter::new(alloc, OneTry { writer }) else {

@@ -43,13 +43,12 @@ impl Drop for ReaderMedia {
 }
 
 impl Model for ReaderMedia {
-    ghost use Rattle.std.specs.Prelude.{◌-◌, vec_len, vec_capacity};
-    ghost use Rattle.s360_device.specs.Kinds.{MediaWithRoom};
+    ghost use Rattle.s360_device.specs.Kinds.{MediaWithRoom, room_in};
     ghost use Rattle.s360_device.specs.Reader.{ReaderMedia as Seen};
 
     ghost Value = { MediaWithRoom Seen };
 
-    ghost view = { λ r. record { media = record { cards = r.deck; stackers = r.stackers.items; end_of_file = r.end_of_file }; room = vec_capacity r.stackers - vec_len r.stackers } };
+    ghost view = { λ r. record { media = record { cards = r.deck; stackers = r.stackers.items; end_of_file = r.end_of_file }; room = room_in r.stackers } };
 }
 
 impl Reader {

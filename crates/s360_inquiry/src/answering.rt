@@ -1,7 +1,7 @@
 //! What an inquiry is answered. Each has its row in `text_of_inquiry`.
 ghost use Rattle.std.specs.Prelude.{◌≡◌, IfOk, OnErr, OnOk};
 ghost use Rattle.s360_journal.specs.Recorded.{with_standing};
-ghost use Rattle.s360_inquiry.specs.Answers.{answer_to, stands_after, state_after};
+ghost use Rattle.s360_inquiry.specs.Answers.{answer_to, inquired, stands_after, state_after};
 
 use crate::change::{answer_changes, answer_who};
 use crate::dump::dump_of;
@@ -22,8 +22,8 @@ pub fn answer_inquiry(
     stood: &mut Option<u32>,
     inquiry: Inquiry,
 ) -> Result<Text, AllocError>
-    ensures text { IfOk result (λ text. text ≡ answer_to (record { recorded = recording.old; stood = stood.old }) inquiry) }
-    ensures state { OnOk result (record { recorded = recording.new; stood = stood.new } ≡ state_after (record { recorded = recording.old; stood = stood.old }) inquiry) }
+    ensures text { IfOk result (λ text. text ≡ answer_to (inquired recording.old stood.old) inquiry) }
+    ensures state { OnOk result (inquired recording.new stood.new ≡ state_after (inquired recording.old stood.old) inquiry) }
     ensures memory { OnErr result (recording.new ≡ with_standing recording.old recording.new.standing) }
     ensures memory_stood { OnErr result (stood.new ≡ stood.old) }
 {
@@ -43,8 +43,8 @@ fn text_of_inquiry(
     stood: Option<u32>,
     inquiry: Inquiry,
 ) -> Result<Text, AllocError>
-    ensures text { IfOk result (λ text. text ≡ answer_to (record { recorded = recording.old; stood = stood }) inquiry) }
-    ensures state { OnOk result (recording.new ≡ with_standing recording.old (stands_after (record { recorded = recording.old; stood = stood }) inquiry)) }
+    ensures text { IfOk result (λ text. text ≡ answer_to (inquired recording.old stood) inquiry) }
+    ensures state { OnOk result (recording.new ≡ with_standing recording.old (stands_after (inquired recording.old stood) inquiry)) }
     ensures memory { OnErr result (recording.new ≡ with_standing recording.old recording.new.standing) }
 {
     match inquiry {

@@ -12,7 +12,7 @@ use Rattle.s360_channel.specs.declared.unit_state.UnitState.{UnitState}
 use Rattle.s360_channel.specs.declared.unit_state.UnitState.TheVariants.{Idle, Active, Waiting}
 use Rattle.s360_channel.specs.Words.{csw_doubleword}
 use Rattle.s360_channel.specs.declared.configured_unit.ConfiguredUnit.{ConfiguredUnit}
-use Rattle.s360_channel.specs.declared.configured_unit.ConfiguredUnit.TheVariants.{Reader as reader_unit, Punch as punch_unit, Printer as printer_unit, Console as console_unit, Tape0, Tape1}
+use Rattle.s360_channel.specs.declared.configured_unit.ConfiguredUnit.TheVariants as units
 use Rattle.s360_machine.specs.declared.refusal.Refusal.TheVariants.{NoSuchUnit}
 use Rattle.s360_machine.specs.Machine.{Machine}
 use Rattle.s360_channel.specs.ConfiguredUnits.{attention_at, state_at, unit_at}
@@ -53,8 +53,8 @@ unit_text m unit = text_of_state unit (state_at m.units unit) (attention_at m.un
 abbrev pub sense_text : List ℕ → List ℕ
 sense_text sense = codes " sense " ++ hex_text 2 (slice_index sense 0)
 
-abbrev pub key_text : Bool → List ℕ
-key_text pressed = if pressed then codes "on" else codes "off"
+abbrev pub pressed_text : Bool → List ℕ
+pressed_text pressed = if pressed then codes "on" else codes "off"
 
 -- a count behind its name
 unfoldable pub counted : List ℕ → ℕ → List ℕ
@@ -64,7 +64,7 @@ counted name count = name ++ decimal count
 abbrev pub reader_words : Reader → List ℕ
 reader_words r =
     sense_text r.sense ++ codes " next " ++ decimal (length r.media.stackers) ++ codes " of " ++ decimal (length r.media.cards)
-    ++ codes " eof " ++ key_text r.media.end_of_file
+    ++ codes " eof " ++ pressed_text r.media.end_of_file
 
 -- the cards that were punched
 abbrev pub punch_words : Punch → List ℕ
@@ -93,12 +93,12 @@ tape_words t =
 
 -- a unit's device
 abbrev pub device_words : Machine → ConfiguredUnit → List ℕ
-device_words m reader_unit = reader_words m.media.reader
-device_words m punch_unit = punch_words m.media.punch
-device_words m printer_unit = printer_words m.media.printer
-device_words m console_unit = console_words m.media.console
-device_words m Tape0 = tape_words m.media.tape0
-device_words m Tape1 = tape_words m.media.tape1
+device_words m units.Reader = reader_words m.media.reader
+device_words m units.Punch = punch_words m.media.punch
+device_words m units.Printer = printer_words m.media.printer
+device_words m units.Console = console_words m.media.console
+device_words m units.Tape0 = tape_words m.media.tape0
+device_words m units.Tape1 = tape_words m.media.tape1
 
 -- the line of a unit's device, if the machine has it
 abbrev pub device_line : Machine → Unit → ConfiguredUnit → List ℕ

@@ -14,7 +14,7 @@ use crate::show_units::push_digits;
 use s360_device::{Punch, PunchStacker, ReadStacker, Reader};
 use s360_machine::{ConfiguredUnit, Machine, Refusal};
 use s360_print::{Console, Printer, Record, TypedItem, ebcdic_to_ascii};
-use s360_tape::{Item, Tape};
+use s360_tape::{TapeItem, Tape};
 use s360_text::Text;
 use s360_word::Unit;
 use std::alloc::{AllocError, Global};
@@ -100,10 +100,10 @@ fn item_of_tape(alloc: Global, tape: &Tape, number: u32) -> Result<Text, AllocEr
 }
 
 /// The line of a block or mark.
-fn line_of_tape_item(alloc: Global, item: &Item) -> Result<Text, AllocError>
+fn line_of_tape_item(alloc: Global, item: &TapeItem) -> Result<Text, AllocError>
     ensures { IfOk result (λ text. text ≡ tape_item_line item.now) }
 {
-    let Item::Block(block) = item else {
+    let TapeItem::Block(block) = item else {
         return line_of_word(alloc, "mark");
     };
     let bytes = block.as_slice();

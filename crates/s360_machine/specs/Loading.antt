@@ -33,6 +33,10 @@ abbrev pub has_loaded : RunState → ConfiguredUnit → UnitState → UnitState 
 has_loaded (Loading unit) u (Active p) (Waiting csw) = nat_eq unit.0 (address_of_unit u) && nat_eq (status_halfword csw.unit csw.channel) 0x0C00
 has_loaded r u s t = false
 
+-- the units that stand otherwise after an event of one end it
+abbrev pub ends_loading : ConfiguredUnit → Machine → Units → Bool
+ends_loading u m us = has_loaded m.control.run_state u (control_of m.units u).state (control_of us u).state
+
 -- the doubleword at 0 becomes the PSW
 abbrev pub with_initial_psw : Core → Core
 with_initial_psw m = core_with_psw (current_psw (doubleword_at m.storage.bytes 0)) m
@@ -61,4 +65,4 @@ after_load u m = record m {
 -- the machine after a channel event of a unit, by that before it and what the channel makes of it:
 -- the event in which the program ends ends loading too (own profile)
 abbrev pub after_loading : ConfiguredUnit → Machine → Machine → Machine
-after_loading u m n = if has_loaded m.control.run_state u (control_of m.units u).state (control_of n.units u).state then after_load u n else n
+after_loading u m n = if ends_loading u m n.units then after_load u n else n

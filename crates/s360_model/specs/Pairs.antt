@@ -11,8 +11,8 @@ abbrev pub pair_of : ℕ → ℕ → ℕ
 pair_of high low = high * 2 ^ 32 + low
 
 -- the high and the low word of a number of 64 bits
-abbrev pub words_of : ℕ → ℕ × ℕ
-words_of pair = (pair / 2 ^ 32, pair % 2 ^ 32)
+abbrev pub words_of_pair : ℕ → ℕ × ℕ
+words_of_pair pair = (pair / 2 ^ 32, pair % 2 ^ 32)
 
 -- the signed number that a pair stands for
 abbrev pub signed_pair : ℕ → ℕ → ℤ

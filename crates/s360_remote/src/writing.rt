@@ -8,7 +8,7 @@ ghost use Rattle.s360_remote.specs.Writing.{IsMadeOrBegun, IsWriteEnd, is_other,
 ghost use Rattle.s360_remote.specs.Writing.{patches_of_words, register_write, registers_write, storage_write};
 
 use crate::error_number::ErrorNumber;
-use crate::registers::{patch_of_psw, patch_of_word, words_of};
+use crate::registers::{patch_of_psw, patch_of_word, words_of_machine};
 use crate::target::Target;
 use s360_machine::{Event, Patch};
 use s360_packet::REGISTERS;
@@ -59,7 +59,7 @@ impl Target {
             return Err(ErrorNumber::Full);
         }
         self.session.forget_dropped();
-        let before = words_of(self.machine());
+        let before = words_of_machine(self.machine());
         self.write_words(&before, words)
     }
 

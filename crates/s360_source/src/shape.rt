@@ -13,7 +13,7 @@ use s360_fixed::{
     Ended, Form, Operation, ProgramCode, View, decode, decode_bytes, fetch_instruction,
     operand_address,
 };
-use s360_logic::{Fetched, subject_of, with_ored_byte};
+use s360_logic::{FetchedInstruction, subject_of, with_ored_byte};
 use s360_machine::Machine;
 use s360_psw::InstructionLength;
 use s360_store::{BLOCK_SIZE, Plan};
@@ -153,7 +153,10 @@ fn performed_at_address(view: &View) -> Option<Performance>
 }
 
 /// The shape of an instruction that was fetched.
-fn fetched_shape(alloc: Global, fetched: &Fetched<'_>) -> Result<InstructionShape, AllocError>
+fn fetched_shape(
+    alloc: Global,
+    fetched: &FetchedInstruction<'_>,
+) -> Result<InstructionShape, AllocError>
     ensures { IfOk result (λ shape. shape ≡ instruction_shape fetched.now.view.core) }
 {
     let planned = fetched.plan(&mut Plan::new(alloc))?;

@@ -13,7 +13,7 @@ ghost use Rattle.s360_model.specs.Core.{core_with_bytes, core_with_key, core_wit
 ghost use Rattle.s360_store.specs.Cells.{HasEachOnce};
 ghost use Rattle.s360_store.specs.Items.{IsPartAt};
 ghost use Rattle.s360_store.specs.PlanParts.{cells_of_entries, cells_of_planned};
-ghost use Rattle.s360_store.specs.Plans.{after_put, after_put_bytes, planned_value};
+ghost use Rattle.s360_store.specs.Plans.{after_put, after_put_bytes, after_put_if, planned_value};
 ghost use Rattle.s360_store.specs.Plans.{AddsToPlan, CanHaveKey, HasBytes, HasPsw, HasRegister};
 ghost use Rattle.s360_store.specs.declared.place.Place.TheVariants.{Key, Psw as psw_place, Register};
 
@@ -131,7 +131,7 @@ impl Planned {
     fn put_run(&mut self, address: u32, bytes: &[u8]) -> Result<bool, AllocError>
         requires room { length (cells_of_planned self.old) + length bytes.now ≤ 1000000 }
         requires inside { address + length bytes.now ≤ 2 ^ 32 }
-        ensures ok { IfOk result (λ done. cells_of_planned self.new ≡ (if done then after_put_bytes (cells_of_planned self.old) address bytes.now else cells_of_planned self.old)) }
+        ensures ok { IfOk result (λ done. cells_of_planned self.new ≡ after_put_if done (cells_of_planned self.old) address bytes.now) }
         ensures err { OnErr result (cells_of_planned self.new ≡ cells_of_planned self.old) }
     {
         match self {
@@ -210,7 +210,7 @@ impl Plan {
     fn put_run(&mut self, address: u32, bytes: &[u8]) -> Result<bool, AllocError>
         requires few { length self.old + length bytes.now ≤ 1000000 }
         requires inside { address + length bytes.now ≤ 2 ^ 32 }
-        ensures ok { IfOk result (λ done. self.new ≡ (if done then after_put_bytes self.old address bytes.now else self.old)) }
+        ensures ok { IfOk result (λ done. self.new ≡ after_put_if done self.old address bytes.now) }
         ensures err { OnErr result (self.new ≡ self.old) }
     {
         let done = self.planned.put_run(address, bytes)?;

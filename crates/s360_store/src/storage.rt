@@ -56,7 +56,8 @@ impl Model for Storage {
 
     ghost view = { λ s. record { bytes = s.bytes.items; keys = s.keys.items; fetch_protection = s.fetch_protection } };
 
-    ghost invariant = { λ s. IsTrue (is_storage_size (length s.bytes.items)) × (length s.keys.items ≡ length s.bytes.items / block_size) × AreBlockKeys s.fetch_protection s.keys.items };
+    ghost invariant = { λ s. IsTrue (is_storage_size (length s.bytes.items))
+        × (length s.keys.items ≡ length s.bytes.items / block_size) × AreBlockKeys s.fetch_protection s.keys.items };
 }
 
 /// Whether a storage may have so many bytes.

@@ -9,7 +9,7 @@ ghost use Rattle.s360_tape.specs.WholeTape.{seen_media, tape_kind};
 ghost use Rattle.std.specs.Prelude.{◌≡◌, ◌≤◌, length};
 
 use crate::block::BLOCK_LIMIT;
-use crate::item::Item;
+use crate::item::TapeItem;
 use crate::marks::{after_mark, before_mark};
 use crate::sense::{AT_LOAD_POINT, WRITE_PROTECTED};
 use crate::tape::TapeMedia;
@@ -128,7 +128,7 @@ impl TapeMedia {
                 exception: false,
             },
             TapeCommand::WriteMark => Row::Control {
-                change: Some(self.writing(Item::Mark)),
+                change: Some(self.writing(TapeItem::Mark)),
                 exception: false,
             },
             TapeCommand::Read => self.read(),
