@@ -10,6 +10,7 @@ ghost use Rattle.s360_channel.specs.UnitChanges.{units_after_swap};
 ghost use Rattle.s360_store.specs.Puts.{HasNoPuts};
 ghost use Rattle.s360_store.specs.declared.place.Place.TheVariants.{Byte};
 ghost use Rattle.s360_machine.specs.Loading.{core_after_loading, ends_loading, with_behind, with_below};
+ghost use Rattle.s360_machine.specs.Machine.{seen};
 
 use crate::machine::Machine;
 use crate::run_state::RunState;
