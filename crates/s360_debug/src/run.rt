@@ -4,8 +4,7 @@ ghost use Rattle.s360_language.specs.Reading.{reading_of};
 ghost use Rattle.s360_debug.specs.Debugger.{debugger};
 ghost use Rattle.s360_debug.specs.Script.{answer_to_reading, state_after_reading, StandsAfterReading};
 ghost use Rattle.s360_debug.specs.Script.{AreAnswered, HasStopped, WasCut, lines_of_script, session_after};
-ghost use Rattle.s360_text.specs.declared.script_fault.ScriptFault.TheVariants.{Read as read_failed, TooLong, Memory};
-ghost use Rattle.s360_text.specs.declared.script_fault.ScriptFault.TheVariants.{Write as write_failed};
+ghost use Rattle.s360_text.specs.declared.script_fault.ScriptFault.TheVariants.{Read as read_failed, TooLong, Memory, Write as write_failed};
 
 use crate::answering::{answer, text_of_fault};
 use crate::lines::{Lines, skips};

@@ -3,8 +3,7 @@ ghost use Rattle.std.specs.Prelude.{◌≡◌, ◌⊎◌, ◌≤◌, ◌<◌, []
 ghost use Rattle.std.specs.Io.KnownBytes.{Keeps};
 ghost use Rattle.std.specs.Io.Buffered.{writer_buffer, writer_contents};
 ghost use Rattle.s360_debug.specs.Script.{AreAnswered, AreCarriedOut, HasStopped, session_after};
-ghost use Rattle.s360_text.specs.declared.script_fault.ScriptFault.TheVariants.{Read as read_failed, TooLong, Memory};
-ghost use Rattle.s360_text.specs.declared.script_fault.ScriptFault.TheVariants.{Write as write_failed};
+ghost use Rattle.s360_text.specs.declared.script_fault.ScriptFault.TheVariants.{Read as read_failed, TooLong, Memory, Write as write_failed};
 
 use crate::run::run_script;
 use s360_journal::Session;

@@ -91,11 +91,9 @@ impl<M: Media> DeviceWith<M> {
 impl<M: Media> Device for DeviceWith<M> {
     ghost use Rattle.std.specs.Prelude.{◌≡◌};
     ghost use Rattle.s360_device.specs.Commands.{command_of};
-    ghost use Rattle.s360_device.specs.DeviceChanges.{CanSwapDevice, device_change_after_swap};
-    ghost use Rattle.s360_device.specs.DeviceChanges.{device_needs, device_seen, room_after_swap, with_part};
+    ghost use Rattle.s360_device.specs.DeviceChanges.{CanSwapDevice, device_change_after_swap, device_needs, device_seen, room_after_swap, with_part};
     ghost use Rattle.s360_device.specs.DeviceLaws.{room-again, room-restores_change, room-restores_device};
-    ghost use Rattle.s360_device.specs.Rows.{begin_of as begin_in, input_of as input_in, exception_of as exception_in};
-    ghost use Rattle.s360_device.specs.Rows.{after_command};
+    ghost use Rattle.s360_device.specs.Rows.{begin_of as begin_in, input_of as input_in, exception_of as exception_in, after_command};
 
     type Change = DeviceChange<M::Change>;
 

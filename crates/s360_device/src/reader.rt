@@ -2,8 +2,7 @@
 ghost use Rattle.std.specs.Prelude.{◌≡◌, IfSome, length};
 ghost use Rattle.std.specs.Option.{option_copied};
 ghost use Rattle.s360_model.specs.Cards.{columns};
-ghost use Rattle.s360_device.specs.DeviceChanges.{device_after_swap, device_change_after_swap, device_needs};
-ghost use Rattle.s360_device.specs.DeviceChanges.{CanSwapDevice, bare};
+ghost use Rattle.s360_device.specs.DeviceChanges.{device_after_swap, device_change_after_swap, device_needs, CanSwapDevice, bare};
 ghost use Rattle.s360_device.specs.Items.{item_in};
 ghost use Rattle.s360_device.specs.Kinds.{MakesMedia};
 ghost use Rattle.s360_device.specs.Reader.{new_reader, next_card, with_end_key};

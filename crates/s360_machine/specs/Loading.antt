@@ -13,9 +13,8 @@ use Rattle.s360_channel.specs.Words.{status_halfword}
 use Rattle.s360_channel.specs.declared.configured_unit.ConfiguredUnit.{ConfiguredUnit}
 use Rattle.s360_machine.specs.declared.run_state.RunState.{RunState}
 use Rattle.s360_machine.specs.declared.run_state.RunState.TheVariants.{Operating, Loading}
-use Rattle.s360_channel.specs.ConfiguredUnits.{Units}
+use Rattle.s360_channel.specs.ConfiguredUnits.{Units, address_of_unit, control_of, idle_units, with_control_of}
 use Rattle.s360_machine.specs.Machine.{Machine}
-use Rattle.s360_channel.specs.ConfiguredUnits.{address_of_unit, control_of, idle_units, with_control_of}
 
 -- the unit from which the machine loads executes the program of loading
 abbrev pub loading_unit : UnitControl

@@ -2,7 +2,7 @@
 use Rattle.std.specs.Prelude.{◌≡◌, ◌++◌, ◌∷◌, [], IfSome, Option, List}
 use Rattle.s360_model.specs.Exchanges.{CanIfAny, after_if_any, back_if_any, need_if_any}
 use Rattle.s360_machine.specs.declared.beside.Beside.{Beside}
-use Rattle.s360_machine.specs.ControlCells.{ControlCell, control_cells}
+use Rattle.s360_machine.specs.ControlCells.{ControlCell, control_cells, HasEachControlOnce, control_after_exchange, places_of_control}
 use Rattle.s360_model.specs.Core.{Core}
 use Rattle.s360_machine.specs.declared.media.MediaChange.{MediaChange}
 use Rattle.s360_channel.specs.UnitChanges.{IsUnitsChangeTo}
@@ -14,10 +14,8 @@ use Rattle.s360_machine.specs.declared.operator.Key.{Key as OperatorKey}
 use Rattle.s360_machine.specs.Operator.{media_after_key}
 use Rattle.s360_machine.specs.Differences.{control_differences, differences, media_differences}
 use Rattle.s360_machine.specs.Machine.{Machine, Media, Spare, Whole, WholeMedia, Control, seen, seen_media}
-use Rattle.s360_machine.specs.ControlCells.{HasEachControlOnce, control_after_exchange, places_of_control}
 use Rattle.s360_machine.specs.Change.{Change, CanSwap, HasRoom, NeedsNoRoom, after_swap, change_after_swap, places_of_change}
-use Rattle.s360_machine.specs.IoChanges.{CanSwapMedia, media_after_swap, media_change_after_swap}
-use Rattle.s360_machine.specs.IoChanges.{media_needs, places_of_media}
+use Rattle.s360_machine.specs.IoChanges.{CanSwapMedia, media_after_swap, media_change_after_swap, media_needs, places_of_media}
 
 -- the control cells make the second control part of the first, and have just the places at which
 -- the two differ

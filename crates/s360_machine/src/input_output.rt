@@ -9,8 +9,7 @@ ghost use Rattle.s360_channel.specs.declared.io_instructions.CswStore.TheVariant
 ghost use Rattle.s360_channel.specs.ConfiguredUnits.{interrupting_unit};
 ghost use Rattle.s360_channel.specs.IoInstructions.{units_after_io};
 ghost use Rattle.s360_channel.specs.UnitChanges.{IsUnitsChangeTo};
-ghost use Rattle.s360_machine.specs.InputOutput.{after_input_output, after_io, after_taking};
-ghost use Rattle.s360_machine.specs.InputOutput.{core_after_io, core_with_csw, io_result};
+ghost use Rattle.s360_machine.specs.InputOutput.{after_input_output, after_io, after_taking, core_after_io, core_with_csw, io_result};
 ghost use Rattle.s360_machine.specs.Interruptions.{after_interruption};
 ghost use Rattle.s360_machine.specs.Machine.{seen};
 ghost use Rattle.s360_machine.specs.Planned.{LeavesOthers, PutsAfter};

@@ -1,14 +1,12 @@
 //! The machine: its state, and the events that change it.
-ghost use Rattle.std.specs.Prelude.{◌≡◌, ◌≤◌, [], length, slice_index, None, Err, OnOk, IfOk, IfSome, IsOkUnless};
-ghost use Rattle.std.specs.Prelude.{◌<◌, MatchOption, OnErr, false, true};
+ghost use Rattle.std.specs.Prelude.{◌≡◌, ◌≤◌, [], length, slice_index, None, Err, OnOk, IfOk, IfSome, IsOkUnless, ◌<◌, MatchOption, OnErr, false, true};
 ghost use Rattle.std.specs.Option.{option_copied, option_map};
 ghost use Rattle.std.specs.Bool.{MatchBool};
 ghost use Rattle.s360_model.specs.Storage.{is_storage_size};
 ghost use Rattle.s360_store.specs.declared.fault.StoreFault.TheVariants.{Size, Memory as no_memory};
 ghost use Rattle.s360_machine.specs.Machine.{Machine as SeenMachine, machine_with, new_machine, room_for, seen};
 ghost use Rattle.s360_store.specs.Cells.{AllFit};
-ghost use Rattle.s360_machine.specs.Change.{CanSwap, after_swap, change_after_swap};
-ghost use Rattle.s360_machine.specs.Change.{HasRoom, NeedsNoRoom, NeedsRoom};
+ghost use Rattle.s360_machine.specs.Change.{CanSwap, after_swap, change_after_swap, HasRoom, NeedsNoRoom, NeedsRoom};
 ghost use Rattle.s360_machine.specs.Changes.{change_of, change_of_core};
 ghost use Rattle.s360_machine.specs.IoChanges.{CanSwapMedia, media_needs, unit_of_change};
 ghost use Rattle.s360_machine.specs.Packed.{change_within, row_over};

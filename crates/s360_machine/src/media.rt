@@ -2,8 +2,7 @@
 //! Operations".
 ghost use Rattle.std.specs.Prelude.{◌≡◌, ◌<◌, ◌≤◌, Some, None, IfOk, OnErr, OnOk, length};
 ghost use Rattle.s360_print.specs.TypedLines.{line_limit};
-ghost use Rattle.s360_machine.specs.IoChanges.{CanSwapMedia, media_after_swap, media_change_after_swap};
-ghost use Rattle.s360_machine.specs.IoChanges.{media_needs, unit_of_change};
+ghost use Rattle.s360_machine.specs.IoChanges.{CanSwapMedia, media_after_swap, media_change_after_swap, media_needs, unit_of_change};
 ghost use Rattle.s360_machine.specs.Machine.{room_for};
 ghost use Rattle.s360_machine.specs.Media.{media_of, room_of};
 ghost use Rattle.s360_machine.specs.Planned.{IsChangeByKey};

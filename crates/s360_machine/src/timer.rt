@@ -5,8 +5,7 @@ ghost use Rattle.s360_store.specs.Plans.{HasBytes};
 ghost use Rattle.s360_store.specs.Puts.{HasNoPuts};
 ghost use Rattle.s360_machine.specs.Machine.{seen};
 ghost use Rattle.s360_machine.specs.Planned.{LeavesOthers, PutsAfter};
-ghost use Rattle.s360_machine.specs.Timer.{after_tick, is_negative, runs_out, timer_after_tick};
-ghost use Rattle.s360_machine.specs.Timer.{timer_location, timer_of};
+ghost use Rattle.s360_machine.specs.Timer.{after_tick, is_negative, runs_out, timer_after_tick, timer_location, timer_of};
 
 use crate::beside::Beside;
 use crate::machine::Machine;

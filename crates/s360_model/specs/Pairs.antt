@@ -1,7 +1,6 @@
 -- A pair of words as one number of 64 bits, the first word high (GA22-6821, "Fixed-Point
 -- Arithmetic", data format). Read as a signed number it is in two's complement.
-use Rattle.std.specs.Prelude.{ℕ, ◌+◌, ◌-◌, ◌*◌, ◌/◌, ◌%◌, ◌^◌, Bool, not, ◌&&◌, if◌then◌else◌}
-use Rattle.std.specs.Prelude.{ℤ, pos, ◌+ℤ◌, ◌-ℤ◌, ◌*ℤ◌, int_lt, unsigned_abs}
+use Rattle.std.specs.Prelude.{ℕ, ◌+◌, ◌-◌, ◌*◌, ◌/◌, ◌%◌, ◌^◌, Bool, not, ◌&&◌, if◌then◌else◌, ℤ, pos, ◌+ℤ◌, ◌-ℤ◌, ◌*ℤ◌, int_lt, unsigned_abs}
 use Rattle.std.specs.Int.{int_rem_euclid}
 use Rattle.s360_model.specs.Numbers.{signed}
 use Rattle.s360_model.specs.ConditionCodes.{sign_code}

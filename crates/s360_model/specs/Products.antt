@@ -1,7 +1,6 @@
 -- Products and quotients of signed words (GA22-6821, "Fixed-Point Arithmetic", multiply and
 -- divide).
-use Rattle.std.specs.Prelude.{ℕ, Bool, not, ◌&&◌, nat_eq, if◌then◌else◌, Option, Some, None}
-use Rattle.std.specs.Prelude.{ℤ, ◌*ℤ◌, int_div, int_rem, unsigned_abs}
+use Rattle.std.specs.Prelude.{ℕ, Bool, not, ◌&&◌, nat_eq, if◌then◌else◌, Option, Some, None, ℤ, ◌*ℤ◌, int_div, int_rem, unsigned_abs}
 use Rattle.s360_model.specs.Numbers.{signed, fits_word}
 use Rattle.s360_model.specs.Arithmetic.{word_of}
 use Rattle.s360_model.specs.Pairs.{signed_pair, doubleword_of, words_of_pair}

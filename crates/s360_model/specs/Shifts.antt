@@ -1,8 +1,7 @@
 -- Shifts of a word or of a pair of words by a count of 0 to 63 (GA22-6821, "Fixed-Point Arithmetic"
 -- and "Logical Operations", shifts). A signed shift is a multiple or a quotient of the signed
 -- number, and its condition code is a function of that exact number.
-use Rattle.std.specs.Prelude.{ℕ, ◌+◌, ◌*◌, ◌/◌, ◌%◌, ◌^◌}
-use Rattle.std.specs.Prelude.{ℤ, pos, ◌*ℤ◌}
+use Rattle.std.specs.Prelude.{ℕ, ◌+◌, ◌*◌, ◌/◌, ◌%◌, ◌^◌, ℤ, pos, ◌*ℤ◌}
 use Rattle.std.specs.Int.{int_div_euclid}
 use Rattle.s360_model.specs.Numbers.{low32, signed}
 use Rattle.s360_model.specs.Arithmetic.{word_of}

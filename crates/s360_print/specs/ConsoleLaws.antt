@@ -6,8 +6,7 @@ use Rattle.s360_device.specs.MotionLaws.{CanMove-again, after_motion-twice, moti
 use Rattle.s360_print.specs.declared.typed_line.TypedItem.{TypedItem}
 use Rattle.s360_print.specs.declared.console_change.ListChange.{ListChange}
 use Rattle.s360_print.specs.declared.console_change.ListChange.TheVariants.{Typed, Entered}
-use Rattle.s360_print.specs.ConsoleChanges.{CanChangeList, entered_after, list_change_back, typed_after}
-use Rattle.s360_print.specs.ConsoleChanges.{console_kind}
+use Rattle.s360_print.specs.ConsoleChanges.{CanChangeList, entered_after, list_change_back, typed_after, console_kind}
 
 CanChangeList-again : (typed : List TypedItem) (entered : List (List ℕ)) (x : ListChange) → CanChangeList typed entered x
     → CanChangeList (typed_after typed x) (entered_after entered x) (list_change_back typed entered x)

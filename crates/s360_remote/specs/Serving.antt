@@ -20,11 +20,10 @@ use Rattle.s360_packet.specs.declared.request.Point.TheVariants.{Write as write}
 use Rattle.s360_packet.specs.declared.request.Thread.{Thread}
 use Rattle.s360_packet.specs.declared.request.Thread.TheVariants.{Numbered}
 use Rattle.s360_packet.specs.declared.request.Request.{Request}
-use Rattle.s360_packet.specs.declared.request.Request.TheVariants.{Stopped, Registers, WriteRegisters, Register, WriteRegister, Storage, WriteStorage}
-use Rattle.s360_packet.specs.declared.request.Request.TheVariants.{Step, Continue, StepBack, ContinueBack, Insert, InsertIf, Remove, Command, HasMoved}
-use Rattle.s360_packet.specs.declared.request.Request.TheVariants.{Supported, Description, MemoryMap, Extend, Restart, Run, Select, IsAlive}
-use Rattle.s360_packet.specs.declared.request.Request.TheVariants.{CurrentThread, Attached, FirstThreads, NextThreads}
-use Rattle.s360_packet.specs.declared.request.Request.TheVariants.{StopAcknowledging, Detach, Kill, KillProcess}
+use Rattle.s360_packet.specs.declared.request.Request.TheVariants.{Stopped, Registers, WriteRegisters, Register, WriteRegister, Storage, WriteStorage, Step}
+use Rattle.s360_packet.specs.declared.request.Request.TheVariants.{Continue, StepBack, ContinueBack, Insert, InsertIf, Remove, Command, HasMoved, Supported}
+use Rattle.s360_packet.specs.declared.request.Request.TheVariants.{Description, MemoryMap, Extend, Restart, Run, Select, IsAlive, CurrentThread, Attached}
+use Rattle.s360_packet.specs.declared.request.Request.TheVariants.{FirstThreads, NextThreads, StopAcknowledging, Detach, Kill, KillProcess}
 use Rattle.s360_journal.specs.Recorded.{session_of, standing_events, with_standing}
 use Rattle.s360_remote.specs.Conditions.{conditions_in}
 use Rattle.s360_remote.specs.Driven.{Driven, come_to, gone_partly, moved_to}

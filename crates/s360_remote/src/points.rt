@@ -1,6 +1,5 @@
 //! Where gdb asks the machine to stop. Source: gdb manual, "Packets", `Z0` to `Z2`.
-ghost use Rattle.std.specs.Prelude.{◌≡◌, ◌<◌, ◌+◌, ◌^◌, [], ◌≤◌, not, drop, length, nat_eq};
-ghost use Rattle.std.specs.Prelude.{slice_get, vec_capacity, IfOk, OnErr, OnOk, SomeIff};
+ghost use Rattle.std.specs.Prelude.{◌≡◌, ◌<◌, ◌+◌, ◌^◌, [], ◌≤◌, not, drop, length, nat_eq, slice_get, vec_capacity, IfOk, OnErr, OnOk, SomeIff};
 ghost use Rattle.std.specs.List.{filter, list_any, range_with_len};
 ghost use Rattle.s360_journal.specs.Breakpoints.{has_room_for};
 ghost use Rattle.s360_journal.specs.Recorded.{session_of};

@@ -2,8 +2,7 @@
 //! org.gnu.gdb.s390.core.
 ghost use Rattle.std.specs.Prelude.{◌≡◌, ◌<◌, ◌^◌};
 ghost use Rattle.s360_machine.specs.Machine.{seen};
-ghost use Rattle.s360_remote.specs.Registers.{address_word_of, mask_word_of, patch_of_psw, patch_of_word, psw_of_words};
-ghost use Rattle.s360_remote.specs.Registers.{words_of_machine};
+ghost use Rattle.s360_remote.specs.Registers.{address_word_of, mask_word_of, patch_of_psw, patch_of_word, psw_of_words, words_of_machine};
 
 use s360_machine::{Machine, Patch};
 use s360_packet::REGISTERS;

@@ -1,7 +1,6 @@
 //! What gdb writes into the machine, each an event of its own, which stands and can be taken back. Source: gdb manual,
 //! "Packets", `M`, `X`, `P` and `G`.
-ghost use Rattle.std.specs.Prelude.{◌≡◌, ◌+◌, ◌-◌, ◌^◌, ◌<◌, ◌≤◌, ◌∷◌, ◌||◌, [], length};
-ghost use Rattle.std.specs.Prelude.{nat_le, None, if◌then◌else◌};
+ghost use Rattle.std.specs.Prelude.{◌≡◌, ◌+◌, ◌-◌, ◌^◌, ◌<◌, ◌≤◌, ◌∷◌, ◌||◌, [], length, nat_le, None, if◌then◌else◌};
 ghost use Rattle.s360_machine.specs.Machine.{seen, storage_size};
 ghost use Rattle.s360_machine.specs.Refusals.{refusal_of_patch};
 ghost use Rattle.s360_remote.specs.Writing.{IsMadeOrBegun, IsWriteEnd, is_other, patch_count, patches_from_register, patches_of_bytes};

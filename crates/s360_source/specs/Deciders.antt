@@ -16,17 +16,12 @@ use Rattle.s360_store.specs.Spans.{byte_places}
 use Rattle.s360_fixed.specs.declared.form.Form.{Form}
 use Rattle.s360_fixed.specs.declared.form.Form.TheVariants.{Rr, Rx, Rs, Si, Ss}
 use Rattle.s360_fixed.specs.declared.operation.Operation.{Operation}
-use Rattle.s360_fixed.specs.declared.operation.Operation.TheVariants.{LoadComplement, LoadPositive, Add, AddHalfword}
-use Rattle.s360_fixed.specs.declared.operation.Operation.TheVariants.{Subtract, SubtractHalfword}
-use Rattle.s360_fixed.specs.declared.operation.Operation.TheVariants.{ShiftLeftSingle, ShiftLeftDouble}
-use Rattle.s360_fixed.specs.declared.operation.Operation.TheVariants.{SetStorageKey, InsertStorageKey}
-use Rattle.s360_fixed.specs.declared.operation.Operation.TheVariants.{Divide, ConvertToBinary}
-use Rattle.s360_fixed.specs.declared.operation.Operation.TheVariants.{LoadAddress, CompareLogical}
-use Rattle.s360_fixed.specs.declared.operation.Operation.TheVariants.{BranchOnCondition, BranchAndLink, BranchOnCount}
-use Rattle.s360_fixed.specs.declared.operation.Operation.TheVariants.{Store, StoreHalfword, StoreCharacter, ConvertToDecimal}
-use Rattle.s360_fixed.specs.declared.operation.Operation.TheVariants.{StoreMultiple, LoadMultiple, LoadPsw}
-use Rattle.s360_fixed.specs.declared.operation.Operation.TheVariants.{StartIo, TestIo, HaltIo, TestChannel}
-use Rattle.s360_fixed.specs.declared.operation.Operation.TheVariants.{MoveWithOffset, Pack, Unpack, Translate, TranslateAndTest}
+use Rattle.s360_fixed.specs.declared.operation.Operation.TheVariants.{LoadComplement, LoadPositive, Add, AddHalfword, Subtract, SubtractHalfword}
+use Rattle.s360_fixed.specs.declared.operation.Operation.TheVariants.{ShiftLeftSingle, ShiftLeftDouble, SetStorageKey, InsertStorageKey, Divide}
+use Rattle.s360_fixed.specs.declared.operation.Operation.TheVariants.{ConvertToBinary, LoadAddress, CompareLogical, BranchOnCondition, BranchAndLink}
+use Rattle.s360_fixed.specs.declared.operation.Operation.TheVariants.{BranchOnCount, Store, StoreHalfword, StoreCharacter, ConvertToDecimal, StoreMultiple}
+use Rattle.s360_fixed.specs.declared.operation.Operation.TheVariants.{LoadMultiple, LoadPsw, StartIo, TestIo, HaltIo, TestChannel, MoveWithOffset, Pack, Unpack}
+use Rattle.s360_fixed.specs.declared.operation.Operation.TheVariants.{Translate, TranslateAndTest}
 use Rattle.s360_fixed.specs.Fetching.{instruction_bytes, length_at}
 use Rattle.s360_fixed.specs.Outcomes.{is_odd}
 use Rattle.s360_fixed.specs.ProgramCodes.{program_code}

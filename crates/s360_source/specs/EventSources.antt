@@ -2,8 +2,7 @@
 -- Panel").
 use Rattle.std.specs.Prelude.{Bool, true, false, if◌then◌else◌, Option, Some, None, List, [], ◌∷◌, length}
 use Rattle.s360_model.specs.Storage.{Storage}
-use Rattle.s360_psw.specs.declared.class.Class.TheVariants.{External as external_class, InputOutput, Program as program_class}
-use Rattle.s360_psw.specs.declared.class.Class.TheVariants.{Supervisor}
+use Rattle.s360_psw.specs.declared.class.Class.TheVariants.{External as external_class, InputOutput, Program as program_class, Supervisor}
 use Rattle.s360_word.specs.declared.unit.Unit.{Unit as UnitAddress}
 use Rattle.s360_store.specs.declared.place.Place.{Place}
 use Rattle.s360_store.specs.declared.place.Place.TheVariants.{Psw, Register, Byte, Key, Run, External, UnitState}
@@ -21,12 +20,10 @@ use Rattle.s360_machine.specs.declared.cpu.CpuCase.{CpuCase}
 use Rattle.s360_machine.specs.declared.operator.Key.{Key as OperatorKey}
 use Rattle.s360_machine.specs.declared.operator.Key.TheVariants.{Reset, Load}
 use Rattle.s360_machine.specs.declared.event.Patch.{Patch}
-use Rattle.s360_machine.specs.declared.event.Patch.TheVariants.{Bytes, Register as register_patch, StorageKey, FetchBit}
-use Rattle.s360_machine.specs.declared.event.Patch.TheVariants.{Psw as psw_patch}
+use Rattle.s360_machine.specs.declared.event.Patch.TheVariants.{Bytes, Register as register_patch, StorageKey, FetchBit, Psw as psw_patch}
 use Rattle.s360_machine.specs.InputOutput.{status_location}
 use Rattle.s360_machine.specs.Timer.{timer_location}
-use Rattle.s360_source.specs.EventShapes.{CpuShape, Interrupting, executing, external, idle, input_output}
-use Rattle.s360_source.specs.EventShapes.{channels_result, shape_of_case}
+use Rattle.s360_source.specs.EventShapes.{CpuShape, Interrupting, executing, external, idle, input_output, channels_result, shape_of_case}
 use Rattle.s360_source.specs.InstructionSources.{instruction_sources}
 use Rattle.s360_source.specs.InterruptionSources.{followed_by, interruption_sources}
 use Rattle.s360_source.specs.declared.shape.InstructionShape.{InstructionShape}

@@ -3,8 +3,7 @@
 ghost use Rattle.std.specs.Prelude.{◌≡◌, ◌++◌, OnOk};
 ghost use Rattle.s360_channel.specs.Steps.{device_view};
 ghost use Rattle.s360_machine.specs.Machine.{seen};
-ghost use Rattle.s360_source.specs.ChannelDeciders.{access_deciders, channel_deciders, next_word_deciders};
-ghost use Rattle.s360_source.specs.ChannelDeciders.{program_deciders, unit_deciders, unit_word_deciders};
+ghost use Rattle.s360_source.specs.ChannelDeciders.{access_deciders, channel_deciders, next_word_deciders, program_deciders, unit_deciders, unit_word_deciders};
 
 use crate::access_keys::push_access_keys;
 use crate::channel::{push_word, state_of};

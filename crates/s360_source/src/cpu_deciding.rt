@@ -4,10 +4,8 @@ ghost use Rattle.std.specs.Prelude.{◌≡◌, ◌++◌, ◌<◌, OnOk};
 ghost use Rattle.s360_channel.specs.ConfiguredUnits.{channel_of, control_of, is_occupied};
 ghost use Rattle.s360_machine.specs.Machine.{seen};
 ghost use Rattle.s360_machine.specs.declared.cpu.CpuCase.TheVariants.{Executing};
-ghost use Rattle.s360_source.specs.EventDeciders.{channels_deciders, cpu_deciders, deciders_of_interruption};
-ghost use Rattle.s360_source.specs.EventDeciders.{executing_deciders, first_program_deciders, io_deciders};
-ghost use Rattle.s360_source.specs.EventDeciders.{is_unavailable, operating_deciders, start_deciders};
-ghost use Rattle.s360_source.specs.EventDeciders.{unit_states_masked, units_of_channel};
+ghost use Rattle.s360_source.specs.EventDeciders.{channels_deciders, cpu_deciders, deciders_of_interruption, executing_deciders, first_program_deciders};
+ghost use Rattle.s360_source.specs.EventDeciders.{io_deciders, is_unavailable, operating_deciders, start_deciders, unit_states_masked, units_of_channel};
 
 use crate::channel::{push_word, state_of};
 use crate::channel_moves::standing_at;

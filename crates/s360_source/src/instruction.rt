@@ -3,10 +3,8 @@
 ghost use Rattle.std.specs.Prelude.{◌≡◌, ◌++◌, ◌+◌, ◌/◌, ◌%◌, [], ◌∷◌, OnOk};
 ghost use Rattle.s360_store.specs.Spans.{byte_places};
 ghost use Rattle.s360_source.specs.DigitSources.{digit_sources};
-ghost use Rattle.s360_source.specs.InstructionSources.{combination_in_storage, completed_sources, digits_of};
-ghost use Rattle.s360_source.specs.InstructionSources.{instruction_sources};
-ghost use Rattle.s360_source.specs.InstructionSources.{rr_sources, rs_sources, rx_sources, search_sources};
-ghost use Rattle.s360_source.specs.InstructionSources.{si_sources, ss_sources};
+ghost use Rattle.s360_source.specs.InstructionSources.{combination_in_storage, completed_sources, digits_of, instruction_sources, rr_sources, rs_sources};
+ghost use Rattle.s360_source.specs.InstructionSources.{rx_sources, search_sources, si_sources, ss_sources};
 ghost use Rattle.s360_source.specs.Sources.{address_parts, itself, made_of, psw_made_of};
 ghost use Rattle.s360_source.specs.StorageSources.{all_searched, both_operands};
 

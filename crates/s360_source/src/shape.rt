@@ -4,9 +4,8 @@ ghost use Rattle.std.specs.Prelude.{◌≡◌, IfOk};
 ghost use Rattle.s360_model.specs.Psw.{instruction_address_of};
 ghost use Rattle.s360_logic.specs.Logic.{address_of};
 ghost use Rattle.s360_logic.specs.Status.{block_of};
-ghost use Rattle.s360_source.specs.Shapes.{block_in, instruction_shape, is_suppressed, operands_of, operation_of};
-ghost use Rattle.s360_source.specs.Shapes.{performance_of, performed_at, performed_if, performed_of};
-ghost use Rattle.s360_source.specs.Shapes.{subject_performed, suppresses};
+ghost use Rattle.s360_source.specs.Shapes.{block_in, instruction_shape, is_suppressed, operands_of, operation_of, performance_of, performed_at, performed_if};
+ghost use Rattle.s360_source.specs.Shapes.{performed_of, subject_performed, suppresses};
 
 use crate::location::Location;
 use s360_fixed::{

@@ -3,11 +3,8 @@
 ghost use Rattle.std.specs.Prelude.{◌≡◌, ◌<◌, ◌≤◌, ◌+◌, ◌^◌, ◌++◌, ◌↔◌, [], ◌∷◌, length, slice_get};
 ghost use Rattle.std.specs.Prelude.{if◌then◌else◌, ◌⊎◌, IfOk, IfSome, OnOk, OnErr, Some, IsSome, IsTrue};
 ghost use Rattle.std.specs.List.{list_any};
-ghost use Rattle.s360_store.specs.Cells.{AllFit, AreCellsOf, after_exchange, byte_cells};
-ghost use Rattle.s360_store.specs.Cells.{cells_after_exchange, places_of_cells};
-ghost use Rattle.s360_store.specs.Items.{AddsRun, Appended, AreItems, IsPartAt, IsRunOf};
-ghost use Rattle.s360_store.specs.Items.{bytes_of_items};
-ghost use Rattle.s360_store.specs.Items.{core_of};
+ghost use Rattle.s360_store.specs.Cells.{AllFit, AreCellsOf, after_exchange, byte_cells, cells_after_exchange, places_of_cells};
+ghost use Rattle.s360_store.specs.Items.{AddsRun, Appended, AreItems, IsPartAt, IsRunOf, bytes_of_items, core_of};
 ghost use Rattle.s360_store.specs.Places.{same_place};
 ghost use Rattle.s360_store.specs.Plans.{after_put, after_put_if, planned_value};
 

@@ -2,8 +2,7 @@
 ghost use Rattle.s360_device.specs.DeviceRows.{IsRow, bytes_given};
 ghost use Rattle.s360_device.specs.Rows.{control, row_input};
 ghost use Rattle.s360_tape.specs.Blocks.{block_limit};
-ghost use Rattle.s360_tape.specs.Tape.{tape_row, row_of_command, read_row, read_backward_row};
-ghost use Rattle.s360_tape.specs.Tape.{space_record_row, backspace_record_row, space_file_row};
+ghost use Rattle.s360_tape.specs.Tape.{tape_row, row_of_command, read_row, read_backward_row, space_record_row, backspace_record_row, space_file_row};
 ghost use Rattle.s360_tape.specs.Tape.{backspace_file_row};
 ghost use Rattle.s360_tape.specs.WholeTape.{seen_media, tape_kind};
 ghost use Rattle.std.specs.Prelude.{◌≡◌, ◌≤◌, length};
