@@ -18,13 +18,13 @@ bytes_before None = []
 bytes_before (Some parts) = bytes_of parts
 
 -- of how many words they are
-abbrev pub words_of : Parts → ℕ
-words_of (First bytes) = 1
-words_of (After' p before bytes) = words_of before + 1
+abbrev pub word_count : Parts → ℕ
+word_count (First bytes) = 1
+word_count (After' p before bytes) = word_count before + 1
 
 abbrev pub words_before : Option Parts → ℕ
 words_before None = 0
-words_before (Some parts) = words_of parts
+words_before (Some parts) = word_count parts
 
 -- what is left from the last to the first
 abbrev pub left_of : Backward → List ℕ

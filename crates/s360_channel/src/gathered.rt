@@ -3,7 +3,7 @@
 ghost use Rattle.std.specs.Prelude.{◌≡◌, ◌<◌, ◌+◌, ◌^◌, ◌++◌, IfOk, length, reverse};
 ghost use Rattle.std.specs.Option.{option_copied};
 ghost use Rattle.s360_channel.specs.Gathered.{bytes_before, bytes_of, left_of, part_of};
-ghost use Rattle.s360_channel.specs.Gathered.{words_before, words_of};
+ghost use Rattle.s360_channel.specs.Gathered.{words_before, word_count};
 
 use std::alloc::{AllocError, Global};
 use std::marker::Model;
@@ -62,7 +62,7 @@ impl Parts {
     /// What the words before it have gathered, if there are any.
     fn before(&self) -> Option<&Parts>
         ensures bytes { bytes_before (option_copied result) ++ part_of self.now ≡ bytes_of self.now }
-        ensures fewer { words_before (option_copied result) < words_of self.now }
+        ensures fewer { words_before (option_copied result) < word_count self.now }
     {
         match self {
             Parts::First(_) => None,
@@ -81,7 +81,7 @@ struct Backward<'a> {
 impl<'a> Backward<'a> {
     fn of(parts: &'a Parts) -> Backward<'a>
         ensures left { left_of result ≡ reverse (bytes_of parts.now) }
-        ensures fewer { words_before (option_copied result.before) < words_of parts.now }
+        ensures fewer { words_before (option_copied result.before) < word_count parts.now }
     {
         Backward {
             before: parts.before(),

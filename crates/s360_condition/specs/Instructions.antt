@@ -2,9 +2,8 @@
 use Rattle.std.specs.Prelude.{ℕ, nat_eq, Option, None, Some, List, [], ◌∷◌}
 use Rattle.std.specs.List.{find}
 use Rattle.std.specs.Option.{option_map}
-use Rattle.s360_condition.specs.declared.instruction.Binary.TheVariants.{Add, Sub, Mul, DivSigned, DivUnsigned, RemSigned, RemUnsigned}
-use Rattle.s360_condition.specs.declared.instruction.Binary.TheVariants.{Lsh, RshSigned, RshUnsigned, BitAnd, BitOr, BitXor}
-use Rattle.s360_condition.specs.declared.instruction.Binary.TheVariants.{Equal, LessSigned, LessUnsigned}
+use Rattle.s360_condition.specs.declared.instruction.Binary.TheVariants.{Add, Sub, Mul, DivSigned, DivUnsigned, RemSigned, RemUnsigned, Lsh, RshSigned}
+use Rattle.s360_condition.specs.declared.instruction.Binary.TheVariants.{RshUnsigned, BitAnd, BitOr, BitXor, Equal, LessSigned, LessUnsigned}
 use Rattle.s360_condition.specs.declared.instruction.Unary.TheVariants.{LogNot, BitNot, Ext, ZeroExt}
 use Rattle.s360_condition.specs.declared.instruction.Width.{Width}
 use Rattle.s360_condition.specs.declared.instruction.Width.TheVariants.{Ref8, Ref16, Ref32, Ref64}

@@ -1,7 +1,8 @@
 -- The reading of bytes as an expression (gdb manual, "The GDB Agent Expression Mechanism", "Bytecode Descriptions"). An
 -- operand is a number, whose most significant byte stands first. That jumps go forward alone is (own profile): gdb makes
 -- no others, and so an evaluation ends.
-use Rattle.std.specs.Prelude.{◌≡◌, ◌⊎◌, ℕ, zero, suc, ◌+◌, ◌*◌, nat_le, nat_eq, Bool, true, if◌then◌else◌, Option, None, Some, Result, Ok, Err, List, [], ◌∷◌, take, length}
+use Rattle.std.specs.Prelude.{◌≡◌, ◌⊎◌, ℕ, zero, suc, ◌+◌, ◌*◌, nat_le, nat_eq, Bool, true, if◌then◌else◌}
+use Rattle.std.specs.Prelude.{Option, None, Some, Result, Ok, Err, List, [], ◌∷◌, take, length}
 use Rattle.std.specs.List.{fold, list_any}
 use Rattle.s360_condition.specs.declared.fault.ExpressionFault.{ExpressionFault}
 use Rattle.s360_condition.specs.declared.fault.ExpressionFault.TheVariants.{TooLong, UnknownCode, CutOff, AstrayJump, Memory}

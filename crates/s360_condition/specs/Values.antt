@@ -8,9 +8,8 @@ use Rattle.std.specs.Int.{w64, cast_signed, cast_unsigned, int_div_euclid}
 use Rattle.s360_condition.specs.declared.fault.EvaluationFault.{EvaluationFault}
 use Rattle.s360_condition.specs.declared.fault.EvaluationFault.TheVariants.{DivisionByZero, QuotientTooLarge, ShiftTooFar, NoSignBit}
 use Rattle.s360_condition.specs.declared.instruction.Binary.{Binary}
-use Rattle.s360_condition.specs.declared.instruction.Binary.TheVariants.{Add, Sub, Mul, DivSigned, DivUnsigned, RemSigned, RemUnsigned}
-use Rattle.s360_condition.specs.declared.instruction.Binary.TheVariants.{Lsh, RshSigned, RshUnsigned, BitAnd, BitOr, BitXor}
-use Rattle.s360_condition.specs.declared.instruction.Binary.TheVariants.{Equal, LessSigned, LessUnsigned}
+use Rattle.s360_condition.specs.declared.instruction.Binary.TheVariants.{Add, Sub, Mul, DivSigned, DivUnsigned, RemSigned, RemUnsigned, Lsh, RshSigned}
+use Rattle.s360_condition.specs.declared.instruction.Binary.TheVariants.{RshUnsigned, BitAnd, BitOr, BitXor, Equal, LessSigned, LessUnsigned}
 use Rattle.s360_condition.specs.declared.instruction.Unary.{Unary}
 use Rattle.s360_condition.specs.declared.instruction.Unary.TheVariants.{LogNot, BitNot, Ext, ZeroExt}
 

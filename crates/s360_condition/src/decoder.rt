@@ -2,8 +2,7 @@
 //! Descriptions".
 ghost use Rattle.std.specs.Prelude.{◌≡◌, ◌<◌, ◌≤◌, ◌^◌, IfErr, IfOk, Ok, length};
 ghost use Rattle.s360_condition.specs.Instructions.{instruction_with, operand_bytes};
-ghost use Rattle.s360_condition.specs.Reading.{first_astray, goes_on, instruction_at, instructions_in};
-ghost use Rattle.s360_condition.specs.Reading.{FailsBy};
+ghost use Rattle.s360_condition.specs.Reading.{first_astray, goes_on, instruction_at, instructions_in, FailsBy};
 
 use crate::fault::ExpressionFault;
 use crate::fetching::number_of;

@@ -2,8 +2,7 @@
 //! "Bytecode Descriptions".
 ghost use Rattle.std.specs.Prelude.{◌≡◌, ◌<◌, ◌≤◌, ◌%◌, ◌^◌, Err, MatchOption, MatchResult, Ok, pos};
 ghost use Rattle.std.specs.Int.{int_div_euclid};
-ghost use Rattle.s360_condition.specs.Values.{binary_value, no_quotient, sign_extended, signed};
-ghost use Rattle.s360_condition.specs.Values.{unary_value, unsigned};
+ghost use Rattle.s360_condition.specs.Values.{binary_value, no_quotient, sign_extended, signed, unary_value, unsigned};
 ghost use Rattle.s360_condition.specs.declared.fault.EvaluationFault.TheVariants.{ShiftTooFar};
 
 use crate::fault::EvaluationFault;

@@ -154,7 +154,7 @@ IsStopped-unread old (Some text) d =
     }
 
 pub AreCarriedOut-cut : (old new remaining : Option (List ℕ)) (r t : Recorded)
-    → IfSome remaining (λ text. WasCut old new r t text) → IfSome remaining (λ text. AreCarriedOut r t text)
+    → WasCut remaining old new r t → IfSome remaining (λ text. AreCarriedOut r t text)
 AreCarriedOut-cut old new None r t h = tt
 AreCarriedOut-cut old new (Some text) r t h = record {
   done = h.done ++ h.next ∷ [];

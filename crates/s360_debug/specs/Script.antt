@@ -1,5 +1,5 @@
 -- What a script answers (own profile): a fold over its lines that carries what the debugger keeps.
-use Rattle.std.specs.Prelude.{◌≡◌, ◌<◌, ℕ, ◌+◌, if◌then◌else◌, Ok, Err, Option, List, [], ◌∷◌, ◌++◌, length, take}
+use Rattle.std.specs.Prelude.{◌≡◌, ◌<◌, ℕ, ◌+◌, if◌then◌else◌, Ok, Err, Option, List, [], ◌∷◌, ◌++◌, length, take, IfSome}
 use Rattle.std.specs.Io.KnownBytes.{Appends}
 use Rattle.s360_journal.specs.Recorded.{Recorded}
 use Rattle.s360_language.specs.Reading.{Reading, reading_of}
@@ -77,12 +77,12 @@ AreAnswered old new r text = Appends old new (answers_of r text)
 abbrev pub session_after : Recorded → List ℕ → Recorded
 session_after r text = (state_after_lines (new_debugger r) (lines_of text)).session
 
--- the same of a script that was carried out in part
-abbrev pub HasStopped : Option (List ℕ) → Option (List ℕ) → Recorded → Recorded → List ℕ → Type 0
-HasStopped old new r t text = IsStopped old new (new_debugger r) t (lines_of text)
+-- the same of a script that was carried out in part, where it is known
+abbrev pub HasStopped : Option (List ℕ) → Option (List ℕ) → Option (List ℕ) → Recorded → Recorded → Type 0
+HasStopped script old new r t = IfSome script (λ text. IsStopped old new (new_debugger r) t (lines_of text))
 
-abbrev pub WasCut : Option (List ℕ) → Option (List ℕ) → Recorded → Recorded → List ℕ → Type 0
-WasCut old new r t text = IsCut old new (new_debugger r) t (lines_of text)
+abbrev pub WasCut : Option (List ℕ) → Option (List ℕ) → Option (List ℕ) → Recorded → Recorded → Type 0
+WasCut script old new r t = IfSome script (λ text. IsCut old new (new_debugger r) t (lines_of text))
 
 -- what stands is as after some first lines
 pub record AreCarriedOut (r t : Recorded) (text : List ℕ) : Type 0 where

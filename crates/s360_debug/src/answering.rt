@@ -9,14 +9,9 @@ ghost use Rattle.s360_language.specs.declared.command.LineFault.TheVariants.{Mem
 ghost use Rattle.s360_machine.specs.Machine.{seen};
 ghost use Rattle.s360_language.specs.Names.{refused_text};
 ghost use Rattle.s360_language.specs.Shown.{shown_text};
-ghost use Rattle.s360_debug.specs.Answers.{answer_to, state_after, StandsPartly};
-ghost use Rattle.s360_debug.specs.Answers.{after_offer, text_of_event};
+ghost use Rattle.s360_debug.specs.Answers.{answer_to, state_after, StandsPartly, after_offer, text_of_event, break_text, breaks_text, stop_in, text_of_report};
+ghost use Rattle.s360_debug.specs.Answers.{back_text, last_text, place_names, fault_text, changed_after, withdrawal_text, withdrawn};
 ghost use Rattle.s360_debug.specs.Debugger.{debugger};
-ghost use Rattle.s360_debug.specs.Answers.{break_text, breaks_text, stop_in};
-ghost use Rattle.s360_debug.specs.Answers.{text_of_report};
-ghost use Rattle.s360_debug.specs.Answers.{back_text, last_text};
-ghost use Rattle.s360_debug.specs.Answers.{place_names, fault_text, changed_after};
-ghost use Rattle.s360_debug.specs.Answers.{withdrawal_text, withdrawn};
 ghost use Rattle.s360_journal.specs.Withdrawals.{is_standing};
 
 use crate::open_line::OpenLine;

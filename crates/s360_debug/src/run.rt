@@ -1,11 +1,10 @@
 //! A script, read whole and then answered line by line.
-ghost use Rattle.std.specs.Prelude.{◌≡◌, ◌≢◌, ◌⊎◌, ◌≤◌, ◌<◌, length, IfOk, IfSome, OnOk, OnErr, Err};
+ghost use Rattle.std.specs.Prelude.{◌≡◌, ◌≢◌, ◌⊎◌, ◌≤◌, ◌<◌, length, IfOk, IfSome, OnOk, OnErr, Err, Some};
 ghost use Rattle.s360_language.specs.Reading.{reading_of};
 ghost use Rattle.s360_debug.specs.Debugger.{debugger};
 ghost use Rattle.s360_debug.specs.Script.{answer_to_reading, state_after_reading, StandsAfterReading};
 ghost use Rattle.s360_debug.specs.Script.{AreAnswered, HasStopped, WasCut, lines_of_script, session_after};
-ghost use Rattle.s360_text.specs.declared.script_fault.ScriptFault.TheVariants.{Read as read_failed, TooLong, Memory};
-ghost use Rattle.s360_text.specs.declared.script_fault.ScriptFault.TheVariants.{Write as write_failed};
+ghost use Rattle.s360_text.specs.declared.script_fault.ScriptFault.TheVariants.{Read as read_failed, TooLong, Memory, Write as write_failed};
 
 use crate::answering::{answer, text_of_fault};
 use crate::lines::{Lines, skips};
@@ -34,8 +33,8 @@ pub fn run_script<R: Read, W: Write>(
     ensures unread_session { (result ≡ Err read_failed) ⊎ (result ≡ Err TooLong) → session.new ≡ session.old }
     ensures unread_writer { (result ≡ Err read_failed) ⊎ (result ≡ Err TooLong) → writer.new ≡ writer.old }
     ensures too_long { result ≡ Err TooLong → IfSome (R.remaining reader.old) (λ text. 1048576 < length text) }
-    ensures memory { result ≡ Err Memory → IfSome (R.remaining reader.old) (HasStopped (W.contents writer.old) (W.contents writer.new) session.old session.new) }
-    ensures write { result ≡ Err write_failed → IfSome (R.remaining reader.old) (WasCut (W.contents writer.old) (W.contents writer.new) session.old session.new) }
+    ensures memory { result ≡ Err Memory → HasStopped (R.remaining reader.old) (W.contents writer.old) (W.contents writer.new) session.old session.new }
+    ensures write { result ≡ Err write_failed → WasCut (R.remaining reader.old) (W.contents writer.old) (W.contents writer.new) session.old session.new }
 {
     let script = read_whole(alloc, reader, LONGEST_SCRIPT)?;
     answer_script(alloc, session, &script, writer)
@@ -52,8 +51,8 @@ fn answer_script<W: Write>(
     ensures answers { OnOk result (AreAnswered (W.contents writer.old) (W.contents writer.new) session.old script.now) }
     ensures lines { IfOk result (λ n. n ≡ lines_of_script script.now) }
     ensures state { OnOk result (session.new ≡ session_after session.old script.now) }
-    ensures memory { result ≡ Err Memory → HasStopped (W.contents writer.old) (W.contents writer.new) session.old session.new script.now }
-    ensures write { result ≡ Err write_failed → WasCut (W.contents writer.old) (W.contents writer.new) session.old session.new script.now }
+    ensures memory { result ≡ Err Memory → HasStopped (Some script.now) (W.contents writer.old) (W.contents writer.new) session.old session.new }
+    ensures write { result ≡ Err write_failed → WasCut (Some script.now) (W.contents writer.old) (W.contents writer.new) session.old session.new }
     ensures read { result ≢ Err read_failed }
     ensures too_long { result ≢ Err TooLong }
 {

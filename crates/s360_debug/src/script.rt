@@ -3,8 +3,7 @@ ghost use Rattle.std.specs.Prelude.{◌≡◌, ◌⊎◌, ◌≤◌, ◌<◌, []
 ghost use Rattle.std.specs.Io.KnownBytes.{Keeps};
 ghost use Rattle.std.specs.Io.Buffered.{writer_buffer, writer_contents};
 ghost use Rattle.s360_debug.specs.Script.{AreAnswered, AreCarriedOut, HasStopped, session_after};
-ghost use Rattle.s360_text.specs.declared.script_fault.ScriptFault.TheVariants.{Read as read_failed, TooLong, Memory};
-ghost use Rattle.s360_text.specs.declared.script_fault.ScriptFault.TheVariants.{Write as write_failed};
+ghost use Rattle.s360_text.specs.declared.script_fault.ScriptFault.TheVariants.{Read as read_failed, TooLong, Memory, Write as write_failed};
 
 use crate::run::run_script;
 use s360_journal::Session;
@@ -26,7 +25,7 @@ pub fn carry_out<R: Read, W: Write + Drop>(
     ensures state { OnOk result (IfSome (R.remaining reader.old) (λ text. session.new ≡ session_after session.old text)) }
     ensures unread { (result ≡ Err read_failed) ⊎ (result ≡ Err TooLong) → session.new ≡ session.old }
     ensures too_long { result ≡ Err TooLong → IfSome (R.remaining reader.old) (λ text. 1048576 < length text) }
-    ensures memory { result ≡ Err Memory → IfSome (R.remaining reader.old) (HasStopped None None session.old session.new) }
+    ensures memory { result ≡ Err Memory → HasStopped (R.remaining reader.old) None None session.old session.new }
     ensures write { result ≡ Err write_failed → IfSome (R.remaining reader.old) (λ text. AreCarriedOut session.old session.new text) }
 {
     let Ok(mut buffered) = BufWriter::new(alloc, OneTry { writer }) else {

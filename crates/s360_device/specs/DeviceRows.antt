@@ -1,10 +1,10 @@
 -- What the code says of a row, by the row of the table.
-use Rattle.std.specs.Prelude.{◌≡◌, ℕ, Bool, true, false, List, reverse}
+use Rattle.std.specs.Prelude.{◌≡◌, ℕ, Bool, true, false, List, Option, reverse}
 use Rattle.s360_device.specs.declared.row.Given.{Given}
 use Rattle.s360_device.specs.declared.row.Row.{Row as Said}
 use Rattle.s360_device.specs.declared.row.Row.TheVariants.{Refused, NotYet, Input, Output, Control}
 use Rattle.s360_device.specs.Kinds.{Kind, MakesMedia}
-use Rattle.s360_device.specs.Rows.{Row, refused, not_yet, input, output, control}
+use Rattle.s360_device.specs.Rows.{Row, media_written, refused, not_yet, input, output, control}
 
 -- bytes in the direction in which they are read
 abbrev pub in_direction : Bool → List ℕ → List ℕ
@@ -20,3 +20,7 @@ IsRow k s row NotYet = row ≡ not_yet
 IsRow {M = M} k s row (Input change exception) = (bytes : List ℕ) × ((media : M) × ((row ≡ input bytes media exception) × MakesMedia k s media change))
 IsRow {M = M} k s row (Output limit exception) = (written : List ℕ → M) × (row ≡ output limit written exception)
 IsRow {M = M} k s row (Control change exception) = (media : M) × ((row ≡ control media exception) × MakesMedia k s media change)
+
+-- what an output does that ends with these bytes; any other command writes nothing
+abbrev pub WritesMedia : {S M C : Type 0} → Kind S M C → S → ℕ → List ℕ → Option C → Type 0
+WritesMedia k s code bytes change = MakesMedia k s (media_written (k.see s) (k.table.rows (k.see s) code) bytes) change

@@ -1,6 +1,6 @@
 -- A kind of media: how they are seen, the rows of their commands, and their exchange with a change, which the same
 -- exchange done again takes back.
-use Rattle.std.specs.Prelude.{◌≡◌, ℕ, Option, IfSome}
+use Rattle.std.specs.Prelude.{◌≡◌, ◌-◌, ℕ, Option, IfSome, Vec, vec_capacity, vec_len}
 use Rattle.s360_model.specs.Exchanges.{CanIfAny, after_if_any, back_if_any, need_if_any}
 use Rattle.s360_device.specs.Rows.{Table}
 
@@ -33,3 +33,7 @@ pub record MakesMedia {S M C : Type 0} (k : Kind S M C) (s : S) (n : M) (x : Opt
 pub record MediaWithRoom (S : Type 0) : Type 0 where
   pub media : S
   pub room : ℕ
+
+-- for so many items more a list has memory
+abbrev pub room_in : {T A : Type 0} → Vec T A → ℕ
+room_in items = vec_capacity items - vec_len items

@@ -13,7 +13,8 @@ use Rattle.s360_device.specs.Rows.{Table}
 pub slice_get-push : {T : Type 0} (items : List T) (x : T) → slice_get (items ++ x ∷ []) (length (items ++ x ∷ []) - 1) ≡ Some x
 slice_get-push items x =
     let k : length items ≡ length (items ++ x ∷ []) - 1 = omega (arith, length-append items (x ∷ []))
-    in rw (slice_get-get_or (items ++ x ∷ []) (length (items ++ x ∷ []) - 1) x (omega (arith, length-append items (x ∷ []))), get_or_at items x [] x (length (items ++ x ∷ []) - 1) k) refl
+    in rw (slice_get-get_or (items ++ x ∷ []) (length (items ++ x ∷ []) - 1) x (omega (arith, length-append items (x ∷ []))))
+    (rw (get_or_at items x [] x (length (items ++ x ∷ []) - 1) k) refl)
 
 -- and the others
 pub take-push : {T : Type 0} (items : List T) (x : T) → take (length (items ++ x ∷ []) - 1) (items ++ x ∷ []) ≡ items

@@ -1,5 +1,6 @@
 -- What passes between a device and a channel, by how a command begins.
-use Rattle.std.specs.Prelude.{◌≡◌, ◌≤◌, ℕ, List, [], length}
+use Rattle.std.specs.Prelude.{◌≡◌, ◌≤◌, ℕ, Bool, List, [], length}
+use Rattle.std.specs.Bool.{MatchBool}
 use Rattle.s360_device.specs.declared.device.Begin.{Begin}
 use Rattle.s360_device.specs.declared.device.Begin.TheVariants.{Input, Output, NotYet}
 use Rattle.s360_device.specs.Rows.{Row, output}
@@ -30,3 +31,7 @@ MovesBytes begin = ⊥
 abbrev pub CanWrite : {M : Type 0} → Row M → List ℕ → Type 0
 CanWrite (output limit media exception) bytes = length bytes ≤ limit
 CanWrite row bytes = Unit {0}
+
+-- it tells whether this does not hold
+abbrev pub TellsNot : Bool → Type 0 → Type 0
+TellsNot told Holds = MatchBool told (Holds → ⊥) Holds

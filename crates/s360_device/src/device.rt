@@ -1,9 +1,8 @@
 //! What every device is to a channel. Source: GA22-6821, "Input/Output Operations".
 ghost use Rattle.std.specs.Prelude.{◌≡◌, ◌<◌, ◌≤◌, ◌+◌, ◌^◌, ℕ, Bool, List, length, slice_index, IfOk, OnErr, OnOk};
 ghost use Rattle.std.specs.List.{slice_range};
-ghost use Rattle.std.specs.Bool.{MatchBool};
 ghost use Rattle.s360_device.specs.declared.device.Begin.{Begin};
-ghost use Rattle.s360_device.specs.Transfers.{IsInputOf, IsOutput, CanEndWith};
+ghost use Rattle.s360_device.specs.Transfers.{IsInputOf, IsOutput, CanEndWith, TellsNot};
 
 use std::alloc::AllocError;
 
@@ -96,7 +95,7 @@ pub trait Device {
         ensures can { IfOk result (λ p. can_swap (bare self.now) p.change) }
         ensures row { IfOk result (λ p. is_after self.now command bytes.now (after_swap (bare self.now) p.change)) }
         ensures back { IfOk result (λ p. needs (change_after_swap (bare self.now) p.change) ≡ 0) }
-        ensures alters { IfOk result (λ p. MatchBool p.alters (is_after self.now command bytes.now self.now → ⊥) (is_after self.now command bytes.now self.now)) }
+        ensures alters { IfOk result (λ p. TellsNot p.alters (is_after self.now command bytes.now self.now)) }
         ensures exception { IfOk result (λ p. p.exception ≡ exception_of self.now command) }
         ensures memory { OnErr result (IsOutput (begin_of self.now command)) };
 

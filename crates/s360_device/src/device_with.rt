@@ -1,9 +1,7 @@
 //! Devices: their sense bytes, and the two commands that every device has. Source: GA22-6821, "Input/Output
 //! Operations", sense data and commands.
 ghost use Rattle.std.specs.Prelude.{◌≡◌, Some};
-ghost use Rattle.std.specs.Bool.{MatchBool};
-ghost use Rattle.s360_device.specs.DeviceChanges.{seen_device, with_part};
-ghost use Rattle.s360_device.specs.Kinds.{MakesMedia};
+ghost use Rattle.s360_device.specs.DeviceChanges.{TellsAlteration, with_part};
 ghost use Rattle.s360_device.specs.Sense.{no_sense};
 
 use crate::command_code::CommandCode;
@@ -76,7 +74,7 @@ impl<M: Media> DeviceWith<M> {
         exception: bool,
     ) -> Planned<DeviceChange<M::Change>>
         ensures change { result.change ≡ record { sense = sense; media = change } }
-        ensures alters { (n : M.Seen) → MakesMedia M.kind (M.whole self.now.media) n change → MatchBool result.alters (seen_device M.kind (with_part M.whole self.now) ≡ record { sense = sense; media = n } → ⊥) (seen_device M.kind (with_part M.whole self.now) ≡ record { sense = sense; media = n }) }
+        ensures alters { TellsAlteration M.kind (with_part M.whole self.now) (record { sense = sense; media = change }) result.alters }
         ensures exception { result.exception ≡ exception }
     {
         Planned {
@@ -93,21 +91,19 @@ impl<M: Media> DeviceWith<M> {
 impl<M: Media> Device for DeviceWith<M> {
     ghost use Rattle.std.specs.Prelude.{◌≡◌};
     ghost use Rattle.s360_device.specs.Commands.{command_of};
-    ghost use Rattle.s360_device.specs.DeviceChanges.{CanSwapDevice, device_after_swap, device_change_after_swap};
-    ghost use Rattle.s360_device.specs.DeviceChanges.{device_needs, seen_device, with_part};
+    ghost use Rattle.s360_device.specs.DeviceChanges.{CanSwapDevice, device_change_after_swap, device_needs, device_seen, room_after_swap, with_part};
     ghost use Rattle.s360_device.specs.DeviceLaws.{room-again, room-restores_change, room-restores_device};
-    ghost use Rattle.s360_device.specs.Rows.{begin_of as begin_in, input_of as input_in, exception_of as exception_in};
-    ghost use Rattle.s360_device.specs.Rows.{after_command};
+    ghost use Rattle.s360_device.specs.Rows.{begin_of as begin_in, input_of as input_in, exception_of as exception_in, after_command};
 
     type Change = DeviceChange<M::Change>;
 
-    ghost begin_of = { λ d code. begin_in M.kind.table (seen_device M.kind (with_part M.whole d)) (command_of code) };
+    ghost begin_of = { λ d code. begin_in M.kind.table (device_seen M.kind M.whole d) (command_of code) };
 
-    ghost input_of = { λ d code. input_in M.kind.table (seen_device M.kind (with_part M.whole d)) (command_of code) };
+    ghost input_of = { λ d code. input_in M.kind.table (device_seen M.kind M.whole d) (command_of code) };
 
-    ghost exception_of = { λ d code. exception_in M.kind.table (seen_device M.kind (with_part M.whole d)) (command_of code) };
+    ghost exception_of = { λ d code. exception_in M.kind.table (device_seen M.kind M.whole d) (command_of code) };
 
-    ghost is_after = { λ d code bytes e. seen_device M.kind (with_part M.whole e) ≡ after_command M.kind.table (seen_device M.kind (with_part M.whole d)) (command_of code) bytes };
+    ghost is_after = { λ d code bytes e. device_seen M.kind M.whole e ≡ after_command M.kind.table (device_seen M.kind M.whole d) (command_of code) bytes };
 
     ghost sense_of = { λ d. d.sense };
 
@@ -119,15 +115,15 @@ impl<M: Media> Device for DeviceWith<M> {
 
     ghost can_swap = { λ d x. CanSwapDevice M.kind (with_part M.whole d) x };
 
-    ghost after_swap = { λ d x. with_part (λ s. M.made s (M.room_of d.media)) (device_after_swap M.kind (with_part M.whole d) x) };
+    ghost after_swap = { room_after_swap M.kind M.whole M.room_of M.made };
 
     ghost change_after_swap = { λ d x. device_change_after_swap M.kind (with_part M.whole d) x };
 
-    ghost again = { λ d x can. room-again M.kind M.restores_both M.whole M.room_of M.made M.whole_of_made d x can };
+    ghost again = { room-again M.kind M.restores_both M.whole M.room_of M.made M.whole_of_made };
 
-    ghost restores_device = { λ d x can. room-restores_device M.kind M.restores_both M.whole M.room_of M.made M.whole_of_made M.room_of_made M.made_of_parts d x can };
+    ghost restores_device = { room-restores_device M.kind M.restores_both M.whole M.room_of M.made M.whole_of_made M.room_of_made M.made_of_parts };
 
-    ghost restores_change = { λ d x can. room-restores_change M.kind M.restores_both M.whole M.room_of M.made M.whole_of_made d x can };
+    ghost restores_change = { room-restores_change M.kind M.restores_both M.whole M.room_of M.made M.whole_of_made };
 
     fn begin(&self, command: u8) -> Begin {
         match CommandCode::new(command) {

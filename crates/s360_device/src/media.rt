@@ -1,8 +1,8 @@
 //! What is a device's own. Source: GA22-6821, "Input/Output Operations".
 ghost use Rattle.std.specs.Prelude.{◌≡◌, ◌<◌, ◌≤◌, ◌^◌, ℕ, IfOk, OnErr, OnOk, length};
-ghost use Rattle.s360_device.specs.DeviceRows.{IsRow, bytes_given};
-ghost use Rattle.s360_device.specs.Kinds.{Kind, MakesMedia, RestoresBoth};
-ghost use Rattle.s360_device.specs.Rows.{media_written, row_input};
+ghost use Rattle.s360_device.specs.DeviceRows.{IsRow, WritesMedia, bytes_given};
+ghost use Rattle.s360_device.specs.Kinds.{Kind, RestoresBoth};
+ghost use Rattle.s360_device.specs.Rows.{row_input};
 ghost use Rattle.s360_device.specs.Transfers.{CanWrite};
 
 use crate::row::{Given, Row};
@@ -46,7 +46,7 @@ pub trait Media {
     /// What an output does that ends with these bytes; any other command writes nothing.
     fn written(&self, code: u8, bytes: &[u8]) -> Result<Option<Self::Change>, AllocError>
         requires fits { CanWrite (kind.table.rows (kind.see (whole self.now)) code) bytes.now }
-        ensures { IfOk result (λ x. MakesMedia kind (whole self.now) (media_written (kind.see (whole self.now)) (kind.table.rows (kind.see (whole self.now)) code) bytes.now) x) };
+        ensures { IfOk result (WritesMedia kind (whole self.now) code bytes.now) };
 
     /// Makes room for a change, after which its exchange takes no memory. The media are as before. It takes memory only
     /// if the change needs room.

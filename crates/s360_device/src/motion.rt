@@ -1,8 +1,7 @@
 //! What a command does at the end of a device's list of items, such as the cards that were punched, and
 //! what takes it back.
 ghost use Rattle.std.specs.Prelude.{◌≡◌, ◌<◌, ◌≤◌, ◌+◌, vec_len, vec_capacity, OnErr, OnOk};
-ghost use Rattle.s360_device.specs.Motions.{CanMove, items_put, after_motion};
-ghost use Rattle.s360_device.specs.Motions.{motion_back};
+ghost use Rattle.s360_device.specs.Motions.{CanMove, items_put, after_motion, motion_back};
 
 use std::alloc::AllocError;
 use std::mem;

@@ -25,13 +25,13 @@ pub struct PunchMedia {
 }
 
 impl Model for PunchMedia {
-    ghost use Rattle.std.specs.Prelude.{◌-◌, List, vec_len, vec_capacity};
-    ghost use Rattle.s360_device.specs.Kinds.{MediaWithRoom};
+    ghost use Rattle.std.specs.Prelude.{List};
+    ghost use Rattle.s360_device.specs.Kinds.{MediaWithRoom, room_in};
     ghost use Rattle.s360_device.specs.declared.card.PunchedCard.{PunchedCard};
 
     ghost Value = { MediaWithRoom (List PunchedCard) };
 
-    ghost view = { λ p. record { media = p.cards.items; room = vec_capacity p.cards - vec_len p.cards } };
+    ghost view = { λ p. record { media = p.cards.items; room = room_in p.cards } };
 }
 
 /// Where a command that punches stacks the card.

@@ -2,8 +2,7 @@
 ghost use Rattle.std.specs.Prelude.{◌≡◌, IfSome, length};
 ghost use Rattle.std.specs.Option.{option_copied};
 ghost use Rattle.s360_model.specs.Cards.{columns};
-ghost use Rattle.s360_device.specs.DeviceChanges.{device_after_swap, device_change_after_swap, device_needs};
-ghost use Rattle.s360_device.specs.DeviceChanges.{CanSwapDevice, bare};
+ghost use Rattle.s360_device.specs.DeviceChanges.{device_after_swap, device_change_after_swap, device_needs, CanSwapDevice, bare};
 ghost use Rattle.s360_device.specs.Items.{item_in};
 ghost use Rattle.s360_device.specs.Kinds.{MakesMedia};
 ghost use Rattle.s360_device.specs.Reader.{new_reader, next_card, with_end_key};
@@ -43,13 +42,12 @@ impl Drop for ReaderMedia {
 }
 
 impl Model for ReaderMedia {
-    ghost use Rattle.std.specs.Prelude.{◌-◌, vec_len, vec_capacity};
-    ghost use Rattle.s360_device.specs.Kinds.{MediaWithRoom};
+    ghost use Rattle.s360_device.specs.Kinds.{MediaWithRoom, room_in};
     ghost use Rattle.s360_device.specs.Reader.{ReaderMedia as Seen};
 
     ghost Value = { MediaWithRoom Seen };
 
-    ghost view = { λ r. record { media = record { cards = r.deck; stackers = r.stackers.items; end_of_file = r.end_of_file }; room = vec_capacity r.stackers - vec_len r.stackers } };
+    ghost view = { λ r. record { media = record { cards = r.deck; stackers = r.stackers.items; end_of_file = r.end_of_file }; room = room_in r.stackers } };
 }
 
 impl Reader {

@@ -325,6 +325,13 @@ or-none false = refl
 pub Gains-one : (k : ℕ) (q : Place) (g h : Histories) → Changes (with_number k) q g h → Gains k (q ∷ []) g h
 Gains-one k q g h c p = c p ∙ ap (λ b. cond b (with_number k (numbers g p)) (numbers g p)) (sym (or-none (same_place q p)))
 
+pub Keeps-other : {A : Type 0} (psw : List ℕ) (rs : List (Vec ℕ A)) (s : Segments) (es fs : List (Place × Vec ℕ A))
+    → ((p : Place) → numbers_among (shown fs) p ≡ numbers_among (shown es) p) → Keeps (seen psw rs s es) (seen psw rs s fs)
+Keeps-other psw rs s es fs h Psw = refl
+Keeps-other psw rs s es fs h (Byte a) = refl
+Keeps-other {A} psw rs s es fs h (Register n) = ap (λ ns. numbers_or (slice_get (map (λ (v : Vec ℕ A). v.items) rs) n) ns) (h (Register n))
+Keeps-other psw rs s es fs h p = h p
+
 pub GainsInPart-none : (k : ℕ) (ps : List Place) (g h : Histories) → Keeps g h → GainsInPart k ps g h
 GainsInPart-none k ps g h same = record { each = λ p. inl (same p); outside = λ p o. same p }
 

@@ -28,6 +28,11 @@ numbers h (Register n) = numbers_or (slice_get h.registers n) (numbers_among h.o
 numbers h (Byte a) = slice_index_or h.bytes a []
 numbers h p = numbers_among h.others p
 
+-- of other places, one has its numbers changed so, and all others are as before
+abbrev pub ChangesAmong : (List ℕ → List ℕ) → Place → List (Place × List ℕ) → List (Place × List ℕ) → Type 0
+ChangesAmong change p old new =
+    (q : Place) → numbers_among new q ≡ (if same_place p q then change (numbers_among old q) else numbers_among old q)
+
 -- places have a number at their end, and all others are as before
 abbrev pub Gains : ℕ → List Place → Histories → Histories → Type 0
 Gains k ps g h = (p : Place) → numbers h p ≡ (if is_among ps p then with_number k (numbers g p) else numbers g p)

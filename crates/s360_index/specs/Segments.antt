@@ -1,5 +1,6 @@
 -- The bytes of storage in segments: those of one were altered by the same changes.
-use Rattle.std.specs.Prelude.{◌≡◌, ◌<◌, ◌≤◌, ◌⊎◌, ℕ, Bool, true, false, ◌&&◌, if◌then◌else◌, nat_le, nat_lt, Option, Some, None, List, [], length, slice_get, slice_index_or}
+use Rattle.std.specs.Prelude.{◌≡◌, ◌<◌, ◌≤◌, ◌⊎◌, ℕ, Bool, true, false, ◌&&◌, if◌then◌else◌, nat_le, nat_lt}
+use Rattle.std.specs.Prelude.{Option, Some, None, List, [], length, slice_get, slice_index_or}
 use Rattle.s360_index.specs.Numbers.{MayGain, MayLose, with_number, without_number}
 use Rattle.s360_index.specs.declared.segments.Segment.{Segment}
 use Rattle.s360_index.specs.declared.segments.Segments.{Segments}

@@ -1,9 +1,8 @@
 //! The index: for each place the numbers of the changes that altered it.
-ghost use Rattle.std.specs.Prelude.{◌≡◌, [], if◌then◌else◌, IfOk, OnErr, OnOk};
-ghost use Rattle.s360_store.specs.Places.{same_place};
+ghost use Rattle.std.specs.Prelude.{◌≡◌, [], IfOk, OnErr, OnOk};
 ghost use Rattle.s360_store.specs.declared.place.Place.{Place as APlace};
 ghost use Rattle.s360_store.specs.Spans.{IsSpan, places_of_span};
-ghost use Rattle.s360_index.specs.Histories.{Gains, GainsInPart, Loses, numbers, numbers_among};
+ghost use Rattle.s360_index.specs.Histories.{ChangesAmong, Gains, GainsInPart, Loses, numbers, numbers_among};
 ghost use Rattle.s360_index.specs.Numbers.{with_number, without_number};
 ghost use Rattle.s360_index.specs.Sizes.{IsSpanWithinSize};
 ghost use Rattle.s360_index.specs.Views.{other_numbers};
@@ -46,7 +45,8 @@ impl Model for Index {
 
     ghost Value = { Histories };
 
-    ghost view = { λ i. record { psw = i.psw.items; registers = map (λ v. v.items) i.registers; bytes = byte_numbers i.bytes; others = other_numbers i.others } };
+    ghost view = { λ i. record { psw = i.psw.items; registers = map (λ v. v.items) i.registers;
+        bytes = byte_numbers i.bytes; others = other_numbers i.others } };
 
     ghost invariant = { λ i. AreSegments i.bytes };
 }
@@ -59,7 +59,7 @@ fn put_other(
     place: Place,
     number: u32,
 ) -> Result<(), AllocError>
-    ensures ok { OnOk result ((p : APlace) → numbers_among (other_numbers others.new) p ≡ (if same_place place p then with_number number (numbers_among (other_numbers others.old) p) else numbers_among (other_numbers others.old) p)) }
+    ensures ok { OnOk result (ChangesAmong (with_number number) place (other_numbers others.old) (other_numbers others.new)) }
     ensures err { OnErr result ((p : APlace) → numbers_among (other_numbers others.new) p ≡ numbers_among (other_numbers others.old) p) }
 {
     if let Some(numbers) = others.get_mut(&place) {
@@ -73,7 +73,7 @@ fn put_other(
 
 /// Takes a number from the end of those of a place in a map, if it stands there. It takes no memory.
 fn take_other(others: &mut BTreeMap<Place, Vec<u32>>, place: Place, number: u32)
-    ensures { (p : APlace) → numbers_among (other_numbers others.new) p ≡ (if same_place place p then without_number number (numbers_among (other_numbers others.old) p) else numbers_among (other_numbers others.old) p) }
+    ensures { ChangesAmong (without_number number) place (other_numbers others.old) (other_numbers others.new) }
 {
     if let Some(numbers) = others.get_mut(&place) {
         take_number(numbers, number);

@@ -1,7 +1,7 @@
 //! The bytes of storage in segments, each with one list of numbers.
 ghost use Rattle.std.specs.Prelude.{◌≡◌, ◌≢◌, ◌<◌, ◌≤◌, ◌+◌, ◌^◌, ◌⊎◌, ℕ, [], length, slice_get, Some, IfOk, OnErr, OnOk};
-ghost use Rattle.s360_index.specs.Segments.{AreSegments, Gained, GainedInPart, Grown, IsCut, IsInside, KeepsCuts, KeepsNumbers, KeepsNumbersBefore, KeepsNumbersFrom, Lost, Relabelled};
-ghost use Rattle.s360_index.specs.Segments.{label, numbers_at};
+ghost use Rattle.s360_index.specs.Segments.{AreSegments, Gained, GainedInPart, Grown, IsCut, IsInside, KeepsCuts, KeepsNumbers, KeepsNumbersBefore};
+ghost use Rattle.s360_index.specs.Segments.{KeepsNumbersFrom, Lost, Relabelled, label, numbers_at};
 
 use crate::numbers::{put_number, take_number};
 use std::alloc::{AllocError, Global};

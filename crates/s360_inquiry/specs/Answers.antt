@@ -18,6 +18,9 @@ pub record Inquired : Type 0 where
   pub recorded : Recorded
   pub stood : Option ℕ
 
+abbrev pub inquired : Recorded → Option ℕ → Inquired
+inquired recorded stood = record { recorded = recorded; stood = stood }
+
 unfoldable pub answer_to : Inquired → Inquiry → List ℕ
 answer_to i (Who place) = who_text i.recorded place (last_change_in i.recorded place)
 answer_to i (Why place depth) = why_text i.recorded place depth

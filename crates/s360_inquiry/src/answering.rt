@@ -3,7 +3,7 @@ ghost use Rattle.std.specs.Prelude.{◌≡◌, IfOk, OnErr, OnOk};
 ghost use Rattle.s360_journal.specs.Recorded.{with_standing};
 ghost use Rattle.s360_language.specs.ShownBytes.{storage_rows};
 ghost use Rattle.s360_language.specs.declared.show_bytes.Row.TheVariants.{Signs};
-ghost use Rattle.s360_inquiry.specs.Answers.{answer_to, stands_after, state_after};
+ghost use Rattle.s360_inquiry.specs.Answers.{answer_to, inquired, stands_after, state_after};
 
 use crate::change::{answer_changes, answer_who};
 use crate::going::answer_goto;
@@ -25,8 +25,8 @@ pub fn answer_inquiry(
     stood: &mut Option<u32>,
     inquiry: Inquiry,
 ) -> Result<Text, AllocError>
-    ensures text { IfOk result (λ text. text ≡ answer_to (record { recorded = recording.old; stood = stood.old }) inquiry) }
-    ensures state { OnOk result (record { recorded = recording.new; stood = stood.new } ≡ state_after (record { recorded = recording.old; stood = stood.old }) inquiry) }
+    ensures text { IfOk result (λ text. text ≡ answer_to (inquired recording.old stood.old) inquiry) }
+    ensures state { OnOk result (inquired recording.new stood.new ≡ state_after (inquired recording.old stood.old) inquiry) }
     ensures memory { OnErr result (recording.new ≡ with_standing recording.old recording.new.standing) }
     ensures memory_stood { OnErr result (stood.new ≡ stood.old) }
 {
@@ -46,8 +46,8 @@ fn text_of_inquiry(
     stood: Option<u32>,
     inquiry: Inquiry,
 ) -> Result<Text, AllocError>
-    ensures text { IfOk result (λ text. text ≡ answer_to (record { recorded = recording.old; stood = stood }) inquiry) }
-    ensures state { OnOk result (recording.new ≡ with_standing recording.old (stands_after (record { recorded = recording.old; stood = stood }) inquiry)) }
+    ensures text { IfOk result (λ text. text ≡ answer_to (inquired recording.old stood) inquiry) }
+    ensures state { OnOk result (recording.new ≡ with_standing recording.old (stands_after (inquired recording.old stood) inquiry)) }
     ensures memory { OnErr result (recording.new ≡ with_standing recording.old recording.new.standing) }
 {
     match inquiry {

@@ -5,12 +5,11 @@ use Rattle.std.specs.Prelude.{IfSome}
 use Rattle.std.proofs.lemmas.List.{length-append, length-map, reverse-append}
 use Rattle.std.proofs.lemmas.Option.{slice_get-get_or}
 use Rattle.s360_machine.specs.declared.event.Event.{Event}
-use Rattle.s360_machine.specs.Machine.{Whole, seen}
+use Rattle.s360_machine.specs.Machine.{Whole, seen, storage_size}
 use Rattle.s360_machine.specs.Change.{CanSwap, Change, HasRoom, NeedsNoRoom, after_swap, change_after_swap, places_of_change}
 use Rattle.s360_machine.specs.Packed.{IsSwapOf}
 use Rattle.s360_machine.specs.Planned.{IsChangeTo}
 use Rattle.s360_machine.specs.Refusals.{refusal_of}
-use Rattle.s360_machine.specs.Machine.{storage_size}
 use Rattle.s360_machine.specs.Step.{after, step}
 use Rattle.s360_journal.specs.Advances.{IsMade, LeadsOn, LedFrom}
 use Rattle.s360_journal.specs.History.{AreHistory, Entry, IsHistory, entries_of, unwound}

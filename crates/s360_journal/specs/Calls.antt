@@ -6,9 +6,11 @@ use Rattle.s360_machine.specs.Machine.{Whole, seen}
 use Rattle.s360_machine.specs.declared.refusal.Refusal.{Refusal}
 use Rattle.s360_machine.specs.declared.refusal.Refusal.TheVariants.{Memory}
 use Rattle.s360_journal.specs.declared.calls.Call.{Call}
-use Rattle.s360_journal.specs.declared.calls.Call.TheVariants.{Forward, Advance, Preview, Run, Back, StepBack, RunBack, BackUntil, BackTo, Again, AgainTo, Withdraw, Standing as standing, Recorded as recorded, LastChange}
+use Rattle.s360_journal.specs.declared.calls.Call.TheVariants.{Forward, Advance, Preview, Run, Back, StepBack, RunBack, BackUntil, BackTo}
+use Rattle.s360_journal.specs.declared.calls.Call.TheVariants.{Again, AgainTo, Withdraw, Standing as standing, Recorded as recorded, LastChange}
 use Rattle.s360_journal.specs.declared.calls.Answer.{Answer}
-use Rattle.s360_journal.specs.declared.calls.Answer.TheVariants.{Forwarded, Advanced, Previewed, Ran, TookBack, SteppedBack, RanBack, WentBack, RanAgain, WentOn, Withdrew, Stands, AreRecorded, LastChanged}
+use Rattle.s360_journal.specs.declared.calls.Answer.TheVariants.{Forwarded, Advanced, Previewed, Ran, TookBack, SteppedBack, RanBack}
+use Rattle.s360_journal.specs.declared.calls.Answer.TheVariants.{WentBack, RanAgain, WentOn, Withdrew, Stands, AreRecorded, LastChanged}
 use Rattle.s360_journal.specs.Recorded.{Recorded, after_event, after_events, session_of, standing_events, with_standing, without_change, without_last}
 use Rattle.s360_journal.specs.Reports.{IsReport}
 use Rattle.s360_journal.specs.Rerun.{last_change_of}
@@ -45,6 +47,10 @@ abbrev pub state_after_all : Recorded → List Call → List Answer → Recorded
 state_after_all r (c ∷ cs) (a ∷ answers) = state_after_all (state_after r c a) cs answers
 state_after_all r cs answers = r
 
+-- the events that stand after calls from a start, which their answers tell
+abbrev pub events_after_calls : Whole → ℕ → List Call → List Answer → List Event
+events_after_calls start limit calls answers = standing_events (state_after_all (new_session start limit) calls answers)
+
 -- an event may be refused so: as the definition says, or else for want of memory
 abbrev pub IsRefusal : Recorded → Event → Refusal → Type 0
 IsRefusal s e r = MatchOption (refusal_in (session_of s) e) (r ≡ Memory) (λ q. r ≡ q)
@@ -57,7 +63,8 @@ MayAnswer r (Advance e) (Advanced (Ok done)) = refusal_in (session_of r) e ≡ N
 MayAnswer r (Advance e) (Advanced (Err refusal)) = IsRefusal r e refusal
 MayAnswer r (Preview e) (Previewed (Ok report)) = (refusal_in (session_of r) e ≡ None) × IsReport report (alteration (session_of r) e)
 MayAnswer r (Preview e) (Previewed (Err refusal)) = IsRefusal r e refusal
-MayAnswer r (Run breaks turn reach most) (Ran accepted (Ok end)) = let run = run_in (stops_at breaks) turn reach r most in (end ≡ run.why) × (accepted ≡ length run.events)
+MayAnswer r (Run breaks turn reach most) (Ran accepted (Ok end)) =
+    let run = run_in (stops_at breaks) turn reach r most in (end ≡ run.why) × (accepted ≡ length run.events)
 MayAnswer r (Run breaks turn reach most) (Ran accepted (Err e)) = accepted ≤ length (run_in (stops_at breaks) turn reach r most).events
 MayAnswer r Back (TookBack (Ok e)) = last_of (standing_events r) ≡ Some e
 MayAnswer r Back (TookBack (Err n)) = standing_events r ≡ []

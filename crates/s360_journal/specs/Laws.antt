@@ -65,5 +65,6 @@ LastStopIsTheGreatest =
 -- what was taken back is run again by the next turn, which leads to the very record that was
 abbrev pub TurnRunsAgain : Type 0
 TurnRunsAgain =
-    (stops : WhereToStop) (reach : Reach) (r : Recorded) → AreAccepted (seen r.start) r.events → length r.events ≤ r.limit → 0 < r.standing → r.standing ≤ length r.events
+    (stops : WhereToStop) (reach : Reach) (r : Recorded)
+    → AreAccepted (seen r.start) r.events → length r.events ≤ r.limit → 0 < r.standing → r.standing ≤ length r.events
     → after_events (one_back r) (run_in stops Next reach (one_back r) 1).events ≡ r

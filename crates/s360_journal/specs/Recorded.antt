@@ -1,12 +1,14 @@
 -- What a session is seen as: the events that were recorded, of which the first ones stand.
-use Rattle.std.specs.Prelude.{◌≡◌, ℕ, ◌+◌, ◌-◌, ◌++◌, if◌then◌else◌, List, [], ◌∷◌, take, drop, length, slice_get, ⊤, Option, Some, None, MatchOption, Result, Err, IsOkUnless, OnErr, OnOk}
+use Rattle.std.specs.Prelude.{◌≡◌, ◌≤◌, ℕ, ◌+◌, ◌-◌, ◌++◌, if◌then◌else◌, List, [], ◌∷◌, take, drop, length, slice_get, ⊤, Option, Some, None, MatchOption, Result, Err, IsOkUnless, OnErr, OnOk}
 use Rattle.s360_machine.specs.declared.event.Event.{Event}
 use Rattle.s360_machine.specs.Machine.{Whole, seen, storage_size}
 use Rattle.s360_machine.specs.declared.refusal.Refusal.{Refusal}
 use Rattle.s360_machine.specs.declared.refusal.Refusal.TheVariants.{Memory}
+use Rattle.s360_journal.specs.Advances.{AreLed, Journaled, start_of}
 use Rattle.s360_journal.specs.Offers.{with_events}
+use Rattle.s360_journal.specs.Rerun.{AreAccepted}
 use Rattle.s360_journal.specs.Standing.{IsAfter, Standing, machine_of, refusal_in}
-use Rattle.s360_journal.specs.Timelines.{dropped_with, is_first}
+use Rattle.s360_journal.specs.Timelines.{Timeline, dropped_with, is_first}
 use Rattle.s360_journal.specs.Withdrawals.{without_event}
 
 -- the whole machine at the start, the events that were recorded, how many first ones of them stand, how many may be recorded,
@@ -17,6 +19,21 @@ pub record Recorded : Type 0 where
   pub standing : ℕ
   pub limit : ℕ
   pub dropped : ℕ
+
+-- what is seen of a machine with the changes that led to it, and of a timeline
+abbrev pub recorded_of : Journaled → Timeline → ℕ → ℕ → Recorded
+recorded_of j t limit dropped = record {
+  start = start_of j.whole t.standing j.changes;
+  events = t.standing ++ t.rest;
+  standing = length t.standing;
+  limit = limit;
+  dropped = dropped;
+}
+
+-- the events that stand led there, none of the rest is refused, and no more are recorded than may be
+abbrev pub IsSession : Journaled → Timeline → ℕ → Type 0
+IsSession j t limit =
+    AreLed t.standing j × AreAccepted (seen j.whole) t.rest × (length t.standing + length t.rest ≤ limit) × (limit ≤ 10000000)
 
 -- the events that stand
 abbrev pub standing_events : Recorded → List Event

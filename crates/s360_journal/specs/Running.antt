@@ -120,3 +120,11 @@ pub record IsAccepted (now : Recorded) (s : Standing) (rest : List Event) (e : E
   pub stands : IsAfter (session_of now) s e
   pub met : again ≡ is_some (slice_get rest 0)
   pub ended : (again && nat_eq now.standing (length now.events)) ≡ is_end rest
+
+-- whichever event was accepted, it tells why the machine pauses after it; and whether it was as far as was asked
+abbrev pub TellsPause : WhereToStop → Reach → Recorded → Bool → Option Pause → Type 0
+TellsPause stops reach now again pause =
+    (s : Standing) (rest : List Event) (e : Event) → IsAccepted now s rest e again → pause ≡ pause_after stops reach s rest e
+
+abbrev pub TellsReached : WhereToStop → Reach → Standing → Bool → Type 0
+TellsReached stops reach now reached = (s : Standing) (e : Event) → IsAfter now s e → reached ≡ is_reached stops reach now e

@@ -1,6 +1,6 @@
 -- What a session is seen as, and what may answer an event in it.
 use Rattle.std.specs.Option.{option_map}
-use Rattle.std.specs.Prelude.{ℕ, ◌-◌, ◌≡◌, List, [], ◌∷◌, ◌++◌, length, slice_get, nat_lt, if◌then◌else◌, Option, Some, None}
+use Rattle.std.specs.Prelude.{ℕ, ◌-◌, ◌≡◌, List, [], ◌∷◌, ◌++◌, length, slice_get, take, nat_lt, if◌then◌else◌, Option, Some, None}
 use Rattle.s360_store.specs.declared.place.Place.{Place}
 use Rattle.s360_machine.specs.declared.event.Event.{Event}
 use Rattle.s360_machine.specs.declared.event_kind.EventKind.{EventKind}
@@ -35,6 +35,10 @@ refusal_in s e = or_full (refusal_of (storage_size (machine_of s)) e) (length s.
 -- the session in which an event more stands than in another
 abbrev pub IsAfter : Standing → Standing → Event → Type 0
 IsAfter t s e = t ≡ record s { events = s.events ++ e ∷ [] }
+
+-- the session before its last event
+abbrev pub before_last : Standing → Standing
+before_last s = record s { events = take (length s.events - 1) s.events }
 
 -- the places that an event alters
 abbrev pub alteration : Standing → Event → List Place

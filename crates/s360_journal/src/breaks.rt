@@ -1,7 +1,6 @@
 //! The breakpoints: addresses in storage at which the debugger is to stop (own profile).
 ghost use Rattle.std.specs.Prelude.{◌≡◌, [], length};
-ghost use Rattle.s360_journal.specs.Breakpoints.{AreBreakpoints, has_address, has_room_for};
-ghost use Rattle.s360_journal.specs.Breakpoints.{with_address, without_address};
+ghost use Rattle.s360_journal.specs.Breakpoints.{AreBreakpoints, has_address, has_room_for, with_address, without_address};
 ghost use Rattle.s360_journal.specs.Running.{stops_at};
 
 use crate::running::Stops;

@@ -4,8 +4,8 @@
 ghost use Rattle.std.specs.Prelude.{◌≡◌, ◌≤◌, IfOk, OnErr};
 ghost use Rattle.s360_machine.specs.Machine.{seen};
 ghost use Rattle.s360_journal.specs.Rerun.{rerun, AreAccepted};
-ghost use Rattle.s360_journal.specs.Calls.{IsAnswer, IsRun, new_session, state_after_all};
-ghost use Rattle.s360_journal.specs.Recorded.{Recorded as State, standing_events};
+ghost use Rattle.s360_journal.specs.Calls.{IsAnswer, IsRun, events_after_calls, new_session};
+ghost use Rattle.s360_journal.specs.Recorded.{Recorded as State};
 ghost use Rattle.s360_journal.specs.declared.calls.Call.TheVariants.{Run};
 
 use crate::breaks::Breaks;
@@ -165,8 +165,8 @@ pub fn run_calls(
     calls: Vec<Call>,
 ) -> Result<Outcome, AllocError>
     requires { limit ≤ 10000000 }
-    ensures machine { IfOk result (λ o. seen o.machine.whole ≡ rerun (seen start.whole) (standing_events (state_after_all (new_session start.whole limit) calls.items o.answers.items))) }
-    ensures accepted { IfOk result (λ o. AreAccepted (seen start.whole) (standing_events (state_after_all (new_session start.whole limit) calls.items o.answers.items))) }
+    ensures machine { IfOk result (λ o. seen o.machine.whole ≡ rerun (seen start.whole) (events_after_calls start.whole limit calls.items o.answers.items)) }
+    ensures accepted { IfOk result (λ o. AreAccepted (seen start.whole) (events_after_calls start.whole limit calls.items o.answers.items)) }
     ensures answers { IfOk result (λ o. (end : State) × IsRun (new_session start.whole limit) calls.items o.answers.items end) }
 {
     let mut session = Session::new(alloc, start, limit);

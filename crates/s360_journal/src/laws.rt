@@ -1,6 +1,5 @@
 //! Laws of the definitions, each the contract of a call that does nothing.
-ghost use Rattle.s360_journal.specs.Laws.{BreakpointsAreASet, LastChangeIsTheGreatest};
-ghost use Rattle.s360_journal.specs.Laws.{LastStopIsTheGreatest, RefusalDependsOnTheSize, TurnRunsAgain};
+ghost use Rattle.s360_journal.specs.Laws.{BreakpointsAreASet, LastChangeIsTheGreatest, LastStopIsTheGreatest, RefusalDependsOnTheSize, TurnRunsAgain};
 
 /// The last change of a place is the greatest number of a change that alters it.
 pub fn last_change_is_the_greatest()

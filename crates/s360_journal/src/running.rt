@@ -1,11 +1,9 @@
 //! Runs: events one after another, until the machine is to pause; and the way back.
-ghost use Rattle.std.specs.Prelude.{◌≡◌, ◌≤◌, ◌&&◌, ℕ, List, IfOk, OnOk, OnErr, false, length, nat_eq, take};
+ghost use Rattle.std.specs.Prelude.{◌≡◌, ◌≤◌, ◌&&◌, ℕ, IfOk, OnOk, OnErr, false, length, nat_eq, take};
 ghost use Rattle.s360_machine.specs.Machine.{seen};
-ghost use Rattle.s360_machine.specs.declared.event.Event.{Event as Happening};
 ghost use Rattle.s360_journal.specs.Recorded.{AreRun, session_of, standing_events, with_standing};
 ghost use Rattle.s360_journal.specs.Returning.{IsTakenBack, back_of, is_cpu_last};
-ghost use Rattle.s360_journal.specs.Running.{IsAccepted, IsTurn, WhereToStop, is_reached, next_event, pause_after, pause_with, run_in};
-ghost use Rattle.s360_journal.specs.Standing.{IsAfter, Standing};
+ghost use Rattle.s360_journal.specs.Running.{IsTurn, TellsPause, TellsReached, WhereToStop, next_event, pause_with, run_in};
 
 use crate::session::Session;
 use s360_machine::{Event, EventKind, Machine, Refusal};
@@ -111,7 +109,7 @@ impl Session {
     /// Why the machine pauses after the last event, which may have been run again, if it does.
     #[inline(always)]
     fn pause_after<S: Stops>(&self, stops: &S, reach: Reach, is_again: bool) -> Option<Pause>
-        ensures { (s : Standing) (rest : List Happening) (e : Happening) → IsAccepted self.now s rest e is_again → result ≡ pause_after (S.stops_of stops.now) reach s rest e }
+        ensures { TellsPause (S.stops_of stops.now) reach self.now is_again result }
     {
         if !is_again && self.is_idle() {
             return Some(Pause::Idle);
@@ -129,7 +127,7 @@ impl Session {
     /// Whether the last event is as far as was asked.
     #[inline(always)]
     fn is_reached<S: Stops>(&self, stops: &S, reach: Reach) -> bool
-        ensures { (s : Standing) (e : Happening) → IsAfter (session_of self.now) s e → result ≡ is_reached (S.stops_of stops.now) reach (session_of self.now) e }
+        ensures { TellsReached (S.stops_of stops.now) reach (session_of self.now) result }
     {
         match reach {
             Reach::Step => self.is_cpu_last(),

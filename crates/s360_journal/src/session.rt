@@ -10,7 +10,7 @@ ghost use Rattle.s360_journal.specs.Rerun.{rerun, AreAccepted, changes_of, last_
 ghost use Rattle.s360_journal.specs.Returning.{one_back};
 ghost use Rattle.s360_journal.specs.Running.{next_event};
 ghost use Rattle.s360_journal.specs.Stops.{stop_of};
-ghost use Rattle.s360_journal.specs.Standing.{IsAfter, Standing, machine_of, refusal_in, alteration, last_kind_of};
+ghost use Rattle.s360_journal.specs.Standing.{IsAfter, Standing, before_last, machine_of, refusal_in, alteration, last_kind_of};
 ghost use Rattle.s360_journal.specs.Timelines.{HasRoomFor, IsNoted, dropped_with};
 ghost use Rattle.s360_journal.specs.Withdrawals.{AreAllowed, is_standing};
 ghost use Rattle.s360_machine.specs.declared.event.Event.{Event as AnEvent};
@@ -48,17 +48,13 @@ pub struct Session {
 }
 
 impl Model for Session {
-    ghost use Rattle.std.specs.Prelude.{◌≤◌, ◌+◌, ◌++◌, length};
-    ghost use Rattle.s360_machine.specs.Machine.{seen};
-    ghost use Rattle.s360_journal.specs.Advances.{AreLed, start_of};
-    ghost use Rattle.s360_journal.specs.Recorded.{Recorded};
-    ghost use Rattle.s360_journal.specs.Rerun.{AreAccepted};
+    ghost use Rattle.s360_journal.specs.Recorded.{IsSession, Recorded, recorded_of};
 
     ghost Value = { Recorded };
 
-    ghost view = { λ s. record { start = start_of s.journal.whole s.timeline.standing s.journal.changes; events = s.timeline.standing ++ s.timeline.rest; standing = length s.timeline.standing; limit = s.limit; dropped = s.dropped } };
+    ghost view = { λ s. recorded_of s.journal s.timeline s.limit s.dropped };
 
-    ghost invariant = { λ s. AreLed s.timeline.standing s.journal × AreAccepted (seen s.journal.whole) s.timeline.rest × (length s.timeline.standing + length s.timeline.rest ≤ s.limit) × (s.limit ≤ 10000000) };
+    ghost invariant = { λ s. IsSession s.journal s.timeline s.limit };
 }
 
 impl Session {
@@ -333,7 +329,7 @@ impl Session {
     /// Takes the last change that stands back. Its event stays in the record, and comes next. It takes no memory.
     pub fn step_back(&mut self) -> Result<(), NothingStands>
         ensures ok { self.new ≡ one_back self.old }
-        ensures stands { OnOk result (session_of self.new ≡ record (session_of self.old) { events = take (length (standing_events self.old) - 1) (standing_events self.old) }) }
+        ensures stands { OnOk result (session_of self.new ≡ before_last (session_of self.old)) }
         ensures some { OnOk result (0 < self.old.standing) }
         ensures err { OnErr result (self.new ≡ self.old) }
         ensures nothing { OnErr result (self.old.standing ≡ 0) }

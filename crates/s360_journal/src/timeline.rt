@@ -23,13 +23,12 @@ pub(crate) struct Timeline {
 }
 
 impl Model for Timeline {
-    ghost use Rattle.std.specs.Prelude.{◌-◌, length, reverse};
     ghost use Rattle.s360_journal.specs.Timelines.{Timeline};
-    ghost use Rattle.s360_journal.specs.Events.{AreEvents, events_of};
+    ghost use Rattle.s360_journal.specs.Events.{AreEvents, timeline_of};
 
     ghost Value = { Timeline };
 
-    ghost view = { λ r. record { standing = reverse (events_of r.tags.past r.units.past r.others.past); rest = events_of r.tags.next r.units.next r.others.next; spare = record { events = r.tags.room - length r.tags.past; units = r.units.room - length r.units.past; others = r.others.room - length r.others.past } } };
+    ghost view = { λ r. timeline_of r.tags r.units r.others };
 
     ghost invariant = { λ r. AreEvents r.tags.past r.units.past r.others.past × AreEvents r.tags.next r.units.next r.others.next };
 }

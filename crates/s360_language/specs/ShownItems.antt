@@ -16,11 +16,11 @@ use Rattle.s360_print.specs.declared.typed_line.TypedItem.{TypedItem}
 use Rattle.s360_print.specs.declared.typed_line.TypedItem.TheVariants.{Text, Return, Alarm}
 use Rattle.s360_print.specs.Console.{Console}
 use Rattle.s360_print.specs.Printer.{Printer}
-use Rattle.s360_tape.specs.declared.item.Item.{Item}
-use Rattle.s360_tape.specs.declared.item.Item.TheVariants.{Block, Mark}
+use Rattle.s360_tape.specs.declared.item.TapeItem.{TapeItem}
+use Rattle.s360_tape.specs.declared.item.TapeItem.TheVariants.{Block, Mark}
 use Rattle.s360_tape.specs.Tape.{Tape}
 use Rattle.s360_channel.specs.declared.configured_unit.ConfiguredUnit.{ConfiguredUnit}
-use Rattle.s360_channel.specs.declared.configured_unit.ConfiguredUnit.TheVariants.{Reader as reader_unit, Punch as punch_unit, Printer as printer_unit, Console as console_unit, Tape0, Tape1}
+use Rattle.s360_channel.specs.declared.configured_unit.ConfiguredUnit.TheVariants as units
 use Rattle.s360_machine.specs.declared.refusal.Refusal.TheVariants.{NoSuchUnit}
 use Rattle.s360_machine.specs.Machine.{Machine}
 use Rattle.s360_channel.specs.ConfiguredUnits.{unit_at}
@@ -82,7 +82,7 @@ block_begin [] = []
 block_begin (byte ∷ bytes) = codes " " ++ hex_bytes (take 32 (byte ∷ bytes))
 
 -- a block, with the number of its bytes, or a mark
-abbrev pub tape_item_line : Item → List ℕ
+abbrev pub tape_item_line : TapeItem → List ℕ
 tape_item_line (Block bytes) = counted (codes "block ") (length bytes) ++ block_begin bytes ++ codes "\n"
 tape_item_line Mark = codes "mark\n"
 
@@ -92,12 +92,12 @@ tape_item t number = option_map_or tape_item_line (item_in t.media.items number)
 
 -- an item of a unit's media, if the machine has the unit
 abbrev pub item_of_unit : Machine → Option ConfiguredUnit → ℕ → List ℕ
-item_of_unit m (Some reader_unit) number = deck_card m.media.reader number
-item_of_unit m (Some punch_unit) number = punched_card m.media.punch number
-item_of_unit m (Some printer_unit) number = printed_record m.media.printer number
-item_of_unit m (Some console_unit) number = typed_item m.media.console number
-item_of_unit m (Some Tape0) number = tape_item m.media.tape0 number
-item_of_unit m (Some Tape1) number = tape_item m.media.tape1 number
+item_of_unit m (Some units.Reader) number = deck_card m.media.reader number
+item_of_unit m (Some units.Punch) number = punched_card m.media.punch number
+item_of_unit m (Some units.Printer) number = printed_record m.media.printer number
+item_of_unit m (Some units.Console) number = typed_item m.media.console number
+item_of_unit m (Some units.Tape0) number = tape_item m.media.tape0 number
+item_of_unit m (Some units.Tape1) number = tape_item m.media.tape1 number
 item_of_unit m None number = refused_text NoSuchUnit
 
 abbrev pub item_text : Machine → Unit → ℕ → List ℕ

@@ -12,7 +12,6 @@ use Rattle.s360_channel.specs.declared.unit_state.UnitState.{UnitState}
 use Rattle.s360_channel.specs.declared.unit_state.UnitState.TheVariants.{Idle, Active, Waiting}
 use Rattle.s360_channel.specs.Words.{csw_doubleword}
 use Rattle.s360_channel.specs.declared.configured_unit.ConfiguredUnit.{ConfiguredUnit}
-use Rattle.s360_channel.specs.declared.configured_unit.ConfiguredUnit.TheVariants.{Reader as reader_unit, Punch as punch_unit, Printer as printer_unit, Console as console_unit, Tape0, Tape1}
 use Rattle.s360_machine.specs.Machine.{Machine}
 
 -- of a program its key, zeros and the address of its next channel command word, as a channel address word has them
@@ -39,14 +38,14 @@ control_words state attention = state_name state ++ attention_name attention
 abbrev pub sense_text : List ℕ → List ℕ
 sense_text sense = codes " sense " ++ hex_text 2 (slice_index sense 0)
 
-abbrev pub key_text : Bool → List ℕ
-key_text pressed = if pressed then codes " eof on" else codes " eof off"
+abbrev pub pressed_text : Bool → List ℕ
+pressed_text pressed = if pressed then codes " eof on" else codes " eof off"
 
 -- the cards that were fed, of all, and the end-of-file key
 abbrev pub reader_words : Reader → List ℕ
 reader_words r =
     sense_text r.sense ++ counted (codes " next ") (length r.media.stackers) ++ counted (codes " of ") (length r.media.cards)
-    ++ key_text r.media.end_of_file
+    ++ pressed_text r.media.end_of_file
 
 -- the cards that were punched
 abbrev pub punch_words : Punch → List ℕ
@@ -75,9 +74,9 @@ tape_words t =
 
 -- a unit's device
 abbrev pub device_words : Machine → ConfiguredUnit → List ℕ
-device_words m reader_unit = reader_words m.media.reader
-device_words m punch_unit = punch_words m.media.punch
-device_words m printer_unit = printer_words m.media.printer
-device_words m console_unit = console_words m.media.console
-device_words m Tape0 = tape_words m.media.tape0
-device_words m Tape1 = tape_words m.media.tape1
+device_words m ConfiguredUnit.Reader = reader_words m.media.reader
+device_words m ConfiguredUnit.Punch = punch_words m.media.punch
+device_words m ConfiguredUnit.Printer = printer_words m.media.printer
+device_words m ConfiguredUnit.Console = console_words m.media.console
+device_words m ConfiguredUnit.Tape0 = tape_words m.media.tape0
+device_words m ConfiguredUnit.Tape1 = tape_words m.media.tape1

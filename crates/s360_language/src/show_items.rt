@@ -13,7 +13,7 @@ use crate::show_bytes::{push_digits, push_signs_behind};
 use s360_device::{Punch, PunchStacker, ReadStacker, Reader};
 use s360_machine::{ConfiguredUnit, Machine, Refusal};
 use s360_print::{Console, Printer, Record, TypedItem};
-use s360_tape::{Item, Tape};
+use s360_tape::{Tape, TapeItem};
 use s360_text::Text;
 use s360_word::Unit;
 use std::alloc::AllocError;
@@ -105,10 +105,10 @@ fn push_none(text: &mut Text) -> Result<(), AllocError>
 }
 
 /// Adds the line of a block or mark.
-fn push_block_or_mark(text: &mut Text, item: &Item) -> Result<(), AllocError>
+fn push_block_or_mark(text: &mut Text, item: &TapeItem) -> Result<(), AllocError>
     ensures { OnOk result (text.new ≡ text.old ++ tape_item_line item.now) }
 {
-    let Item::Block(block) = item else {
+    let TapeItem::Block(block) = item else {
         return text.push_text("mark\n");
     };
     let bytes = block.as_slice();

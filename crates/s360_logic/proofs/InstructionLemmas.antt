@@ -16,7 +16,7 @@ use Rattle.s360_fixed.specs.Plans.{PutsOutcome}
 use Rattle.s360_fixed.specs.ProgramCodes.{Conditions, no_conditions, program_code}
 use Rattle.s360_fixed.specs.Table.{form_of}
 use Rattle.s360_fixed.specs.View.{Outcome, View}
-use Rattle.s360_logic.specs.Instruction.{Fetched, IsFetched, PutsInstruction, conditions_at, fetched_outcome, instruction, instruction_at, instruction_of, view_at}
+use Rattle.s360_logic.specs.Instruction.{FetchedInstruction, IsFetched, PutsInstruction, conditions_at, fetched_outcome, instruction, instruction_at, instruction_of, view_at}
 
 -- a code that no instruction has is found where nothing keeps the instruction from being fetched
 operation-met : (odd outside_first protected_first outside_rest protected_rest : Bool)
@@ -44,7 +44,7 @@ outcome-of-form m a None h =
     in instruction_of-unknown m a h ∙ late
 outcome-of-form m a (Some form) h = rw h refl
 
-pub outcome-fetched : (f : Fetched) → IsFetched f → (instruction_at f.view.core (instruction_address_of f.view.core.psw)).outcome ≡ fetched_outcome f.view f.form
+pub outcome-fetched : (f : FetchedInstruction) → IsFetched f → (instruction_at f.view.core (instruction_address_of f.view.core.psw)).outcome ≡ fetched_outcome f.view f.form
 outcome-fetched f h =
     let a : ℕ = instruction_address_of f.view.core.psw
     in outcome-of-form f.view.core a (form_of (instruction_bytes f.view.core.storage a)) h.can
@@ -52,7 +52,7 @@ outcome-fetched f h =
     ∙ ap (λ x. fetched_outcome f.view x) (sym h.form)
 
 -- what is put of it
-pub PutsInstruction-fetched : {S : Type 0} (q : Ghosts S) (puts : S) (f : Fetched) (ended : Ended) → IsFetched f → PutsOutcome q puts f.view (fetched_outcome f.view f.form) ended
+pub PutsInstruction-fetched : {S : Type 0} (q : Ghosts S) (puts : S) (f : FetchedInstruction) (ended : Ended) → IsFetched f → PutsOutcome q puts f.view (fetched_outcome f.view f.form) ended
     → PutsInstruction q puts f.view.core (instruction f.view.core) (record { ended = ended; next_address = f.view.next_address; instruction_length = f.view.instruction_length })
 unfolding instruction
 PutsInstruction-fetched q puts f ended h p =

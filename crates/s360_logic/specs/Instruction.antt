@@ -68,12 +68,12 @@ unfoldable pub instruction : Core → Instruction
 instruction m = instruction_at m (instruction_address_of m.psw)
 
 -- an instruction that was fetched: what it works on, and its form where its code is that of an operation
-pub record Fetched : Type 0 where
+pub record FetchedInstruction : Type 0 where
   pub view : View
   pub form : Option Form
 
 -- it is the instruction at the instruction address, which nothing keeps from being fetched
-pub record IsFetched (f : Fetched) : Type 0 where
+pub record IsFetched (f : FetchedInstruction) : Type 0 where
   pub can : program_code (conditions_at f.view.core (instruction_address_of f.view.core.psw)) ≡ None
   pub view : f.view ≡ view_at f.view.core (instruction_address_of f.view.core.psw)
   pub form : f.form ≡ form_of (instruction_bytes f.view.core.storage (instruction_address_of f.view.core.psw))

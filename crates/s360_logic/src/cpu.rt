@@ -33,14 +33,14 @@ pub struct PlannedInstruction {
 /// An instruction that was fetched. A contract sees what it works on, and its form where its code is
 /// that of an operation.
 #[derive(Drop)]
-pub struct Fetched<'a> {
+pub struct FetchedInstruction<'a> {
     view: View<'a>,
     bytes: &'a [u8],
 }
 
-impl<'a> Model for Fetched<'a> {
+impl<'a> Model for FetchedInstruction<'a> {
     ghost use Rattle.s360_fixed.specs.Table.{form_of};
-    ghost use Rattle.s360_logic.specs.Instruction.{AreFetched, Fetched as Seen};
+    ghost use Rattle.s360_logic.specs.Instruction.{AreFetched, FetchedInstruction as Seen};
 
     ghost Value = { Seen };
 
@@ -63,7 +63,7 @@ fn length_of_bytes(bytes: usize) -> InstructionLength
 /// Fetches the instruction at the instruction address, or says what keeps it from being fetched. It is done for each event of
 /// the CPU, and its call would cost more than what it does.
 #[inline(always)]
-pub fn fetch(core: &Core) -> Result<Fetched<'_>, ProgramCode>
+pub fn fetch(core: &Core) -> Result<FetchedInstruction<'_>, ProgramCode>
     ensures ok { IfOk result (λ f. f.view.core ≡ core.now) }
     ensures err { IfErr result (λ code. program_code (conditions_at core.now (instruction_address_of core.now.psw)) ≡ Some code) }
 {
@@ -72,7 +72,7 @@ pub fn fetch(core: &Core) -> Result<Fetched<'_>, ProgramCode>
     let bytes = fetch_instruction(core.storage(), address, psw.protection_key())?;
     let next_address = address + bytes.len() as u32;
     let length = length_of_bytes(bytes.len());
-    Ok(Fetched {
+    Ok(FetchedInstruction {
         view: View::new(core, next_address, length),
         bytes,
     })
@@ -89,7 +89,7 @@ fn not_fetched(psw: Psw, code: ProgramCode) -> PlannedInstruction
     }
 }
 
-impl<'a> Fetched<'a> {
+impl<'a> FetchedInstruction<'a> {
     /// What it works on.
     pub fn view(&self) -> &View<'a>
         ensures { result.now ≡ self.now.view }

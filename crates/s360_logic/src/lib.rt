@@ -20,7 +20,7 @@ mod right_to_left;
 mod row;
 mod status;
 
-pub use cpu::{Fetched, PlannedInstruction, fetch, plan_instruction, put_instruction};
+pub use cpu::{FetchedInstruction, PlannedInstruction, fetch, plan_instruction, put_instruction};
 pub use laws::digits_of_apart_operands;
 pub use logic::{plan_logic, put_logic, subject_of, with_ored_byte};
 pub use row::DigitRow;

@@ -1,10 +1,9 @@
 -- An exchange of control cells done twice restores the control part and the cells.
 use Rattle.std.proofs.Common.{◌≡◌, ◌≢◌, List, [], ◌∷◌, refl, ap, sym, ◌∙◌}
 use Rattle.s360_store.specs.declared.place.Place.{Place}
-use Rattle.s360_machine.specs.ControlCells.{ControlCell, run, external}
+use Rattle.s360_machine.specs.ControlCells.{ControlCell, run, external, place_of_control, places_of_control, with_control, control_at, control_after_exchange}
+use Rattle.s360_machine.specs.ControlCells.{control_cells_after_exchange, IsFreshControl, HasEachControlOnce}
 use Rattle.s360_machine.specs.Machine.{Control}
-use Rattle.s360_machine.specs.ControlCells.{place_of_control, places_of_control, with_control, control_at}
-use Rattle.s360_machine.specs.ControlCells.{control_after_exchange, control_cells_after_exchange, IsFreshControl, HasEachControlOnce}
 
 -- the laws of one exchange
 control_at-same : (c : Control) (x : ControlCell) → control_at (with_control c x) x ≡ x

@@ -34,8 +34,8 @@ use Rattle.s360_channel.specs.declared.configured_unit.ConfiguredUnit.TheVariant
 use Rattle.s360_channel.proofs.UnitChangeLemmas.{just, only}
 use Rattle.s360_machine.specs.declared.media.MediaChange.{MediaChange}
 use Rattle.s360_machine.specs.declared.media.MediaChange.TheVariants.{Reader as of_reader, Punch as of_punch, Printer as of_printer, Console as of_console, Tape0 as of_tape0, Tape1 as of_tape1}
-use Rattle.s360_machine.specs.Differences.{altered_devices, same_device}
-use Rattle.s360_machine.specs.IoChanges.{CanSwapMedia, media_after_swap, media_change_after_swap, media_needs, media_place, unit_of_change}
+use Rattle.s360_machine.specs.Differences.{altered_devices, media_place, same_device}
+use Rattle.s360_machine.specs.IoChanges.{CanSwapMedia, media_after_swap, media_change_after_swap, media_needs, unit_of_change}
 use Rattle.s360_machine.specs.Machine.{Media, WholeMedia, seen_media}
 use Rattle.s360_machine.specs.Planned.{IsMediaChangeTo}
 

@@ -27,12 +27,11 @@ use Rattle.s360_machine.specs.ControlCells.{control_cells}
 use Rattle.s360_machine.specs.declared.media.MediaChange.{MediaChange}
 use Rattle.s360_channel.specs.declared.unit_change.UnitChange.TheVariants.{One}
 use Rattle.s360_channel.specs.UnitChanges.{IsUnitsChangeTo}
-use Rattle.s360_channel.specs.ConfiguredUnits.{HasEachUnit, Units}
+use Rattle.s360_channel.specs.ConfiguredUnits.{HasEachUnit, Units, control_of, with_control_of}
 use Rattle.s360_machine.specs.ChannelEvents.{ExecutesProgram, IsAlterationOf, StepsTo, after_ending, execution_at, execution_of, execution_with, media_after}
 use Rattle.s360_channel.specs.declared.configured_unit.ConfiguredUnit.{ConfiguredUnit}
 use Rattle.s360_machine.specs.Machine.{Spare, Whole, WithRoom, seen, seen_media}
 use Rattle.s360_machine.specs.Planned.{ExecutesAt, IsControlChangeTo, IsMediaChangeTo}
-use Rattle.s360_channel.specs.ConfiguredUnits.{control_of, with_control_of}
 use Rattle.s360_channel.proofs.UnitChangeLemmas.{IsUnitsChangeTo-one}
 use Rattle.s360_machine.proofs.IoLemmas.{IsDeviceStep, device-becomes, device-stays}
 

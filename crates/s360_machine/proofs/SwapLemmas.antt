@@ -22,7 +22,8 @@ use Rattle.s360_channel.specs.UnitChanges.{CanSwapUnits, unit_change_after_swap,
 use Rattle.s360_channel.proofs.UnitChangeLemmas.{CanSwapUnits-again, places_of_units-back, unit_change_after_swap-twice, units_after_swap-twice}
 use Rattle.s360_machine.specs.declared.media.MediaChange.{MediaChange}
 use Rattle.s360_machine.specs.declared.media.MediaChange.TheVariants.{Reader, Punch, Printer, Console, Tape0, Tape1}
-use Rattle.s360_machine.specs.IoChanges.{CanSwapMedia, media_after_swap, media_change_after_swap, media_place, places_of_media, unit_of_change}
+use Rattle.s360_machine.specs.Differences.{media_place}
+use Rattle.s360_machine.specs.IoChanges.{CanSwapMedia, media_after_swap, media_change_after_swap, places_of_media, unit_of_change}
 use Rattle.s360_machine.specs.declared.beside.Beside.{Beside}
 use Rattle.s360_machine.specs.Changes.{change_of}
 use Rattle.s360_machine.specs.Machine.{Whole, WholeMedia}

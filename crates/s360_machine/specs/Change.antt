@@ -9,12 +9,9 @@ use Rattle.s360_store.specs.declared.place.Cell.{Cell}
 use Rattle.s360_store.specs.Cells.{after_exchange, cells_after_exchange, AreCellsOf, places_of_cells}
 use Rattle.s360_channel.specs.declared.unit_change.UnitChange.{UnitChange}
 use Rattle.s360_channel.specs.UnitChanges.{CanSwapUnits, places_of_units, unit_change_after_swap, units_after_swap}
-use Rattle.s360_machine.specs.ControlCells.{ControlCell}
+use Rattle.s360_machine.specs.ControlCells.{ControlCell, places_of_control, HasEachControlOnce, control_after_exchange, control_cells_after_exchange}
 use Rattle.s360_machine.specs.declared.media.MediaChange.{MediaChange}
-use Rattle.s360_machine.specs.ControlCells.{places_of_control, HasEachControlOnce}
-use Rattle.s360_machine.specs.ControlCells.{control_after_exchange, control_cells_after_exchange}
-use Rattle.s360_machine.specs.IoChanges.{CanSwapMedia, media_after_swap, media_change_after_swap}
-use Rattle.s360_machine.specs.IoChanges.{media_needs, places_of_media, unit_of_change}
+use Rattle.s360_machine.specs.IoChanges.{CanSwapMedia, media_after_swap, media_change_after_swap, media_needs, places_of_media, unit_of_change}
 use Rattle.s360_machine.specs.Machine.{Whole, Spare, room_for}
 
 pub record Change : Type 0 where

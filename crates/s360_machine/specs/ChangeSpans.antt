@@ -10,7 +10,7 @@ use Rattle.s360_machine.specs.declared.change_spans.ChangeSpans.{ChangeSpans}
 use Rattle.s360_machine.specs.declared.change_spans.ChangeSpans.TheVariants.{Within, Apart}
 use Rattle.s360_machine.specs.declared.change_spans.SpansApart.{SpansApart}
 use Rattle.s360_machine.specs.declared.change_spans.SpansWithin.{SpansWithin}
-use Rattle.s360_machine.specs.declared.change_spans.SpansWithin.TheVariants.{Nothing as nothing, Psw as psw_alone, Register as with_register, Bytes as with_bytes}
+use Rattle.s360_machine.specs.declared.change_spans.SpansWithin.TheVariants as within
 use Rattle.s360_machine.specs.declared.row.Row.{Row}
 use Rattle.s360_machine.specs.declared.row.Row.TheVariants.{Nothing, Psw, Register, Bytes, More}
 use Rattle.s360_machine.specs.Beside.{places_of_beside}
@@ -25,10 +25,10 @@ spans_of_row (Bytes count address psw) = OnePlace psw_place ∷ (ByteSpan addres
 spans_of_row (More beside items bytes count) = []
 
 abbrev pub spans_within : SpansWithin → List Span
-spans_within nothing = []
-spans_within psw_alone = OnePlace psw_place ∷ []
-spans_within (with_register r) = OnePlace psw_place ∷ (OnePlace (register_place r) ∷ [])
-spans_within (with_bytes address count) = OnePlace psw_place ∷ (ByteSpan address count ∷ [])
+spans_within within.Nothing = []
+spans_within within.Psw = OnePlace psw_place ∷ []
+spans_within (within.Register r) = OnePlace psw_place ∷ (OnePlace (register_place r) ∷ [])
+spans_within (within.Bytes address count) = OnePlace psw_place ∷ (ByteSpan address count ∷ [])
 
 -- those beside the core, from one on, each a place
 abbrev pub spans_beside : Option Beside → ℕ → List Span

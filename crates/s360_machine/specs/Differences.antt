@@ -3,7 +3,7 @@ use Rattle.std.specs.Prelude.{Bool, true, false, ◌&&◌, if◌then◌else◌, 
 use Rattle.std.specs.List.{filter}
 use Rattle.std.specs.Bool.{beq}
 use Rattle.s360_store.specs.declared.place.Place.{Place}
-use Rattle.s360_store.specs.declared.place.Place.TheVariants.{Run, External}
+use Rattle.s360_store.specs.declared.place.Place.TheVariants.{Run, External, UnitMedia}
 use Rattle.s360_store.specs.Differences.{core_differences}
 use Rattle.s360_device.specs.Differences.{same_punch, same_reader}
 use Rattle.s360_print.specs.Differences.{same_console, same_printer}
@@ -13,10 +13,9 @@ use Rattle.s360_machine.specs.declared.external.ExternalConditions.{ExternalCond
 use Rattle.s360_machine.specs.declared.run_state.RunState.{RunState}
 use Rattle.s360_machine.specs.declared.run_state.RunState.TheVariants.{Operating, Stopped, Loading}
 use Rattle.s360_channel.specs.declared.configured_unit.ConfiguredUnit.TheVariants.{Reader, Punch, Printer, Console, Tape0, Tape1}
-use Rattle.s360_channel.specs.ConfiguredUnits.{configured_units}
+use Rattle.s360_channel.specs.ConfiguredUnits.{address_of_unit, configured_units}
 use Rattle.s360_channel.specs.Differences.{unit_differences}
 use Rattle.s360_machine.specs.Machine.{Machine, Media, Control}
-use Rattle.s360_machine.specs.IoChanges.{media_place}
 
 abbrev pub same_run_state : RunState → RunState → Bool
 same_run_state Operating Operating = true
@@ -34,7 +33,7 @@ unless_same same p = if same then [] else p ∷ []
 abbrev pub control_differences : Control → Control → List Place
 control_differences c d = unless_same (same_run_state c.run_state d.run_state) Run ++ unless_same (same_external c.external d.external) External
 
--- the devices that differ as they are seen, and their places
+-- the devices that differ as they are seen, and the places of their media
 abbrev pub same_device : Media → Media → ConfiguredUnit → Bool
 same_device m n Reader = same_reader m.reader n.reader
 same_device m n Punch = same_punch m.punch n.punch
@@ -45,6 +44,9 @@ same_device m n Tape1 = same_tape m.tape1 n.tape1
 
 abbrev pub altered_devices : Media → Media → List ConfiguredUnit
 altered_devices m n = filter (λ u. not (same_device m n u)) configured_units
+
+abbrev pub media_place : ConfiguredUnit → Place
+media_place u = UnitMedia (record { 0 = address_of_unit u })
 
 abbrev pub media_differences : Media → Media → List Place
 media_differences m n = map (λ u. media_place u) (altered_devices m n)

@@ -8,25 +8,21 @@ use Rattle.s360_print.specs.ConsoleChanges.{console_kind}
 use Rattle.s360_print.specs.PrinterChanges.{printer_kind}
 use Rattle.s360_tape.specs.WholeTape.{tape_kind}
 use Rattle.s360_store.specs.declared.place.Place.{Place}
-use Rattle.s360_store.specs.declared.place.Place.TheVariants.{UnitMedia}
 use Rattle.s360_channel.specs.declared.configured_unit.ConfiguredUnit.{ConfiguredUnit}
-use Rattle.s360_channel.specs.declared.configured_unit.ConfiguredUnit.TheVariants.{Reader as reader_unit, Punch as punch_unit, Printer as printer_unit, Console as console_unit, Tape0 as tape0_unit, Tape1 as tape1_unit}
-use Rattle.s360_channel.specs.ConfiguredUnits.{address_of_unit}
+use Rattle.s360_channel.specs.declared.configured_unit.ConfiguredUnit.TheVariants as unit
+use Rattle.s360_machine.specs.Differences.{media_place}
 use Rattle.s360_machine.specs.declared.media.MediaChange.{MediaChange}
 use Rattle.s360_machine.specs.declared.media.MediaChange.TheVariants.{Reader, Punch, Printer, Console, Tape0, Tape1}
 use Rattle.s360_machine.specs.Machine.{WholeMedia}
 
--- the unit whose device it is, and its place
+-- the unit whose device it is, and the place of its media
 abbrev pub unit_of_change : MediaChange → ConfiguredUnit
-unit_of_change (Reader x) = reader_unit
-unit_of_change (Punch x) = punch_unit
-unit_of_change (Printer x) = printer_unit
-unit_of_change (Console x) = console_unit
-unit_of_change (Tape0 x) = tape0_unit
-unit_of_change (Tape1 x) = tape1_unit
-
-abbrev pub media_place : ConfiguredUnit → Place
-media_place u = UnitMedia (record { 0 = address_of_unit u })
+unit_of_change (Reader x) = unit.Reader
+unit_of_change (Punch x) = unit.Punch
+unit_of_change (Printer x) = unit.Printer
+unit_of_change (Console x) = unit.Console
+unit_of_change (Tape0 x) = unit.Tape0
+unit_of_change (Tape1 x) = unit.Tape1
 
 abbrev pub places_of_media : Option MediaChange → List Place
 places_of_media None = []

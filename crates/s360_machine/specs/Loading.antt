@@ -13,9 +13,8 @@ use Rattle.s360_channel.specs.Words.{status_halfword}
 use Rattle.s360_channel.specs.declared.configured_unit.ConfiguredUnit.{ConfiguredUnit}
 use Rattle.s360_machine.specs.declared.run_state.RunState.{RunState}
 use Rattle.s360_machine.specs.declared.run_state.RunState.TheVariants.{Operating, Loading}
-use Rattle.s360_channel.specs.ConfiguredUnits.{Units}
+use Rattle.s360_channel.specs.ConfiguredUnits.{Units, address_of_unit, control_of, idle_units, with_control_of}
 use Rattle.s360_machine.specs.Machine.{Machine}
-use Rattle.s360_channel.specs.ConfiguredUnits.{address_of_unit, control_of, idle_units, with_control_of}
 
 -- the unit from which the machine loads executes the program of loading
 abbrev pub loading_unit : UnitControl
@@ -32,6 +31,10 @@ units_after_reset (Some u) = with_control_of idle_units u loading_unit
 abbrev pub has_loaded : RunState → ConfiguredUnit → UnitState → UnitState → Bool
 has_loaded (Loading unit) u (Active p) (Waiting csw) = nat_eq unit.0 (address_of_unit u) && nat_eq (status_halfword csw.unit csw.channel) 0x0C00
 has_loaded r u s t = false
+
+-- the units that stand otherwise after an event of one end it
+abbrev pub ends_loading : ConfiguredUnit → Machine → Units → Bool
+ends_loading u m us = has_loaded m.control.run_state u (control_of m.units u).state (control_of us u).state
 
 -- the doubleword at 0 becomes the PSW
 abbrev pub with_initial_psw : Core → Core
@@ -61,4 +64,4 @@ after_load u m = record m {
 -- the machine after a channel event of a unit, by that before it and what the channel makes of it:
 -- the event in which the program ends ends loading too (own profile)
 abbrev pub after_loading : ConfiguredUnit → Machine → Machine → Machine
-after_loading u m n = if has_loaded m.control.run_state u (control_of m.units u).state (control_of n.units u).state then after_load u n else n
+after_loading u m n = if ends_loading u m n.units then after_load u n else n

@@ -1,11 +1,12 @@
 -- Changes as they stand in the journal: a row of 16 bytes for each, and three lists for what stands apart from the rows, with
 -- that of the newest change at their ends: single cells and runs, the bytes of the runs, and what is beside the core.
-use Rattle.std.specs.Prelude.{◌≡◌, ◌<◌, ◌≤◌, ◌-◌, ◌++◌, ℕ, Bool, Option, Some, None, List, [], ◌∷◌, length, take, drop, reverse, slice_get}
+use Rattle.std.specs.Prelude.{◌≡◌, ◌<◌, ◌≤◌, ◌-◌, ◌++◌, ℕ, Bool, Option, Some, None, IfSome, List, [], ◌∷◌, length, take, drop, reverse, slice_get, Vec}
 use Rattle.s360_store.specs.declared.items.Item.{Item}
 use Rattle.s360_store.specs.declared.place.Cell.{Cell}
 use Rattle.s360_store.specs.declared.place.Place.{Place}
 use Rattle.s360_store.specs.declared.place.Place.TheVariants.{Byte}
 use Rattle.s360_store.specs.Cells.{places_of_cells}
+use Rattle.s360_store.specs.CoreChanges.{CoreChange, cells_of_change}
 use Rattle.s360_store.specs.Places.{is_among}
 use Rattle.s360_machine.specs.declared.row.Row.{Row}
 use Rattle.s360_machine.specs.declared.beside.Beside.{Beside}
@@ -13,7 +14,7 @@ use Rattle.s360_machine.specs.declared.packed.End.{End}
 use Rattle.s360_machine.specs.declared.packed.Own.{Own}
 use Rattle.s360_machine.specs.Change.{CanSwap, Change, after_swap, change_after_swap, places_of_change}
 use Rattle.s360_machine.specs.Machine.{Whole}
-use Rattle.s360_machine.specs.Changes.{change_with}
+use Rattle.s360_machine.specs.Changes.{change_of, change_of_core, change_with}
 use Rattle.s360_machine.specs.Stretches.{stretches}
 use Rattle.s360_machine.specs.Rows.{IsOver, beside_of_row, bytes_of_row, cells_of_row, items_of_row}
 
@@ -24,6 +25,9 @@ pub record Lists : Type 0 where
 
 abbrev pub lists : List Item → List ℕ → List Beside → Lists
 lists items bytes beside = record { items = items; bytes = bytes; beside = beside }
+
+abbrev pub lists_in : {A : Type 0} → Vec Item A → Vec ℕ A → Vec Beside A → Lists
+lists_in items bytes beside = lists items.items bytes.items beside.items
 
 -- so many at the end of a list, and those before them
 abbrev pub newest : {X : Type 0} → ℕ → List X → List X
@@ -42,6 +46,14 @@ others r ls = record { items = older (items_of_row r) ls.items; bytes = older (b
 -- the change of a row with what the lists have of it
 abbrev pub change_of_row : Row → Lists → Change
 change_of_row r ls = change_with (cells_of_row r ls.items ls.bytes) (slice_get ls.beside 0)
+
+-- the same over what three lists have
+abbrev pub row_over : Row → List Item → List ℕ → List Beside → Change
+row_over r items bytes beside = change_of_row r (lists items bytes beside)
+
+-- the change of a row that has all but its bytes within it
+abbrev pub change_within : Row → List ℕ → Change
+change_within r bytes = change_of_core (cells_of_row r [] bytes)
 
 -- the changes, the newest first
 abbrev pub unpacked : List Row → Lists → List Change
@@ -100,7 +112,7 @@ pub record IsEnd (rows : List Row) (ls : Lists) (e : End) : Type 0 where
 
 -- the change as it stands in the lists
 abbrev pub change_of_own : Own → Change
-change_of_own o = change_of_row o.row (lists o.items.now o.bytes.now o.beside.now)
+change_of_own o = row_over o.row o.items.now o.bytes.now o.beside.now
 
 pub record IsOwnOf (o : Own) (x : Change) : Type 0 where
   pub over : IsOver o.row o.items.now o.bytes.now
@@ -116,6 +128,14 @@ pub record IsAppended (old new : Lists) (r : Row) (x : Change) : Type 0 where
   pub beside : length own_lists.beside ≡ beside_of_row r
   pub over : IsOver r own_lists.items own_lists.bytes
   pub change : change_of_row r own_lists ≡ x
+
+-- what a row has of a change of the core and of what is beside it
+abbrev pub AppendsRow : Lists → Lists → CoreChange → Beside → Row → Type 0
+AppendsRow old new core beside r = IsAppended old new r (change_of (cells_of_change core) beside)
+
+-- of the last of the changes, if there is one
+abbrev pub OfLast : List Change → (Change → Type 0) → Type 0
+OfLast xs P = IfSome (slice_get xs (length xs - 1)) P
 
 -- an exchange of a change with the machine leads to another
 pub record IsSwapOf (w : Whole) (x : Change) (v : Whole) : Type 0 where

@@ -2,7 +2,7 @@
 use Rattle.std.specs.Prelude.{◌≡◌, ◌++◌, ◌∷◌, [], IfSome, Option, List}
 use Rattle.s360_model.specs.Exchanges.{CanIfAny, after_if_any, back_if_any, need_if_any}
 use Rattle.s360_machine.specs.declared.beside.Beside.{Beside}
-use Rattle.s360_machine.specs.ControlCells.{ControlCell, control_cells}
+use Rattle.s360_machine.specs.ControlCells.{ControlCell, control_cells, HasEachControlOnce, control_after_exchange, places_of_control}
 use Rattle.s360_model.specs.Core.{Core}
 use Rattle.s360_machine.specs.declared.media.MediaChange.{MediaChange}
 use Rattle.s360_channel.specs.UnitChanges.{IsUnitsChangeTo}
@@ -10,12 +10,12 @@ use Rattle.s360_channel.specs.declared.configured_unit.ConfiguredUnit.{Configure
 use Rattle.s360_channel.specs.Execution.{Run}
 use Rattle.s360_channel.specs.Steps.{LiesIn}
 use Rattle.s360_machine.specs.ChannelEvents.{after_channel, execution_at}
+use Rattle.s360_machine.specs.declared.operator.Key.{Key as OperatorKey}
+use Rattle.s360_machine.specs.Operator.{media_after_key}
 use Rattle.s360_machine.specs.Differences.{control_differences, differences, media_differences}
 use Rattle.s360_machine.specs.Machine.{Machine, Media, Spare, Whole, WholeMedia, Control, seen, seen_media}
-use Rattle.s360_machine.specs.ControlCells.{HasEachControlOnce, control_after_exchange, places_of_control}
 use Rattle.s360_machine.specs.Change.{Change, CanSwap, HasRoom, NeedsNoRoom, after_swap, change_after_swap, places_of_change}
-use Rattle.s360_machine.specs.IoChanges.{CanSwapMedia, media_after_swap, media_change_after_swap}
-use Rattle.s360_machine.specs.IoChanges.{media_needs, places_of_media}
+use Rattle.s360_machine.specs.IoChanges.{CanSwapMedia, media_after_swap, media_change_after_swap, media_needs, places_of_media}
 
 -- the control cells make the second control part of the first, and have just the places at which
 -- the two differ
@@ -32,6 +32,10 @@ pub record IsMediaChangeTo (m : WholeMedia) (x : Option MediaChange) (n : Media)
   pub lists : places_of_media x ≡ media_differences (seen_media m) n
   pub back : need_if_any media_needs (back_if_any media_change_after_swap m x) ≡ 0
 
+-- it does so to what an operator's key does
+abbrev pub IsChangeByKey : WholeMedia → OperatorKey → Option MediaChange → Type 0
+IsChangeByKey m key x = IsMediaChangeTo m x (media_after_key key (seen_media m))
+
 -- what stands beside the core makes the other parts of a machine out of those of a whole
 pub record MakesOthers (w : Whole) (b : Beside) (n : Machine) : Type 0 where
   pub control : IsControlChangeTo w.control (control_cells b.control) n.control
@@ -47,6 +51,10 @@ pub record PutsMachine (w : Whole) (made : Core → Core) (may : Core → Type 0
   pub core : made w.core ≡ n.core
   pub allowed : may w.core
   pub others : MakesOthers w b n
+
+-- the machine is the one that a rule makes of it
+abbrev pub PutsAfter : Whole → (Core → Core) → (Core → Type 0) → Beside → (Machine → Machine) → Type 0
+PutsAfter w made may b after = PutsMachine w made may b (after (seen w))
 
 -- a run that a channel event of a unit stores, and what stands beside the core, make the machine after what the unit
 -- executes

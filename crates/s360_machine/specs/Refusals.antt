@@ -23,7 +23,8 @@ number_of_refusal JournalFull = 6
 
 -- too long comes before outside
 abbrev pub refusal_of_patch : ℕ → Patch → Option Refusal
-refusal_of_patch size (Bytes at bytes) = if nat_lt 256 (length bytes) then Some PatchTooLong else (if nat_lt size (at + length bytes) then Some OutsideStorage else None)
+refusal_of_patch size (Bytes at bytes) =
+    if nat_lt 256 (length bytes) then Some PatchTooLong else (if nat_lt size (at + length bytes) then Some OutsideStorage else None)
 refusal_of_patch size (Register n word) = None
 refusal_of_patch size (StorageKey at storage_key) = if nat_lt at size then None else Some OutsideStorage
 refusal_of_patch size (FetchBit at bit) = if nat_lt at size then None else Some OutsideStorage

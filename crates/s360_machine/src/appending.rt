@@ -5,7 +5,7 @@ ghost use Rattle.s360_store.specs.CoreChanges.{cells_of_change};
 ghost use Rattle.s360_machine.specs.Beside.{IsNothing};
 ghost use Rattle.s360_machine.specs.Changes.{change_of};
 ghost use Rattle.s360_machine.specs.Machine.{seen, storage_size};
-ghost use Rattle.s360_machine.specs.Packed.{IsAppended, lists};
+ghost use Rattle.s360_machine.specs.Packed.{AppendsRow, lists_in};
 ghost use Rattle.s360_machine.specs.Planned.{AppendsChangeTo};
 ghost use Rattle.s360_machine.specs.Refusals.{refusal_of};
 ghost use Rattle.s360_machine.specs.Step.{after};
@@ -44,7 +44,7 @@ fn append_full(
     list: &mut Vec<Beside>,
 ) -> Result<Row, AllocError>
     requires { AllFit true (cells_of_change core.now) }
-    ensures ok { IfOk result (λ row. IsAppended (lists items.old.items bytes.old.items list.old.items) (lists items.new.items bytes.new.items list.new.items) row (change_of (cells_of_change core.now) beside.old)) }
+    ensures ok { IfOk result (AppendsRow (lists_in items.old bytes.old list.old) (lists_in items.new bytes.new list.new) core.now beside.old) }
     ensures err_items { OnErr result (items.new.items ≡ items.old.items) }
     ensures err_bytes { OnErr result (bytes.new.items ≡ bytes.old.items) }
     ensures err_list { OnErr result (list.new.items ≡ list.old.items) }
@@ -71,7 +71,7 @@ pub(crate) fn append_parts(
     list: &mut Vec<Beside>,
 ) -> Result<Row, AllocError>
     requires { AllFit true (cells_of_change core.now) }
-    ensures ok { IfOk result (λ row. IsAppended (lists items.old.items bytes.old.items list.old.items) (lists items.new.items bytes.new.items list.new.items) row (change_of (cells_of_change core.now) beside.old)) }
+    ensures ok { IfOk result (AppendsRow (lists_in items.old bytes.old list.old) (lists_in items.new bytes.new list.new) core.now beside.old) }
     ensures err_items { OnErr result (items.new.items ≡ items.old.items) }
     ensures err_bytes { OnErr result (bytes.new.items ≡ bytes.old.items) }
     ensures err_list { OnErr result (list.new.items ≡ list.old.items) }

@@ -8,7 +8,7 @@ ghost use Rattle.s360_channel.specs.Steps.{LiesIn, change_of_step};
 ghost use Rattle.s360_store.specs.Puts.{HasNoPuts};
 ghost use Rattle.s360_machine.specs.ChannelEvents.{ExecutesProgram, IsAlterationOf, StepsTo, after_channel_event};
 ghost use Rattle.s360_machine.specs.Machine.{seen};
-ghost use Rattle.s360_machine.specs.Planned.{ExecutesAt, LeavesOthers, PutsMachine};
+ghost use Rattle.s360_machine.specs.Planned.{ExecutesAt, LeavesOthers, PutsAfter};
 
 use crate::beside::Beside;
 use crate::loading::put_loaded;
@@ -181,7 +181,7 @@ impl Machine {
     ) -> Result<(), AllocError>
         requires none { HasNoPuts self.now.whole.core (P.made puts.old) (P.may puts.old) (P.past puts.old) (P.count puts.old) }
         requires leaves { LeavesOthers self.now.whole beside.old }
-        ensures { OnOk result (PutsMachine self.now.whole (P.made puts.new) (P.may puts.new) beside.new (after_channel_event unit (seen self.now.whole))) }
+        ensures { OnOk result (PutsAfter self.now.whole (P.made puts.new) (P.may puts.new) beside.new (after_channel_event unit)) }
     {
         let Some(unit) = ConfiguredUnit::at(unit) else {
             return Ok(());

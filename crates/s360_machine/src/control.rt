@@ -1,7 +1,6 @@
 //! What the operator's panel works on beside the core. Source: GA22-6821, "System Control Panel".
 ghost use Rattle.std.specs.Prelude.{◌≡◌};
-ghost use Rattle.s360_machine.specs.ControlCells.{control_after_exchange, control_cells};
-ghost use Rattle.s360_machine.specs.ControlCells.{control_cells_after_exchange};
+ghost use Rattle.s360_machine.specs.ControlCells.{control_after_exchange, control_cells, control_cells_after_exchange};
 ghost use Rattle.s360_machine.specs.Machine.{no_external};
 ghost use Rattle.s360_machine.specs.Operator.{after_start, after_stop, control_after_key};
 ghost use Rattle.s360_machine.specs.Planned.{IsControlChangeTo};

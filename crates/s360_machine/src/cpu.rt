@@ -5,10 +5,9 @@ ghost use Rattle.s360_model.specs.Psw.{instruction_address_of};
 ghost use Rattle.s360_fixed.specs.ProgramCodes.{program_code};
 ghost use Rattle.s360_logic.specs.Instruction.{PutsInstruction, conditions_at, instruction};
 ghost use Rattle.s360_psw.specs.Pending.{next_interruption_of};
-ghost use Rattle.s360_machine.specs.Cpu.{after_case, after_cpu, after_external, after_instruction};
-ghost use Rattle.s360_machine.specs.Cpu.{cpu_case, pending_of};
+ghost use Rattle.s360_machine.specs.Cpu.{after_case, after_cpu, after_external, after_instruction, cpu_case, pending_of};
 ghost use Rattle.s360_machine.specs.Machine.{seen};
-ghost use Rattle.s360_machine.specs.Planned.{LeavesOthers, PutsMachine};
+ghost use Rattle.s360_machine.specs.Planned.{LeavesOthers, PutsAfter};
 ghost use Rattle.s360_store.specs.Puts.{HasNoPuts};
 ghost use Rattle.s360_machine.specs.declared.cpu.CpuCase.TheVariants.{Interrupted};
 
@@ -16,7 +15,7 @@ use crate::beside::Beside;
 use crate::interruption::put_interruption;
 use crate::machine::Machine;
 use s360_fixed::{Ended, ProgramCode};
-use s360_logic::{Fetched, PlannedInstruction};
+use s360_logic::{FetchedInstruction, PlannedInstruction};
 use s360_psw::{Class, InstructionLength, Pending, next_interruption};
 use s360_store::Puts;
 use std::alloc::AllocError;
@@ -77,7 +76,7 @@ impl Machine {
     }
 
     /// Fetches the instruction at the instruction address, or says what keeps it from being fetched.
-    pub fn fetch(&self) -> Result<Fetched<'_>, ProgramCode>
+    pub fn fetch(&self) -> Result<FetchedInstruction<'_>, ProgramCode>
         ensures ok { IfOk result (λ f. f.view.core ≡ self.now.whole.core) }
         ensures err { IfErr result (λ code. program_code (conditions_at self.now.whole.core (instruction_address_of self.now.whole.core.psw)) ≡ Some code) }
     {
@@ -93,7 +92,7 @@ impl Machine {
     ) -> Result<(), AllocError>
         requires none { HasNoPuts self.now.whole.core (P.made puts.old) (P.may puts.old) (P.past puts.old) (P.count puts.old) }
         requires leaves { LeavesOthers self.now.whole beside.old }
-        ensures { OnOk result (PutsMachine self.now.whole (P.made puts.new) (P.may puts.new) beside.new (after_cpu (seen self.now.whole))) }
+        ensures { OnOk result (PutsAfter self.now.whole (P.made puts.new) (P.may puts.new) beside.new after_cpu) }
     {
         match self.cpu_case() {
             CpuCase::Executing => self.put_instruction(puts, beside),
@@ -112,7 +111,7 @@ impl Machine {
     ) -> Result<(), AllocError>
         requires none { HasNoPuts self.now.whole.core (P.made puts.old) (P.may puts.old) (P.past puts.old) (P.count puts.old) }
         requires leaves { LeavesOthers self.now.whole beside.old }
-        ensures { OnOk result (PutsMachine self.now.whole (P.made puts.new) (P.may puts.new) beside.new (after_case (Interrupted class) (seen self.now.whole))) }
+        ensures { OnOk result (PutsAfter self.now.whole (P.made puts.new) (P.may puts.new) beside.new (after_case (Interrupted class))) }
     {
         match class {
             Class::External => self.put_external(puts, beside),
@@ -125,7 +124,7 @@ impl Machine {
     fn put_external<P: Puts>(&self, puts: &mut P, beside: &mut Beside) -> Result<(), AllocError>
         requires none { HasNoPuts self.now.whole.core (P.made puts.old) (P.may puts.old) (P.past puts.old) (P.count puts.old) }
         requires leaves { LeavesOthers self.now.whole beside.old }
-        ensures { OnOk result (PutsMachine self.now.whole (P.made puts.new) (P.may puts.new) beside.new (after_external (seen self.now.whole))) }
+        ensures { OnOk result (PutsAfter self.now.whole (P.made puts.new) (P.may puts.new) beside.new after_external) }
     {
         let code = self.control.external().code();
         let (core, length) = (&self.core, InstructionLength::NotAvailable);
@@ -139,7 +138,7 @@ impl Machine {
     fn put_instruction<P: Puts>(&self, puts: &mut P, beside: &mut Beside) -> Result<(), AllocError>
         requires none { HasNoPuts self.now.whole.core (P.made puts.old) (P.may puts.old) (P.past puts.old) (P.count puts.old) }
         requires leaves { LeavesOthers self.now.whole beside.old }
-        ensures { OnOk result (PutsMachine self.now.whole (P.made puts.new) (P.may puts.new) beside.new (after_instruction (seen self.now.whole))) }
+        ensures { OnOk result (PutsAfter self.now.whole (P.made puts.new) (P.may puts.new) beside.new after_instruction) }
     {
         let planned = s360_logic::put_instruction(&self.core, puts)?;
         match planned.ended {
@@ -163,7 +162,7 @@ impl Machine {
     ) -> Result<(), AllocError>
         requires planned { PutsInstruction P.Puts puts.old self.now.whole.core (instruction self.now.whole.core) planned }
         requires leaves { LeavesOthers self.now.whole beside.old }
-        ensures { OnOk result (PutsMachine self.now.whole (P.made puts.new) (P.may puts.new) beside.new (after_instruction (seen self.now.whole))) }
+        ensures { OnOk result (PutsAfter self.now.whole (P.made puts.new) (P.may puts.new) beside.new after_instruction) }
     {
         let (class, code) = match planned.ended {
             Ended::Done => return Ok(()),

@@ -9,11 +9,10 @@ ghost use Rattle.s360_channel.specs.declared.io_instructions.CswStore.TheVariant
 ghost use Rattle.s360_channel.specs.ConfiguredUnits.{interrupting_unit};
 ghost use Rattle.s360_channel.specs.IoInstructions.{units_after_io};
 ghost use Rattle.s360_channel.specs.UnitChanges.{IsUnitsChangeTo};
-ghost use Rattle.s360_machine.specs.InputOutput.{after_input_output, after_io, after_taking};
-ghost use Rattle.s360_machine.specs.InputOutput.{core_after_io, core_with_csw, io_result};
+ghost use Rattle.s360_machine.specs.InputOutput.{after_input_output, after_io, after_taking, core_after_io, core_with_csw, io_result};
 ghost use Rattle.s360_machine.specs.Interruptions.{after_interruption};
 ghost use Rattle.s360_machine.specs.Machine.{seen};
-ghost use Rattle.s360_machine.specs.Planned.{LeavesOthers, PutsMachine};
+ghost use Rattle.s360_machine.specs.Planned.{LeavesOthers, PutsAfter};
 
 use crate::beside::Beside;
 use crate::machine::Machine;
@@ -125,7 +124,7 @@ impl Machine {
     ) -> Result<(), AllocError>
         requires none { HasNoPuts self.now.whole.core (P.made puts.old) (P.may puts.old) (P.past puts.old) (P.count puts.old) }
         requires leaves { LeavesOthers self.now.whole beside.old }
-        ensures { OnOk result (PutsMachine self.now.whole (P.made puts.new) (P.may puts.new) beside.new (after_io operation unit next_address (seen self.now.whole))) }
+        ensures { OnOk result (PutsAfter self.now.whole (P.made puts.new) (P.may puts.new) beside.new (after_io operation unit next_address)) }
     {
         let done = self.io_result(operation, unit);
         put_io_result(&self.core, &done, next_address, puts)?;
@@ -142,7 +141,7 @@ impl Machine {
     ) -> Result<(), AllocError>
         requires none { HasNoPuts self.now.whole.core (P.made puts.old) (P.may puts.old) (P.past puts.old) (P.count puts.old) }
         requires leaves { LeavesOthers self.now.whole beside.old }
-        ensures { OnOk result (PutsMachine self.now.whole (P.made puts.new) (P.may puts.new) beside.new (after_input_output (seen self.now.whole))) }
+        ensures { OnOk result (PutsAfter self.now.whole (P.made puts.new) (P.may puts.new) beside.new after_input_output) }
     {
         let Some(unit) = self.interrupting_unit() else {
             return Ok(());
@@ -163,7 +162,7 @@ impl Machine {
     ) -> Result<(), AllocError>
         requires none { HasNoPuts self.now.whole.core (P.made puts.old) (P.may puts.old) (P.past puts.old) (P.count puts.old) }
         requires leaves { LeavesOthers self.now.whole beside.old }
-        ensures { OnOk result (PutsMachine self.now.whole (P.made puts.new) (P.may puts.new) beside.new (after_taking unit condition (seen self.now.whole))) }
+        ensures { OnOk result (PutsAfter self.now.whole (P.made puts.new) (P.may puts.new) beside.new (after_taking unit condition)) }
     {
         let Condition { csw, unit: next } = condition;
         put_taken(&self.core, unit.unit().address(), csw, puts)?;

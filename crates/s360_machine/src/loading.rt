@@ -4,13 +4,13 @@ ghost use Rattle.std.specs.Prelude.{ℕ, ◌≡◌, ◌<◌, ◌≤◌, ◌-◌,
 ghost use Rattle.s360_model.specs.Exchanges.{after_if_any};
 ghost use Rattle.s360_model.specs.Psw.{current_psw};
 ghost use Rattle.s360_model.specs.Storage.{doubleword_at, with_run};
-ghost use Rattle.s360_channel.specs.ConfiguredUnits.{control_of};
 ghost use Rattle.s360_channel.specs.Execution.{core_with_run};
 ghost use Rattle.s360_channel.specs.Steps.{LiesIn};
 ghost use Rattle.s360_channel.specs.UnitChanges.{units_after_swap};
 ghost use Rattle.s360_store.specs.Puts.{HasNoPuts};
 ghost use Rattle.s360_store.specs.declared.place.Place.TheVariants.{Byte};
-ghost use Rattle.s360_machine.specs.Loading.{core_after_loading, has_loaded, with_behind, with_below};
+ghost use Rattle.s360_machine.specs.Loading.{core_after_loading, ends_loading, with_behind, with_below};
+ghost use Rattle.s360_machine.specs.Machine.{seen};
 
 use crate::machine::Machine;
 use crate::run_state::RunState;
@@ -155,7 +155,7 @@ pub(crate) fn put_loaded<P: Puts>(
 impl Machine {
     /// Whether a channel event that alters the units so ends loading from a unit.
     pub(crate) fn has_loaded(&self, unit: ConfiguredUnit, units: &Option<UnitChange>) -> bool
-        ensures { result ≡ has_loaded self.now.whole.control.run_state unit (control_of self.now.whole.units unit).state (control_of (after_if_any units_after_swap self.now.whole.units units.now) unit).state }
+        ensures { result ≡ ends_loading unit (seen self.now.whole) (after_if_any units_after_swap self.now.whole.units units.now) }
     {
         if self.control.run_state() != RunState::Loading(unit.unit()) {
             return false;

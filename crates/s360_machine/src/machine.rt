@@ -1,17 +1,15 @@
 //! The machine: its state, and the events that change it.
-ghost use Rattle.std.specs.Prelude.{◌≡◌, ◌≤◌, [], length, slice_index, None, Err, OnOk, IfOk, IfSome, IsOkUnless};
-ghost use Rattle.std.specs.Prelude.{◌<◌, MatchOption, OnErr, false, true};
+ghost use Rattle.std.specs.Prelude.{◌≡◌, ◌≤◌, [], length, slice_index, None, Err, OnOk, IfOk, IfSome, IsOkUnless, ◌<◌, MatchOption, OnErr, false, true};
 ghost use Rattle.std.specs.Option.{option_copied, option_map};
 ghost use Rattle.std.specs.Bool.{MatchBool};
 ghost use Rattle.s360_model.specs.Storage.{is_storage_size};
 ghost use Rattle.s360_store.specs.declared.fault.StoreFault.TheVariants.{Size, Memory as no_memory};
 ghost use Rattle.s360_machine.specs.Machine.{Machine as SeenMachine, machine_with, new_machine, room_for, seen};
 ghost use Rattle.s360_store.specs.Cells.{AllFit};
-ghost use Rattle.s360_machine.specs.Change.{CanSwap, after_swap, change_after_swap};
-ghost use Rattle.s360_machine.specs.Change.{HasRoom, NeedsNoRoom, NeedsRoom};
+ghost use Rattle.s360_machine.specs.Change.{CanSwap, after_swap, change_after_swap, HasRoom, NeedsNoRoom, NeedsRoom};
 ghost use Rattle.s360_machine.specs.Changes.{change_of, change_of_core};
 ghost use Rattle.s360_machine.specs.IoChanges.{CanSwapMedia, media_needs, unit_of_change};
-ghost use Rattle.s360_machine.specs.Packed.{change_of_row, lists};
+ghost use Rattle.s360_machine.specs.Packed.{change_within, row_over};
 ghost use Rattle.s360_machine.specs.Rows.{HasSameCounts, IsOver, cells_of_row};
 ghost use Rattle.s360_model.specs.Exchanges.{CanIfAny};
 ghost use Rattle.s360_device.specs.DeviceChanges.{bare};
@@ -66,7 +64,10 @@ impl Model for Machine {
 
     ghost use Rattle.s360_machine.specs.Media.{media_of, room_of};
 
-    ghost view = { λ m. record { whole = record { core = m.core; control = m.control; units = m.units; media = media_of m.devices }; spare = room_of m.devices } };
+    ghost view = { λ m. record {
+        whole = record { core = m.core; control = m.control; units = m.units; media = media_of m.devices };
+        spare = room_of m.devices;
+    } };
 }
 
 impl Machine {
@@ -304,14 +305,14 @@ impl Machine {
         beside: &mut [Beside],
     )
         requires over { IsOver row.old items.old bytes.old }
-        requires can { CanSwap self.old.whole (change_of_row row.old (lists items.old bytes.old beside.old)) }
-        requires room { HasRoom self.old.spare (change_of_row row.old (lists items.old bytes.old beside.old)) }
-        ensures machine { self.new.whole ≡ after_swap self.old.whole (change_of_row row.old (lists items.old bytes.old beside.old)) }
-        ensures change { change_of_row row.new (lists items.new bytes.new beside.new) ≡ change_after_swap self.old.whole (change_of_row row.old (lists items.old bytes.old beside.old)) }
+        requires can { CanSwap self.old.whole (row_over row.old items.old bytes.old beside.old) }
+        requires room { HasRoom self.old.spare (row_over row.old items.old bytes.old beside.old) }
+        ensures machine { self.new.whole ≡ after_swap self.old.whole (row_over row.old items.old bytes.old beside.old) }
+        ensures change { row_over row.new items.new bytes.new beside.new ≡ change_after_swap self.old.whole (row_over row.old items.old bytes.old beside.old) }
         ensures over { IsOver row.new items.new bytes.new }
         ensures same { HasSameCounts row.old row.new }
         ensures as_many { length beside.new ≡ length beside.old }
-        ensures fit { AllFit self.new.whole.core.storage.fetch_protection (change_of_row row.new (lists items.new bytes.new beside.new)).cells }
+        ensures fit { AllFit self.new.whole.core.storage.fetch_protection (row_over row.new items.new bytes.new beside.new).cells }
     {
         row.exchange(&mut self.core, items, bytes);
         if !beside.is_empty() {
@@ -323,9 +324,9 @@ impl Machine {
     #[inline(always)]
     pub(crate) fn exchange_within(&mut self, row: &mut Row, bytes: &mut [u8])
         requires over { IsOver row.old [] bytes.old }
-        requires can { CanSwap self.old.whole (change_of_core (cells_of_row row.old [] bytes.old)) }
-        ensures machine { self.new.whole ≡ after_swap self.old.whole (change_of_core (cells_of_row row.old [] bytes.old)) }
-        ensures change { change_of_core (cells_of_row row.new [] bytes.new) ≡ change_after_swap self.old.whole (change_of_core (cells_of_row row.old [] bytes.old)) }
+        requires can { CanSwap self.old.whole (change_within row.old bytes.old) }
+        ensures machine { self.new.whole ≡ after_swap self.old.whole (change_within row.old bytes.old) }
+        ensures change { change_within row.new bytes.new ≡ change_after_swap self.old.whole (change_within row.old bytes.old) }
         ensures over { IsOver row.new [] bytes.new }
         ensures same { HasSameCounts row.old row.new }
         ensures count { length bytes.new ≡ length bytes.old }

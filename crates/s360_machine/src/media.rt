@@ -2,12 +2,10 @@
 //! Operations".
 ghost use Rattle.std.specs.Prelude.{◌≡◌, ◌<◌, ◌≤◌, Some, None, IfOk, OnErr, OnOk, length};
 ghost use Rattle.s360_print.specs.TypedLines.{line_limit};
-ghost use Rattle.s360_machine.specs.IoChanges.{CanSwapMedia, media_after_swap, media_change_after_swap};
-ghost use Rattle.s360_machine.specs.IoChanges.{media_needs, unit_of_change};
-ghost use Rattle.s360_machine.specs.Machine.{room_for, seen_media};
+ghost use Rattle.s360_machine.specs.IoChanges.{CanSwapMedia, media_after_swap, media_change_after_swap, media_needs, unit_of_change};
+ghost use Rattle.s360_machine.specs.Machine.{room_for};
 ghost use Rattle.s360_machine.specs.Media.{media_of, room_of};
-ghost use Rattle.s360_machine.specs.Operator.{media_after_key};
-ghost use Rattle.s360_machine.specs.Planned.{IsMediaChangeTo};
+ghost use Rattle.s360_machine.specs.Planned.{IsChangeByKey};
 ghost use Rattle.s360_machine.specs.Refusals.{refusal_of_key};
 ghost use Rattle.s360_machine.specs.declared.operator.Key.TheVariants.{EndOfFile, Enter};
 
@@ -128,7 +126,7 @@ impl Devices {
     /// (refusals 2 to 5).
     pub(crate) fn change_of_key(&self, key: &Key) -> Result<Option<MediaChange>, AllocError>
         requires accepted { refusal_of_key key.now ≡ None }
-        ensures { IfOk result (λ change. IsMediaChangeTo (media_of self.now) change (media_after_key key.now (seen_media (media_of self.now)))) }
+        ensures { IfOk result (IsChangeByKey (media_of self.now) key.now) }
     {
         match key {
             Key::EndOfFile => Ok(self.change_of_end_key()),
@@ -144,7 +142,7 @@ impl Devices {
     /// What a line that is entered does.
     fn change_of_line(&self, line: &[u8]) -> Result<MediaChange, AllocError>
         requires fits { length line.now ≤ line_limit }
-        ensures { IfOk result (λ change. IsMediaChangeTo (media_of self.now) (Some change) (media_after_key (Enter line.now) (seen_media (media_of self.now)))) }
+        ensures { IfOk result (λ change. IsChangeByKey (media_of self.now) (Enter line.now) (Some change)) }
     {
         let change = self.console.media().plan_line(line)?;
         Ok(MediaChange::Console(self.console.change_by(change)))
@@ -152,7 +150,7 @@ impl Devices {
 
     /// What the end-of-file key does, which stays pressed.
     fn change_of_end_key(&self) -> Option<MediaChange>
-        ensures { IsMediaChangeTo (media_of self.now) result (media_after_key EndOfFile (seen_media (media_of self.now))) }
+        ensures { IsChangeByKey (media_of self.now) EndOfFile result }
     {
         if self.reader.media().end_of_file() {
             return None;

@@ -3,7 +3,8 @@
 ghost use Rattle.std.specs.Prelude.{◌≡◌, ◌<◌, ◌≤◌, ◌-◌, ◌++◌, ◌∷◌, [], length, reverse, slice_get, slice_set, take, IfOk, IfSome, OnErr, OnOk};
 ghost use Rattle.s360_machine.specs.Change.{CanSwap, Change, HasRoom, change_after_swap, places_of_change};
 ghost use Rattle.s360_machine.specs.ChangeSpans.{AreSpansOf, spans_of};
-ghost use Rattle.s360_machine.specs.Packed.{ArePacked, HasBefore, IsEnd, IsOwnOf, IsSwapOf, bytes_of_changes, change_of_own, end_before, last_stretches, lists};
+ghost use Rattle.s360_machine.specs.Packed.{ArePacked, HasBefore, IsEnd, IsOwnOf, IsSwapOf, OfLast};
+ghost use Rattle.s360_machine.specs.Packed.{bytes_of_changes, change_of_own, end_before, last_stretches, lists};
 ghost use Rattle.s360_machine.specs.Rows.{IsOver};
 
 use crate::appending::append_parts;
@@ -211,10 +212,10 @@ impl Packed {
     #[inline(always)]
     pub fn swap_last(&mut self, machine: &mut Machine)
         requires some { 0 < length self.old }
-        requires can { IfSome (slice_get self.old (length self.old - 1)) (λ x. CanSwap machine.old.whole x) }
-        requires room { IfSome (slice_get self.old (length self.old - 1)) (λ x. HasRoom machine.old.spare x) }
-        ensures machine { IfSome (slice_get self.old (length self.old - 1)) (λ x. IsSwapOf machine.old.whole x machine.new.whole) }
-        ensures changes { IfSome (slice_get self.old (length self.old - 1)) (λ x. self.new ≡ slice_set self.old (length self.old - 1) (change_after_swap machine.old.whole x)) }
+        requires can { OfLast self.old (CanSwap machine.old.whole) }
+        requires room { OfLast self.old (HasRoom machine.old.spare) }
+        ensures machine { OfLast self.old (λ x. IsSwapOf machine.old.whole x machine.new.whole) }
+        ensures changes { OfLast self.old (λ x. self.new ≡ slice_set self.old (length self.old - 1) (change_after_swap machine.old.whole x)) }
     {
         let number = self.rows.as_slice().len();
         if self.rows[number - 1].is_within() {

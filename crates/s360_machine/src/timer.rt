@@ -4,9 +4,8 @@ ghost use Rattle.std.specs.Prelude.{◌≡◌, OnOk};
 ghost use Rattle.s360_store.specs.Plans.{HasBytes};
 ghost use Rattle.s360_store.specs.Puts.{HasNoPuts};
 ghost use Rattle.s360_machine.specs.Machine.{seen};
-ghost use Rattle.s360_machine.specs.Planned.{LeavesOthers, PutsMachine};
-ghost use Rattle.s360_machine.specs.Timer.{after_tick, is_negative, runs_out, timer_after_tick};
-ghost use Rattle.s360_machine.specs.Timer.{timer_location, timer_of};
+ghost use Rattle.s360_machine.specs.Planned.{LeavesOthers, PutsAfter};
+ghost use Rattle.s360_machine.specs.Timer.{after_tick, is_negative, runs_out, timer_after_tick, timer_location, timer_of};
 
 use crate::beside::Beside;
 use crate::machine::Machine;
@@ -61,7 +60,7 @@ impl Machine {
     ) -> Result<(), AllocError>
         requires none { HasNoPuts self.now.whole.core (P.made puts.old) (P.may puts.old) (P.past puts.old) (P.count puts.old) }
         requires leaves { LeavesOthers self.now.whole beside.old }
-        ensures { OnOk result (PutsMachine self.now.whole (P.made puts.new) (P.may puts.new) beside.new (after_tick (seen self.now.whole))) }
+        ensures { OnOk result (PutsAfter self.now.whole (P.made puts.new) (P.may puts.new) beside.new after_tick) }
     {
         if !self.control.run_state().is_operating() {
             return Ok(());

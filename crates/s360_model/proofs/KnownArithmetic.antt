@@ -2,8 +2,7 @@
 use Rattle.std.specs.Prelude.{◌≡◌, refl, Some, None}
 use Rattle.s360_model.specs.Numbers.{signed}
 use Rattle.s360_model.specs.ConditionCodes.{signed_code, carry_code}
-use Rattle.s360_model.specs.Arithmetic.{word_of, signed_complement, absolute_value}
-use Rattle.s360_model.specs.Arithmetic.{logical_difference}
+use Rattle.s360_model.specs.Arithmetic.{word_of, signed_complement, absolute_value, logical_difference}
 use Rattle.s360_model.specs.Pairs.{signed_pair, signed_pair_code}
 use Rattle.s360_model.specs.Products.{product_words, division}
 use Rattle.s360_model.specs.Shifts.{times_power, left_word, right_word, right_words}

@@ -1,8 +1,7 @@
 -- Sums, differences and absolute values of words as exact whole numbers (GA22-6821, "Fixed-Point
 -- Arithmetic" and "Logical Operations"). A register gets the word of an exact result, and its
 -- condition code is its kind's function of it.
-use Rattle.std.specs.Prelude.{ℕ, ◌+◌, ◌-◌, ◌^◌}
-use Rattle.std.specs.Prelude.{ℤ, pos, ◌+ℤ◌, ◌-ℤ◌, unsigned_abs}
+use Rattle.std.specs.Prelude.{ℕ, ◌+◌, ◌-◌, ◌^◌, ℤ, pos, ◌+ℤ◌, ◌-ℤ◌, unsigned_abs}
 use Rattle.std.specs.Int.{int_rem_euclid}
 use Rattle.s360_model.specs.Numbers.{signed}
 

@@ -1,7 +1,6 @@
 -- The kinds of condition code, each a function of exact whole numbers (GA22-6821, "Fixed-Point
 -- Arithmetic" and "Logical Operations", condition code).
-use Rattle.std.specs.Prelude.{ℕ, ◌+◌, ◌^◌, nat_eq, nat_lt, if◌then◌else◌}
-use Rattle.std.specs.Prelude.{ℤ, pos, int_lt}
+use Rattle.std.specs.Prelude.{ℕ, ◌+◌, ◌^◌, nat_eq, nat_lt, if◌then◌else◌, ℤ, pos, int_lt}
 use Rattle.s360_model.specs.Numbers.{low32, fits_word}
 
 -- sign: 0 zero, 1 negative, 2 positive

@@ -1,7 +1,6 @@
 -- Words as numbers (GA22-6821, "Fixed-Point Arithmetic", data format). A word is the whole number
 -- of its 32 bits, from 0 to 2^32 - 1; read as a signed number it is in two's complement.
-use Rattle.std.specs.Prelude.{ℕ, ◌-◌, ◌%◌, ◌^◌, nat_lt, Bool, not, ◌&&◌, if◌then◌else◌}
-use Rattle.std.specs.Prelude.{ℤ, pos, ◌-ℤ◌, int_lt}
+use Rattle.std.specs.Prelude.{ℕ, ◌-◌, ◌%◌, ◌^◌, nat_lt, Bool, not, ◌&&◌, if◌then◌else◌, ℤ, pos, ◌-ℤ◌, int_lt}
 
 -- the low 32 bits of a whole number
 abbrev pub low32 : ℕ → ℕ

@@ -1,7 +1,6 @@
 -- A pair of words as one number of 64 bits, the first word high (GA22-6821, "Fixed-Point
 -- Arithmetic", data format). Read as a signed number it is in two's complement.
-use Rattle.std.specs.Prelude.{ℕ, ◌+◌, ◌-◌, ◌*◌, ◌/◌, ◌%◌, ◌^◌, Bool, not, ◌&&◌, if◌then◌else◌}
-use Rattle.std.specs.Prelude.{ℤ, pos, ◌+ℤ◌, ◌-ℤ◌, ◌*ℤ◌, int_lt, unsigned_abs}
+use Rattle.std.specs.Prelude.{ℕ, ◌+◌, ◌-◌, ◌*◌, ◌/◌, ◌%◌, ◌^◌, Bool, not, ◌&&◌, if◌then◌else◌, ℤ, pos, ◌+ℤ◌, ◌-ℤ◌, ◌*ℤ◌, int_lt, unsigned_abs}
 use Rattle.std.specs.Int.{int_rem_euclid}
 use Rattle.s360_model.specs.Numbers.{signed}
 use Rattle.s360_model.specs.ConditionCodes.{sign_code}
@@ -11,8 +10,8 @@ abbrev pub pair_of : ℕ → ℕ → ℕ
 pair_of high low = high * 2 ^ 32 + low
 
 -- the high and the low word of a number of 64 bits
-abbrev pub words_of : ℕ → ℕ × ℕ
-words_of pair = (pair / 2 ^ 32, pair % 2 ^ 32)
+abbrev pub words_of_pair : ℕ → ℕ × ℕ
+words_of_pair pair = (pair / 2 ^ 32, pair % 2 ^ 32)
 
 -- the signed number that a pair stands for
 abbrev pub signed_pair : ℕ → ℕ → ℤ

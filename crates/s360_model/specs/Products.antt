@@ -1,10 +1,9 @@
 -- Products and quotients of signed words (GA22-6821, "Fixed-Point Arithmetic", multiply and
 -- divide).
-use Rattle.std.specs.Prelude.{ℕ, Bool, not, ◌&&◌, nat_eq, if◌then◌else◌, Option, Some, None}
-use Rattle.std.specs.Prelude.{ℤ, ◌*ℤ◌, int_div, int_rem, unsigned_abs}
+use Rattle.std.specs.Prelude.{ℕ, Bool, not, ◌&&◌, nat_eq, if◌then◌else◌, Option, Some, None, ℤ, ◌*ℤ◌, int_div, int_rem, unsigned_abs}
 use Rattle.s360_model.specs.Numbers.{signed, fits_word}
 use Rattle.s360_model.specs.Arithmetic.{word_of}
-use Rattle.s360_model.specs.Pairs.{signed_pair, doubleword_of, words_of}
+use Rattle.s360_model.specs.Pairs.{signed_pair, doubleword_of, words_of_pair}
 
 -- the product of two signed words
 abbrev pub signed_product : ℕ → ℕ → ℤ
@@ -12,7 +11,7 @@ signed_product first second = signed first *ℤ signed second
 
 -- the pair of words that a product fills
 abbrev pub product_words : ℕ → ℕ → ℕ × ℕ
-product_words first second = words_of (doubleword_of (signed_product first second))
+product_words first second = words_of_pair (doubleword_of (signed_product first second))
 
 -- two numbers have a quotient, rounded toward zero, where the divisor is not zero and the quotient
 -- fits a word

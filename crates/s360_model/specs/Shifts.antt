@@ -1,12 +1,11 @@
 -- Shifts of a word or of a pair of words by a count of 0 to 63 (GA22-6821, "Fixed-Point Arithmetic"
 -- and "Logical Operations", shifts). A signed shift is a multiple or a quotient of the signed
 -- number, and its condition code is a function of that exact number.
-use Rattle.std.specs.Prelude.{ℕ, ◌+◌, ◌*◌, ◌/◌, ◌%◌, ◌^◌}
-use Rattle.std.specs.Prelude.{ℤ, pos, ◌*ℤ◌}
+use Rattle.std.specs.Prelude.{ℕ, ◌+◌, ◌*◌, ◌/◌, ◌%◌, ◌^◌, ℤ, pos, ◌*ℤ◌}
 use Rattle.std.specs.Int.{int_div_euclid}
 use Rattle.s360_model.specs.Numbers.{low32, signed}
 use Rattle.s360_model.specs.Arithmetic.{word_of}
-use Rattle.s360_model.specs.Pairs.{pair_of, words_of, signed_pair, doubleword_of}
+use Rattle.s360_model.specs.Pairs.{pair_of, words_of_pair, signed_pair, doubleword_of}
 
 -- a number times a power of two; where it does not fit, a bit unlike the sign is lost on the left
 abbrev pub times_power : ℤ → ℕ → ℤ
@@ -26,14 +25,14 @@ left_pair pair count = pair / 2 ^ 63 * 2 ^ 63 + pair * 2 ^ count % 2 ^ 63
 
 -- the words of a signed left shift of a pair
 abbrev pub left_words : ℕ → ℕ → ℕ → ℕ × ℕ
-left_words high low count = words_of (left_pair (pair_of high low) count)
+left_words high low count = words_of_pair (left_pair (pair_of high low) count)
 
 -- signed right
 abbrev pub right_word : ℕ → ℕ → ℕ
 right_word word count = word_of (over_power (signed word) count)
 
 abbrev pub right_words : ℕ → ℕ → ℕ → ℕ × ℕ
-right_words high low count = words_of (doubleword_of (over_power (signed_pair high low) count))
+right_words high low count = words_of_pair (doubleword_of (over_power (signed_pair high low) count))
 
 -- logical: zeros come in on either side
 abbrev pub logical_left_word : ℕ → ℕ → ℕ
@@ -43,7 +42,7 @@ abbrev pub logical_right_word : ℕ → ℕ → ℕ
 logical_right_word word count = word / 2 ^ count
 
 abbrev pub logical_left_words : ℕ → ℕ → ℕ → ℕ × ℕ
-logical_left_words high low count = words_of (pair_of high low * 2 ^ count % 2 ^ 64)
+logical_left_words high low count = words_of_pair (pair_of high low * 2 ^ count % 2 ^ 64)
 
 abbrev pub logical_right_words : ℕ → ℕ → ℕ → ℕ × ℕ
-logical_right_words high low count = words_of (pair_of high low / 2 ^ count)
+logical_right_words high low count = words_of_pair (pair_of high low / 2 ^ count)

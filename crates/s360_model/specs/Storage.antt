@@ -1,7 +1,8 @@
 -- Main storage (GA22-6821, "System Structure"): bytes at addresses from 0, numbers high byte first, and for
 -- each block of 2,048 bytes a 4-bit storage key and a fetch bit. Fetches are protected or not by an option of
 -- the start (own profile); without it each fetch bit is zero.
-use Rattle.std.specs.Prelude.{ℕ, zero, suc, ◌+◌, ◌*◌, ◌/◌, ◌%◌, ◌^◌, Bool, ◌&&◌, nat_eq, nat_le, if◌then◌else◌, List, length, take, drop, ◌++◌, map, replicate, slice_index}
+use Rattle.std.specs.Prelude.{ℕ, zero, suc, ◌+◌, ◌*◌, ◌/◌, ◌%◌, ◌^◌, Bool, ◌&&◌, nat_eq, nat_le, if◌then◌else◌}
+use Rattle.std.specs.Prelude.{List, length, take, drop, ◌++◌, map, replicate, slice_index}
 use Rattle.std.specs.List.{range_with_len}
 
 pub record Storage : Type 0 where

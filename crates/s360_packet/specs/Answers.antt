@@ -7,7 +7,8 @@ use Rattle.s360_packet.specs.Target.{description, memory_map, part_of, register_
 use Rattle.s360_packet.specs.declared.answer.Stop.{Stop}
 use Rattle.s360_packet.specs.declared.answer.Stop.TheVariants.{Trap, Quiet, Interrupt, Watch, Breakpoint, HistoryBegin, HistoryEnd}
 use Rattle.s360_packet.specs.declared.answer.Answer.{Answer}
-use Rattle.s360_packet.specs.declared.answer.Answer.TheVariants.{Empty, Done, Error, Bytes, Registers, Register, Stopped, Console, Description, MemoryMap, Moved, Supported, Thread, Attached, FirstThreads, NoMoreThreads}
+use Rattle.s360_packet.specs.declared.answer.Answer.TheVariants.{Empty, Done, Error, Bytes, Registers, Register, Stopped, Console}
+use Rattle.s360_packet.specs.declared.answer.Answer.TheVariants.{Description, MemoryMap, Moved, Supported, Thread, Attached, FirstThreads, NoMoreThreads}
 
 -- the machine's registers, and `x` for each digit of those that it lacks: 17 words and 16 doublewords
 abbrev pub registers_text : List ℕ → List ℕ

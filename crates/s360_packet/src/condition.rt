@@ -1,7 +1,6 @@
 //! The conditions of a breakpoint, as a list has them. Source: gdb manual, "Packets", `Z0`.
-ghost use Rattle.std.specs.Prelude.{◌≡◌, ◌<◌, ◌⊎◌, length, Err, IfOk, IsOk, MatchResult, Ok};
-ghost use Rattle.s360_packet.specs.Conditions.{condition_in};
-ghost use Rattle.s360_packet.specs.declared.request.RequestFault.TheVariants.{Memory};
+ghost use Rattle.std.specs.Prelude.{◌≡◌, ◌<◌, length, IfOk, MatchResult, Ok};
+ghost use Rattle.s360_packet.specs.Conditions.{FailsWith, condition_in};
 
 use crate::fields::{behind, bytes, number, parted};
 use crate::request::{Payload, RequestFault};
@@ -9,7 +8,7 @@ use std::alloc::Global;
 
 /// The first of a list of conditions, and what stands behind it: `X`, the number of its bytes, `,`, and two digits of each.
 pub fn read_condition(alloc: Global, text: &[u8]) -> Result<(Payload, &[u8]), RequestFault>
-    ensures read { MatchResult result (λ parts. condition_in text.now ≡ Ok (parts.0, parts.1.now)) (λ fault. (condition_in text.now ≡ Err fault) ⊎ (IsOk (condition_in text.now) × (fault ≡ Memory))) }
+    ensures read { MatchResult result (λ parts. condition_in text.now ≡ Ok (parts.0, parts.1.now)) (FailsWith (condition_in text.now)) }
     ensures less { IfOk result (λ parts. length parts.1.now < length text.now) }
 {
     let Some(rest) = behind(text, "X") else {

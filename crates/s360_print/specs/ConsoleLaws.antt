@@ -6,8 +6,7 @@ use Rattle.s360_device.specs.MotionLaws.{CanMove-again, after_motion-twice, moti
 use Rattle.s360_print.specs.declared.typed_line.TypedItem.{TypedItem}
 use Rattle.s360_print.specs.declared.console_change.ListChange.{ListChange}
 use Rattle.s360_print.specs.declared.console_change.ListChange.TheVariants.{Typed, Entered}
-use Rattle.s360_print.specs.ConsoleChanges.{CanChangeList, entered_after, list_change_back, typed_after}
-use Rattle.s360_print.specs.ConsoleChanges.{console_kind}
+use Rattle.s360_print.specs.ConsoleChanges.{CanChangeList, entered_after, list_change_back, typed_after, console_kind}
 
 CanChangeList-again : (typed : List TypedItem) (entered : List (List ℕ)) (x : ListChange) → CanChangeList typed entered x
     → CanChangeList (typed_after typed x) (entered_after entered x) (list_change_back typed entered x)
@@ -15,8 +14,9 @@ CanChangeList-again typed entered (Typed motion) h = CanMove-again typed motion 
 CanChangeList-again typed entered (Entered motion) h = CanMove-again entered motion h
 
 -- the lists, in a value that is made of both
-lists-twice : {A : Type 0} (of : List TypedItem → List (List ℕ) → A) (typed : List TypedItem) (entered : List (List ℕ)) (x : ListChange) → CanChangeList typed entered x
-    → of (typed_after (typed_after typed x) (list_change_back typed entered x)) (entered_after (entered_after entered x) (list_change_back typed entered x)) ≡ of typed entered
+lists-twice : {A : Type 0} (of : List TypedItem → List (List ℕ) → A) (typed : List TypedItem) (entered : List (List ℕ)) (x : ListChange)
+    → CanChangeList typed entered x → (let back = list_change_back typed entered x
+    in of (typed_after (typed_after typed x) back) (entered_after (entered_after entered x) back) ≡ of typed entered)
 lists-twice of typed entered (Typed motion) h = ap (λ items. of items entered) (after_motion-twice typed motion h)
 lists-twice of typed entered (Entered motion) h = ap (λ lines. of typed lines) (after_motion-twice entered motion h)
 

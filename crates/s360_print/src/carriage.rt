@@ -3,8 +3,7 @@
 //! Pages and lines are counted from 1. Source: the component description of the 1403. That pages
 //! have 66 lines, the lines of the channels and the number after the last page are the own profile.
 ghost use Rattle.std.specs.Prelude.{◌≡◌, ◌≤◌};
-ghost use Rattle.s360_print.specs.Carriage.{IsCarriageMotion, position_after, passes_end};
-ghost use Rattle.s360_print.specs.Carriage.{after_lines, after_skip, line_of_channel};
+ghost use Rattle.s360_print.specs.Carriage.{IsCarriageMotion, position_after, passes_end, after_lines, after_skip, line_of_channel};
 ghost use Rattle.s360_print.specs.Positions.{first_position, page_after};
 
 use std::marker::Model;

@@ -39,13 +39,16 @@ impl Drop for ConsoleMedia {
 }
 
 impl Model for ConsoleMedia {
-    ghost use Rattle.std.specs.Prelude.{◌-◌, min, vec_len, vec_capacity};
-    ghost use Rattle.s360_device.specs.Kinds.{MediaWithRoom};
+    ghost use Rattle.std.specs.Prelude.{min};
+    ghost use Rattle.s360_device.specs.Kinds.{MediaWithRoom, room_in};
     ghost use Rattle.s360_print.specs.Console.{ConsoleMedia as Seen};
 
     ghost Value = { MediaWithRoom Seen };
 
-    ghost view = { λ c. record { media = record { typed = c.typed.items; entered = c.entered.items; taken = c.taken }; room = min (vec_capacity c.typed - vec_len c.typed) (vec_capacity c.entered - vec_len c.entered) } };
+    ghost view = { λ c. record {
+        media = record { typed = c.typed.items; entered = c.entered.items; taken = c.taken };
+        room = min (room_in c.typed) (room_in c.entered);
+    } };
 }
 
 impl ConsoleMedia {

@@ -1,7 +1,6 @@
 //! What a command or the operator does to the console's media.
 ghost use Rattle.std.specs.Prelude.{◌≡◌, ◌<◌, ◌≤◌, ◌+◌, vec_len, vec_capacity, OnErr, OnOk};
-ghost use Rattle.s360_print.specs.ConsoleChanges.{CanChangeList, entered_after, items_needed, list_change_back};
-ghost use Rattle.s360_print.specs.ConsoleChanges.{typed_after};
+ghost use Rattle.s360_print.specs.ConsoleChanges.{CanChangeList, entered_after, items_needed, list_change_back, typed_after};
 
 use crate::typed_line::{Line, TypedItem};
 use s360_device::Motion;

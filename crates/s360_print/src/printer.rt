@@ -36,13 +36,12 @@ impl Drop for PrinterMedia {
 }
 
 impl Model for PrinterMedia {
-    ghost use Rattle.std.specs.Prelude.{◌-◌, vec_len, vec_capacity};
-    ghost use Rattle.s360_device.specs.Kinds.{MediaWithRoom};
+    ghost use Rattle.s360_device.specs.Kinds.{MediaWithRoom, room_in};
     ghost use Rattle.s360_print.specs.Printer.{PrinterMedia as Seen};
 
     ghost Value = { MediaWithRoom Seen };
 
-    ghost view = { λ p. record { media = record { records = p.records.items; position = p.position }; room = vec_capacity p.records - vec_len p.records } };
+    ghost view = { λ p. record { media = record { records = p.records.items; position = p.position }; room = room_in p.records } };
 }
 
 impl PrinterMedia {

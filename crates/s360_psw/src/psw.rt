@@ -1,15 +1,10 @@
 //! The program status word and its fields, which a contract sees as the number of its 64 bits.
 //! Source: GA22-6821, "System Structure", program status word, and "Status Switching".
 ghost use Rattle.std.specs.Prelude.{◌≡◌, ◌<◌, ◌^◌};
-ghost use Rattle.s360_model.specs.Psw.{IsCurrentPsw, current_psw, stored_psw, is_bit_one};
-ghost use Rattle.s360_model.specs.Psw.{channel_mask_of, external_mask_of, protection_key_of};
-ghost use Rattle.s360_model.specs.Psw.{ascii_mode_of, machine_check_mask_of, wait_of};
-ghost use Rattle.s360_model.specs.Psw.{problem_state_of, condition_code_of};
-ghost use Rattle.s360_model.specs.Psw.{fixed_point_overflow_mask_of, decimal_overflow_mask_of};
-ghost use Rattle.s360_model.specs.Psw.{exponent_underflow_mask_of, significance_mask_of};
-ghost use Rattle.s360_model.specs.Psw.{instruction_address_of};
-ghost use Rattle.s360_model.specs.Psw.{with_condition_code, with_instruction_address};
-ghost use Rattle.s360_model.specs.Psw.{with_program_mask, with_system_mask};
+ghost use Rattle.s360_model.specs.Psw.{IsCurrentPsw, current_psw, stored_psw, is_bit_one, channel_mask_of, external_mask_of, protection_key_of, ascii_mode_of};
+ghost use Rattle.s360_model.specs.Psw.{machine_check_mask_of, wait_of, problem_state_of, condition_code_of, fixed_point_overflow_mask_of};
+ghost use Rattle.s360_model.specs.Psw.{decimal_overflow_mask_of, exponent_underflow_mask_of, significance_mask_of, instruction_address_of, with_condition_code};
+ghost use Rattle.s360_model.specs.Psw.{with_instruction_address, with_program_mask, with_system_mask};
 ghost use Rattle.s360_psw.specs.InstructionLength.{length_code_of};
 
 use crate::instruction_length::InstructionLength;

@@ -6,7 +6,7 @@ use Rattle.s360_debug.specs.Lines.{is_skipped}
 use Rattle.s360_debug.specs.Script.{answer_to_line, answer_to_reading, state_after_line, state_after_reading}
 use Rattle.s360_remote.specs.Driven.{Driven, fresh}
 use Rattle.s360_inquiry.specs.Reading.{Asked}
-use Rattle.s360_remote.specs.Monitor.{IsAnswered, IsBegun, IsCarriedOut, IsLineBegun, debugger_of, with_debugger}
+use Rattle.s360_remote.specs.Monitor.{IsMonitorAnswered, IsMonitorBegun, IsCarriedOut, IsLineBegun, debugger_of, with_debugger}
 
 -- ---- a line is read, or skipped as a script skips it
 
@@ -37,6 +37,6 @@ pub begun-carried : (line said : List ℕ) (d t : Driven) → IsCarriedOut line 
 begun-carried line said d t h = record { done = λ other. inr (h.done other).1; help = λ same. (h.help same).1 }
 
 -- and so of an inquiry
-pub begun-answered : (asked : Option Asked) (line said : List ℕ) (d t : Driven) → IsAnswered asked line d t said → IsBegun asked line d t
+pub begun-answered : (asked : Option Asked) (line said : List ℕ) (d t : Driven) → IsMonitorAnswered asked line d t said → IsMonitorBegun asked line d t
 begun-answered None line said d t h = begun-carried line said d t h
 begun-answered (Some asked) line said d t h = inr h.1

@@ -17,7 +17,7 @@ use Rattle.s360_remote.specs.Connecting.{Connected, IsAnswered, IsCompleted, IsI
 use Rattle.s360_remote.specs.Driven.{Driven}
 use Rattle.s360_remote.specs.ErrorNumbers.{error_of}
 use Rattle.s360_remote.specs.Replies.{packet_of}
-use Rattle.s360_remote.specs.Serving.{IsBegun, IsServed, machine_now, then_after, told}
+use Rattle.s360_remote.specs.Serving.{IsRequestBegun, IsServed, machine_now, then_after, told}
 use Rattle.s360_remote.specs.declared.errand.Errand.{Errand}
 use Rattle.s360_remote.specs.declared.errand.Errand.TheVariants.{Nothing}
 use Rattle.s360_remote.specs.declared.error_number.ErrorNumber.TheVariants.{Memory}
@@ -41,7 +41,7 @@ pub record ChangesNothing (request : Request) : Type 0 where
   pub restart : request ≡ Restart → ⊥
   pub kill : request ≡ Kill → ⊥
 
-pub served-told : (request : Request) (d : Driven) → ChangesNothing request → IsServed request d d (then_after request) (framed (told request (machine_now d))) × IsBegun request d d
+pub served-told : (request : Request) (d : Driven) → ChangesNothing request → IsServed request d d (then_after request) (framed (told request (machine_now d))) × IsRequestBegun request d d
 served-told (WriteRegisters x) d h = absurd (h.registers x refl)
 served-told (WriteRegister x y) d h = absurd (h.register x y refl)
 served-told (WriteStorage x y) d h = absurd (h.storage x y refl)
@@ -109,7 +109,7 @@ pub answered-request : (reading : Reading) (c e : Connected) (d t : Driven) (req
 answered-request reading c e d t request next errand packets h goes served is count =
     of-request reading c e d t request errand packets h (subst (λ b. IsMet b request c d e t errand packets) (sym goes) (inl (next, served, is, count)))
 
-pub answered-memory : (reading : Reading) (c : Connected) (d t : Driven) (request : Request) → Reads reading (Ok request) → (c.interrupted && is_to_move request) ≡ false → IsBegun request d t
+pub answered-memory : (reading : Reading) (c : Connected) (d t : Driven) (request : Request) → Reads reading (Ok request) → (c.interrupted && is_to_move request) ≡ false → IsRequestBegun request d t
     → IsAnswered reading c d c t Nothing (packet_of (error_of Memory))
 answered-memory reading c d t request h goes begun =
     of-request reading c c d t request Nothing (packet_of (error_of Memory)) h

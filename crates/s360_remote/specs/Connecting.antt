@@ -18,7 +18,7 @@ use Rattle.s360_packet.specs.declared.request.RequestFault.TheVariants as fault
 use Rattle.s360_remote.specs.Driven.{Driven}
 use Rattle.s360_remote.specs.ErrorNumbers.{error_of}
 use Rattle.s360_remote.specs.Replies.{packet_of, stop_packet}
-use Rattle.s360_remote.specs.Serving.{IsBegun, IsServed}
+use Rattle.s360_remote.specs.Serving.{IsRequestBegun, IsServed}
 use Rattle.s360_remote.specs.declared.errand.Errand.{Errand}
 use Rattle.s360_remote.specs.declared.errand.Errand.TheVariants.{Nothing, TellDropped, Write}
 use Rattle.s360_remote.specs.declared.error_number.ErrorNumber.TheVariants.{Malformed, Memory}
@@ -79,7 +79,7 @@ is_to_move other = false
 abbrev pub IsCarriedOut : Request → Connected → Driven → Connected → Driven → Errand → List ℕ → Type 0
 IsCarriedOut request c d e t errand packets =
     ((next : Then) × IsServed request d t next packets × (e ≡ going c next) × (errand ≡ errand_of next))
-    ⊎ (((t ≡ d) ⊎ IsBegun request d t) × (e ≡ c) × (errand ≡ Nothing) × (packets ≡ packet_of (error_of Memory)))
+    ⊎ (((t ≡ d) ⊎ IsRequestBegun request d t) × (e ≡ c) × (errand ≡ Nothing) × (packets ≡ packet_of (error_of Memory)))
 
 -- gdb is told that its user has interrupted the machine, which is over then; or memory lacks for that
 abbrev pub IsInterrupted : Connected → Connected → List ℕ → Type 0

@@ -69,10 +69,10 @@ abbrev pub IsAskedBegun : Driven → Driven → Type 0
 IsAskedBegun d t = t ≡ record (fresh d) { recorded = with_standing (fresh d).recorded t.recorded.standing }
 
 -- how a line is answered that reads so as an inquiry, or that is none
-abbrev pub IsAnswered : Option Asked → List ℕ → Driven → Driven → List ℕ → Type 0
-IsAnswered None line d t said = IsCarriedOut line d t said
-IsAnswered (Some asked) line d t said = (said ≡ answer_to_asked (inquired_of (fresh d)) asked) × (t ≡ after_asked (fresh d) asked)
+abbrev pub IsMonitorAnswered : Option Asked → List ℕ → Driven → Driven → List ℕ → Type 0
+IsMonitorAnswered None line d t said = IsCarriedOut line d t said
+IsMonitorAnswered (Some asked) line d t said = (said ≡ answer_to_asked (inquired_of (fresh d)) asked) × (t ≡ after_asked (fresh d) asked)
 
-abbrev pub IsBegun : Option Asked → List ℕ → Driven → Driven → Type 0
-IsBegun None line d t = IsLineBegun line d t
-IsBegun (Some asked) line d t = IsAskedBegun d t ⊎ (t ≡ after_asked (fresh d) asked)
+abbrev pub IsMonitorBegun : Option Asked → List ℕ → Driven → Driven → Type 0
+IsMonitorBegun None line d t = IsLineBegun line d t
+IsMonitorBegun (Some asked) line d t = IsAskedBegun d t ⊎ (t ≡ after_asked (fresh d) asked)

@@ -1,7 +1,6 @@
 -- Where gdb asks the machine to stop: breakpoints, and bytes of storage that are watched (gdb manual, "Packets", `Z0` to
 -- `Z2`).
-use Rattle.std.specs.Prelude.{ℕ, Bool, true, false, not, ◌&&◌, ◌||◌, ◌+◌, nat_eq, nat_le, nat_lt, if◌then◌else◌}
-use Rattle.std.specs.Prelude.{List, [], ◌∷◌, ◌++◌, length, Option}
+use Rattle.std.specs.Prelude.{ℕ, Bool, true, false, not, ◌&&◌, ◌||◌, ◌+◌, nat_eq, nat_le, nat_lt, if◌then◌else◌, List, [], ◌∷◌, ◌++◌, length, Option}
 use Rattle.std.specs.List.{filter, find, fold, list_any, range_with_len}
 use Rattle.std.specs.Option.{option_to_list, unwrap_or}
 use Rattle.s360_store.specs.declared.place.Place.TheVariants.{Byte}
@@ -14,7 +13,7 @@ use Rattle.s360_journal.specs.Breakpoints.{has_room_for, is_at_breakpoint, with_
 use Rattle.s360_journal.specs.Rerun.{last_change_of}
 use Rattle.s360_journal.specs.Running.{WhereToStop}
 use Rattle.s360_journal.specs.Standing.{Standing}
-use Rattle.s360_remote.specs.Registers.{words_of}
+use Rattle.s360_remote.specs.Registers.{words_of_machine}
 
 -- conditions of the breakpoint at an address, of which one has to hold: each is the instructions of an expression
 pub record Conditional : Type 0 where
@@ -51,7 +50,7 @@ is_passed target at c = nat_eq c.at at && not (list_any (λ e. holds target e) c
 
 -- what conditions read of a machine: the words of its registers, and storage
 abbrev pub target_of : Machine → Target
-target_of m = record { registers = words_of m; storage = m.core.storage.bytes }
+target_of m = record { registers = words_of_machine m; storage = m.core.storage.bytes }
 
 -- the breakpoint at the next instruction has conditions of which none holds
 abbrev pub is_passed_in : Machine → List Conditional → Bool

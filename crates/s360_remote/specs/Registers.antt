@@ -22,8 +22,8 @@ abbrev pub psw_of_words : ℕ → ℕ → ℕ
 psw_of_words mask address = mask / 2 ^ 16 * 2 ^ 48 + mask / 2 ^ 8 % 2 ^ 6 * 2 ^ 24 + address % 2 ^ 24
 
 -- the 18 words
-abbrev pub words_of : Machine → List ℕ
-words_of m = mask_word_of m.core.psw ∷ address_word_of m.core.psw ∷ map (λ r. slice_index m.core.registers r) (range_with_len 0 16)
+abbrev pub words_of_machine : Machine → List ℕ
+words_of_machine m = mask_word_of m.core.psw ∷ address_word_of m.core.psw ∷ map (λ r. slice_index m.core.registers r) (range_with_len 0 16)
 
 -- what loads a PSW of both words
 abbrev pub patch_of_psw : ℕ → ℕ → Patch

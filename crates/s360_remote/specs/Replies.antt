@@ -17,7 +17,7 @@ use Rattle.s360_packet.specs.declared.answer.Stop.{Stop}
 use Rattle.s360_packet.specs.declared.answer.Stop.TheVariants.{Trap, Quiet, Watch as watch, Breakpoint, HistoryBegin, HistoryEnd}
 use Rattle.s360_packet.specs.declared.target.RegisterValue.{RegisterValue}
 use Rattle.s360_remote.specs.ErrorNumbers.{error_of}
-use Rattle.s360_remote.specs.Registers.{words_of}
+use Rattle.s360_remote.specs.Registers.{words_of_machine}
 use Rattle.s360_remote.specs.declared.error_number.ErrorNumber.TheVariants.{Address, Malformed}
 use Rattle.s360_journal.specs.declared.running.Pause.{Pause}
 use Rattle.s360_journal.specs.declared.running.Pause.TheVariants.{Refused, Watch, Idle, Break, Stepped, RecordEnd, RecordStart, Done}
@@ -50,7 +50,7 @@ register_or_error (Some value) = register_text value
 register_or_error None = answer_text (error_of Malformed)
 
 abbrev pub register_of_number : Machine → ℕ → List ℕ
-register_of_number m number = register_or_error (register_value (words_of m) number)
+register_of_number m number = register_or_error (register_value (words_of_machine m) number)
 
 -- a text for gdb's user, which comes before the stop
 abbrev pub console_packet : List ℕ → List ℕ

@@ -20,21 +20,20 @@ use Rattle.s360_packet.specs.declared.request.Point.TheVariants.{Write as write}
 use Rattle.s360_packet.specs.declared.request.Thread.{Thread}
 use Rattle.s360_packet.specs.declared.request.Thread.TheVariants.{Numbered}
 use Rattle.s360_packet.specs.declared.request.Request.{Request}
-use Rattle.s360_packet.specs.declared.request.Request.TheVariants.{Stopped, Registers, WriteRegisters, Register, WriteRegister, Storage, WriteStorage}
-use Rattle.s360_packet.specs.declared.request.Request.TheVariants.{Step, Continue, StepBack, ContinueBack, Insert, InsertIf, Remove, Command, HasMoved}
-use Rattle.s360_packet.specs.declared.request.Request.TheVariants.{Supported, Description, MemoryMap, Extend, Restart, Run, Select, IsAlive}
-use Rattle.s360_packet.specs.declared.request.Request.TheVariants.{CurrentThread, Attached, FirstThreads, NextThreads}
-use Rattle.s360_packet.specs.declared.request.Request.TheVariants.{StopAcknowledging, Detach, Kill, KillProcess}
+use Rattle.s360_packet.specs.declared.request.Request.TheVariants.{Stopped, Registers, WriteRegisters, Register, WriteRegister, Storage, WriteStorage, Step}
+use Rattle.s360_packet.specs.declared.request.Request.TheVariants.{Continue, StepBack, ContinueBack, Insert, InsertIf, Remove, Command, HasMoved, Supported}
+use Rattle.s360_packet.specs.declared.request.Request.TheVariants.{Description, MemoryMap, Extend, Restart, Run, Select, IsAlive, CurrentThread, Attached}
+use Rattle.s360_packet.specs.declared.request.Request.TheVariants.{FirstThreads, NextThreads, StopAcknowledging, Detach, Kill, KillProcess}
 use Rattle.s360_journal.specs.Recorded.{session_of, standing_events, with_standing}
 use Rattle.s360_remote.specs.Conditions.{conditions_in}
 use Rattle.s360_remote.specs.Driven.{Driven, come_to, gone_partly, moved_to}
 use Rattle.s360_remote.specs.ErrorNumbers.{error_of}
 use Rattle.s360_remote.specs.Moving.{Moved, gone_back, resumed}
 use Rattle.s360_inquiry.specs.Reading.{inquiry_of}
-use Rattle.s360_remote.specs.Monitor.{IsAnswered, IsBegun as IsMonitorBegun}
+use Rattle.s360_remote.specs.Monitor.{IsMonitorAnswered, IsMonitorBegun}
 use Rattle.s360_saving.specs.Reading.{Asked, saving_of}
 use Rattle.s360_remote.specs.Points.{Points, Watched, has_room_for_watch, with_break, with_watch, without_break, without_watch}
-use Rattle.s360_remote.specs.Registers.{words_of}
+use Rattle.s360_remote.specs.Registers.{words_of_machine}
 use Rattle.s360_remote.specs.Replies.{console_packet, idle_words, line_text, packet_of, pause_packets, register_of_number, stop_packet, storage_text}
 use Rattle.s360_remote.specs.Saving.{IsSavingServed}
 use Rattle.s360_remote.specs.Untold.{after_stop, stop_before}
@@ -191,7 +190,7 @@ thread_answer (Numbered n) = if nat_eq n 1 then answer.Done else error_of NoThre
 thread_answer other = answer.Done
 
 abbrev pub told : Request → Machine → List ℕ
-told Registers m = registers_text (words_of m)
+told Registers m = registers_text (words_of_machine m)
 told (Register number) m = register_of_number m number
 told (Storage at count) m = storage_text m at count
 told Supported m = answer_text (answer.Supported 16384)
@@ -221,7 +220,7 @@ unmoved d = record d { untold = record d.untold { moved = false } }
 -- a line that saves nothing was carried out, and answered at once
 abbrev pub IsAnsweredAtOnce : List ℕ → Driven → Driven → List ℕ → Type 0
 IsAnsweredAtOnce line d t packets =
-    (u : Driven) × (text : List ℕ) × IsAnswered (inquiry_of line) line d u text × (t ≡ with_moved d u) × (packets ≡ framed (line_text text))
+    (u : Driven) × (text : List ℕ) × IsMonitorAnswered (inquiry_of line) line d u text × (t ≡ with_moved d u) × (packets ≡ framed (line_text text))
 
 abbrev pub IsBegunAtOnce : List ℕ → Driven → Driven → Type 0
 IsBegunAtOnce line d t = (u : Driven) × IsMonitorBegun (inquiry_of line) line d u × (t ≡ with_moved d u)
@@ -271,17 +270,17 @@ IsServed Kill d t next packets = (t ≡ d) × (next ≡ then.End) × (packets �
 IsServed other d t next packets = (t ≡ d) × (next ≡ then_after other) × (packets ≡ framed (told other (machine_now d)))
 
 -- after want of memory: some first ones of its events stand, or all that it makes is there and its answer is lost
-abbrev pub IsBegun : Request → Driven → Driven → Type 0
-IsBegun Step d t = IsResumedBegun (told_first d) d t (HasGoneOn reach.Step d t)
-IsBegun Continue d t = IsResumedBegun (told_first d) d t (HasGoneOn reach.Stop d t)
-IsBegun StepBack d t = IsResumedBegun (told_first d) d t (HasGoneBack reach.Step d t)
-IsBegun ContinueBack d t = IsResumedBegun (told_first d) d t (HasGoneBack reach.Stop d t)
-IsBegun (WriteStorage at bytes) d t = IsWriteBegun (storage_write d at bytes) d t
-IsBegun (WriteRegister number word) d t = IsWriteBegun (register_write d number word) d t
-IsBegun (WriteRegisters bytes) d t = AreAllBegun bytes d t
-IsBegun (Insert point at kind) d t = t ≡ record d { points = points_with point at kind d }
-IsBegun (InsertIf point at kind conditions) d t = IsInsertIfBegun (conditions_in conditions) at d t
-IsBegun (Remove point at kind) d t = t ≡ record d { points = points_without point at kind d }
-IsBegun (Command line) d t = IsCommandBegun (saving_of line) line d t
-IsBegun Run d t = t ≡ started_anew d
-IsBegun other d t = t ≡ d
+abbrev pub IsRequestBegun : Request → Driven → Driven → Type 0
+IsRequestBegun Step d t = IsResumedBegun (told_first d) d t (HasGoneOn reach.Step d t)
+IsRequestBegun Continue d t = IsResumedBegun (told_first d) d t (HasGoneOn reach.Stop d t)
+IsRequestBegun StepBack d t = IsResumedBegun (told_first d) d t (HasGoneBack reach.Step d t)
+IsRequestBegun ContinueBack d t = IsResumedBegun (told_first d) d t (HasGoneBack reach.Stop d t)
+IsRequestBegun (WriteStorage at bytes) d t = IsWriteBegun (storage_write d at bytes) d t
+IsRequestBegun (WriteRegister number word) d t = IsWriteBegun (register_write d number word) d t
+IsRequestBegun (WriteRegisters bytes) d t = AreAllBegun bytes d t
+IsRequestBegun (Insert point at kind) d t = t ≡ record d { points = points_with point at kind d }
+IsRequestBegun (InsertIf point at kind conditions) d t = IsInsertIfBegun (conditions_in conditions) at d t
+IsRequestBegun (Remove point at kind) d t = t ≡ record d { points = points_without point at kind d }
+IsRequestBegun (Command line) d t = IsCommandBegun (saving_of line) line d t
+IsRequestBegun Run d t = t ≡ started_anew d
+IsRequestBegun other d t = t ≡ d

@@ -10,7 +10,7 @@ use Rattle.s360_machine.specs.declared.event.Patch.TheVariants.{Bytes, Register}
 use Rattle.s360_journal.specs.Standing.{machine_of}
 use Rattle.s360_journal.specs.Recorded.{after_event, session_of}
 use Rattle.s360_remote.specs.Driven.{Driven, fresh}
-use Rattle.s360_remote.specs.Registers.{patch_of_psw, patch_of_word, words_of}
+use Rattle.s360_remote.specs.Registers.{patch_of_psw, patch_of_word, words_of_machine}
 use Rattle.s360_remote.specs.declared.error_number.ErrorNumber.{ErrorNumber}
 use Rattle.s360_remote.specs.declared.error_number.ErrorNumber.TheVariants.{Memory, Address, Malformed, Full}
 
@@ -83,7 +83,7 @@ patches_of_words before words = psw_patches before words ++ patches_from_registe
 
 -- `G`: the record has to have room for all of them
 abbrev pub registers_write : Driven → List ℕ → Write
-registers_write d words = with_room d 18 (patches_of_words (words_of (machine_of (session_of d.recorded))) words)
+registers_write d words = with_room d 18 (patches_of_words (words_of_machine (machine_of (session_of d.recorded))) words)
 
 -- how a write that makes these patches ends: after want of memory some first ones are made
 abbrev pub IsMadeOrBegun : Driven → List Patch → Driven → Result ⊤ ErrorNumber → Type 0

@@ -2,8 +2,7 @@
 ghost use Rattle.std.specs.Prelude.{◌≡◌, ◌&&◌, ◌++◌, ℕ, List, false, IfOk, OnOk};
 ghost use Rattle.std.specs.Option.{option_to_list};
 ghost use Rattle.s360_packet.specs.Receiving.{acknowledgement_of};
-ghost use Rattle.s360_remote.specs.Connecting.{HasAnswered, IsInterrupted, IsReceived, IsTaken, answer_to_fault, errand_of};
-ghost use Rattle.s360_remote.specs.Connecting.{going, is_to_move, new_connection};
+ghost use Rattle.s360_remote.specs.Connecting.{HasAnswered, IsInterrupted, IsReceived, IsTaken, answer_to_fault, errand_of, going, is_to_move, new_connection};
 ghost use Rattle.s360_remote.specs.Replies.{Adds};
 
 use crate::errand::Errand;

@@ -6,7 +6,7 @@ ghost use Rattle.s360_debug.specs.Answers.{fault_text};
 ghost use Rattle.s360_inquiry.specs.Answers.{answer_to, state_after};
 ghost use Rattle.s360_inquiry.specs.Reading.{inquiry_of};
 ghost use Rattle.s360_remote.specs.Driven.{fresh};
-ghost use Rattle.s360_remote.specs.Monitor.{IsAnswered, IsAskedBegun, IsBegun, IsCarriedOut, IsLineBegun, IsLineCut, after_asked, after_line};
+ghost use Rattle.s360_remote.specs.Monitor.{IsMonitorAnswered, IsAskedBegun, IsMonitorBegun, IsCarriedOut, IsLineBegun, IsLineCut, after_asked, after_line};
 ghost use Rattle.s360_remote.specs.Monitor.{answer_to_asked, dropped_text, inquired_of, monitor_text, with_inquired};
 
 use crate::target::Target;
@@ -63,8 +63,8 @@ save! WHAT FILE: writes over a file that is there
 
 /// Answers a line. After want of memory it may have been carried out in part, or its text is lost.
 pub(crate) fn monitor(target: &mut Target, line: &[u8]) -> Result<Text, AllocError>
-    ensures answered { IfOk result (λ text. IsAnswered (inquiry_of line.now) line.now target.old target.new text) }
-    ensures begun { OnErr result (IsBegun (inquiry_of line.now) line.now target.old target.new) }
+    ensures answered { IfOk result (λ text. IsMonitorAnswered (inquiry_of line.now) line.now target.old target.new text) }
+    ensures begun { OnErr result (IsMonitorBegun (inquiry_of line.now) line.now target.old target.new) }
 {
     match read_inquiry(line) {
         Some(asked) => answer_asked(target, asked),

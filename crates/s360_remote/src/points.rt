@@ -1,6 +1,5 @@
 //! Where gdb asks the machine to stop. Source: gdb manual, "Packets", `Z0` to `Z2`.
-ghost use Rattle.std.specs.Prelude.{◌≡◌, ◌<◌, ◌+◌, ◌^◌, [], ◌≤◌, not, drop, length, nat_eq};
-ghost use Rattle.std.specs.Prelude.{slice_get, vec_capacity, IfOk, OnErr, OnOk, SomeIff};
+ghost use Rattle.std.specs.Prelude.{◌≡◌, ◌<◌, ◌+◌, ◌^◌, [], ◌≤◌, not, drop, length, nat_eq, slice_get, vec_capacity, IfOk, OnErr, OnOk, SomeIff};
 ghost use Rattle.std.specs.List.{filter, list_any, range_with_len};
 ghost use Rattle.s360_journal.specs.Breakpoints.{has_room_for};
 ghost use Rattle.s360_journal.specs.Recorded.{session_of};
@@ -80,11 +79,11 @@ fn last_change_at(session: &Session, at: u32) -> u32
 
 /// Addresses of watched bytes that one change altered, one of each watch at most. A contract sees their list.
 #[derive(Drop)]
-pub struct Altered {
+pub struct AlteredBytes {
     addresses: ArrayVec<u32, MOST>,
 }
 
-impl Model for Altered {
+impl Model for AlteredBytes {
     ghost use Rattle.std.specs.Prelude.{List, ℕ};
 
     ghost Value = { List ℕ };
@@ -92,12 +91,12 @@ impl Model for Altered {
     ghost view = { λ a. a.addresses.items };
 }
 
-impl Altered {
+impl AlteredBytes {
     /// None.
-    pub(crate) fn new() -> Altered
+    pub(crate) fn new() -> AlteredBytes
         ensures { result ≡ [] }
     {
-        Altered {
+        AlteredBytes {
             addresses: ArrayVec::new(),
         }
     }
@@ -303,11 +302,11 @@ impl Points {
     }
 
     /// The watched bytes that the last change altered: the first of each watch that has none of those before.
-    pub(crate) fn bytes_altered(&self, session: &Session) -> Altered
+    pub(crate) fn bytes_altered(&self, session: &Session) -> AlteredBytes
         ensures { result ≡ bytes_altered (session_of session.now) self.now.watches }
     {
         let number = session.standing();
-        let mut altered = Altered::new();
+        let mut altered = AlteredBytes::new();
         for watch in self.watches.as_slice() {
             altered.add_byte_of(*watch, session, number);
         }

@@ -3,7 +3,7 @@ ghost use Rattle.std.specs.Prelude.{◌≡◌};
 ghost use Rattle.s360_machine.specs.Machine.{seen};
 ghost use Rattle.s360_remote.specs.Points.{target_of};
 
-use crate::registers::words_of;
+use crate::registers::words_of_machine;
 use s360_condition::Readable;
 use s360_machine::Machine;
 use s360_packet::REGISTERS;
@@ -31,7 +31,7 @@ impl<'a> Readout<'a> {
         ensures { result ≡ target_of (seen machine.now.whole) }
     {
         Readout {
-            words: words_of(machine),
+            words: words_of_machine(machine),
             storage: machine.storage(),
         }
     }

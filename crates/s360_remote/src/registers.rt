@@ -2,8 +2,7 @@
 //! org.gnu.gdb.s390.core.
 ghost use Rattle.std.specs.Prelude.{◌≡◌, ◌<◌, ◌^◌};
 ghost use Rattle.s360_machine.specs.Machine.{seen};
-ghost use Rattle.s360_remote.specs.Registers.{address_word_of, mask_word_of, patch_of_psw, patch_of_word, psw_of_words};
-ghost use Rattle.s360_remote.specs.Registers.{words_of};
+ghost use Rattle.s360_remote.specs.Registers.{address_word_of, mask_word_of, patch_of_psw, patch_of_word, psw_of_words, words_of_machine};
 
 use s360_machine::{Machine, Patch};
 use s360_packet::REGISTERS;
@@ -46,8 +45,8 @@ pub fn patch_of_psw(mask: u32, address: u32) -> Patch
 }
 
 /// The words of gdb's registers.
-pub fn words_of(machine: &Machine) -> [u32; REGISTERS]
-    ensures { result ≡ words_of (seen machine.now.whole) }
+pub fn words_of_machine(machine: &Machine) -> [u32; REGISTERS]
+    ensures { result ≡ words_of_machine (seen machine.now.whole) }
 {
     let mut words = [0; REGISTERS];
     let (mask, address) = words_of_psw(machine.psw());

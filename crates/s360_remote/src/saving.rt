@@ -3,9 +3,8 @@ ghost use Rattle.std.specs.Prelude.{◌≡◌, ◌++◌, ℕ, List, IfOk, OnOk};
 ghost use Rattle.s360_packet.specs.Framing.{framed};
 ghost use Rattle.s360_saving.specs.Outcomes.{outcome_text};
 ghost use Rattle.s360_remote.specs.Saving.{IsSavingServed, IsWrittenTold};
-ghost use Rattle.s360_remote.specs.Replies.{line_text};
+ghost use Rattle.s360_remote.specs.Replies.{line_text, Adds};
 ghost use Rattle.s360_remote.specs.Serving.{machine_now};
-ghost use Rattle.s360_remote.specs.Replies.{Adds};
 
 use crate::error_number::ErrorNumber;
 use crate::serving::{Then, tell_line};

@@ -6,14 +6,13 @@ ghost use Rattle.s360_packet.specs.Answers.{registers_text};
 ghost use Rattle.s360_packet.specs.Framing.{framed};
 ghost use Rattle.s360_packet.specs.declared.answer.Answer.TheVariants.{Done, Moved};
 ghost use Rattle.s360_remote.specs.Conditions.{conditions_in};
-ghost use Rattle.s360_remote.specs.Registers.{words_of};
+ghost use Rattle.s360_remote.specs.Registers.{words_of_machine};
 ghost use Rattle.s360_remote.specs.Replies.{Adds, console_packet, end_packets, idle_words_of, line_text};
 ghost use Rattle.s360_remote.specs.Replies.{packet_of, register_of_number, stop_packet, storage_text};
-ghost use Rattle.s360_remote.specs.Serving.{AreAllBegun, AreAllWritten, IsAnsweredAtOnce, IsBegun, IsBegunAtOnce, IsServed, IsTold};
-ghost use Rattle.s360_remote.specs.Serving.{IsCommandBegun, IsCommandServed, IsInsertIfBegun, IsInsertedIf, after_asking, set_if, unmoved};
-ghost use Rattle.s360_remote.specs.Serving.{HasGoneBack, HasGoneOn, IsResumedBack, IsResumedBegun, IsResumedOn, idle_told, pause_told, started_anew};
-ghost use Rattle.s360_remote.specs.Serving.{after_write, insert_answer, machine_now, points_with, points_without, then_after, thread_answer};
-ghost use Rattle.s360_remote.specs.Serving.{told_first, told_to, with_points};
+ghost use Rattle.s360_remote.specs.Serving.{AreAllBegun, AreAllWritten, IsAnsweredAtOnce, IsRequestBegun, IsBegunAtOnce, IsServed, IsTold, IsCommandBegun};
+ghost use Rattle.s360_remote.specs.Serving.{IsCommandServed, IsInsertIfBegun, IsInsertedIf, after_asking, set_if, unmoved, HasGoneBack, HasGoneOn};
+ghost use Rattle.s360_remote.specs.Serving.{IsResumedBack, IsResumedBegun, IsResumedOn, idle_told, pause_told, started_anew, after_write, insert_answer};
+ghost use Rattle.s360_remote.specs.Serving.{machine_now, points_with, points_without, then_after, thread_answer, told_first, told_to, with_points};
 ghost use Rattle.s360_saving.specs.Reading.{saving_of};
 ghost use Rattle.s360_remote.specs.declared.error_number.ErrorNumber.TheVariants.{Memory};
 ghost use Rattle.s360_remote.specs.declared.serving.Then.TheVariants.{GoOn};
@@ -21,8 +20,8 @@ ghost use Rattle.s360_remote.specs.declared.serving.Then.TheVariants.{GoOn};
 use crate::condition::read_conditions;
 use crate::error_number::ErrorNumber;
 use crate::monitor::monitor;
-use crate::points::{Altered, Watch};
-use crate::registers::words_of;
+use crate::points::{AlteredBytes, Watch};
+use crate::registers::words_of_machine;
 use crate::saving::save;
 use crate::target::Target;
 use byteorder::{BigEndian, ByteOrder};
@@ -62,7 +61,7 @@ impl Target {
     /// and some first bytes of the answer may be there.
     pub fn serve(&mut self, request: Request, replies: &mut Text) -> Result<Then, AllocError>
         ensures served { IfOk result (λ next. Adds (IsServed request self.old self.new next) replies.old replies.new) }
-        ensures begun { OnErr result (IsBegun request self.old self.new) }
+        ensures begun { OnErr result (IsRequestBegun request self.old self.new) }
     {
         match request {
             Request::Step => self.resume(Reach::Step, replies),
@@ -148,16 +147,16 @@ impl Target {
 
     /// Tells all registers.
     fn tell_registers(&self, replies: &mut Text) -> Result<(), AllocError>
-        ensures { OnOk result (replies.new ≡ replies.old ++ framed (registers_text (words_of (machine_now self.now)))) }
+        ensures { OnOk result (replies.new ≡ replies.old ++ framed (registers_text (words_of_machine (machine_now self.now)))) }
     {
-        push_packet(replies, Answer::Registers(&words_of(self.machine())))
+        push_packet(replies, Answer::Registers(&words_of_machine(self.machine())))
     }
 
     /// Tells one register.
     fn tell_register(&self, number: u32, replies: &mut Text) -> Result<(), AllocError>
         ensures { OnOk result (replies.new ≡ replies.old ++ framed (register_of_number (machine_now self.now) number)) }
     {
-        match register_value(&words_of(self.machine()), number) {
+        match register_value(&words_of_machine(self.machine()), number) {
             Some(value) => push_packet(replies, Answer::Register(value)),
             None => push_packet(replies, ErrorNumber::Malformed.answer()),
         }
@@ -209,7 +208,7 @@ impl Target {
     {
         push_packet(replies, Answer::Moved(self.untold.moved))?;
         if self.untold.moved {
-            self.untold.altered = Altered::new();
+            self.untold.altered = AlteredBytes::new();
             self.untold.stop = true;
         }
         Ok(Then::GoOn)
@@ -220,7 +219,7 @@ impl Target {
         ensures { self.new ≡ started_anew self.old }
     {
         let _standing = self.session.back_to(0);
-        self.untold.altered = Altered::new();
+        self.untold.altered = AlteredBytes::new();
         self.untold.stop = false;
     }
 

@@ -8,7 +8,7 @@ ghost use Rattle.s360_journal.specs.Recorded.{session_of, standing_events};
 ghost use Rattle.s360_remote.specs.Driven.{come_to, gone_partly, new_target, noting};
 ghost use Rattle.s360_remote.specs.Moving.{altered_if, gone_back, is_at_rest, is_turn_of, resumed, was_in_vain};
 
-use crate::points::{Altered, Points};
+use crate::points::{AlteredBytes, Points};
 use crate::untold::Untold;
 use s360_journal::{Breaks, Pause, Reach, Session, Turn, next_event};
 use s360_machine::{Event, EventKind, Machine};
@@ -98,7 +98,7 @@ impl Target {
     {
         self.untold.altered = match pause {
             Pause::Watch => self.points.bytes_altered(&self.session),
-            _ => Altered::new(),
+            _ => AlteredBytes::new(),
         };
     }
 

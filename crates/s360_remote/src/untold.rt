@@ -3,7 +3,7 @@ ghost use Rattle.std.specs.Prelude.{◌≡◌};
 ghost use Rattle.s360_remote.specs.Driven.{nothing_untold};
 ghost use Rattle.s360_remote.specs.Untold.{after_stop, stop_before};
 
-use crate::points::{Altered, Points};
+use crate::points::{AlteredBytes, Points};
 use s360_packet::Stop;
 use std::marker::Model;
 
@@ -11,7 +11,7 @@ use std::marker::Model;
 #[derive(Drop)]
 pub(crate) struct Untold {
     /// Watched bytes that were altered together with one that it was told of.
-    pub(crate) altered: Altered,
+    pub(crate) altered: AlteredBytes,
     /// That the machine stands where it does.
     pub(crate) stop: bool,
     /// If gdb asks, whether the last line of its user moved the machine.
@@ -32,7 +32,7 @@ impl Untold {
         ensures { result ≡ nothing_untold }
     {
         Untold {
-            altered: Altered::new(),
+            altered: AlteredBytes::new(),
             stop: false,
             moved: false,
         }

@@ -1,14 +1,13 @@
 //! What gdb writes into the machine, each an event of its own, which stands and can be taken back. Source: gdb manual,
 //! "Packets", `M`, `X`, `P` and `G`.
-ghost use Rattle.std.specs.Prelude.{◌≡◌, ◌+◌, ◌-◌, ◌^◌, ◌<◌, ◌≤◌, ◌∷◌, ◌||◌, [], length};
-ghost use Rattle.std.specs.Prelude.{nat_le, None, if◌then◌else◌};
+ghost use Rattle.std.specs.Prelude.{◌≡◌, ◌+◌, ◌-◌, ◌^◌, ◌<◌, ◌≤◌, ◌∷◌, ◌||◌, [], length, nat_le, None, if◌then◌else◌};
 ghost use Rattle.s360_machine.specs.Machine.{seen, storage_size};
 ghost use Rattle.s360_machine.specs.Refusals.{refusal_of_patch};
 ghost use Rattle.s360_remote.specs.Writing.{IsMadeOrBegun, IsWriteEnd, is_other, patch_count, patches_from_register, patches_of_bytes};
 ghost use Rattle.s360_remote.specs.Writing.{patches_of_words, register_write, registers_write, storage_write};
 
 use crate::error_number::ErrorNumber;
-use crate::registers::{patch_of_psw, patch_of_word, words_of};
+use crate::registers::{patch_of_psw, patch_of_word, words_of_machine};
 use crate::target::Target;
 use s360_machine::{Event, Patch};
 use s360_packet::REGISTERS;
@@ -59,7 +58,7 @@ impl Target {
             return Err(ErrorNumber::Full);
         }
         self.session.forget_dropped();
-        let before = words_of(self.machine());
+        let before = words_of_machine(self.machine());
         self.write_words(&before, words)
     }
 

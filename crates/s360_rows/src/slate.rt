@@ -30,13 +30,12 @@ pub(crate) struct SlateMedia {
 type Change = (bool, Motion<Line>);
 
 impl Model for SlateMedia {
-    ghost use Rattle.std.specs.Prelude.{◌-◌, vec_len, vec_capacity};
-    ghost use Rattle.s360_device.specs.Kinds.{MediaWithRoom};
+    ghost use Rattle.s360_device.specs.Kinds.{MediaWithRoom, room_in};
     ghost use Rattle.s360_rows.specs.Slate.{SlateMedia as Seen};
 
     ghost Value = { MediaWithRoom Seen };
 
-    ghost view = { λ s. record { media = record { has_line = s.has_line; written = s.written.items }; room = vec_capacity s.written - vec_len s.written } };
+    ghost view = { λ s. record { media = record { has_line = s.has_line; written = s.written.items }; room = room_in s.written } };
 }
 
 /// A line with these bytes, and zeros after them.

@@ -1,7 +1,7 @@
 -- What the parser of command lines says of those of the programs.
 use Rattle.std.proofs.Common.{◌≡◌, ◌∙◌, ap, refl, sym, subst, true, Option, Some, None, codes}
 use Rattle.std.specs.List.{find}
-use Rattle.std.specs.Prelude.{option_and_then, option_map}
+use Rattle.std.specs.Prelude.{option_and_then, option_map, List, [], Result, Ok, Err, IfErr}
 use Rattle.std.specs.Str.{bytes_eq}
 use Rattle.clap.specs.Built.{AddsArg}
 use Rattle.clap.specs.Facts.{Entry}
@@ -19,7 +19,6 @@ use Rattle.clap.specs.Faults.{fault_of, is_simple_and_free}
 use Rattle.clap.specs.Values.{kind_of}
 use Rattle.clap.specs.declared.error.Error.{Error}
 use Rattle.clap.specs.declared.error.kind.ErrorKind.TheVariants.{OutOfMemory}
-use Rattle.std.specs.Prelude.{List, [], Result, Ok, Err, IfErr}
 use Rattle.std.specs.Result.{IsErrAnd}
 use Rattle.s360_setup.specs.CommandLine.{command_line, given, has_flag, is_by_words, source_of}
 use Rattle.s360_setup.specs.declared.program.Program.{Program}

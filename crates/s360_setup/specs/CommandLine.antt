@@ -5,6 +5,9 @@ use Rattle.std.specs.Str.Parse.{IsNumeral, digits_value}
 use Rattle.clap.specs.Walk.{Row, Rule, Text, first_of}
 use Rattle.clap.specs.Simple.{App, new_rule, new_shape, matches_of}
 use Rattle.clap.specs.declared.builder.action.ArgAction.TheVariants.{Set, SetTrue}
+use Rattle.clap.specs.Words.{takes}
+use Rattle.clap.specs.declared.error.kind.ErrorKind.{ErrorKind}
+use Rattle.clap.specs.declared.error.kind.ErrorKind.TheVariants.{OutOfMemory}
 use Rattle.clap.specs.declared.parser.matches.ValueSource.{ValueSource}
 use Rattle.clap.specs.declared.parser.matches.ValueSource.TheVariants.{CommandLine}
 use Rattle.s360_setup.specs.Programs.{program_name}
@@ -77,3 +80,8 @@ IsStorage (Some word) size = IsDecimalNumber word × (size ≡ digits_value 10 w
 abbrev pub FitsStorage : Option Text → Type 0
 FitsStorage None = ⊤
 FitsStorage (Some word) = IsDecimalNumber word
+
+-- where the parser takes the words, and a size that they give is a number, a fault of this kind is want of memory
+abbrev pub IsOnlyForMemory : Program → List Text → ErrorKind → Type 0
+IsOnlyForMemory program words kind =
+    takes (command_line program) words ≡ true → FitsStorage (given program (codes "storage") words) → kind ≡ OutOfMemory

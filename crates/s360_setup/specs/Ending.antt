@@ -3,7 +3,8 @@ use Rattle.std.specs.Prelude.{ℕ, List, [], ◌++◌, codes, decimal}
 use Rattle.s360_setup.specs.declared.failure.Part.{Part}
 use Rattle.s360_setup.specs.declared.failure.Part.TheVariants.{Reader, Tape0, Tape1, Script, Connection}
 use Rattle.s360_setup.specs.declared.failure.Fault.{Fault}
-use Rattle.s360_setup.specs.declared.failure.Fault.TheVariants.{CannotRead, FileTooLong, ShortCard, ShortHeader, BadFlags, PartOutOfPlace, ShortBlock, BlockTooLong, ReadFailed, ScriptTooLong, WriteFailed}
+use Rattle.s360_setup.specs.declared.failure.Fault.TheVariants.{CannotRead, FileTooLong, ShortCard, ShortHeader, BadFlags, PartOutOfPlace}
+use Rattle.s360_setup.specs.declared.failure.Fault.TheVariants.{ShortBlock, BlockTooLong, ReadFailed, ScriptTooLong, WriteFailed}
 use Rattle.s360_setup.specs.declared.failure.Failure.{Failure}
 use Rattle.s360_setup.specs.declared.failure.Failure.TheVariants as failure
 

@@ -12,7 +12,8 @@ use Rattle.s360_text.specs.declared.script_fault.ScriptFault.{ScriptFault}
 use Rattle.s360_text.specs.declared.script_fault.ScriptFault.TheVariants as script
 use Rattle.s360_setup.specs.declared.failure.Part as part
 use Rattle.s360_setup.specs.declared.failure.Part.TheVariants.{Reader, Tape0, Tape1, Script}
-use Rattle.s360_setup.specs.declared.failure.Fault.TheVariants.{CannotRead, FileTooLong, ShortCard, ShortHeader, BadFlags, PartOutOfPlace, ShortBlock, BlockTooLong, ReadFailed, ScriptTooLong, WriteFailed}
+use Rattle.s360_setup.specs.declared.failure.Fault.TheVariants.{CannotRead, FileTooLong, ShortCard, ShortHeader, BadFlags, PartOutOfPlace}
+use Rattle.s360_setup.specs.declared.failure.Fault.TheVariants.{ShortBlock, BlockTooLong, ReadFailed, ScriptTooLong, WriteFailed}
 use Rattle.s360_setup.specs.declared.failure.Failure.{Failure}
 use Rattle.s360_setup.specs.declared.failure.Failure.TheVariants.{StorageSize, Memory, Part}
 

@@ -5,7 +5,7 @@ ghost use Rattle.std.specs.Option.{SomeIff};
 ghost use Rattle.std.specs.Str.Parse.{digits_value};
 ghost use Rattle.clap.specs.Words.{app_of, fault_of, found_of, kind_of, matched_of, rule_of, takes};
 ghost use Rattle.s360_setup.specs.CommandLine.{command_line, operand_row, option_row, flag_row, given, has_flag, is_by_words};
-ghost use Rattle.s360_setup.specs.CommandLine.{IsDecimalNumber, IsStorage, FitsStorage, IsTape};
+ghost use Rattle.s360_setup.specs.CommandLine.{IsDecimalNumber, IsOnlyForMemory, IsStorage, FitsStorage, IsTape};
 
 use crate::arguments::{Options, TapeOptions};
 use crate::program::Program;
@@ -52,7 +52,7 @@ pub fn options<'a, S: AsStr>(
     ensures fetch { IfOk result (λ o. o.fetch ≡ has_flag program (codes "fetch") (map S.text words.entry.now)) }
     ensures script { IfOk result (λ o. option_map (λ name. name.now) o.script ≡ given program (codes "script") (map S.text words.entry.now)) }
     ensures accepted { OnOk result (fault_of (command_line program) (map S.text words.entry.now) ≡ []) }
-    ensures passes { IfErr result (λ e. takes (command_line program) (map S.text words.entry.now) ≡ true → FitsStorage (given program (codes "storage") (map S.text words.entry.now)) → kind_of e ≡ ErrorKind.OutOfMemory) }
+    ensures passes { IfErr result (λ e. IsOnlyForMemory program (map S.text words.entry.now) (kind_of e)) }
 {
     let matches = command_line(alloc, program)?.try_get_matches_from(words)?;
     Ok(Options {

@@ -1,8 +1,7 @@
 //! Why a program did not do all that it was asked for.
 ghost use Rattle.std.specs.Prelude.{◌≡◌};
 ghost use Rattle.s360_setup.specs.Ending.{part_name, fault_name, offset_digits, ending_status};
-ghost use Rattle.s360_setup.specs.Failures.{failure_of_storage, failure_of_deck, failure_of_tape};
-ghost use Rattle.s360_setup.specs.Failures.{failure_of_read, failure_of_script};
+ghost use Rattle.s360_setup.specs.Failures.{failure_of_storage, failure_of_deck, failure_of_tape, failure_of_read, failure_of_script};
 ghost use Rattle.s360_setup.specs.declared.failure.Failure.TheVariants.{Memory};
 
 use itoa::Buffer;

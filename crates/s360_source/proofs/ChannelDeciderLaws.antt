@@ -47,9 +47,10 @@ use Rattle.s360_source.specs.Agreement.{AreAlike, HaveAllSame}
 use Rattle.s360_source.specs.declared.channel_moves.ChannelMoves.{ChannelMoves}
 use Rattle.s360_source.specs.ChannelDeciders.{access_deciders, begun_deciders, channel_deciders, device_at, executed_deciders, program_deciders, unit_deciders}
 use Rattle.s360_source.specs.ChannelShapes.{ChannelShape, begin_at, channel_shape, executed_at, executed_word, extent_of, fetched_at, is_checked, led_to, next_word, program_event_shape, state_shape, target_of, unit_event_shape, word_of}
-use Rattle.s360_source.specs.ChannelSources.{bytes_of_word, media_place}
+use Rattle.s360_source.specs.ChannelSources.{bytes_of_word}
 use Rattle.s360_source.specs.Deciders.{access_keys}
-use Rattle.s360_source.specs.EventSources.{unit_place}
+use Rattle.s360_channel.specs.Differences.{state_place}
+use Rattle.s360_machine.specs.Differences.{media_place}
 use Rattle.s360_source.specs.MachineAgreement.{HaveAllThere, HaveSameThere, MachinesAreAlike, SameDevice}
 use Rattle.s360_source.proofs.AccessLemmas.{access-same}
 use Rattle.s360_source.proofs.AgreementLemmas.{same-first, same-second}
@@ -213,7 +214,7 @@ program-law u m n p alike one two run media word target keys =
     (has_loaded m.control.run_state u (Active p) x.state) (has_loaded n.control.run_state u (Active p) y.state) next led moves shaped.0 loads
 
 -- by the unit
-pub state-same : (u : ConfiguredUnit) (m n : Machine) → HaveSameThere m n (unit_place u) → control_of m.units u ≡ control_of n.units u
+pub state-same : (u : ConfiguredUnit) (m n : Machine) → HaveSameThere m n (state_place u) → control_of m.units u ≡ control_of n.units u
 state-same Reader m n h = h
 state-same Punch m n h = h
 state-same Printer m n h = h

@@ -25,7 +25,7 @@ use Rattle.s360_machine.specs.RunStates.{is_operating}
 use Rattle.s360_source.specs.Deciders.{instruction_deciders}
 use Rattle.s360_source.specs.EventDeciders.{channels_deciders, cpu_deciders, executing_deciders, external_deciders, operating_deciders, unit_states_masked}
 use Rattle.s360_source.specs.EventShapes.{Interrupting, channels_result, cpu_shape, executing, external, input_output, interrupting, shape_of_case}
-use Rattle.s360_source.specs.EventSources.{unit_place}
+use Rattle.s360_channel.specs.Differences.{state_place}
 use Rattle.s360_source.specs.Laws.{InstructionDecided}
 use Rattle.s360_source.specs.MachineAgreement.{HaveAllThere, MachinesAreAlike}
 use Rattle.s360_source.specs.declared.shape.InstructionShape.{InstructionShape}
@@ -44,14 +44,14 @@ not-passed true b h e = absurd (let t : b ≡ true = h refl in cc)
 not-passed false b h e = refl
 
 found-step : (b : Bool) (mask test : ConfiguredUnit → Bool) (m n : Machine) (u : ConfiguredUnit) (us : List ConfiguredUnit) → mask u ≡ b → (test u ≡ true → mask u ≡ true)
-    → HaveAllThere m n (map unit_place (if b then u ∷ filter mask us else filter mask us)) → (HaveAllThere m n (map unit_place (filter mask us)) → found test m us ≡ found test n us)
+    → HaveAllThere m n (map state_place (if b then u ∷ filter mask us else filter mask us)) → (HaveAllThere m n (map state_place (filter mask us)) → found test m us ≡ found test n us)
     → found test m (u ∷ us) ≡ found test n (u ∷ us)
 found-step true mask test m n u us e passes h later =
     ap (λ (x : UnitControl). if test u && is_pending x then Some u else found test m us) (state-same u m n h.0)
     ∙ ap (λ (o : Option ConfiguredUnit). if test u && is_pending (control_of n.units u) then Some u else o) (later h.1)
 found-step false mask test m n u us e passes h later = let f : test u ≡ false = not-passed (test u) (mask u) passes e in rw f (later h)
 
-found-law : (mask test : ConfiguredUnit → Bool) (m n : Machine) (us : List ConfiguredUnit) → ((u : ConfiguredUnit) → test u ≡ true → mask u ≡ true) → HaveAllThere m n (map unit_place (filter mask us))
+found-law : (mask test : ConfiguredUnit → Bool) (m n : Machine) (us : List ConfiguredUnit) → ((u : ConfiguredUnit) → test u ≡ true → mask u ≡ true) → HaveAllThere m n (map state_place (filter mask us))
     → found test m us ≡ found test n us
 found-law mask test m n [] passes h = refl
 found-law mask test m n (u ∷ us) passes h = found-step (mask u) mask test m n u us refl (passes u) h (found-law mask test m n us passes)
@@ -66,8 +66,8 @@ one-of true m n u x y one others = one
 one-of false m n u x y one others = others
 
 interrupting-step : (b : Bool) (mask : ConfiguredUnit → Bool) (m n : Machine) (u : ConfiguredUnit) (us : List ConfiguredUnit) → mask u ≡ b
-    → HaveAllThere m n (map unit_place (if b then u ∷ filter mask us else filter mask us))
-    → (HaveAllThere m n (map unit_place (filter mask us)) → option_and_then (with_condition m) (found mask m us) ≡ option_and_then (with_condition n) (found mask n us))
+    → HaveAllThere m n (map state_place (if b then u ∷ filter mask us else filter mask us))
+    → (HaveAllThere m n (map state_place (filter mask us)) → option_and_then (with_condition m) (found mask m us) ≡ option_and_then (with_condition n) (found mask n us))
     → option_and_then (with_condition m) (found mask m (u ∷ us)) ≡ option_and_then (with_condition n) (found mask n (u ∷ us))
 interrupting-step true mask m n u us e h later =
     let same : control_of m.units u ≡ control_of n.units u = state-same u m n h.0
@@ -76,7 +76,7 @@ interrupting-step true mask m n u us e h later =
     (ap (λ (x : UnitControl). option_map (λ (c : Condition). record { unit = u; condition = c }) (condition_of x)) same) (later h.1)
 interrupting-step false mask m n u us e h later = rw e (later h)
 
-interrupting-found : (mask : ConfiguredUnit → Bool) (m n : Machine) (us : List ConfiguredUnit) → HaveAllThere m n (map unit_place (filter mask us))
+interrupting-found : (mask : ConfiguredUnit → Bool) (m n : Machine) (us : List ConfiguredUnit) → HaveAllThere m n (map state_place (filter mask us))
     → option_and_then (with_condition m) (found mask m us) ≡ option_and_then (with_condition n) (found mask n us)
 interrupting-found mask m n [] h = refl
 interrupting-found mask m n (u ∷ us) h = interrupting-step (mask u) mask m n u us refl h (interrupting-found mask m n us)

@@ -44,7 +44,8 @@ use Rattle.s360_machine.specs.Interruptions.{after_interruption, external_code}
 use Rattle.s360_machine.specs.Machine.{Machine}
 use Rattle.s360_source.specs.Agreement.{Agree, AreAlike, HaveAllSame, HaveSame}
 use Rattle.s360_source.specs.EventShapes.{CpuShape, Interrupting, channels_result, cpu_shape, executing, external, idle, input_output, interrupting, shape_of_case}
-use Rattle.s360_source.specs.EventSources.{channels_places, channels_sources, cpu_sources, csw_sources, ended_sources, input_output_sources, on_core, unit_place, unit_sources}
+use Rattle.s360_source.specs.EventSources.{channels_places, channels_sources, cpu_sources, csw_sources, ended_sources, input_output_sources, on_core, unit_sources}
+use Rattle.s360_channel.specs.Differences.{state_place}
 use Rattle.s360_source.specs.InstructionSources.{completed_sources, instruction_sources, performed_sources, rr_sources, rs_sources, rx_sources, si_sources, ss_sources}
 use Rattle.s360_source.specs.InterruptionSources.{followed_by, interruption_sources}
 use Rattle.s360_source.specs.MachineAgreement.{HaveAllThere, HaveSameThere, MachinesAreAlike}
@@ -306,7 +307,7 @@ taken-core m n i p alike h =
     in let two : length y.storage.bytes ≡ length n.core.storage.bytes = length-with_run n.core.storage.bytes run csw_location (omega (arith, alike.permanent, alike.cores.size))
     in let xy : AreAlike x y = record { first = alike.cores.first; second = alike.cores.second; size = one ∙ alike.cores.size ∙ sym two; blocks = alike.cores.blocks; option = alike.cores.option }
     in interruption-law x y InputOutput (address_of_unit i.unit) NotAvailable p xy (omega (arith, one, alike.permanent))
-    (followed-law m.core n.core x y (bytes_made_of csw_location 8 (unit_place i.unit ∷ []) itself) (λ q g. csw-law m.core n.core (Csw i.condition.csw) (unit_place i.unit ∷ []) q alike.cores alike.permanent g) (interruption_sources InputOutput p) h)
+    (followed-law m.core n.core x y (bytes_made_of csw_location 8 (state_place i.unit ∷ []) itself) (λ q g. csw-law m.core n.core (Csw i.condition.csw) (state_place i.unit ∷ []) q alike.cores alike.permanent g) (interruption_sources InputOutput p) h)
 
 -- the unit that interrupts: its status word is stored, and then its interruption happens
 taking-law : (m n : Machine) (i : Interrupting) (p : Place) → MachinesAreAlike m n → HaveAllThere m n (unit_sources i.unit p)

@@ -21,9 +21,10 @@ use Rattle.s360_channel.specs.Words.{reads_backward}
 use Rattle.s360_machine.specs.ChannelEvents.{at_device, view_of}
 use Rattle.s360_machine.specs.Machine.{Machine, Media}
 use Rattle.s360_source.specs.ChannelShapes.{executed_word, target_of, word_of}
-use Rattle.s360_source.specs.ChannelSources.{bytes_of_word, media_place}
+use Rattle.s360_source.specs.ChannelSources.{bytes_of_word}
 use Rattle.s360_source.specs.Deciders.{access_keys}
-use Rattle.s360_source.specs.EventSources.{unit_place}
+use Rattle.s360_channel.specs.Differences.{state_place}
+use Rattle.s360_machine.specs.Differences.{media_place}
 
 -- the keys that an access from an address on looks at: none where a byte is outside storage
 abbrev pub access_deciders : Storage → ℕ → Access → ℕ → Option ℕ → List Place
@@ -57,16 +58,19 @@ next_word_deciders d s p = executed_deciders d s p (executed_word s p)
 abbrev pub device_at : ConfiguredUnit → Media → DeviceView
 device_at u m = at_device u m (λ M t d with_device. view_of t d)
 
+-- those of the word with which a unit's program goes on
+abbrev pub unit_word_deciders : ConfiguredUnit → Machine → Program → List Place
+unit_word_deciders u m p = next_word_deciders (device_at u m.media) m.core.storage p
+
 -- a program: the run state, since it may end loading; the media; the words that the channel fetches, and the keys
 abbrev pub program_deciders : ConfiguredUnit → Machine → Program → List Place
 program_deciders u m p =
     let s : Storage = m.core.storage
-    in let keys : List Place = next_word_deciders (device_at u m.media) s p
-    in Run ∷ (media_place u ∷ (bytes_of_word (word_of s p) ++ (bytes_of_word (target_of s p) ++ keys)))
+    in Run ∷ (media_place u ∷ (bytes_of_word (word_of s p) ++ (bytes_of_word (target_of s p) ++ unit_word_deciders u m p)))
 
 -- a unit: its state alone where it executes no program
 abbrev pub unit_deciders : ConfiguredUnit → Machine → List Place
-unit_deciders u m = unit_place u ∷ option_map_or (program_deciders u m) (program_of (control_of m.units u).state) []
+unit_deciders u m = state_place u ∷ option_map_or (program_deciders u m) (program_of (control_of m.units u).state) []
 
 -- by the address of the unit
 abbrev pub channel_deciders : UnitAddress → Machine → List Place

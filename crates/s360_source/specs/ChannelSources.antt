@@ -1,6 +1,5 @@
 -- The sources of a channel event (GA22-6821, "Input/Output Operations", and "System Control Panel", initial program loading).
-use Rattle.std.specs.Prelude.{ℕ, Bool, true, false, nat_eq, if◌then◌else◌, Option, Some, None}
-use Rattle.std.specs.Prelude.{List, [], ◌∷◌, ◌++◌}
+use Rattle.std.specs.Prelude.{ℕ, Bool, true, false, nat_eq, if◌then◌else◌, Option, Some, None, List, [], ◌∷◌, ◌++◌}
 use Rattle.std.specs.Option.{option_map_or}
 use Rattle.s360_word.specs.declared.unit.Unit.{Unit as UnitAddress}
 use Rattle.s360_store.specs.declared.place.Place.{Place}
@@ -8,19 +7,17 @@ use Rattle.s360_store.specs.declared.place.Place.TheVariants.{Psw, Byte, Run, Un
 use Rattle.s360_store.specs.Items.{is_in_run}
 use Rattle.s360_store.specs.Spans.{byte_places}
 use Rattle.s360_channel.specs.declared.configured_unit.ConfiguredUnit.{ConfiguredUnit}
-use Rattle.s360_channel.specs.ConfiguredUnits.{address_of_unit, index_of, unit_at}
+use Rattle.s360_channel.specs.ConfiguredUnits.{index_of, unit_at}
 use Rattle.s360_source.specs.declared.channel_moves.ChannelMoves.{ChannelMoves}
 use Rattle.s360_source.specs.ChannelShapes.{ChannelShape}
-use Rattle.s360_source.specs.EventSources.{unit_place}
+use Rattle.s360_channel.specs.Differences.{state_place}
+use Rattle.s360_machine.specs.Differences.{media_place}
 use Rattle.s360_source.specs.InterruptionSources.{followed_by}
 use Rattle.s360_source.specs.Sources.{Sources, bytes_made_of, itself, made_of}
 
--- the place of a unit's media, and both places of a unit
-abbrev pub media_place : ConfiguredUnit → Place
-media_place u = UnitMedia (record { 0 = address_of_unit u })
-
+-- both places of a unit
 abbrev pub unit_places : ConfiguredUnit → List Place
-unit_places u = unit_place u ∷ (media_place u ∷ [])
+unit_places u = state_place u ∷ (media_place u ∷ [])
 
 -- an address is that of a unit
 abbrev pub is_unit : ConfiguredUnit → UnitAddress → Bool

@@ -16,17 +16,12 @@ use Rattle.s360_store.specs.Spans.{byte_places}
 use Rattle.s360_fixed.specs.declared.form.Form.{Form}
 use Rattle.s360_fixed.specs.declared.form.Form.TheVariants.{Rr, Rx, Rs, Si, Ss}
 use Rattle.s360_fixed.specs.declared.operation.Operation.{Operation}
-use Rattle.s360_fixed.specs.declared.operation.Operation.TheVariants.{LoadComplement, LoadPositive, Add, AddHalfword}
-use Rattle.s360_fixed.specs.declared.operation.Operation.TheVariants.{Subtract, SubtractHalfword}
-use Rattle.s360_fixed.specs.declared.operation.Operation.TheVariants.{ShiftLeftSingle, ShiftLeftDouble}
-use Rattle.s360_fixed.specs.declared.operation.Operation.TheVariants.{SetStorageKey, InsertStorageKey}
-use Rattle.s360_fixed.specs.declared.operation.Operation.TheVariants.{Divide, ConvertToBinary}
-use Rattle.s360_fixed.specs.declared.operation.Operation.TheVariants.{LoadAddress, CompareLogical}
-use Rattle.s360_fixed.specs.declared.operation.Operation.TheVariants.{BranchOnCondition, BranchAndLink, BranchOnCount}
-use Rattle.s360_fixed.specs.declared.operation.Operation.TheVariants.{Store, StoreHalfword, StoreCharacter, ConvertToDecimal}
-use Rattle.s360_fixed.specs.declared.operation.Operation.TheVariants.{StoreMultiple, LoadMultiple, LoadPsw}
-use Rattle.s360_fixed.specs.declared.operation.Operation.TheVariants.{StartIo, TestIo, HaltIo, TestChannel}
-use Rattle.s360_fixed.specs.declared.operation.Operation.TheVariants.{MoveWithOffset, Pack, Unpack, Translate, TranslateAndTest}
+use Rattle.s360_fixed.specs.declared.operation.Operation.TheVariants.{LoadComplement, LoadPositive, Add, AddHalfword, Subtract, SubtractHalfword}
+use Rattle.s360_fixed.specs.declared.operation.Operation.TheVariants.{ShiftLeftSingle, ShiftLeftDouble, SetStorageKey, InsertStorageKey, Divide}
+use Rattle.s360_fixed.specs.declared.operation.Operation.TheVariants.{ConvertToBinary, LoadAddress, CompareLogical, BranchOnCondition, BranchAndLink}
+use Rattle.s360_fixed.specs.declared.operation.Operation.TheVariants.{BranchOnCount, Store, StoreHalfword, StoreCharacter, ConvertToDecimal, StoreMultiple}
+use Rattle.s360_fixed.specs.declared.operation.Operation.TheVariants.{LoadMultiple, LoadPsw, StartIo, TestIo, HaltIo, TestChannel, MoveWithOffset, Pack, Unpack}
+use Rattle.s360_fixed.specs.declared.operation.Operation.TheVariants.{Translate, TranslateAndTest}
 use Rattle.s360_fixed.specs.Fetching.{instruction_bytes, length_at}
 use Rattle.s360_fixed.specs.Outcomes.{is_odd}
 use Rattle.s360_fixed.specs.ProgramCodes.{program_code}
@@ -45,7 +40,7 @@ use Rattle.s360_source.specs.declared.shape.Operands.{Operands}
 use Rattle.s360_source.specs.declared.shape.Performance.{Performance}
 use Rattle.s360_source.specs.Shapes.{operation_of, performed_of}
 use Rattle.s360_source.specs.Sources.{address_parts, register_part}
-use Rattle.s360_source.specs.StorageSources.{searched_places}
+use Rattle.s360_source.specs.StorageSources.{all_searched}
 
 -- the keys of so many blocks from a number on, and those of the blocks that so many bytes lie in
 abbrev pub keys_from : ℕ → ℕ → List Place
@@ -114,7 +109,7 @@ ending_deciders psw (Rr operation r1 r2) o s = result_deciders psw (Rr operation
 ending_deciders psw (Rx operation r1 x2 b2 d2) o s = result_deciders psw (Rx operation r1 x2 b2 d2) r1 o s
 ending_deciders psw (Rs operation r1 r3 b2 d2) o s = result_deciders psw (Rs operation r1 r3 b2 d2) r1 o s
 ending_deciders psw (Ss Translate l b1 d1 b2 d2) o s = byte_places o.first (l + 1)
-ending_deciders psw (Ss TranslateAndTest l b1 d1 b2 d2) o s = searched_places o.second o.first 0 (l + 1) s
+ending_deciders psw (Ss TranslateAndTest l b1 d1 b2 d2) o s = all_searched o (l + 1) s
 ending_deciders psw form o s = []
 
 -- bytes of the first operand in storage
@@ -174,9 +169,12 @@ searched_keys s key table first i (suc n) =
     function_keys s key table (first + i)
     ++ (if nat_eq (function_byte table (first + i) s) 0 then searched_keys s key table first (i + 1) n else [])
 
--- the keys that the accesses to two operands in storage look at
+-- the keys that the accesses to two operands in storage look at, of which the second is fetched
+abbrev pub keys_of_both : Storage → Access → ℕ → Operands → ℕ × ℕ → List Place
+keys_of_both s kind key o counts = access_keys s kind key o.first counts.0 ++ access_keys s Fetch key o.second counts.1
+
 abbrev pub digit_keys : Storage → ℕ → ℕ → Operands → List Place
-digit_keys s key l o = access_keys s to_store key o.first (l / 16 + 1) ++ access_keys s Fetch key o.second (l % 16 + 1)
+digit_keys s key l o = keys_of_both s to_store key o (l / 16 + 1, l % 16 + 1)
 
 abbrev pub storage_keys : Storage → ℕ → Operation → ℕ → Operands → List Place
 storage_keys s key MoveWithOffset l o = digit_keys s key l o
@@ -186,7 +184,7 @@ storage_keys s key Translate l o =
     access_keys s to_store key o.first (l + 1) ++ translated_keys s key o.second o.first 0 (l + 1)
 storage_keys s key TranslateAndTest l o =
     access_keys s Fetch key o.first (l + 1) ++ searched_keys s key o.second o.first 0 (l + 1)
-storage_keys s key other l o = access_keys s (first_access other) key o.first (l + 1) ++ access_keys s Fetch key o.second (l + 1)
+storage_keys s key other l o = keys_of_both s (first_access other) key o (l + 1, l + 1)
 
 -- the keys that the accesses to the operands look at
 abbrev pub key_deciders : ℕ → Form → Operands → Storage → List Place

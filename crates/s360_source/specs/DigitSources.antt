@@ -30,6 +30,9 @@ digit_places Unpack low fetched i =
     then fetched 0
     else Psw ∷ (if nat_eq (i % 2) 1 then fetched ((i + 1) / 2) else fetched (i / 2))
 
+abbrev pub digit_places_of : Digits → (ℕ → List Place) → ℕ → List Place
+digit_places_of d fetched i = digit_places d.row (Byte (from_right d.first 0) ∷ []) fetched i
+
 -- those of each byte of the second operand that was fetched, and of the byte at each address
 pub record DigitsMade : Type 0 where
   pub fetched : ℕ → List Place
@@ -45,7 +48,7 @@ one_more d n made =
     let fetched : ℕ → List Place = λ j. if nat_lt j (fetched_before d.row n) then made.fetched j else places_from_right d.second made.stored j
     in record {
       fetched = fetched;
-      stored = λ a. if nat_eq (from_right d.first n) a then digit_places d.row (Byte (from_right d.first 0) ∷ []) fetched n else made.stored a;
+      stored = λ a. if nat_eq (from_right d.first n) a then digit_places_of d fetched n else made.stored a;
     }
 
 -- after so many

@@ -31,7 +31,7 @@ use Rattle.s360_machine.specs.RunStates.{is_operating}
 use Rattle.s360_source.specs.ChannelShapes.{standing_at}
 use Rattle.s360_source.specs.ChannelSources.{bytes_of_word}
 use Rattle.s360_source.specs.Deciders.{instruction_deciders}
-use Rattle.s360_source.specs.EventSources.{unit_place}
+use Rattle.s360_channel.specs.Differences.{state_place}
 use Rattle.s360_source.specs.Shapes.{instruction_shape}
 
 -- what may interrupt the program: the external conditions if their mask is one, and, unless they do, the units of the channels
@@ -40,16 +40,19 @@ abbrev pub external_deciders : ℕ → List Place
 external_deciders psw = if external_mask_of psw then External ∷ [] else []
 
 abbrev pub unit_states_masked : ℕ → List Place
-unit_states_masked psw = map unit_place (filter (λ u. channel_mask_of psw (channel_of u)) configured_units)
+unit_states_masked psw = map state_place (filter (λ u. channel_mask_of psw (channel_of u)) configured_units)
 
 abbrev pub interruption_deciders : ℕ → Pending → List Place
 interruption_deciders psw p = external_deciders psw ++ (if takes_external psw p then [] else unit_states_masked psw)
 
+abbrev pub deciders_of_interruption : Machine → List Place
+deciders_of_interruption m = interruption_deciders m.core.psw (pending_of m.control m.units)
+
 -- a unit, and the other tape beside a tape, since their channel executes one program at a time
 abbrev pub units_of_channel : ConfiguredUnit → List Place
-units_of_channel Tape0 = unit_place Tape0 ∷ (unit_place Tape1 ∷ [])
-units_of_channel Tape1 = unit_place Tape1 ∷ (unit_place Tape0 ∷ [])
-units_of_channel u = unit_place u ∷ []
+units_of_channel Tape0 = state_place Tape0 ∷ (state_place Tape1 ∷ [])
+units_of_channel Tape1 = state_place Tape1 ∷ (state_place Tape0 ∷ [])
+units_of_channel u = state_place u ∷ []
 
 -- the channel address word, and the first word of the program if one can stand there
 abbrev pub first_word_deciders : Storage → Caw → List Place
@@ -86,7 +89,7 @@ executing_deciders other m = []
 -- while the machine operates: what may interrupt, and the instruction
 abbrev pub operating_deciders : Machine → List Place
 operating_deciders m =
-    Psw ∷ (interruption_deciders m.core.psw (pending_of m.control m.units) ++ executing_deciders (cpu_case m) m)
+    Psw ∷ (deciders_of_interruption m ++ executing_deciders (cpu_case m) m)
 
 abbrev pub cpu_deciders : Machine → List Place
 cpu_deciders m = Run ∷ (if is_operating m.control.run_state then operating_deciders m else [])

@@ -2,8 +2,7 @@
 -- Panel").
 use Rattle.std.specs.Prelude.{Bool, true, false, if◌then◌else◌, Option, Some, None, List, [], ◌∷◌, length}
 use Rattle.s360_model.specs.Storage.{Storage}
-use Rattle.s360_psw.specs.declared.class.Class.TheVariants.{External as external_class, InputOutput, Program as program_class}
-use Rattle.s360_psw.specs.declared.class.Class.TheVariants.{Supervisor}
+use Rattle.s360_psw.specs.declared.class.Class.TheVariants.{External as external_class, InputOutput, Program as program_class, Supervisor}
 use Rattle.s360_word.specs.declared.unit.Unit.{Unit as UnitAddress}
 use Rattle.s360_store.specs.declared.place.Place.{Place}
 use Rattle.s360_store.specs.declared.place.Place.TheVariants.{Psw, Register, Byte, Key, Run, External, UnitState}
@@ -14,24 +13,21 @@ use Rattle.s360_channel.specs.declared.configured_unit.ConfiguredUnit.{Configure
 use Rattle.s360_channel.specs.declared.io_instructions.CswStore.{CswStore}
 use Rattle.s360_channel.specs.declared.io_instructions.CswStore.TheVariants.{Nothing, Status, Csw}
 use Rattle.s360_channel.specs.declared.io_instructions.IoResult.{IoResult}
-use Rattle.s360_channel.specs.ConfiguredUnits.{address_of_unit}
+use Rattle.s360_channel.specs.Differences.{state_place}
 use Rattle.s360_channel.specs.IoInstructions.{caw_location, csw_location}
+use Rattle.s360_machine.specs.Machine.{Machine}
+use Rattle.s360_machine.specs.declared.cpu.CpuCase.{CpuCase}
 use Rattle.s360_machine.specs.declared.operator.Key.{Key as OperatorKey}
 use Rattle.s360_machine.specs.declared.operator.Key.TheVariants.{Reset, Load}
 use Rattle.s360_machine.specs.declared.event.Patch.{Patch}
-use Rattle.s360_machine.specs.declared.event.Patch.TheVariants.{Bytes, Register as register_patch, StorageKey, FetchBit}
-use Rattle.s360_machine.specs.declared.event.Patch.TheVariants.{Psw as psw_patch}
+use Rattle.s360_machine.specs.declared.event.Patch.TheVariants.{Bytes, Register as register_patch, StorageKey, FetchBit, Psw as psw_patch}
 use Rattle.s360_machine.specs.InputOutput.{status_location}
 use Rattle.s360_machine.specs.Timer.{timer_location}
-use Rattle.s360_source.specs.EventShapes.{CpuShape, Interrupting, executing, external, idle, input_output}
+use Rattle.s360_source.specs.EventShapes.{CpuShape, Interrupting, executing, external, idle, input_output, channels_result, shape_of_case}
 use Rattle.s360_source.specs.InstructionSources.{instruction_sources}
 use Rattle.s360_source.specs.InterruptionSources.{followed_by, interruption_sources}
 use Rattle.s360_source.specs.declared.shape.InstructionShape.{InstructionShape}
 use Rattle.s360_source.specs.Sources.{Sources, bytes_made_of, itself, made_of}
-
--- a unit's state by its address
-abbrev pub unit_place : ConfiguredUnit → Place
-unit_place u = UnitState (record { 0 = address_of_unit u })
 
 -- an external interruption takes all external conditions
 abbrev pub external_sources : Sources
@@ -46,7 +42,7 @@ csw_sources (Csw csw) sources others = bytes_made_of csw_location 8 sources othe
 -- an interruption of a unit: its status word is stored, and it stands otherwise, both made of how it stood
 abbrev pub unit_sources : ConfiguredUnit → Sources
 unit_sources u =
-    followed_by (bytes_made_of csw_location 8 (unit_place u ∷ []) itself) (interruption_sources InputOutput)
+    followed_by (bytes_made_of csw_location 8 (state_place u ∷ []) itself) (interruption_sources InputOutput)
 
 abbrev pub input_output_sources : Option Interrupting → Sources
 input_output_sources None = itself
@@ -83,15 +79,25 @@ is_of_core p = false
 abbrev pub on_core : Sources → Sources
 on_core sources p = if is_of_core p then sources p else p ∷ []
 
+-- an instruction of a shape, and what the channels make of one that is theirs
+abbrev pub shape_sources : InstructionShape → Option IoResult → Storage → Sources
+shape_sources shape r s = channels_sources r (channels_places shape.ended) (ended_sources shape.ended (instruction_sources shape s))
+
 abbrev pub executed_sources : InstructionShape → Option IoResult → Storage → Sources
-executed_sources shape r s =
-    on_core (channels_sources r (channels_places shape.ended) (ended_sources shape.ended (instruction_sources shape s)))
+executed_sources shape r s = on_core (shape_sources shape r s)
 
 abbrev pub cpu_sources : CpuShape → Storage → Sources
 cpu_sources idle s = itself
 cpu_sources (external code) s = external_sources
 cpu_sources (input_output i) s = input_output_sources i
 cpu_sources (executing shape r) s = executed_sources shape r s
+
+-- those of an instruction of a shape in a machine, and of a case of the CPU
+abbrev pub shape_sources_in : InstructionShape → Machine → Sources
+shape_sources_in shape m = shape_sources shape (channels_result shape.ended m) m.core.storage
+
+abbrev pub case_sources : CpuCase → Machine → Sources
+case_sources case m = cpu_sources (shape_of_case case m) m.core.storage
 
 -- a tick, while the machine operates: the timer, and the condition that it becomes pending
 abbrev pub tick_sources : Bool → Sources

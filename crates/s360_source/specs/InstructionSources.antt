@@ -8,28 +8,17 @@ use Rattle.s360_store.specs.Spans.{byte_places}
 use Rattle.s360_fixed.specs.declared.form.Form.{Form}
 use Rattle.s360_fixed.specs.declared.form.Form.TheVariants.{Rr, Rx, Rs, Si, Ss}
 use Rattle.s360_fixed.specs.declared.operation.Operation.{Operation}
-use Rattle.s360_fixed.specs.declared.operation.Operation.TheVariants.{SetProgramMask, SetStorageKey, InsertStorageKey}
-use Rattle.s360_fixed.specs.declared.operation.Operation.TheVariants.{SupervisorCall}
-use Rattle.s360_fixed.specs.declared.operation.Operation.TheVariants.{BranchAndLink, BranchOnCount, BranchOnCondition}
-use Rattle.s360_fixed.specs.declared.operation.Operation.TheVariants.{Multiply, Divide, Store, StoreHalfword, StoreCharacter}
-use Rattle.s360_fixed.specs.declared.operation.Operation.TheVariants.{ConvertToBinary, ConvertToDecimal, StoreMultiple}
-use Rattle.s360_fixed.specs.declared.operation.Operation.TheVariants.{LoadMultiple}
-use Rattle.s360_fixed.specs.declared.operation.Operation.TheVariants.{BranchOnIndexHigh, BranchOnIndexLowOrEqual}
-use Rattle.s360_fixed.specs.declared.operation.Operation.TheVariants.{ShiftLeftSingleLogical, ShiftRightSingleLogical}
-use Rattle.s360_fixed.specs.declared.operation.Operation.TheVariants.{ShiftLeftSingle, ShiftRightSingle, ShiftLeftDouble}
-use Rattle.s360_fixed.specs.declared.operation.Operation.TheVariants.{ShiftRightDouble}
-use Rattle.s360_fixed.specs.declared.operation.Operation.TheVariants.{ShiftLeftDoubleLogical, ShiftRightDoubleLogical}
-use Rattle.s360_fixed.specs.declared.operation.Operation.TheVariants.{SetSystemMask, LoadPsw, Move, TestAndSet, TestUnderMask}
-use Rattle.s360_fixed.specs.declared.operation.Operation.TheVariants.{CompareLogical}
-use Rattle.s360_fixed.specs.declared.operation.Operation.TheVariants.{And, Or, ExclusiveOr, MoveNumerics, MoveZones, Translate}
-use Rattle.s360_fixed.specs.declared.operation.Operation.TheVariants.{TranslateAndTest}
-use Rattle.s360_fixed.specs.declared.operation.Operation.TheVariants.{MoveWithOffset, Pack, Unpack}
-use Rattle.s360_source.specs.RegisterSources.{combination_sources, count_sources, index_sources, link_sources}
-use Rattle.s360_source.specs.RegisterSources.{load_multiple_sources}
-use Rattle.s360_source.specs.RegisterSources.{logical_pair_shift_sources, logical_shift_sources, product_sources}
-use Rattle.s360_source.specs.RegisterSources.{quotient_sources, second_places}
-use Rattle.s360_source.specs.RegisterSources.{signed_pair_shift_sources, signed_shift_sources, store_multiple_sources}
-use Rattle.s360_source.specs.RegisterSources.{store_sources}
+use Rattle.s360_fixed.specs.declared.operation.Operation.TheVariants.{SetProgramMask, SetStorageKey, InsertStorageKey, SupervisorCall, BranchAndLink}
+use Rattle.s360_fixed.specs.declared.operation.Operation.TheVariants.{BranchOnCount, BranchOnCondition, Multiply, Divide, Store, StoreHalfword, StoreCharacter}
+use Rattle.s360_fixed.specs.declared.operation.Operation.TheVariants.{ConvertToBinary, ConvertToDecimal, StoreMultiple, LoadMultiple, BranchOnIndexHigh}
+use Rattle.s360_fixed.specs.declared.operation.Operation.TheVariants.{BranchOnIndexLowOrEqual, ShiftLeftSingleLogical, ShiftRightSingleLogical, ShiftLeftSingle}
+use Rattle.s360_fixed.specs.declared.operation.Operation.TheVariants.{ShiftRightSingle, ShiftLeftDouble, ShiftRightDouble, ShiftLeftDoubleLogical}
+use Rattle.s360_fixed.specs.declared.operation.Operation.TheVariants.{ShiftRightDoubleLogical, SetSystemMask, LoadPsw, Move, TestAndSet, TestUnderMask}
+use Rattle.s360_fixed.specs.declared.operation.Operation.TheVariants.{CompareLogical, And, Or, ExclusiveOr, MoveNumerics, MoveZones, Translate}
+use Rattle.s360_fixed.specs.declared.operation.Operation.TheVariants.{TranslateAndTest, MoveWithOffset, Pack, Unpack}
+use Rattle.s360_source.specs.RegisterSources.{combination_sources, count_sources, index_sources, link_sources, load_multiple_sources}
+use Rattle.s360_source.specs.RegisterSources.{logical_pair_shift_sources, logical_shift_sources, product_sources, quotient_sources, second_places}
+use Rattle.s360_source.specs.RegisterSources.{signed_pair_shift_sources, signed_shift_sources, store_multiple_sources, store_sources}
 use Rattle.s360_source.specs.declared.shape.InstructionShape.{InstructionShape}
 use Rattle.s360_source.specs.declared.shape.Operands.{Operands}
 use Rattle.s360_source.specs.declared.shape.Performance.{Performance}
@@ -39,8 +28,7 @@ use Rattle.s360_source.specs.declared.digits.Digits.{Digits}
 use Rattle.s360_source.specs.declared.digits.DigitRow.TheVariants.{MoveWithOffset as with_offset, Pack as packed, Unpack as unpacked}
 use Rattle.s360_source.specs.DigitSources.{digit_sources}
 use Rattle.s360_source.specs.Sources.{Sources, address_parts, bytes_made_of, itself, made_of, psw_made_of, register_part}
-use Rattle.s360_source.specs.StorageSources.{both_operands, combined_bytes, left_to_right_sources, moved_bytes, searched_places}
-use Rattle.s360_source.specs.StorageSources.{translated_bytes}
+use Rattle.s360_source.specs.StorageSources.{both_operands, combined_bytes, left_to_right_sources, moved_bytes, searched_places, translated_bytes}
 
 -- the format RR, by R1 and R2, and by the block that R2 names
 abbrev pub rr_sources : Operation → ℕ → ℕ → ℕ → Sources

@@ -5,11 +5,9 @@ use Rattle.s360_store.specs.declared.place.Place.{Place}
 use Rattle.s360_store.specs.declared.place.Place.TheVariants.{Psw, Register, Byte}
 use Rattle.s360_store.specs.Spans.{byte_places}
 use Rattle.s360_fixed.specs.declared.operation.Operation.{Operation}
-use Rattle.s360_fixed.specs.declared.operation.Operation.TheVariants.{Load, LoadAddress, LoadHalfword, LoadAndTest}
-use Rattle.s360_fixed.specs.declared.operation.Operation.TheVariants.{LoadComplement, LoadPositive, LoadNegative}
-use Rattle.s360_fixed.specs.declared.operation.Operation.TheVariants.{InsertCharacter, AddHalfword, SubtractHalfword}
-use Rattle.s360_fixed.specs.declared.operation.Operation.TheVariants.{MultiplyHalfword}
-use Rattle.s360_fixed.specs.declared.operation.Operation.TheVariants.{Compare, CompareHalfword, CompareLogical}
+use Rattle.s360_fixed.specs.declared.operation.Operation.TheVariants.{Load, LoadAddress, LoadHalfword, LoadAndTest, LoadComplement, LoadPositive, LoadNegative}
+use Rattle.s360_fixed.specs.declared.operation.Operation.TheVariants.{InsertCharacter, AddHalfword, SubtractHalfword, MultiplyHalfword, Compare}
+use Rattle.s360_fixed.specs.declared.operation.Operation.TheVariants.{CompareHalfword, CompareLogical}
 use Rattle.s360_fixed.specs.Outcomes.{is_odd}
 use Rattle.s360_fixed.specs.Storing.{register_count}
 use Rattle.s360_source.specs.Sources.{Sources, bytes_made_of, itself, made_of, pair_made_of, psw_made_of}

@@ -8,6 +8,7 @@ use Rattle.s360_store.specs.declared.place.Place.TheVariants.{Byte}
 use Rattle.s360_store.specs.Spans.{byte_places}
 use Rattle.s360_logic.specs.Bytes.{byte_at}
 use Rattle.s360_logic.specs.LeftToRight.{function_address, function_byte}
+use Rattle.s360_source.specs.declared.shape.Operands.{Operands}
 use Rattle.s360_source.specs.Sources.{Sources}
 
 -- the bytes that the byte of a number is made of, by their addresses
@@ -43,6 +44,10 @@ searched_places table first i zero s = []
 searched_places table first i (suc n) s =
     Byte (first + i) ∷ (Byte (function_address table (byte_at s (first + i)))
     ∷ (if nat_eq (function_byte table (first + i) s) 0 then searched_places table first (i + 1) n s else []))
+
+-- of so many bytes
+abbrev pub all_searched : Operands → ℕ → Storage → List Place
+all_searched o count s = searched_places o.second o.first 0 count s
 
 -- the bytes of two operands of one length
 abbrev pub both_operands : ℕ → ℕ → ℕ → List Place

@@ -5,9 +5,8 @@ ghost use Rattle.std.specs.Option.{option_map_or};
 ghost use Rattle.s360_store.specs.Protection.{is_protected};
 ghost use Rattle.s360_logic.specs.Immediate.{immediate_access};
 ghost use Rattle.s360_logic.specs.Rows.{immediate_row_of};
-ghost use Rattle.s360_source.specs.Deciders.{access_keys, first_access, immediate_bytes, indexed_access};
-ghost use Rattle.s360_source.specs.Deciders.{indexed_bytes, key_deciders, key_places, keys_from, searched_keys};
-ghost use Rattle.s360_source.specs.Deciders.{several_access, several_bytes, storage_keys, translated_keys};
+ghost use Rattle.s360_source.specs.Deciders.{access_keys, first_access, immediate_bytes, indexed_access, indexed_bytes, key_deciders, key_places, keys_from};
+ghost use Rattle.s360_source.specs.Deciders.{keys_of_both, searched_keys, several_access, several_bytes, storage_keys, translated_keys};
 
 use crate::location::Location;
 use crate::registers::{bytes_of_second, register_count};
@@ -214,7 +213,7 @@ fn push_keys_of_both(
     operands: &Operands,
     counts: (u16, u16),
 ) -> Result<(), AllocError>
-    ensures { OnOk result (found.new.items ≡ found.old.items ++ (access_keys storage.now kind key operands.now.first counts.0 ++ access_keys storage.now Access.Fetch key operands.now.second counts.1)) }
+    ensures { OnOk result (found.new.items ≡ found.old.items ++ keys_of_both storage.now kind key operands.now counts) }
 {
     push_access_keys(found, storage, kind, key, operands.first, counts.0)?;
     push_access_keys(

@@ -8,9 +8,8 @@ ghost use Rattle.s360_channel.specs.declared.unit_state.UnitState.TheVariants.{A
 ghost use Rattle.s360_machine.specs.Loading.{has_loaded};
 ghost use Rattle.s360_machine.specs.Machine.{seen};
 ghost use Rattle.s360_source.specs.ChannelShapes.{channel_shape, program_event_shape, status_of, unit_event_shape};
-ghost use Rattle.s360_source.specs.ChannelSources.{channel_event_sources, channel_sources_of, event_places, is_unit};
-ghost use Rattle.s360_source.specs.ChannelSources.{bytes_of_word, load_sources, loading_sources};
-ghost use Rattle.s360_source.specs.ChannelSources.{sources_at_unit, word_places, word_sources};
+ghost use Rattle.s360_source.specs.ChannelSources.{channel_event_sources, channel_sources_of, event_places, is_unit, bytes_of_word, load_sources};
+ghost use Rattle.s360_source.specs.ChannelSources.{loading_sources, sources_at_unit, word_places, word_sources};
 
 use crate::channel_moves::ChannelMoves;
 use crate::executed::executed_at;

@@ -3,8 +3,7 @@
 ghost use Rattle.std.specs.Prelude.{◌≡◌, ◌++◌, OnOk};
 ghost use Rattle.s360_channel.specs.Steps.{device_view};
 ghost use Rattle.s360_machine.specs.Machine.{seen};
-ghost use Rattle.s360_source.specs.ChannelDeciders.{access_deciders, channel_deciders, device_at};
-ghost use Rattle.s360_source.specs.ChannelDeciders.{next_word_deciders, program_deciders, unit_deciders};
+ghost use Rattle.s360_source.specs.ChannelDeciders.{access_deciders, channel_deciders, next_word_deciders, program_deciders, unit_deciders, unit_word_deciders};
 
 use crate::access_keys::push_access_keys;
 use crate::channel::{push_word, state_of};
@@ -73,7 +72,7 @@ fn push_executed_deciders(
     unit: ConfiguredUnit,
     program: &Program,
 ) -> Result<(), AllocError>
-    ensures { OnOk result (found.new.items ≡ found.old.items ++ next_word_deciders (device_at unit (seen machine.now.whole).media) machine.now.whole.core.storage program.now) }
+    ensures { OnOk result (found.new.items ≡ found.old.items ++ unit_word_deciders unit (seen machine.now.whole) program.now) }
 {
     let storage = machine.storage();
     match unit {

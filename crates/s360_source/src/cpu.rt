@@ -2,15 +2,12 @@
 //! GA22-6821, "Interruptions", "System Structure", program execution, and "Input/Output Operations".
 ghost use Rattle.std.specs.Prelude.{◌≡◌, ◌++◌, OnOk};
 ghost use Rattle.s360_machine.specs.Machine.{seen};
-ghost use Rattle.s360_machine.specs.declared.cpu.CpuCase.TheVariants.{Interrupted};
-ghost use Rattle.s360_source.specs.EventShapes.{channels_result, cpu_shape, interrupting, shape_of_case};
-ghost use Rattle.s360_source.specs.EventSources.{channels_places, channels_sources, cpu_sources, csw_sources};
-ghost use Rattle.s360_source.specs.EventSources.{ended_sources, executed_sources, external_sources};
-ghost use Rattle.s360_source.specs.EventSources.{input_output_sources, is_of_core, unit_and_address_word};
-ghost use Rattle.s360_source.specs.EventSources.{unit_sources};
+ghost use Rattle.s360_machine.specs.declared.cpu.CpuCase.TheVariants.{Executing, Interrupted};
+ghost use Rattle.s360_source.specs.EventShapes.{cpu_shape, interrupting};
+ghost use Rattle.s360_source.specs.EventSources.{case_sources, cpu_sources, csw_sources, external_sources, input_output_sources, is_of_core, shape_sources_in};
+ghost use Rattle.s360_source.specs.EventSources.{unit_and_address_word, unit_sources};
 ghost use Rattle.s360_source.specs.InstructionSources.{instruction_sources};
 ghost use Rattle.s360_source.specs.InterruptionSources.{followed_by, interruption_sources};
-ghost use Rattle.s360_source.specs.Shapes.{instruction_shape};
 ghost use Rattle.s360_source.specs.Sources.{itself};
 
 use crate::instruction::push_instruction_sources;
@@ -60,7 +57,7 @@ fn push_taken_sources(
     class: Class,
     place: Place,
 ) -> Result<(), AllocError>
-    ensures { OnOk result (found.new.items ≡ found.old.items ++ cpu_sources (shape_of_case (Interrupted class) (seen machine.now.whole)) machine.now.whole.core.storage place) }
+    ensures { OnOk result (found.new.items ≡ found.old.items ++ case_sources (Interrupted class) (seen machine.now.whole) place) }
 {
     match class {
         Class::External => push_external_sources(found, place),
@@ -119,7 +116,7 @@ fn push_executed_sources(
     machine: &Machine,
     place: Place,
 ) -> Result<(), AllocError>
-    ensures { OnOk result (found.new.items ≡ found.old.items ++ executed_sources (instruction_shape machine.now.whole.core) (channels_result (instruction_shape machine.now.whole.core).ended (seen machine.now.whole)) machine.now.whole.core.storage place) }
+    ensures { OnOk result (found.new.items ≡ found.old.items ++ case_sources Executing (seen machine.now.whole) place) }
 {
     if !is_of_core(place) {
         return push_itself(found, place);
@@ -139,7 +136,7 @@ fn push_ended_sources(
     shape: &InstructionShape,
     place: Place,
 ) -> Result<(), AllocError>
-    ensures { OnOk result (found.new.items ≡ found.old.items ++ channels_sources (channels_result shape.now.ended (seen machine.now.whole)) (channels_places shape.now.ended) (ended_sources shape.now.ended (instruction_sources shape.now machine.now.whole.core.storage)) place) }
+    ensures { OnOk result (found.new.items ≡ found.old.items ++ shape_sources_in shape.now (seen machine.now.whole) place) }
 {
     let storage = machine.storage();
     match shape.ended {

@@ -2,13 +2,10 @@
 //! "Input/Output Operations", START I/O, TEST I/O, HALT I/O and TEST CHANNEL.
 ghost use Rattle.std.specs.Prelude.{◌≡◌, ◌++◌, ◌<◌, OnOk};
 ghost use Rattle.s360_channel.specs.ConfiguredUnits.{channel_of, control_of, is_occupied};
-ghost use Rattle.s360_machine.specs.Cpu.{pending_of};
 ghost use Rattle.s360_machine.specs.Machine.{seen};
 ghost use Rattle.s360_machine.specs.declared.cpu.CpuCase.TheVariants.{Executing};
-ghost use Rattle.s360_source.specs.EventDeciders.{channels_deciders, cpu_deciders, executing_deciders};
-ghost use Rattle.s360_source.specs.EventDeciders.{first_program_deciders, interruption_deciders, io_deciders};
-ghost use Rattle.s360_source.specs.EventDeciders.{is_unavailable, operating_deciders, start_deciders};
-ghost use Rattle.s360_source.specs.EventDeciders.{unit_states_masked, units_of_channel};
+ghost use Rattle.s360_source.specs.EventDeciders.{channels_deciders, cpu_deciders, deciders_of_interruption, executing_deciders, first_program_deciders};
+ghost use Rattle.s360_source.specs.EventDeciders.{io_deciders, is_unavailable, operating_deciders, start_deciders, unit_states_masked, units_of_channel};
 
 use crate::channel::{push_word, state_of};
 use crate::channel_moves::standing_at;
@@ -64,7 +61,7 @@ fn push_operating_deciders(
 /// Adds what may interrupt: the external conditions if their mask is one, and, unless they do, the units of the channels whose mask
 /// is one.
 fn push_interruption_deciders(found: &mut Vec<Place>, machine: &Machine) -> Result<(), AllocError>
-    ensures { OnOk result (found.new.items ≡ found.old.items ++ interruption_deciders machine.now.whole.core.psw (pending_of machine.now.whole.control machine.now.whole.units)) }
+    ensures { OnOk result (found.new.items ≡ found.old.items ++ deciders_of_interruption (seen machine.now.whole)) }
 {
     let psw = machine.psw();
     if psw.external_mask() {

@@ -1,9 +1,8 @@
 //! The deciders of an instruction: the places that its shape comes from. Source: GA22-6821, "System Structure", program
 //! execution, and "Branching", EXECUTE.
 ghost use Rattle.std.specs.Prelude.{◌≡◌, ◌++◌, OnOk};
-ghost use Rattle.s360_source.specs.Deciders.{address_deciders, ending_deciders, ends_by_result, execute_deciders};
-ghost use Rattle.s360_source.specs.Deciders.{fetched_places, form_deciders, instruction_deciders, is_refused_pair, may_overflow};
-ghost use Rattle.s360_source.specs.Deciders.{performed_deciders, result_deciders};
+ghost use Rattle.s360_source.specs.Deciders.{address_deciders, ending_deciders, ends_by_result, execute_deciders, fetched_places, form_deciders};
+ghost use Rattle.s360_source.specs.Deciders.{instruction_deciders, is_refused_pair, may_overflow, performed_deciders, result_deciders};
 
 use crate::access_keys::{push_access_keys, push_key_deciders};
 use crate::instruction::push_completed;

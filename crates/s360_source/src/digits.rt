@@ -1,7 +1,7 @@
 //! The sources of instructions that take digits of one operand in storage into another, a byte after another from right to left.
 //! Source: GA22-6821, "Decimal Arithmetic".
-ghost use Rattle.std.specs.Prelude.{◌≡◌, ◌++◌, ◌<◌, ◌≤◌, suc, [], ◌∷◌, OnOk};
-ghost use Rattle.s360_source.specs.DigitSources.{digit_places, digit_sources, digits_made, fetched_before, from_right};
+ghost use Rattle.std.specs.Prelude.{◌≡◌, ◌++◌, ◌<◌, ◌≤◌, suc, OnOk};
+ghost use Rattle.s360_source.specs.DigitSources.{digit_places_of, digit_sources, digits_made, fetched_before, from_right};
 
 use crate::location::Location;
 use crate::made_of::push_itself;
@@ -93,7 +93,7 @@ impl Digits {
         requires inside { i < self.now.first.count }
         requires first { self.now.first.count ≤ 16 }
         requires second { self.now.second.count ≤ 16 }
-        ensures { OnOk result (found.new.items ≡ found.old.items ++ digit_places self.now.row (Place.Byte (from_right self.now.first 0) ∷ []) (digits_made self.now (suc i)).fetched i) }
+        ensures { OnOk result (found.new.items ≡ found.old.items ++ digit_places_of self.now (digits_made self.now (suc i)).fetched i) }
     {
         match self.row {
             DigitRow::MoveWithOffset => {

@@ -8,8 +8,7 @@ ghost use Rattle.s360_channel.specs.Steps.{device_view, state_after_step};
 ghost use Rattle.s360_channel.specs.declared.program.Program.{Program as Programs};
 ghost use Rattle.s360_channel.specs.declared.unit_state.UnitState.TheVariants.{Active};
 ghost use Rattle.s360_machine.specs.Machine.{seen};
-ghost use Rattle.s360_source.specs.ChannelShapes.{executed_at, executed_by, executed_word, is_checked, meets_check};
-ghost use Rattle.s360_source.specs.ChannelShapes.{moves_of, status_of};
+ghost use Rattle.s360_source.specs.ChannelShapes.{executed_at, executed_by, executed_word, is_checked, meets_check, moves_of, status_of};
 
 use crate::channel_moves::{ChannelMoves, fetched_by, stored_by, target_of, word_of};
 use s360_channel::{Ccw, ChannelStep, Csw, Fetched, Program, channel_plan, next_ccw};

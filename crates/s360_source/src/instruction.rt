@@ -3,12 +3,10 @@
 ghost use Rattle.std.specs.Prelude.{◌≡◌, ◌++◌, ◌+◌, ◌/◌, ◌%◌, [], ◌∷◌, OnOk};
 ghost use Rattle.s360_store.specs.Spans.{byte_places};
 ghost use Rattle.s360_source.specs.DigitSources.{digit_sources};
-ghost use Rattle.s360_source.specs.InstructionSources.{combination_in_storage, completed_sources, digits_of};
-ghost use Rattle.s360_source.specs.InstructionSources.{instruction_sources};
-ghost use Rattle.s360_source.specs.InstructionSources.{rr_sources, rs_sources, rx_sources, search_sources};
-ghost use Rattle.s360_source.specs.InstructionSources.{si_sources, ss_sources};
+ghost use Rattle.s360_source.specs.InstructionSources.{combination_in_storage, completed_sources, digits_of, instruction_sources, rr_sources, rs_sources};
+ghost use Rattle.s360_source.specs.InstructionSources.{rx_sources, search_sources, si_sources, ss_sources};
 ghost use Rattle.s360_source.specs.Sources.{address_parts, itself, made_of, psw_made_of};
-ghost use Rattle.s360_source.specs.StorageSources.{both_operands, searched_places};
+ghost use Rattle.s360_source.specs.StorageSources.{all_searched, both_operands};
 
 use crate::digits::{DigitRow, Digits, Field};
 use crate::location::Location;
@@ -195,7 +193,7 @@ fn push_search(
     operands: &Operands,
     storage: &Storage,
 ) -> Result<(), AllocError>
-    ensures { OnOk result (found.new.items ≡ found.old.items ++ search_sources (searched_places operands.now.second operands.now.first 0 count storage.now) place) }
+    ensures { OnOk result (found.new.items ≡ found.old.items ++ search_sources (all_searched operands.now count storage.now) place) }
 {
     push_itself(found, place)?;
     match place {

@@ -1,8 +1,8 @@
 //! The sources of a place, by what an instruction alters: the PSW and at most one more place or a pair of registers, or bytes of
 //! storage. A place that is left alone has itself as its source.
 ghost use Rattle.std.specs.Prelude.{◌≡◌, ◌++◌, [], ◌∷◌, OnOk};
-ghost use Rattle.s360_source.specs.Parts.{places_of_parts};
-ghost use Rattle.s360_source.specs.Sources.{bytes_made_of, itself, made_of, pair_made_of, psw_made_of};
+ghost use Rattle.s360_source.specs.Parts.{places_of_parts, psw_of_parts};
+ghost use Rattle.s360_source.specs.Sources.{bytes_made_of, itself, made_of, pair_made_of};
 
 use crate::location::Location;
 use crate::part::{Part, push_parts};
@@ -32,7 +32,7 @@ pub(crate) fn push_psw_made_of(
     place: Place,
     psw: &[Part],
 ) -> Result<(), AllocError>
-    ensures { OnOk result (found.new.items ≡ found.old.items ++ psw_made_of (places_of_parts psw.now) itself place) }
+    ensures { OnOk result (found.new.items ≡ found.old.items ++ psw_of_parts psw.now itself place) }
 {
     if Place::Psw.is(place) {
         return push_psw(found, psw);
@@ -48,7 +48,7 @@ pub(crate) fn push_made_of(
     altered: Place,
     parts: &[Part],
 ) -> Result<(), AllocError>
-    ensures { OnOk result (found.new.items ≡ found.old.items ++ psw_made_of (places_of_parts psw.now) (made_of altered (places_of_parts parts.now) itself) place) }
+    ensures { OnOk result (found.new.items ≡ found.old.items ++ psw_of_parts psw.now (made_of altered (places_of_parts parts.now) itself) place) }
 {
     if Place::Psw.is(place) {
         return push_psw(found, psw);
@@ -68,7 +68,7 @@ pub(crate) fn push_pair_made_of(
     r1: RegisterNumber,
     parts: &[Part],
 ) -> Result<(), AllocError>
-    ensures { OnOk result (found.new.items ≡ found.old.items ++ psw_made_of (places_of_parts psw.now) (pair_made_of r1 (places_of_parts parts.now) itself) place) }
+    ensures { OnOk result (found.new.items ≡ found.old.items ++ psw_of_parts psw.now (pair_made_of r1 (places_of_parts parts.now) itself) place) }
 {
     if Place::Psw.is(place) {
         return push_psw(found, psw);

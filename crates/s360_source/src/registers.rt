@@ -3,10 +3,9 @@
 ghost use Rattle.std.specs.Prelude.{◌≡◌, ◌++◌, ◌≤◌, ◌<◌, OnOk};
 ghost use Rattle.s360_fixed.specs.Storing.{register_count};
 ghost use Rattle.s360_source.specs.Parts.{places_of_part};
-ghost use Rattle.s360_source.specs.RegisterSources.{bytes_of_second, combination_sources, compares};
-ghost use Rattle.s360_source.specs.RegisterSources.{comparand_register, index_sources, is_of_second_alone, keeps_code};
-ghost use Rattle.s360_source.specs.RegisterSources.{load_multiple_sources, product_sources};
-ghost use Rattle.s360_source.specs.RegisterSources.{quotient_sources, registers_after, store_multiple_sources};
+ghost use Rattle.s360_source.specs.RegisterSources.{bytes_of_second, combination_sources, compares, comparand_register, index_sources, is_of_second_alone};
+ghost use Rattle.s360_source.specs.RegisterSources.{keeps_code, load_multiple_sources, product_sources, quotient_sources, registers_after};
+ghost use Rattle.s360_source.specs.RegisterSources.{store_multiple_sources};
 
 use crate::location::Location;
 use crate::made_of::{push_itself, push_made_of, push_pair_made_of, push_psw_made_of};

@@ -4,16 +4,15 @@ ghost use Rattle.std.specs.Prelude.{◌≡◌, IfOk};
 ghost use Rattle.s360_model.specs.Psw.{instruction_address_of};
 ghost use Rattle.s360_logic.specs.Logic.{address_of};
 ghost use Rattle.s360_logic.specs.Status.{block_of};
-ghost use Rattle.s360_source.specs.Shapes.{block_in, instruction_shape, is_suppressed, operands_of, operation_of};
-ghost use Rattle.s360_source.specs.Shapes.{performance_of, performed_at, performed_if, performed_of};
-ghost use Rattle.s360_source.specs.Shapes.{subject_performed, suppresses};
+ghost use Rattle.s360_source.specs.Shapes.{block_in, instruction_shape, is_suppressed, operands_of, operation_of, performance_of, performed_at, performed_if};
+ghost use Rattle.s360_source.specs.Shapes.{performed_of, subject_performed, suppresses};
 
 use crate::location::Location;
 use s360_fixed::{
     Ended, Form, Operation, ProgramCode, View, decode, decode_bytes, fetch_instruction,
     operand_address,
 };
-use s360_logic::{Fetched, subject_of, with_ored_byte};
+use s360_logic::{FetchedInstruction, subject_of, with_ored_byte};
 use s360_machine::Machine;
 use s360_psw::InstructionLength;
 use s360_store::{BLOCK_SIZE, Plan};
@@ -153,7 +152,10 @@ fn performed_at_address(view: &View) -> Option<Performance>
 }
 
 /// The shape of an instruction that was fetched.
-fn fetched_shape(alloc: Global, fetched: &Fetched<'_>) -> Result<InstructionShape, AllocError>
+fn fetched_shape(
+    alloc: Global,
+    fetched: &FetchedInstruction<'_>,
+) -> Result<InstructionShape, AllocError>
     ensures { IfOk result (λ shape. shape ≡ instruction_shape fetched.now.view.core) }
 {
     let planned = fetched.plan(&mut Plan::new(alloc))?;

@@ -1,11 +1,10 @@
 //! The sources of instructions with two operands in storage, a byte after another from left to right. Source: GA22-6821,
 //! "Logical Operations".
-ghost use Rattle.std.specs.Prelude.{◌≡◌, ◌++◌, ◌+◌, ◌<◌, ◌≤◌, [], map, IfSome, None, OnOk};
+ghost use Rattle.std.specs.Prelude.{◌≡◌, ◌++◌, ◌+◌, ◌<◌, ◌≤◌, map, IfSome, None, OnOk};
 ghost use Rattle.s360_logic.specs.Bytes.{byte_at};
 ghost use Rattle.s360_logic.specs.LeftToRight.{function_address};
-ghost use Rattle.s360_source.specs.ByteRows.{bytes_of_row, other_byte, own_byte};
-ghost use Rattle.s360_source.specs.Sources.{psw_made_of};
-ghost use Rattle.s360_source.specs.StorageSources.{left_to_right_sources, searched_places};
+ghost use Rattle.s360_source.specs.ByteRows.{other_byte, own_byte, row_sources};
+ghost use Rattle.s360_source.specs.StorageSources.{all_searched};
 
 use crate::location::Location;
 use crate::made_of::push_itself;
@@ -88,7 +87,7 @@ pub(crate) fn push_left_to_right(
     count: u16,
     storage: &Storage,
 ) -> Result<(), AllocError>
-    ensures { OnOk result (found.new.items ≡ found.old.items ++ psw_made_of [] (left_to_right_sources (bytes_of_row row operands.now.first operands.now.second storage.now) operands.now.first count) place) }
+    ensures { OnOk result (found.new.items ≡ found.old.items ++ row_sources row operands.now count storage.now place) }
 {
     let first = operands.first.number();
     let Place::Byte(mut at) = place else {
@@ -112,7 +111,7 @@ pub(crate) fn push_searched(
     count: u16,
     storage: &Storage,
 ) -> Result<(), AllocError>
-    ensures { OnOk result (found.new.items ≡ found.old.items ++ searched_places operands.now.second operands.now.first 0 count storage.now) }
+    ensures { OnOk result (found.new.items ≡ found.old.items ++ all_searched operands.now count storage.now) }
 {
     for i in 0..u32::from(count) {
         let at = operands.first.number() + i;

@@ -9,9 +9,8 @@ use Rattle.s360_store.specs.declared.place.Place.{Place}
 use Rattle.s360_store.specs.declared.place.Place.TheVariants.{Psw, Register, Byte, Key, Run, External, UnitState, UnitMedia}
 use Rattle.s360_store.specs.declared.place.Cell.{Cell}
 use Rattle.s360_store.specs.Places.{same_place}
-use Rattle.s360_store.specs.Cells.{IsFresh, HasEachOnce}
+use Rattle.s360_store.specs.Cells.{IsFresh, HasEachOnce, places_of_cells}
 use Rattle.s360_store.specs.Plans.{after_put, planned_value}
-use Rattle.s360_store.specs.Cells.{places_of_cells}
 use Rattle.s360_store.specs.Order.{IsAscending, IsBefore, IsBeforeAll}
 use Rattle.s360_store.specs.PlanParts.{IsPlan, cells_of_entries}
 use Rattle.s360_store.proofs.OrderOfPlaces.{compare, compare_is}
@@ -19,8 +18,7 @@ use Rattle.s360_store.proofs.AscendingLemmas.{IsBefore-trans}
 use Rattle.std.specs.Ordering.{is_lt, MatchOrdering}
 use Rattle.std.specs.declared.cmp.Ordering.{Ordering}
 use Rattle.std.specs.declared.cmp.Ordering.TheVariants.{Less, Equal, Greater}
-use Rattle.s360_store.proofs.PlanLemmas.{same_place-false, same_place-sym}
-use Rattle.s360_store.proofs.PlanLemmas.{HasEachOnce-after_put, length-after_put-le}
+use Rattle.s360_store.proofs.PlanLemmas.{same_place-false, same_place-sym, HasEachOnce-after_put, length-after_put-le}
 
 -- a put at any other place is a put to what follows
 pub after_put-behind : (cs rest : List Cell) (p : Place) (v : ℕ) → IsFresh p cs → after_put (cs ++ rest) p v ≡ cs ++ after_put rest p v

@@ -1,6 +1,7 @@
 -- Cells as they stand in memory: single ones, and runs of successive bytes of storage. The bytes of the runs stand in one
 -- list, run after run.
-use Rattle.std.specs.Prelude.{◌≡◌, ◌<◌, ◌≤◌, ◌+◌, ◌-◌, ◌^◌, ◌++◌, ℕ, Bool, false, ◌&&◌, if◌then◌else◌, IsTrue, nat_le, nat_lt, List, [], ◌∷◌, length, slice_index_or, slice_set, take, drop}
+use Rattle.std.specs.Prelude.{◌≡◌, ◌<◌, ◌≤◌, ◌+◌, ◌-◌, ◌^◌, ◌++◌, ℕ, Bool, false, ◌&&◌, if◌then◌else◌, IsTrue, nat_le, nat_lt}
+use Rattle.std.specs.Prelude.{List, [], ◌∷◌, length, slice_index_or, slice_set, take, drop}
 use Rattle.s360_model.specs.Core.{Core}
 use Rattle.s360_model.specs.Storage.{Storage}
 use Rattle.s360_store.specs.declared.place.Place.{Place}
@@ -90,7 +91,8 @@ pub record IsJoined (items : List Item) (address count : ℕ) (item : Item) : Ty
 pub record AddsRun (old new : List Item) (address count : ℕ) : Type 0 where
   pub whole : AreItems new
   pub bytes : bytes_of_items new ≡ bytes_of_items old + count
-  pub cells : (bs more : List ℕ) → bytes_of_items old ≡ length bs → count ≡ length more → cells_of_items new (bs ++ more) ≡ cells_of_items old bs ++ byte_cells address more
+  pub cells : (bs more : List ℕ) → bytes_of_items old ≡ length bs → count ≡ length more
+    → cells_of_items new (bs ++ more) ≡ cells_of_items old bs ++ byte_cells address more
 
 -- the cell stands in place of the item at an index, if that is a single one
 abbrev pub IsSingle : Item → Type 0

@@ -1,5 +1,5 @@
 -- A plan: the cells that an event puts, each place at most once, in the order of their first puts.
-use Rattle.std.specs.Prelude.{◌≡◌, ◌<◌, ◌≤◌, ◌+◌, Option, Some, None, ℕ, if◌then◌else◌, List, [], ◌∷◌, length}
+use Rattle.std.specs.Prelude.{◌≡◌, ◌<◌, ◌≤◌, ◌+◌, Bool, Option, Some, None, ℕ, if◌then◌else◌, List, [], ◌∷◌, length}
 use Rattle.s360_model.specs.Core.{Core}
 use Rattle.s360_model.specs.Storage.{key_limit}
 use Rattle.s360_store.specs.declared.place.Place.{Place}
@@ -17,6 +17,10 @@ after_put (c ∷ cs) p v = if same_place c.place p then record { place = c.place
 abbrev pub after_put_bytes : List Cell → ℕ → List ℕ → List Cell
 after_put_bytes plan address [] = plan
 after_put_bytes plan address (b ∷ bs) = after_put_bytes (after_put plan (Byte address) b) (address + 1) bs
+
+-- the same, where they were put
+abbrev pub after_put_if : Bool → List Cell → ℕ → List ℕ → List Cell
+after_put_if done plan address bytes = if done then after_put_bytes plan address bytes else plan
 
 -- the value that a plan has for a place
 abbrev pub planned_value : List Cell → Place → Option ℕ

@@ -3,13 +3,10 @@
 ghost use Rattle.std.specs.Prelude.{◌≡◌, ◌<◌, ◌≤◌, ◌+◌, ◌^◌, ◌++◌, ◌↔◌, [], ◌∷◌, length, slice_get};
 ghost use Rattle.std.specs.Prelude.{if◌then◌else◌, ◌⊎◌, IfOk, IfSome, OnOk, OnErr, Some, IsSome, IsTrue};
 ghost use Rattle.std.specs.List.{list_any};
-ghost use Rattle.s360_store.specs.Cells.{AllFit, AreCellsOf, after_exchange, byte_cells};
-ghost use Rattle.s360_store.specs.Cells.{cells_after_exchange, places_of_cells};
-ghost use Rattle.s360_store.specs.Items.{AddsRun, Appended, AreItems, IsPartAt, IsRunOf};
-ghost use Rattle.s360_store.specs.Items.{bytes_of_items};
-ghost use Rattle.s360_store.specs.Items.{core_of};
+ghost use Rattle.s360_store.specs.Cells.{AllFit, AreCellsOf, after_exchange, byte_cells, cells_after_exchange, places_of_cells};
+ghost use Rattle.s360_store.specs.Items.{AddsRun, Appended, AreItems, IsPartAt, IsRunOf, bytes_of_items, core_of};
 ghost use Rattle.s360_store.specs.Places.{same_place};
-ghost use Rattle.s360_store.specs.Plans.{after_put, after_put_bytes, planned_value};
+ghost use Rattle.s360_store.specs.Plans.{after_put, after_put_if, planned_value};
 
 use crate::bytes::append_bytes;
 use crate::exchange::exchange_items;
@@ -223,7 +220,7 @@ impl Cells {
     pub(crate) fn put_bytes(&mut self, address: u32, bytes: &[u8]) -> Result<bool, AllocError>
         requires room { length self.old + length bytes.now ≤ 1000000 }
         requires inside { address + length bytes.now ≤ 2 ^ 32 }
-        ensures ok { IfOk result (λ done. self.new ≡ (if done then after_put_bytes self.old address bytes.now else self.old)) }
+        ensures ok { IfOk result (λ done. self.new ≡ after_put_if done self.old address bytes.now) }
         ensures err { OnErr result (self.new ≡ self.old) }
     {
         let count = bytes.len() as u32;

@@ -1,11 +1,9 @@
 //! Single cells, and runs of successive bytes of storage, whose bytes stand in one list.
-ghost use Rattle.std.specs.Prelude.{◌≡◌, ◌<◌, ◌≤◌, ◌+◌, length, slice_get, position};
-ghost use Rattle.std.specs.Prelude.{drop, IfSome, Some, IsTrue};
+ghost use Rattle.std.specs.Prelude.{◌≡◌, ◌<◌, ◌≤◌, ◌+◌, length, slice_get, position, drop, IfSome, Some, IsTrue};
 ghost use Rattle.std.specs.List.{list_any};
 ghost use Rattle.s360_store.specs.Cells.{places_of_cells};
-ghost use Rattle.s360_store.specs.Items.{AllMiss, AreItems, HasAddresses, IsItem, IsJoined, IsPartAt, IsReplaced, MissesBytes};
-ghost use Rattle.s360_store.specs.Items.{bytes_of_item, bytes_of_items, cells_of_item, cells_of_items};
-ghost use Rattle.s360_store.specs.Items.{cells_of_part, count_of_item, first_place, has_place, is_in_run, last_place};
+ghost use Rattle.s360_store.specs.Items.{AllMiss, AreItems, HasAddresses, IsItem, IsJoined, IsPartAt, IsReplaced, MissesBytes, bytes_of_item, bytes_of_items};
+ghost use Rattle.s360_store.specs.Items.{cells_of_item, cells_of_items, cells_of_part, count_of_item, first_place, has_place, is_in_run, last_place};
 ghost use Rattle.s360_store.specs.Plans.{planned_value};
 ghost use Rattle.s360_store.specs.Spans.{span_of_item};
 ghost use Rattle.s360_store.specs.declared.place.Place.TheVariants.{Byte};

@@ -7,14 +7,12 @@
 //!
 //! The puts of a register, the PSW, bytes and a storage key say what a plan makes of any core that has the
 //! places, so that puts follow one another, whatever the plan has already.
-ghost use Rattle.std.specs.Prelude.{◌≡◌, ◌<◌, ◌≤◌, ◌+◌, ◌^◌, ◌⊎◌, ◌↔◌, [], length, slice_get};
-ghost use Rattle.std.specs.Prelude.{if◌then◌else◌, IfOk, OnOk, OnErr, IsSome, Some, IsTrue};
+ghost use Rattle.std.specs.Prelude.{◌≡◌, ◌<◌, ◌≤◌, ◌+◌, ◌^◌, ◌⊎◌, ◌↔◌, [], length, slice_get, if◌then◌else◌, IfOk, OnOk, OnErr, IsSome, Some, IsTrue};
 ghost use Rattle.s360_model.specs.Core.{core_with_bytes, core_with_key, core_with_psw, core_with_word};
 ghost use Rattle.s360_store.specs.Cells.{HasEachOnce};
 ghost use Rattle.s360_store.specs.Items.{IsPartAt};
 ghost use Rattle.s360_store.specs.PlanParts.{cells_of_entries, cells_of_planned};
-ghost use Rattle.s360_store.specs.Plans.{after_put, after_put_bytes, planned_value};
-ghost use Rattle.s360_store.specs.Plans.{AddsToPlan, CanHaveKey, HasBytes, HasPsw, HasRegister};
+ghost use Rattle.s360_store.specs.Plans.{after_put, after_put_bytes, after_put_if, planned_value, AddsToPlan, CanHaveKey, HasBytes, HasPsw, HasRegister};
 ghost use Rattle.s360_store.specs.declared.place.Place.TheVariants.{Key, Psw as psw_place, Register};
 
 use crate::block_key::BlockKey;
@@ -131,7 +129,7 @@ impl Planned {
     fn put_run(&mut self, address: u32, bytes: &[u8]) -> Result<bool, AllocError>
         requires room { length (cells_of_planned self.old) + length bytes.now ≤ 1000000 }
         requires inside { address + length bytes.now ≤ 2 ^ 32 }
-        ensures ok { IfOk result (λ done. cells_of_planned self.new ≡ (if done then after_put_bytes (cells_of_planned self.old) address bytes.now else cells_of_planned self.old)) }
+        ensures ok { IfOk result (λ done. cells_of_planned self.new ≡ after_put_if done (cells_of_planned self.old) address bytes.now) }
         ensures err { OnErr result (cells_of_planned self.new ≡ cells_of_planned self.old) }
     {
         match self {
@@ -210,7 +208,7 @@ impl Plan {
     fn put_run(&mut self, address: u32, bytes: &[u8]) -> Result<bool, AllocError>
         requires few { length self.old + length bytes.now ≤ 1000000 }
         requires inside { address + length bytes.now ≤ 2 ^ 32 }
-        ensures ok { IfOk result (λ done. self.new ≡ (if done then after_put_bytes self.old address bytes.now else self.old)) }
+        ensures ok { IfOk result (λ done. self.new ≡ after_put_if done self.old address bytes.now) }
         ensures err { OnErr result (self.new ≡ self.old) }
     {
         let done = self.planned.put_run(address, bytes)?;

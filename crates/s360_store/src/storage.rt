@@ -1,13 +1,11 @@
 //! Main storage: its bytes, with numbers high byte first, the storage keys and fetch bits of its
 //! blocks, and whether fetches are protected. A contract sees the record of all. Source: GA22-6821,
 //! "System Structure".
-ghost use Rattle.std.specs.Prelude.{◌≡◌, ◌<◌, ◌≤◌, ◌+◌, ℕ, length, slice_index, Err, IfOk, IsOkUnless};
-ghost use Rattle.std.specs.Prelude.{◌/◌, ◌%◌, IsTrue, true, false};
+ghost use Rattle.std.specs.Prelude.{◌≡◌, ◌<◌, ◌≤◌, ◌+◌, ℕ, length, slice_index, Err, IfOk, IsOkUnless, ◌/◌, ◌%◌, IsTrue, true, false};
 ghost use Rattle.std.specs.Bool.{MatchBool};
 ghost use Rattle.std.specs.List.{list_all, slice_range};
-ghost use Rattle.s360_model.specs.Storage.{is_storage_size, zero_storage, halfword_at, word_at};
-ghost use Rattle.s360_model.specs.Storage.{doubleword_at, block_size, with_run};
-ghost use Rattle.s360_model.specs.Storage.{fetch_bit_of_block, key_limit, key_of_block, with_fetch_bit};
+ghost use Rattle.s360_model.specs.Storage.{is_storage_size, zero_storage, halfword_at, word_at, doubleword_at, block_size, with_run, fetch_bit_of_block};
+ghost use Rattle.s360_model.specs.Storage.{key_limit, key_of_block, with_fetch_bit};
 ghost use Rattle.s360_store.specs.Places.{IsStoragePlace, storage_value, with_storage_value, Fits};
 ghost use Rattle.s360_store.specs.Protection.{access, block_allows, is_allowed};
 ghost use Rattle.s360_store.specs.declared.fault.StoreFault.TheVariants.{Size, Memory};
@@ -56,7 +54,8 @@ impl Model for Storage {
 
     ghost view = { λ s. record { bytes = s.bytes.items; keys = s.keys.items; fetch_protection = s.fetch_protection } };
 
-    ghost invariant = { λ s. IsTrue (is_storage_size (length s.bytes.items)) × (length s.keys.items ≡ length s.bytes.items / block_size) × AreBlockKeys s.fetch_protection s.keys.items };
+    ghost invariant = { λ s. IsTrue (is_storage_size (length s.bytes.items))
+        × (length s.keys.items ≡ length s.bytes.items / block_size) × AreBlockKeys s.fetch_protection s.keys.items };
 }
 
 /// Whether a storage may have so many bytes.

@@ -6,7 +6,7 @@ use Rattle.std.proofs.lemmas.Bool.Decides.{Decides-eqb, Decides-like}
 use Rattle.std.proofs.lemmas.Slice.Eq.{bytes_eq-Decides}
 use Rattle.s360_device.specs.Differences.{DecidesEquality}
 use Rattle.s360_device.proofs.EqualityLemmas.{each, both, by_parts}
-use Rattle.s360_tape.specs.declared.item.Item.TheVariants.{Block, Mark}
+use Rattle.s360_tape.specs.declared.item.TapeItem.TheVariants.{Block, Mark}
 use Rattle.s360_tape.specs.Tape.{Tape}
 use Rattle.s360_tape.specs.Differences.{same_item, same_tape}
 

@@ -4,7 +4,7 @@ use Rattle.std.specs.Prelude.{Option, is_some, IfSome, slice_index}
 use Rattle.std.specs.Option.{option_map, option_map_or}
 use Rattle.std.proofs.Math.Seq.{take-add}
 use Rattle.std.proofs.lemmas.List.{take_all}
-use Rattle.s360_tape.specs.declared.item.Item.{Item}
+use Rattle.s360_tape.specs.declared.item.TapeItem.{TapeItem}
 use Rattle.s360_tape.specs.declared.part_kind.PartKind.{PartKind}
 use Rattle.s360_tape.specs.declared.part_kind.PartKind.TheVariants.{Whole, First, Middle, Last, Mark}
 use Rattle.s360_tape.specs.Blocks.{block_limit}
@@ -31,7 +31,7 @@ part-of_rest (a ∷ b ∷ c ∷ d ∷ e ∷ f ∷ tail) h l = part-tail (a + 256
 part-of_rest rest h l = absurd (omega arith)
 
 -- a file that begins as a tape's does so after a part more
-Begins-part : (file : List ℕ) (items : List Item) (block : Option (List ℕ)) (kind : PartKind) (bytes : List ℕ) (free : Unchecked)
+Begins-part : (file : List ℕ) (items : List TapeItem) (block : Option (List ℕ)) (kind : PartKind) (bytes : List ℕ) (free : Unchecked)
     → Begins file items block → (kind ≡ Mark → bytes ≡ []) → goes_inside kind ≡ is_some block → length (so_far block) + length bytes ≤ block_limit
     → Begins (file ++ part (flags_of kind) bytes free) (items_after items (so_far block) kind bytes) (block_after block kind bytes)
 Begins-part file items None Mark bytes free b m p l = rw (m refl) (mark file items free b)
@@ -68,7 +68,7 @@ no_bytes [] h = refl
 no_bytes (b ∷ bytes) h = absurd (omega arith)
 
 -- up to the end of the next part it begins as a tape's
-Begins-next : (file : List ℕ) (place : ℕ) (inside : Option ℕ) (items : List Item) (block : Option (List ℕ)) (kind : PartKind) (bytes : List ℕ)
+Begins-next : (file : List ℕ) (place : ℕ) (inside : Option ℕ) (items : List TapeItem) (block : Option (List ℕ)) (kind : PartKind) (bytes : List ℕ)
     → Begins (take place file) items block → option_map length block ≡ inside → IsNextPart inside (drop place file) kind bytes
     → Begins (take (place + (header_length + length bytes)) file) (items_after items (so_far block) kind bytes) (block_after block kind bytes)
 Begins-next file place inside items block kind bytes b e n =
@@ -104,7 +104,7 @@ IsScanned-next file place inside kind bytes after s n e h = record {
 }
 
 -- and taken
-pub IsTaken-next : (file : List ℕ) (place : ℕ) (inside : Option ℕ) (kind : PartKind) (bytes : List ℕ) (after : Option ℕ) (items : List Item) (kept : List ℕ) (items_then : List Item) (kept_then : List ℕ)
+pub IsTaken-next : (file : List ℕ) (place : ℕ) (inside : Option ℕ) (kind : PartKind) (bytes : List ℕ) (after : Option ℕ) (items : List TapeItem) (kept : List ℕ) (items_then : List TapeItem) (kept_then : List ℕ)
     → IsTaken file place inside items kept → IsNextPart inside (drop place file) kind bytes
     → after ≡ count_after inside kind (length bytes) → IfSome after (λ count. count ≤ block_limit)
     → items_then ≡ items_after items kept kind bytes → kept_then ≡ kept_after kept kind bytes

@@ -2,13 +2,13 @@
 use Rattle.std.proofs.Common.{◌≡◌, ◌++◌, ◌∷◌, ℕ, List, [], Some, None, length, take, refl, arith}
 use Rattle.s360_tape.specs.declared.fault.TapeFault.{TapeFault}
 use Rattle.s360_tape.specs.declared.fault.TapeFault.TheVariants.{ShortHeader, BadFlags, PartOutOfPlace, ShortBlock, BlockTooLong}
-use Rattle.s360_tape.specs.declared.item.Item.{Item}
-use Rattle.s360_tape.specs.declared.item.Item.TheVariants.{Block, Mark}
+use Rattle.s360_tape.specs.declared.item.TapeItem.{TapeItem}
+use Rattle.s360_tape.specs.declared.item.TapeItem.TheVariants.{Block, Mark}
 use Rattle.s360_tape.specs.Parts.{Unchecked, part}
 use Rattle.s360_tape.specs.Images.{Begins, nothing, mark, whole_block, first_part, last_part, IsTapeFile, HasFault, fault_at, tape_file}
 
 -- a block of three bytes, a mark, and a block of one
-abbrev three_items : List Item
+abbrev three_items : List TapeItem
 three_items = Block (0xC1 ∷ 0xC2 ∷ 0xC3 ∷ []) ∷ Mark ∷ Block (0xD1 ∷ []) ∷ []
 
 -- 03 00 00 00 A0 00 C1 C2 C3, 00 00 03 00 40 00, 01 00 00 00 A0 00 D1

@@ -4,16 +4,16 @@ use Rattle.s360_device.specs.declared.device.Begin.TheVariants.{Input, Output, C
 use Rattle.s360_device.specs.Commands.{command_of}
 use Rattle.s360_device.specs.Sense.{no_sense, command_reject, intervention_required}
 use Rattle.s360_device.specs.Rows.{begin_of, input_of, exception_of, after_command}
-use Rattle.s360_tape.specs.declared.item.Item.{Item}
-use Rattle.s360_tape.specs.declared.item.Item.TheVariants.{Block, Mark}
+use Rattle.s360_tape.specs.declared.item.TapeItem.{TapeItem}
+use Rattle.s360_tape.specs.declared.item.TapeItem.TheVariants.{Block, Mark}
 use Rattle.s360_tape.specs.Tape.{Tape, tape_table, new_tape, write_protected, at_load_point}
 
 -- a block of one byte
-abbrev one : ℕ → Item
+abbrev one : ℕ → TapeItem
 one byte = Block (byte ∷ [])
 
 -- a tape with two files: C1 C2 C3 and E4, a mark, D5, a mark
-abbrev two_files : List Item
+abbrev two_files : List TapeItem
 two_files = Block (0xC1 ∷ 0xC2 ∷ 0xC3 ∷ []) ∷ one 0xE4 ∷ Mark ∷ one 0xD5 ∷ Mark ∷ []
 
 abbrev at_place : ℕ → List ℕ → Tape

@@ -9,7 +9,7 @@ use Rattle.std.proofs.lemmas.Option.{same_Some, none-some}
 use Rattle.s360_model.specs.Tables.{entry_in}
 use Rattle.s360_tape.specs.declared.fault.TapeFault.{TapeFault}
 use Rattle.s360_tape.specs.declared.fault.TapeFault.TheVariants.{ShortHeader, ShortBlock, BlockTooLong}
-use Rattle.s360_tape.specs.declared.item.Item.{Item}
+use Rattle.s360_tape.specs.declared.item.TapeItem.{TapeItem}
 use Rattle.s360_tape.specs.declared.part_kind.PartKind.{PartKind}
 use Rattle.s360_tape.specs.declared.part_kind.PartKind.TheVariants.{Whole, First, Middle, Last, Mark}
 use Rattle.s360_tape.specs.Blocks.{block_limit}
@@ -19,7 +19,7 @@ use Rattle.s360_tape.specs.NextParts.{so_far, block_after, items_after}
 
 -- how far a reading has come, and what is left
 record State : Type 0 where
-  items : List Item
+  items : List TapeItem
   block : Option (List ℕ)
   place : ℕ
   rest : List ℕ
@@ -108,10 +108,10 @@ Reaches-same _ _ _ (then_on s v t step rest) (then_on _ w u other left) e f =
     Reaches-same v t u rest (rw (IsStep-same s v w step other) left) e f
 
 -- a file that begins as a tape's is read up to there
-abbrev state_of : List ℕ → List Item → Option (List ℕ) → List ℕ → State
+abbrev state_of : List ℕ → List TapeItem → Option (List ℕ) → List ℕ → State
 state_of file items block rest = record { items = items; block = block; place = length file; rest = rest }
 
-Reaches-part : (file : List ℕ) (items : List Item) (block : Option (List ℕ)) (kind : PartKind) (bytes : List ℕ) (free : Unchecked) (rest : List ℕ)
+Reaches-part : (file : List ℕ) (items : List TapeItem) (block : Option (List ℕ)) (kind : PartKind) (bytes : List ℕ) (free : Unchecked) (rest : List ℕ)
     → Reaches (start (file ++ (part (flags_of kind) bytes free ++ rest))) (state_of file items block (part (flags_of kind) bytes free ++ rest))
     → (kind ≡ Mark → bytes ≡ []) → goes_inside kind ≡ is_some block → length (so_far block) + length bytes ≤ block_limit
     → Reaches (start ((file ++ part (flags_of kind) bytes free) ++ rest)) (state_of (file ++ part (flags_of kind) bytes free) (items_after items (so_far block) kind bytes) (block_after block kind bytes) rest)
@@ -132,7 +132,7 @@ Reaches-part file items block kind bytes free rest r m p l =
     }
     in rw (append_assoc file (part (flags_of kind) bytes free) rest) (Reaches-then _ _ _ r step)
 
-Begins-reaches : (file : List ℕ) (items : List Item) (block : Option (List ℕ)) → Begins file items block → (rest : List ℕ) → Reaches (start (file ++ rest)) (state_of file items block rest)
+Begins-reaches : (file : List ℕ) (items : List TapeItem) (block : Option (List ℕ)) → Begins file items block → (rest : List ℕ) → Reaches (start (file ++ rest)) (state_of file items block rest)
 Begins-reaches _ _ _ nothing rest = here (start rest)
 Begins-reaches _ _ _ (mark file items free b) rest =
     Reaches-part file items None Mark [] free rest (Begins-reaches file items None b _) (λ e. refl) refl (omega arith)
@@ -178,20 +178,20 @@ IsEnd-empty : (s : State) → s.rest ≡ [] → IsEnd s
 IsEnd-empty s h t step = let n : length s.rest ≡ 0 = ap length h in let k : length s.rest ≡ length (part (flags_of step.kind) step.bytes step.free ++ step.rest) = ap length step.head in omega (arith, n, k)
 
 -- the whole of a tape's file is read, and any other up to its first fault
-Reaches-whole : (file : List ℕ) (items : List Item) → IsTapeFile file items → Reaches (start file) (state_of file items None [])
+Reaches-whole : (file : List ℕ) (items : List TapeItem) → IsTapeFile file items → Reaches (start file) (state_of file items None [])
 Reaches-whole file items b = rw (append-nil file) at (Begins-reaches file items None b [])
 
 Reaches-fault : (file : List ℕ) (fault : TapeFault) (h : HasFault file fault) → Reaches (start file) (state_of h.before h.items h.block h.rest)
 Reaches-fault file fault h = rw h.joined at (Begins-reaches h.before h.items h.block h.begins h.rest)
 
-pub file_has_items_once : (file : List ℕ) (items others : List Item) → IsTapeFile file items → IsTapeFile file others → items ≡ others
+pub file_has_items_once : (file : List ℕ) (items others : List TapeItem) → IsTapeFile file items → IsTapeFile file others → items ≡ others
 file_has_items_once file items others b d =
     ap (λ (s : State). s.items) (Reaches-same (start file) (state_of file items None []) (state_of file others None []) (Reaches-whole file items b) (Reaches-whole file others d) (IsEnd-empty _ refl) (IsEnd-empty _ refl))
 
 abbrev fault_in : State → Option TapeFault
 fault_in s = fault_at (option_map length s.block) s.place s.rest
 
-pub no_tape_file_has_fault : (file : List ℕ) (items : List Item) (fault : TapeFault) → IsTapeFile file items → HasFault file fault → ⊥
+pub no_tape_file_has_fault : (file : List ℕ) (items : List TapeItem) (fault : TapeFault) → IsTapeFile file items → HasFault file fault → ⊥
 no_tape_file_has_fault file items fault b h =
     let there : State = state_of h.before h.items h.block h.rest
     in let same : state_of file items None [] ≡ there = Reaches-same (start file) (state_of file items None []) there (Reaches-whole file items b) (Reaches-fault file fault h) (IsEnd-empty _ refl) (IsEnd-fault there fault h.is_first)

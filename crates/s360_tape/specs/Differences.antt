@@ -3,11 +3,11 @@ use Rattle.std.specs.Prelude.{Bool, true, false, ◌&&◌, nat_eq}
 use Rattle.std.specs.Bool.{beq}
 use Rattle.std.specs.Cmp.Lexicographic.{pointwise}
 use Rattle.std.specs.Str.{bytes_eq}
-use Rattle.s360_tape.specs.declared.item.Item.{Item}
-use Rattle.s360_tape.specs.declared.item.Item.TheVariants.{Block, Mark}
+use Rattle.s360_tape.specs.declared.item.TapeItem.{TapeItem}
+use Rattle.s360_tape.specs.declared.item.TapeItem.TheVariants.{Block, Mark}
 use Rattle.s360_tape.specs.Tape.{Tape}
 
-abbrev pub same_item : Item → Item → Bool
+abbrev pub same_item : TapeItem → TapeItem → Bool
 same_item (Block bytes) (Block others) = bytes_eq bytes others
 same_item Mark Mark = true
 same_item item other = false

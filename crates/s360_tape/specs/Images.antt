@@ -1,42 +1,43 @@
 -- AWSTAPE files, and the first fault of a file that is none (own profile).
-use Rattle.std.specs.Prelude.{◌≡◌, ◌≤◌, ◌⊎◌, ℕ, ◌+◌, ◌/◌, ◌%◌, Bool, false, ◌&&◌, ◌||◌, not, if◌then◌else◌, nat_eq, nat_lt, Option, Some, None, is_some, is_none, List, [], ◌∷◌, ◌++◌, length}
+use Rattle.std.specs.Prelude.{◌≡◌, ◌≤◌, ◌⊎◌, ℕ, ◌+◌, ◌/◌, ◌%◌, Bool, false, ◌&&◌, ◌||◌, not, if◌then◌else◌, nat_eq, nat_lt}
+use Rattle.std.specs.Prelude.{Option, Some, None, is_some, is_none, List, [], ◌∷◌, ◌++◌, length}
 use Rattle.std.specs.Bool.{beq}
 use Rattle.std.specs.Option.{option_map, option_map_or}
 use Rattle.s360_model.specs.Tables.{entry_in}
 use Rattle.s360_tape.specs.declared.fault.TapeFault.{TapeFault}
 use Rattle.s360_tape.specs.declared.fault.TapeFault.TheVariants.{ShortHeader, BadFlags, PartOutOfPlace, ShortBlock, BlockTooLong, Memory}
-use Rattle.s360_tape.specs.declared.item.Item.{Item}
-use Rattle.s360_tape.specs.declared.item.Item.TheVariants.{Block, Mark}
+use Rattle.s360_tape.specs.declared.item.TapeItem.{TapeItem}
+use Rattle.s360_tape.specs.declared.item.TapeItem.TheVariants.{Block, Mark}
 use Rattle.s360_tape.specs.Blocks.{block_limit}
 use Rattle.s360_tape.specs.Items.{bytes_of, is_mark}
 use Rattle.s360_tape.specs.Parts.{Unchecked, part, part_flags, goes_inside, header_length, flags_at, count_at}
 
 -- A file may begin with these bytes: then it begins with these items, and after them with the bytes of a block of
 -- which more parts are to come, or with none such.
-pub data Begins : List ℕ → List Item → Option (List ℕ) → Type 0 where
+pub data Begins : List ℕ → List TapeItem → Option (List ℕ) → Type 0 where
   nothing : Begins [] [] None
-  mark : (file : List ℕ) (items : List Item) (free : Unchecked) → Begins file items None
+  mark : (file : List ℕ) (items : List TapeItem) (free : Unchecked) → Begins file items None
       → Begins (file ++ part 0x40 [] free) (items ++ Mark ∷ []) None
-  whole_block : (file : List ℕ) (items : List Item) (bytes : List ℕ) (free : Unchecked) → Begins file items None
+  whole_block : (file : List ℕ) (items : List TapeItem) (bytes : List ℕ) (free : Unchecked) → Begins file items None
       → length bytes ≤ block_limit
       → Begins (file ++ part 0xA0 bytes free) (items ++ Block bytes ∷ []) None
-  first_part : (file : List ℕ) (items : List Item) (bytes : List ℕ) (free : Unchecked) → Begins file items None
+  first_part : (file : List ℕ) (items : List TapeItem) (bytes : List ℕ) (free : Unchecked) → Begins file items None
       → length bytes ≤ block_limit
       → Begins (file ++ part 0x80 bytes free) items (Some bytes)
-  middle_part : (file : List ℕ) (items : List Item) (block bytes : List ℕ) (free : Unchecked) → Begins file items (Some block)
+  middle_part : (file : List ℕ) (items : List TapeItem) (block bytes : List ℕ) (free : Unchecked) → Begins file items (Some block)
       → length (block ++ bytes) ≤ block_limit
       → Begins (file ++ part 0x00 bytes free) items (Some (block ++ bytes))
-  last_part : (file : List ℕ) (items : List Item) (block bytes : List ℕ) (free : Unchecked) → Begins file items (Some block)
+  last_part : (file : List ℕ) (items : List TapeItem) (block bytes : List ℕ) (free : Unchecked) → Begins file items (Some block)
       → length (block ++ bytes) ≤ block_limit
       → Begins (file ++ part 0x20 bytes free) (items ++ Block (block ++ bytes) ∷ []) None
 
 -- the file is that of a tape with these items
-abbrev pub IsTapeFile : List ℕ → List Item → Type 0
+abbrev pub IsTapeFile : List ℕ → List TapeItem → Type 0
 IsTapeFile file items = Begins file items None
 
 -- the file is that of a tape
 pub record IsSomeTapeFile (file : List ℕ) : Type 0 where
-  pub items : List Item
+  pub items : List TapeItem
   pub is : IsTapeFile file items
 
 -- the fault of the first check that fails
@@ -70,7 +71,7 @@ pub record HasFault (file : List ℕ) (fault : TapeFault) : Type 0 where
   pub before : List ℕ
   pub rest : List ℕ
   pub joined : before ++ rest ≡ file
-  pub items : List Item
+  pub items : List TapeItem
   pub block : Option (List ℕ)
   pub begins : Begins before items block
   pub is_first : fault_at (option_map length block) (length before) rest ≡ Some fault
@@ -80,17 +81,17 @@ abbrev pub IsRefusal : List ℕ → TapeFault → Type 0
 IsRefusal file fault = HasFault file fault ⊎ ((fault ≡ Memory) × IsSomeTapeFile file)
 
 -- an item in the file of items, after one of so many bytes: a whole block or a mark, with 0 in the last byte
-abbrev pub item_file : ℕ → Item → List ℕ
+abbrev pub item_file : ℕ → TapeItem → List ℕ
 item_file previous item = part
     (if is_mark item then 0x40 else 0xA0)
     (bytes_of item)
     (record { previous_low = previous % 256; previous_high = previous / 256; last = 0 })
 
 -- items after one of so many bytes, of which there are none before the first
-abbrev pub items_file : ℕ → List Item → List ℕ
+abbrev pub items_file : ℕ → List TapeItem → List ℕ
 items_file previous [] = []
 items_file previous (item ∷ items) = item_file previous item ++ items_file (length (bytes_of item)) items
 
 -- the file of items
-abbrev pub tape_file : List Item → List ℕ
+abbrev pub tape_file : List TapeItem → List ℕ
 tape_file items = items_file 0 items

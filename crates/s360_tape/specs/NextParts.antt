@@ -1,8 +1,8 @@
 -- How far a reading of a file has come, and the part with which it goes on (ours).
 use Rattle.std.specs.Prelude.{◌≡◌, ◌≤◌, ◌<◌, ℕ, ◌+◌, Option, Some, None, is_some, List, [], ◌∷◌, ◌++◌, length, take, IfSome, slice_index}
 use Rattle.std.specs.Option.{option_map, option_map_or}
-use Rattle.s360_tape.specs.declared.item.Item.{Item}
-use Rattle.s360_tape.specs.declared.item.Item.TheVariants.{Block, Mark}
+use Rattle.s360_tape.specs.declared.item.TapeItem.{TapeItem}
+use Rattle.s360_tape.specs.declared.item.TapeItem.TheVariants.{Block, Mark}
 use Rattle.s360_tape.specs.declared.part_kind.PartKind.{PartKind}
 use Rattle.s360_tape.specs.declared.part_kind.PartKind.TheVariants.{Whole, First, Middle, Last, Mark as mark_part}
 use Rattle.s360_tape.specs.Blocks.{block_limit}
@@ -37,7 +37,7 @@ block_after block Middle bytes = Some (so_far block ++ bytes)
 block_after block kind bytes = None
 
 -- the items after a part more, where these are the bytes of the block so far
-abbrev pub items_after : List Item → List ℕ → PartKind → List ℕ → List Item
+abbrev pub items_after : List TapeItem → List ℕ → PartKind → List ℕ → List TapeItem
 items_after items block Whole bytes = items ++ Block (block ++ bytes) ∷ []
 items_after items block Last bytes = items ++ Block (block ++ bytes) ∷ []
 items_after items block mark_part bytes = items ++ Mark ∷ []
@@ -54,13 +54,13 @@ kept_after block kind bytes = []
 pub record IsScanned (file : List ℕ) (place : ℕ) (inside : Option ℕ) : Type 0 where
   pub within : place ≤ length file
   pub short : IfSome inside (λ count. count ≤ block_limit)
-  pub items : List Item
+  pub items : List TapeItem
   pub block : Option (List ℕ)
   pub begins : Begins (take place file) items block
   pub counts : option_map length block ≡ inside
 
 -- and these are the items and the bytes
-pub record IsTaken (file : List ℕ) (place : ℕ) (inside : Option ℕ) (items : List Item) (bytes : List ℕ) : Type 0 where
+pub record IsTaken (file : List ℕ) (place : ℕ) (inside : Option ℕ) (items : List TapeItem) (bytes : List ℕ) : Type 0 where
   pub within : place ≤ length file
   pub short : IfSome inside (λ count. count ≤ block_limit)
   pub block : Option (List ℕ)

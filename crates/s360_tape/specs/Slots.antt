@@ -2,12 +2,12 @@
 -- from there, or the item in one is exchanged.
 use Rattle.std.specs.Prelude.{ℕ, ◌<◌, List, length, set, get_or}
 use Rattle.s360_device.specs.Motions.{CanMove, items_put, after_motion, motion_back}
-use Rattle.s360_tape.specs.declared.item.Item.{Item}
+use Rattle.s360_tape.specs.declared.item.TapeItem.{TapeItem}
 use Rattle.s360_tape.specs.declared.slot_change.SlotChange.{SlotChange}
 use Rattle.s360_tape.specs.declared.slot_change.SlotChange.TheVariants.{End, At}
 
 -- it can be done
-abbrev pub CanChangeSlot : List Item → SlotChange → Type 0
+abbrev pub CanChangeSlot : List TapeItem → SlotChange → Type 0
 CanChangeSlot slots (End motion) = CanMove slots motion
 CanChangeSlot slots (At slot item) = slot < length slots
 
@@ -17,11 +17,11 @@ slots_put (End motion) = items_put motion
 slots_put (At slot item) = 0
 
 -- the slots after it
-abbrev pub after_slot : List Item → SlotChange → List Item
+abbrev pub after_slot : List TapeItem → SlotChange → List TapeItem
 after_slot slots (End motion) = after_motion slots motion
 after_slot slots (At slot item) = set slots slot item
 
 -- what takes it back
-abbrev pub slot_back : List Item → SlotChange → SlotChange
+abbrev pub slot_back : List TapeItem → SlotChange → SlotChange
 slot_back slots (End motion) = End (motion_back slots motion)
 slot_back slots (At slot item) = At slot (get_or slots slot item)

@@ -8,10 +8,11 @@ use Rattle.s360_device.specs.declared.device_with.DeviceWith.{DeviceWith}
 use Rattle.s360_device.specs.Rows.{Row, refused, input, output, control, Table}
 use Rattle.s360_model.specs.Tables.{entry_in}
 use Rattle.s360_device.specs.Items.{item_in}
-use Rattle.s360_tape.specs.declared.item.Item.{Item}
-use Rattle.s360_tape.specs.declared.item.Item.TheVariants.{Block, Mark}
+use Rattle.s360_tape.specs.declared.item.TapeItem.{TapeItem}
+use Rattle.s360_tape.specs.declared.item.TapeItem.TheVariants.{Block, Mark}
 use Rattle.s360_tape.specs.declared.tape_command.TapeCommand.{TapeCommand}
-use Rattle.s360_tape.specs.declared.tape_command.TapeCommand.TheVariants.{Write, Read, Rewind, ReadBackward, RewindUnload, EraseGap, WriteMark, BackspaceRecord, BackspaceFile, SpaceRecord, SpaceFile}
+use Rattle.s360_tape.specs.declared.tape_command.TapeCommand.TheVariants.{Write, Read, Rewind, ReadBackward, RewindUnload, EraseGap}
+use Rattle.s360_tape.specs.declared.tape_command.TapeCommand.TheVariants.{WriteMark, BackspaceRecord, BackspaceFile, SpaceRecord, SpaceFile}
 use Rattle.s360_tape.specs.Blocks.{block_limit}
 use Rattle.s360_tape.specs.Items.{bytes_of, is_mark, after_mark, before_mark}
 use Rattle.s360_tape.specs.TapeCommands.{tape_commands, writes}
@@ -19,7 +20,7 @@ use Rattle.s360_tape.specs.TapeCommands.{tape_commands, writes}
 -- the items, the number of those before the position, whether the tape is protected against writing, and whether it
 -- is unloaded
 pub record TapeMedia : Type 0 where
-  pub items : List Item
+  pub items : List TapeItem
   pub position : ℕ
   pub protected : Bool
   pub unloaded : Bool
@@ -28,7 +29,7 @@ abbrev pub Tape : Type 0
 Tape = DeviceWith TapeMedia
 
 -- a new tape is at its load point
-abbrev pub new_tape : List Item → Bool → Tape
+abbrev pub new_tape : List TapeItem → Bool → Tape
 new_tape items protected = record {
   sense = no_sense;
   media = record { items = items; position = 0; protected = protected; unloaded = false };
@@ -47,16 +48,18 @@ abbrev pub moved_to : TapeMedia → ℕ → TapeMedia
 moved_to t place = record t { position = place }
 
 -- an item is written at the position: all later ones are discarded
-abbrev pub with_item : TapeMedia → Item → TapeMedia
+abbrev pub with_item : TapeMedia → TapeItem → TapeMedia
 with_item t item = record t { items = take t.position t.items ++ item ∷ []; position = t.position + 1 }
 
 -- the item at the position is read, and there may be none
 abbrev pub read_row : TapeMedia → Row TapeMedia
-read_row t = option_map_or (λ item. input (bytes_of item) (moved_to t (t.position + 1)) (is_mark item)) (slice_get t.items t.position) (refused intervention_required)
+read_row t =
+    option_map_or (λ item. input (bytes_of item) (moved_to t (t.position + 1)) (is_mark item)) (slice_get t.items t.position) (refused intervention_required)
 
 -- the item before the position is read, its last byte first
 abbrev pub read_backward_row : TapeMedia → Row TapeMedia
-read_backward_row t = option_map_or (λ item. input (reverse (bytes_of item)) (moved_to t (t.position - 1)) (is_mark item)) (item_in t.items t.position) (refused at_load_point)
+read_backward_row t =
+    option_map_or (λ item. input (reverse (bytes_of item)) (moved_to t (t.position - 1)) (is_mark item)) (item_in t.items t.position) (refused at_load_point)
 
 abbrev pub space_record_row : TapeMedia → Row TapeMedia
 space_record_row t = option_map_or (λ item. control (moved_to t (t.position + 1)) (is_mark item)) (slice_get t.items t.position) (refused intervention_required)

@@ -1,7 +1,8 @@
 -- The codes of the tapes' own commands (GA22-6866, "2400-Series Magnetic Tape Units").
 use Rattle.std.specs.Prelude.{ℕ, Bool, true, false, List, [], ◌∷◌}
 use Rattle.s360_tape.specs.declared.tape_command.TapeCommand.{TapeCommand}
-use Rattle.s360_tape.specs.declared.tape_command.TapeCommand.TheVariants.{Write, Read, Rewind, ReadBackward, RewindUnload, EraseGap, WriteMark, BackspaceRecord, BackspaceFile, SpaceRecord, SpaceFile}
+use Rattle.s360_tape.specs.declared.tape_command.TapeCommand.TheVariants.{Write, Read, Rewind, ReadBackward, RewindUnload, EraseGap}
+use Rattle.s360_tape.specs.declared.tape_command.TapeCommand.TheVariants.{WriteMark, BackspaceRecord, BackspaceFile, SpaceRecord, SpaceFile}
 
 abbrev pub tape_commands : List (ℕ × TapeCommand)
 tape_commands =

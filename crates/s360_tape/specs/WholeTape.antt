@@ -4,13 +4,13 @@ use Rattle.std.specs.Prelude.{◌≤◌, ℕ, Bool, List, length, take}
 use Rattle.s360_device.specs.declared.device_with.DeviceWith.{DeviceWith}
 use Rattle.s360_device.specs.DeviceChanges.{seen_device}
 use Rattle.s360_device.specs.Kinds.{Kind}
-use Rattle.s360_tape.specs.declared.item.Item.{Item}
+use Rattle.s360_tape.specs.declared.item.TapeItem.{TapeItem}
 use Rattle.s360_tape.specs.declared.tape_change.TapeChange.{TapeChange}
 use Rattle.s360_tape.specs.Slots.{CanChangeSlot, slots_put, after_slot, slot_back}
 use Rattle.s360_tape.specs.Tape.{Tape, TapeMedia, tape_table}
 
 pub record WholeTapeMedia : Type 0 where
-  pub slots : List Item
+  pub slots : List TapeItem
   -- the number of slots whose items can be seen
   pub visible : ℕ
   pub position : ℕ

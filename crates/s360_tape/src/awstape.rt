@@ -3,17 +3,16 @@ ghost use Rattle.std.specs.Prelude.{◌≡◌, ◌≤◌, ◌+◌, ◌++◌, Lis
 ghost use Rattle.s360_device.specs.DeviceChanges.{bare};
 ghost use Rattle.s360_tape.specs.declared.fault.TapeFault.{TapeFault};
 ghost use Rattle.s360_tape.specs.declared.fault.TapeFault.TheVariants.{Memory};
-ghost use Rattle.s360_tape.specs.declared.item.Item.{Item};
+ghost use Rattle.s360_tape.specs.declared.item.TapeItem.{TapeItem};
 ghost use Rattle.s360_tape.specs.Blocks.{block_limit};
-ghost use Rattle.s360_tape.specs.Images.{HasFault, IsSomeTapeFile, IsTapeFile, IsRefusal};
-ghost use Rattle.s360_tape.specs.Images.{item_file, tape_file};
+ghost use Rattle.s360_tape.specs.Images.{HasFault, IsSomeTapeFile, IsTapeFile, IsRefusal, item_file, tape_file};
 ghost use Rattle.s360_tape.specs.NextParts.{items_after, kept_after};
 ghost use Rattle.s360_tape.specs.Tape.{new_tape};
 ghost use Rattle.s360_tape.specs.WholeTape.{seen};
 
 use crate::block::Block;
 use crate::fault::TapeFault;
-use crate::item::Item;
+use crate::item::TapeItem;
 use crate::part::{HEADER_LENGTH, Part, part_at};
 use crate::part_kind::PartKind;
 use crate::tape::{Tape, tape_with};
@@ -39,7 +38,7 @@ fn check_file(file: &[u8]) -> Result<(), TapeFault>
 fn keep_part(
     alloc: Global,
     part: &Part<'_>,
-    items: &mut Vec<Item>,
+    items: &mut Vec<TapeItem>,
     block: &mut Vec<u8>,
 ) -> Result<(), AllocError>
     requires fits { length block.old.items + length part.now.bytes.now ≤ block_limit }
@@ -47,19 +46,19 @@ fn keep_part(
     ensures block { OnOk result (block.new.items ≡ kept_after block.old.items part.now.kind part.now.bytes.now) }
 {
     match part.kind {
-        PartKind::Mark => items.push(Item::Mark)?,
+        PartKind::Mark => items.push(TapeItem::Mark)?,
         PartKind::First | PartKind::Middle => block.extend_from_slice(part.bytes)?,
         PartKind::Whole | PartKind::Last => {
             block.extend_from_slice(part.bytes)?;
             let bytes = mem::replace(block, Vec::new(alloc));
-            items.push(Item::Block(Block::new(bytes)))?;
+            items.push(TapeItem::Block(Block::new(bytes)))?;
         }
     }
     Ok(())
 }
 
 /// The items of a file that is a tape's.
-fn items_of(alloc: Global, file: &[u8]) -> Result<Vec<Item>, TapeFault>
+fn items_of(alloc: Global, file: &[u8]) -> Result<Vec<TapeItem>, TapeFault>
     requires file { IsSomeTapeFile file.now }
     ensures items { IfOk result (λ items. IsTapeFile file.now items.items) }
     ensures refused { IfErr result (λ fault. IsRefusal file.now fault) }
@@ -93,14 +92,14 @@ pub fn tape_from(alloc: Global, file: &[u8], protected: bool) -> Result<Tape, Ta
     ensures tape { IfOk result (λ t. IsTapeFile file.now (seen (bare t)).media.items) }
     ensures fresh { IfOk result (λ t. seen (bare t) ≡ new_tape (seen (bare t)).media.items protected) }
     ensures refused { IfErr result (λ fault. IsRefusal file.now fault) }
-    ensures accepted { (items : List Item) → IsTapeFile file.now items → IsOkUnless result Memory }
+    ensures accepted { (items : List TapeItem) → IsTapeFile file.now items → IsOkUnless result Memory }
     ensures faulty { (fault : TapeFault) → HasFault file.now fault → result ≡ Err fault }
 {
     read_tape(alloc, file, protected)
 }
 
 /// Puts an item at the end of a file, after one of so many bytes.
-fn put_item(file: &mut Vec<u8>, previous: u16, item: &Item) -> Result<(), AllocError>
+fn put_item(file: &mut Vec<u8>, previous: u16, item: &TapeItem) -> Result<(), AllocError>
     ensures { OnOk result (file.new.items ≡ file.old.items ++ item_file previous item.now) }
 {
     let bytes = item.bytes();

@@ -7,22 +7,22 @@ use crate::block::Block;
 
 /// An item of a tape.
 #[derive(Clone, Drop)]
-pub enum Item {
+pub enum TapeItem {
     /// A block of bytes.
     Block(Block),
     /// A tape mark, which ends a file of blocks.
     Mark,
 }
 
-impl Item {
+impl TapeItem {
     /// Its bytes: those of a block, and none of a mark.
     pub fn bytes(&self) -> &[u8]
         ensures bytes { result.now ≡ bytes_of self.now }
         ensures fits { length result.now ≤ block_limit }
     {
         match self {
-            Item::Block(block) => block.as_slice(),
-            Item::Mark => &[],
+            TapeItem::Block(block) => block.as_slice(),
+            TapeItem::Mark => &[],
         }
     }
 
@@ -30,6 +30,6 @@ impl Item {
     pub fn is_mark(&self) -> bool
         ensures { result ≡ is_mark self.now }
     {
-        matches!(self, Item::Mark)
+        matches!(self, TapeItem::Mark)
     }
 }

@@ -1,8 +1,7 @@
 //! Laws of the definitions, the contracts of calls that do nothing.
 ghost use Rattle.s360_device.specs.Differences.{DecidesEquality};
 ghost use Rattle.s360_tape.specs.Differences.{same_tape};
-ghost use Rattle.s360_tape.specs.ImageLaws.{FileOfItemsHasThem, FileHasItemsOnce};
-ghost use Rattle.s360_tape.specs.ImageLaws.{NoTapeFileHasFault, FileHasFaultOnce};
+ghost use Rattle.s360_tape.specs.ImageLaws.{FileOfItemsHasThem, FileHasItemsOnce, NoTapeFileHasFault, FileHasFaultOnce};
 
 /// The items of the file of items are the items, and no others.
 pub fn image_is_read_back()

@@ -21,7 +21,7 @@ mod tape_row;
 pub use awstape::{image_of, tape_from};
 pub use block::Block;
 pub use fault::TapeFault;
-pub use item::Item;
+pub use item::TapeItem;
 pub use laws::{fault_is_the_first, image_is_read_back, same_tapes_are_equal};
 pub use sense::{AT_LOAD_POINT, WRITE_PROTECTED};
 pub use slot_change::SlotChange;

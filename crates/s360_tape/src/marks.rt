@@ -2,10 +2,10 @@
 ghost use Rattle.std.specs.Prelude.{◌≡◌, ◌≤◌, drop, length, IfSome};
 ghost use Rattle.s360_tape.specs.Items.{after_mark, before_mark};
 
-use crate::item::Item;
+use crate::item::TapeItem;
 
 /// The place just after the first mark from a position on, if there is one.
-pub(crate) fn after_mark(items: &[Item], position: usize) -> Option<usize>
+pub(crate) fn after_mark(items: &[TapeItem], position: usize) -> Option<usize>
     requires inside { position ≤ length items.now }
     ensures place { result ≡ after_mark position (drop position items.now) }
     ensures inside { IfSome result (λ place. place ≤ length items.now) }
@@ -21,7 +21,7 @@ pub(crate) fn after_mark(items: &[Item], position: usize) -> Option<usize>
 }
 
 /// The place just before the mark that is nearest before a position, or 0 where there is none.
-pub(crate) fn before_mark(items: &[Item], position: usize) -> usize
+pub(crate) fn before_mark(items: &[TapeItem], position: usize) -> usize
     requires inside { position ≤ length items.now }
     ensures place { result ≡ before_mark items.now position }
     ensures inside { result ≤ position }

@@ -13,7 +13,7 @@ ghost use Rattle.s360_tape.specs.Tape.{new_tape, with_item};
 ghost use Rattle.s360_tape.specs.WholeTape.{seen, seen_media, tape_kind};
 
 use crate::block::Block;
-use crate::item::Item;
+use crate::item::TapeItem;
 use crate::slot_change::SlotChange;
 use crate::tape_change::TapeChange;
 use crate::tape_command::TapeCommand;
@@ -27,7 +27,7 @@ pub type Tape = DeviceWith<TapeMedia>;
 
 /// The items of a tape, its position, and whether it is protected or unloaded.
 pub struct TapeMedia {
-    slots: Vec<Item>,
+    slots: Vec<TapeItem>,
     visible: usize,
     position: usize,
     protected: bool,
@@ -47,19 +47,22 @@ impl Drop for TapeMedia {
 }
 
 impl Model for TapeMedia {
-    ghost use Rattle.std.specs.Prelude.{◌≤◌, ◌-◌, length, vec_len, vec_capacity};
-    ghost use Rattle.s360_device.specs.Kinds.{MediaWithRoom};
+    ghost use Rattle.std.specs.Prelude.{◌≤◌, length};
+    ghost use Rattle.s360_device.specs.Kinds.{MediaWithRoom, room_in};
     ghost use Rattle.s360_tape.specs.WholeTape.{WholeTapeMedia};
 
     ghost Value = { MediaWithRoom WholeTapeMedia };
 
-    ghost view = { λ t. record { media = record { slots = t.slots.items; visible = t.visible; position = t.position; protected = t.protected; unloaded = t.unloaded }; room = vec_capacity t.slots - vec_len t.slots } };
+    ghost view = { λ t. record {
+        media = record { slots = t.slots.items; visible = t.visible; position = t.position; protected = t.protected; unloaded = t.unloaded };
+        room = room_in t.slots;
+    } };
 
     ghost invariant = { λ t. (t.position ≤ t.visible) × (t.visible ≤ length t.slots.items) };
 }
 
 /// A tape with these items, at its load point. It takes no memory.
-pub(crate) fn tape_with(slots: Vec<Item>, protected: bool) -> Tape
+pub(crate) fn tape_with(slots: Vec<TapeItem>, protected: bool) -> Tape
     ensures { seen (bare result) ≡ new_tape slots.items protected }
 {
     DeviceWith::with(TapeMedia {
@@ -80,7 +83,7 @@ pub fn blank_tape(alloc: Global) -> Tape
 
 impl TapeMedia {
     /// The items that can be seen.
-    pub(crate) fn as_slice(&self) -> &[Item]
+    pub(crate) fn as_slice(&self) -> &[TapeItem]
         ensures items { result.now ≡ (seen_media self.now.media).items }
         ensures visible { length result.now ≡ self.now.media.visible }
     {
@@ -95,14 +98,14 @@ impl TapeMedia {
     }
 
     /// A block or mark, by its number from 1, if there is one.
-    pub fn item(&self, number: usize) -> Option<&Item>
+    pub fn item(&self, number: usize) -> Option<&TapeItem>
         ensures { option_copied result ≡ item_in (seen_media self.now.media).items number }
     {
         self.as_slice().get(number.checked_sub(1)?)
     }
 
     /// The block or mark at the position, if there is one.
-    pub(crate) fn next_item(&self) -> Option<&Item>
+    pub(crate) fn next_item(&self) -> Option<&TapeItem>
         ensures item { option_copied result ≡ slice_get (seen_media self.now.media).items self.now.media.position }
         ensures inside { IfSome result (λ item. self.now.media.position < self.now.media.visible) }
         ensures fits { IfSome result (λ item. self.now.media.position + 1 < 2 ^ 64) }
@@ -149,7 +152,7 @@ impl TapeMedia {
     }
 
     /// An item is written.
-    pub(crate) fn writing(&self, item: Item) -> TapeChange
+    pub(crate) fn writing(&self, item: TapeItem) -> TapeChange
         ensures { MakesMedia tape_kind self.now.media (with_item (seen_media self.now.media) item) (Some result) }
     {
         let slot = if self.position < self.slots.len() {
@@ -202,7 +205,7 @@ impl Media for TapeMedia {
         match TapeCommand::new(code) {
             Some(TapeCommand::Write) if !self.unloaded && !self.protected => {
                 let block = Block::copied(*self.slots.allocator(), bytes)?;
-                Ok(Some(self.writing(Item::Block(block))))
+                Ok(Some(self.writing(TapeItem::Block(block))))
             }
             _ => Ok(None),
         }

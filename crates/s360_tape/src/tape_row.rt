@@ -2,14 +2,13 @@
 ghost use Rattle.s360_device.specs.DeviceRows.{IsRow, bytes_given};
 ghost use Rattle.s360_device.specs.Rows.{control, row_input};
 ghost use Rattle.s360_tape.specs.Blocks.{block_limit};
-ghost use Rattle.s360_tape.specs.Tape.{tape_row, row_of_command, read_row, read_backward_row};
-ghost use Rattle.s360_tape.specs.Tape.{space_record_row, backspace_record_row, space_file_row};
+ghost use Rattle.s360_tape.specs.Tape.{tape_row, row_of_command, read_row, read_backward_row, space_record_row, backspace_record_row, space_file_row};
 ghost use Rattle.s360_tape.specs.Tape.{backspace_file_row};
 ghost use Rattle.s360_tape.specs.WholeTape.{seen_media, tape_kind};
 ghost use Rattle.std.specs.Prelude.{◌≡◌, ◌≤◌, length};
 
 use crate::block::BLOCK_LIMIT;
-use crate::item::Item;
+use crate::item::TapeItem;
 use crate::marks::{after_mark, before_mark};
 use crate::sense::{AT_LOAD_POINT, WRITE_PROTECTED};
 use crate::tape::TapeMedia;
@@ -128,7 +127,7 @@ impl TapeMedia {
                 exception: false,
             },
             TapeCommand::WriteMark => Row::Control {
-                change: Some(self.writing(Item::Mark)),
+                change: Some(self.writing(TapeItem::Mark)),
                 exception: false,
             },
             TapeCommand::Read => self.read(),

@@ -1,12 +1,9 @@
 //! Sums, differences, absolute values and comparisons of words. Source: GA22-6821, "Fixed-Point
 //! Arithmetic" and "Logical Operations".
 ghost use Rattle.std.specs.Prelude.{◌≡◌, ◌+◌, ◌<◌, pos};
-ghost use Rattle.s360_model.specs.Arithmetic.{absolute_value, negative_absolute_value};
-ghost use Rattle.s360_model.specs.Arithmetic.{logical_difference, logical_sum};
-ghost use Rattle.s360_model.specs.Arithmetic.{signed_complement, signed_difference};
+ghost use Rattle.s360_model.specs.Arithmetic.{absolute_value, negative_absolute_value, logical_difference, logical_sum, signed_complement, signed_difference};
 ghost use Rattle.s360_model.specs.Arithmetic.{signed_sum, word_of};
-ghost use Rattle.s360_model.specs.ConditionCodes.{carry_code, order_code};
-ghost use Rattle.s360_model.specs.ConditionCodes.{sign_code, signed_code};
+ghost use Rattle.s360_model.specs.ConditionCodes.{carry_code, order_code, sign_code, signed_code};
 ghost use Rattle.s360_model.specs.Numbers.{low32, signed};
 
 use crate::condition_code::{Cc, carry_code_of, order_code_of, sign_code_of, signed_code_of};

@@ -2,8 +2,7 @@
 //! function of exact numbers. Source: GA22-6821, "System Structure", program status word, and
 //! "Fixed-Point Arithmetic" and "Logical Operations", condition code.
 ghost use Rattle.std.specs.Prelude.{◌≡◌, ◌<◌};
-ghost use Rattle.s360_model.specs.ConditionCodes.{bits_code, carry_code, order_code};
-ghost use Rattle.s360_model.specs.ConditionCodes.{sign_code, signed_code};
+ghost use Rattle.s360_model.specs.ConditionCodes.{bits_code, carry_code, order_code, sign_code, signed_code};
 ghost use Rattle.s360_model.specs.Pairs.{signed_pair_code};
 
 use crate::word::Word;

@@ -3,8 +3,7 @@
 //! Arithmetic", convert to binary and convert to decimal, and "Decimal Arithmetic", data format.
 ghost use Rattle.std.specs.Prelude.{◌≡◌, ◌<◌, ◌^◌, IfSome};
 ghost use Rattle.s360_model.specs.Numbers.{signed};
-ghost use Rattle.s360_model.specs.Packed.{digits_value, packed, packed_digits, packed_value};
-ghost use Rattle.s360_model.specs.Packed.{signed_magnitude, written_sign};
+ghost use Rattle.s360_model.specs.Packed.{digits_value, packed, packed_digits, packed_value, signed_magnitude, written_sign};
 ghost use Rattle.s360_word.specs.Packed.{word_unpacked};
 
 use crate::word::{Word, is_in_word, low_word, signed_of};

@@ -4,9 +4,7 @@ ghost use Rattle.std.specs.Prelude.{◌≡◌, ◌<◌, ◌≤◌, ◌^◌, pos}
 ghost use Rattle.s360_model.specs.ConditionCodes.{sign_code, signed_code};
 ghost use Rattle.s360_model.specs.Numbers.{signed};
 ghost use Rattle.s360_model.specs.Pairs.{signed_pair, signed_pair_code};
-ghost use Rattle.s360_model.specs.Shifts.{left_word, left_words, over_power};
-ghost use Rattle.s360_model.specs.Shifts.{logical_left_word, logical_left_words};
-ghost use Rattle.s360_model.specs.Shifts.{logical_right_word, logical_right_words};
+ghost use Rattle.s360_model.specs.Shifts.{left_word, left_words, over_power, logical_left_word, logical_left_words, logical_right_word, logical_right_words};
 ghost use Rattle.s360_model.specs.Shifts.{right_word, right_words, times_power};
 
 use crate::condition_code::{Cc, sign_code_of, signed_code_of, signed_pair_code_of};

@@ -3,7 +3,7 @@
 ghost use Rattle.std.specs.Prelude.{◌≡◌};
 ghost use Rattle.s360_model.specs.Arithmetic.{word_of};
 ghost use Rattle.s360_model.specs.Numbers.{fits_word, signed};
-ghost use Rattle.s360_model.specs.Pairs.{doubleword_of, pair_of, signed_pair, words_of};
+ghost use Rattle.s360_model.specs.Pairs.{doubleword_of, pair_of, signed_pair, words_of_pair};
 
 /// 32 bits, as the unsigned number that they stand for.
 pub type Word = u32;
@@ -45,14 +45,14 @@ pub(crate) fn signed_pair_number(high: Word, low: Word) -> i64
 
 /// The high and the low word of a number of 64 bits.
 pub(crate) fn pair_words(pair: u64) -> (Word, Word)
-    ensures { result ≡ words_of pair }
+    ensures { result ≡ words_of_pair pair }
 {
     ((pair / 0x1_0000_0000) as u32, (pair % 0x1_0000_0000) as u32)
 }
 
 /// The pair of words of a signed number.
 pub(crate) fn signed_pair_words(number: i64) -> (Word, Word)
-    ensures words { result ≡ words_of (doubleword_of number) }
+    ensures words { result ≡ words_of_pair (doubleword_of number) }
     ensures exact { signed_pair result.0 result.1 ≡ number }
 {
     pair_words(number.cast_unsigned())

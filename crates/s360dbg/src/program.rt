@@ -1,6 +1,5 @@
 //! What the program does once its command line is read. Faults are found in the order of the steps.
-ghost use Rattle.std.specs.Prelude.{◌≡◌, ◌≢◌, ◌≤◌, true, false, length};
-ghost use Rattle.std.specs.Prelude.{IfErr, IfOk, IfSome, OnOk, Err};
+ghost use Rattle.std.specs.Prelude.{◌≡◌, ◌≢◌, ◌≤◌, true, false, length, IfErr, IfOk, IfSome, OnOk, Err};
 ghost use Rattle.s360_model.specs.Storage.{is_storage_size};
 ghost use Rattle.s360_debug.specs.Script.{AreAnswered, session_after};
 ghost use Rattle.s360_setup.specs.Failures.{IsScriptFailure, IsAnsweringFailure};

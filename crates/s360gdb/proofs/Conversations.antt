@@ -4,11 +4,11 @@ use Rattle.std.proofs.lemmas.List.{append-nil, length-append, length-take-le, ta
 use Rattle.std.specs.Io.KnownBytes.{Appends, Consumes, IsAtEnd}
 use Rattle.std.proofs.KnownBytes.{Consumes-nil, Consumes-trans}
 use Rattle.s360_text.proofs.Writes.{Appends-join, Appends-nothing}
-use Rattle.s360_remote.specs.Connecting.{Connected, IsTaken}
+use Rattle.s360_remote.specs.Connecting.{Connected, IsTaken, new_connection}
 use Rattle.s360_remote.specs.Driven.{Driven}
 use Rattle.s360_remote.specs.declared.errand.Errand.{Errand}
-use Rattle.s360gdb.specs.Conversation.{IsConversation, IsServed, IsServedWhole, IsTalk, Talking, new_connection}
-use Rattle.s360gdb.specs.Saving.{IsRun, Known}
+use Rattle.s360gdb.specs.Conversation.{IsConversation, IsServed, IsServedWhole, IsTalk, Talking, talking}
+use Rattle.s360gdb.specs.Saving.{Runs, Known}
 
 pub IsConversation-join : {F : Type 0} (contents : F → Option (List ℕ)) (xs ys : List ℕ) (s u t : Talking) (answers more : List ℕ)
     → IsConversation contents xs s u answers → IsConversation contents ys u t more → IsConversation contents (xs ++ ys) s t (answers ++ more)
@@ -24,11 +24,11 @@ IsConversation-more contents xs x s u t answers more h talk =
     IsConversation-join contents xs (x ∷ []) s u t answers more h (t, more, [], talk, (refl, refl), sym (append-nil more))
 
 pub IsServed-none : {F : Type 0} (contents : F → Option (List ℕ)) (old : Option (List ℕ)) (d : Driven) (k : Known) (silent : Option (List ℕ))
-    → IsServed contents old old (record { connection = new_connection; target = d; known = k }) (record { connection = new_connection; target = d; known = k }) silent silent
+    → IsServed contents old old (talking new_connection d k) (talking new_connection d k) silent silent
 IsServed-none contents old d k silent = record {
   before = [];
   last = [];
-  mid = record { connection = new_connection; target = d; known = k };
+  mid = talking new_connection d k;
   first = [];
   rest = [];
   read = Consumes-nil old;
@@ -68,14 +68,14 @@ as_many contents old new s t silent answered i bytes (v, same) h = (v, subst (λ
 -- the next of several bytes
 pub IsConversation-next : {F : Type 0} (contents : F → Option (List ℕ)) (xs : List ℕ) (i z : ℕ) (c : Connected) (d : Driven) (k : Known) (f : Connected) (u : Driven) (l : Known) (e : Connected) (t : Driven) (m : Known) (errand : Errand) (old now mid new : List ℕ)
     → i < length xs
-    → ((answers : List ℕ) × IsConversation contents (take i xs) (record { connection = c; target = d; known = k }) (record { connection = f; target = u; known = l }) answers × (now ≡ old ++ answers))
+    → ((answers : List ℕ) × IsConversation contents (take i xs) (talking c d k) (talking f u l) answers × (now ≡ old ++ answers))
     → ((first : List ℕ) × IsTaken f.ended (get_or xs i z) f u e t errand first × (mid ≡ now ++ first))
-    → ((second : List ℕ) × IsRun contents errand l m second × (new ≡ mid ++ second))
-    → (answers : List ℕ) × IsConversation contents (take (i + 1) xs) (record { connection = c; target = d; known = k }) (record { connection = e; target = t; known = m }) answers × (new ≡ old ++ answers)
+    → ((second : List ℕ) × Runs contents errand l m second × (new ≡ mid ++ second))
+    → (answers : List ℕ) × IsConversation contents (take (i + 1) xs) (talking c d k) (talking e t m) answers × (new ≡ old ++ answers)
 IsConversation-next contents xs i z c d k f u l e t m errand old now mid new h (answers, talk, is) (first, taken, said) (second, run, next) = (
   answers ++ (first ++ second),
   rw (take_more xs i z h)
-      (IsConversation-more contents (take i xs) (get_or xs i z) (record { connection = c; target = d; known = k }) (record { connection = f; target = u; known = l }) (record { connection = e; target = t; known = m })
+      (IsConversation-more contents (take i xs) (get_or xs i z) (talking c d k) (talking f u l) (talking e t m)
       answers (first ++ second) talk (errand, first, second, taken, run, refl)),
   next
       ∙ ap (λ a. a ++ second) said
@@ -121,12 +121,12 @@ IsServed-end contents old mid new s t silent answered v read = record {
 }
 
 pub served_whole-at_end : {F : Type 0} (contents : F → Option (List ℕ)) (old mid new : Option (List ℕ)) (d : Driven) (k : Known) (e : Connected) (t : Driven) (m : Known) (silent answered : Option (List ℕ)) (n : ℕ) (buffer : List ℕ)
-    → IsServed contents old mid (record { connection = new_connection; target = d; known = k }) (record { connection = e; target = t; known = m }) silent answered
+    → IsServed contents old mid (talking new_connection d k) (talking e t m) silent answered
     → n ≡ 0 → Consumes mid new (take n buffer) → (n ≡ 0 → 0 < length buffer → IsAtEnd new) → 0 < length buffer
     → IsServedWhole contents old new d k t m silent answered
 served_whole-at_end contents old mid new d k e t m silent answered n buffer v none read ends some = (
   e,
-  IsServed-end contents old mid new (record { connection = new_connection; target = d; known = k }) (record { connection = e; target = t; known = m }) silent answered v
+  IsServed-end contents old mid new (talking new_connection d k) (talking e t m) silent answered v
       (subst (λ j. Consumes mid new (take j buffer)) none read),
   inr (inl (ends none some)),
 )

@@ -1,17 +1,13 @@
 -- What gdb finds: a target over a machine, over which a script was carried out first (own profile).
-use Rattle.std.specs.Prelude.{◌≡◌, ℕ, IfSome, List, [], None, Option}
+use Rattle.std.specs.Prelude.{◌≡◌, ℕ, IfSome, List, Option}
 use Rattle.std.specs.Io.KnownBytes.{Appends}
 use Rattle.s360_machine.specs.Machine.{Whole}
 use Rattle.s360_journal.specs.Calls.{new_session}
 use Rattle.s360_journal.specs.Recorded.{Recorded}
 use Rattle.s360_debug.specs.Script.{answers_of, session_after}
-use Rattle.s360_remote.specs.Driven.{Driven, nothing_untold}
+use Rattle.s360_remote.specs.Driven.{Driven, new_target}
 use Rattle.s360gdb.specs.Conversation.{IsServedWhole}
 use Rattle.s360gdb.specs.Saving.{Known}
-
--- a recording as a target that nobody has asked anything of
-abbrev pub new_target : Recorded → Driven
-new_target recorded = record { recorded = recorded; points = record { breaks = []; conditional = []; watches = [] }; own = []; stood = None; untold = nothing_untold }
 
 -- a script of this text, where it is known, was carried out over a machine, and its answers are noted
 pub record IsFound (start : Whole) (script : Option (List ℕ)) (k l : Known) (recorded : Recorded) : Type 0 where
@@ -20,7 +16,8 @@ pub record IsFound (start : Whole) (script : Option (List ℕ)) (k l : Known) (r
   pub asked : l.asked ≡ k.asked
 
 -- and gdb is served over what stands then
-abbrev pub IsServedAfter : {F : Type 0} → (F → Option (List ℕ)) → Whole → Option (List ℕ) → Known → Known → Option (List ℕ) → Option (List ℕ) → Option (List ℕ) → Option (List ℕ) → Type 0
+abbrev pub IsServedAfter : {F : Type 0} → (F → Option (List ℕ)) → Whole → Option (List ℕ) → Known → Known
+    → Option (List ℕ) → Option (List ℕ) → Option (List ℕ) → Option (List ℕ) → Type 0
 IsServedAfter contents start script k m old new silent answered =
     (recorded : Recorded) × (l : Known) × (e : Driven)
     × IsFound start script k l recorded × IsServedWhole contents old new (new_target recorded) l e m silent answered

@@ -1,16 +1,10 @@
 -- What gdb sends byte by byte, and what it is answered (gdb manual, "Remote Serial Protocol", "Overview").
 use Rattle.std.specs.Prelude.{◌≡◌, ◌≤◌, ◌⊎◌, ℕ, true, false, List, [], ◌∷◌, ◌++◌, length, Option}
 use Rattle.std.specs.Io.KnownBytes.{Appends, Consumes, IsAtEnd}
-use Rattle.s360_packet.specs.Receiving.{between_packets}
-use Rattle.s360_packet.specs.declared.receiver.Acknowledging.TheVariants.{On}
-use Rattle.s360_remote.specs.Connecting.{Connected, IsTaken}
+use Rattle.s360_remote.specs.Connecting.{Connected, IsTaken, new_connection}
 use Rattle.s360_remote.specs.Driven.{Driven}
 use Rattle.s360_remote.specs.declared.errand.Errand.{Errand}
-use Rattle.s360gdb.specs.Saving.{IsRun, Known}
-
--- nothing has come
-abbrev pub new_connection : Connected
-new_connection = record { receiving = between_packets 16384; acknowledging = On; extended = false; interrupted = false; ended = false }
+use Rattle.s360gdb.specs.Saving.{Runs, Known}
 
 -- how far a conversation is: its connection and its target, and what is known of the program's host
 pub record Talking : Type 0 where
@@ -18,13 +12,16 @@ pub record Talking : Type 0 where
   pub target : Driven
   pub known : Known
 
+abbrev pub talking : Connected → Driven → Known → Talking
+talking connection target known = record { connection = connection; target = target; known = known }
+
 -- a byte came, was answered, and what was left to do is done and answered too; files of the host have these contents, as far as
 -- they are known
 abbrev pub IsTalk : {F : Type 0} → (F → Option (List ℕ)) → ℕ → Talking → Talking → List ℕ → Type 0
 IsTalk contents byte s t answers =
     (errand : Errand) × (first : List ℕ) × (second : List ℕ)
     × IsTaken s.connection.ended byte s.connection s.target t.connection t.target errand first
-    × IsRun contents errand s.known t.known second × (answers ≡ first ++ second)
+    × Runs contents errand s.known t.known second × (answers ≡ first ++ second)
 
 -- bytes came one after another, and were answered so
 abbrev pub IsConversation : {F : Type 0} → (F → Option (List ℕ)) → List ℕ → Talking → Talking → List ℕ → Type 0
@@ -49,8 +46,9 @@ pub record IsServed {F : Type 0} (contents : F → Option (List ℕ)) (old new :
   pub written : Appends silent answered (first ++ rest)
 
 -- until gdb has left, or the reader has no more, or more was read than a file can have
-abbrev pub IsServedWhole : {F : Type 0} → (F → Option (List ℕ)) → Option (List ℕ) → Option (List ℕ) → Driven → Known → Driven → Known → Option (List ℕ) → Option (List ℕ) → Type 0
+abbrev pub IsServedWhole : {F : Type 0} → (F → Option (List ℕ)) → Option (List ℕ) → Option (List ℕ)
+    → Driven → Known → Driven → Known → Option (List ℕ) → Option (List ℕ) → Type 0
 IsServedWhole contents old new d k e l silent answered =
     (c : Connected)
-    × (s : IsServed contents old new (record { connection = new_connection; target = d; known = k }) (record { connection = c; target = e; known = l }) silent answered)
+    × (s : IsServed contents old new (talking new_connection d k) (talking c e l) silent answered)
     × ((c.ended ≡ true) ⊎ (IsAtEnd new ⊎ (18446744073709551615 ≤ length (s.before ++ s.last))))

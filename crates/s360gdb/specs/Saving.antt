@@ -27,12 +27,12 @@ pub record Known : Type 0 where
   pub noted : Option (List ℕ)
   pub asked : Option (List Asked)
 
-abbrev pub known_of : {F N : Type 0} → (F → Option (List Asked)) → (N → Option (List ℕ)) → Host F N → Known
-known_of asked contents host = record { noted = contents host.notes; asked = asked host.files }
+abbrev pub known : {F N : Type 0} → (F → Option (List Asked)) → (N → Option (List ℕ)) → Host F N → Known
+known asked contents host = record { noted = contents host.notes; asked = asked host.files }
 
 -- what was left to do is done, and answered as it ended
-abbrev pub IsRun : {F : Type 0} → (F → Option (List ℕ)) → Errand → Known → Known → List ℕ → Type 0
-IsRun contents Nothing k l answers = (l ≡ k) × (answers ≡ [])
-IsRun contents (TellDropped count) k l answers = IsBegun k.noted l.noted (note_of_dropped count) × (l.asked ≡ k.asked) × (answers ≡ [])
-IsRun contents (Write file) k l answers =
+abbrev pub Runs : {F : Type 0} → (F → Option (List ℕ)) → Errand → Known → Known → List ℕ → Type 0
+Runs contents Nothing k l answers = (l ≡ k) × (answers ≡ [])
+Runs contents (TellDropped count) k l answers = IsBegun k.noted l.noted (note_of_dropped count) × (l.asked ≡ k.asked) × (answers ≡ [])
+Runs contents (Write file) k l answers =
     (outcome : Result ⊤ SaveFault) × IsSaved contents k.asked l.asked file outcome × (l.noted ≡ k.noted) × IsWrittenTold file.amount outcome answers

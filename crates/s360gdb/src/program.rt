@@ -1,14 +1,15 @@
 //! What the program does once its command line is read. Faults are found in the order of the steps.
-ghost use Rattle.std.specs.Prelude.{◌≡◌, ◌++◌, ℕ, List, true, false, IfErr, IfOk, OnOk, Err};
+ghost use Rattle.std.specs.Prelude.{◌≡◌, true, false, IfErr, IfOk, OnOk, Err};
 ghost use Rattle.std.specs.Io.KnownBytes.{Appends};
 ghost use Rattle.s360_model.specs.Storage.{is_storage_size};
+ghost use Rattle.s360_remote.specs.Replies.{Adds};
 ghost use Rattle.s360_setup.specs.Failures.{IsScriptFailure};
 ghost use Rattle.s360_setup.specs.Partial.{IsBegun};
 ghost use Rattle.s360gdb.specs.Beginning.{IsServedAfter};
-ghost use Rattle.s360gdb.specs.Conversation.{IsConversation, IsServedWhole};
+ghost use Rattle.s360gdb.specs.Conversation.{IsConversation, IsServedWhole, talking};
 ghost use Rattle.s360gdb.specs.Failures.{IsServingFailure, IsRunFailure, IsServingAfterFailure};
 ghost use Rattle.s360gdb.specs.Notes.{note_of_dropped};
-ghost use Rattle.s360gdb.specs.Saving.{IsRun, known_of};
+ghost use Rattle.s360gdb.specs.Saving.{Runs, known};
 ghost use Rattle.s360_setup.specs.declared.failure.Failure.TheVariants.{Memory, StorageSize};
 
 use crate::file::write_file;
@@ -67,7 +68,9 @@ fn serve_after_script<F: Opening + Drop, N: Write + Drop, S: Read, R: Read, W: W
     reader: &mut R,
     writer: &mut W,
 ) -> Result<Host<F, N>, Failure>
-    ensures served { IfOk result (λ after. IsServedAfter F.File.contents machine.whole (S.remaining script.old) (known_of F.asked N.contents host) (known_of F.asked N.contents after) (R.remaining reader.old) (R.remaining reader.new) (W.contents writer.old) (W.contents writer.new)) }
+    ensures served { IfOk result (λ after. IsServedAfter F.File.contents machine.whole (S.remaining script.old)
+        (known F.asked N.contents host) (known F.asked N.contents after)
+        (R.remaining reader.old) (R.remaining reader.new) (W.contents writer.old) (W.contents writer.new)) }
     ensures failure { IfErr result IsServingAfterFailure }
 {
     let Host {
@@ -95,7 +98,9 @@ fn serve<F: Opening, N: Write, R: Read, W: Write>(
     reader: &mut R,
     writer: &mut W,
 ) -> Result<(), Failure>
-    ensures served { OnOk result (IsServedWhole F.File.contents (R.remaining reader.old) (R.remaining reader.new) target.old (known_of F.asked N.contents host.old) target.new (known_of F.asked N.contents host.new) (W.contents writer.old) (W.contents writer.new)) }
+    ensures served { OnOk result (IsServedWhole F.File.contents (R.remaining reader.old) (R.remaining reader.new)
+        target.old (known F.asked N.contents host.old) target.new (known F.asked N.contents host.new)
+        (W.contents writer.old) (W.contents writer.new)) }
     ensures failure { IfErr result IsServingFailure }
 {
     let mut connection = Connection::new(host.alloc)?;
@@ -131,7 +136,9 @@ fn take_all<F: Opening, N: Write>(
     replies: &mut Text,
     bytes: &[u8],
 ) -> Result<(), Failure>
-    ensures answered { OnOk result ((answers : List ℕ) × IsConversation F.File.contents bytes.now (record { connection = connection.old; target = target.old; known = known_of F.asked N.contents host.old }) (record { connection = connection.new; target = target.new; known = known_of F.asked N.contents host.new }) answers × (replies.new ≡ replies.old ++ answers)) }
+    ensures answered { OnOk result (Adds (IsConversation F.File.contents bytes.now
+        (talking connection.old target.old (known F.asked N.contents host.old))
+        (talking connection.new target.new (known F.asked N.contents host.new))) replies.old replies.new) }
     ensures failure { IfErr result (λ failure. failure ≡ Memory) }
 {
     for byte in bytes {
@@ -147,7 +154,7 @@ fn run_errand<F: Opening, N: Write>(
     errand: Errand,
     replies: &mut Text,
 ) -> Result<(), AllocError>
-    ensures { OnOk result ((answers : List ℕ) × IsRun F.File.contents errand (known_of F.asked N.contents host.old) (known_of F.asked N.contents host.new) answers × (replies.new ≡ replies.old ++ answers)) }
+    ensures { OnOk result (Adds (Runs F.File.contents errand (known F.asked N.contents host.old) (known F.asked N.contents host.new)) replies.old replies.new) }
 {
     match errand {
         Errand::Nothing => Ok(()),

@@ -1,9 +1,9 @@
-use Rattle.std.proofs.Common.{◌≡◌, ◌<◌, ◌∙◌, [], ◌∷◌, sym, ap, map, length, get_or, set, arith}
+use Rattle.std.proofs.Common.{◌≡◌, ◌<◌, ◌∙◌, [], ◌∷◌, sym, ap, refl, map, length, get_or, set, arith}
 use Rattle.std.proofs.lemmas.Result.{on_ok_weaker, on_err_weaker}
 use Rattle.s360_store.specs.Spans.{byte_places, places_of_span}
 use Rattle.s360_store.specs.declared.place.Place.TheVariants.{Register}
 use Rattle.s360_index.specs.Numbers.{with_number}
-use Rattle.s360_index.proofs.HistoryLemmas.{Changes-other, Changes-register, Gains-bytes, Gains-one, Gains-span, GainsInPart-bytes, GainsInPart-none, GainsInPart-span, IsOther, IsOther-default, IsOther-register, Keeps-register, seen}
+use Rattle.s360_index.proofs.HistoryLemmas.{Changes-other, Changes-register, Gains-bytes, Gains-one, Gains-span, GainsInPart-bytes, GainsInPart-none, GainsInPart-span, IsOther, IsOther-default, IsOther-register, Keeps-other, Keeps-register, seen}
 use Rattle.s360_index.proofs.index.Index.put.Goals.{in_default-via-in-Register+else-from-lt16, in_default-via-in_default}
 use Rattle.s360_index.proofs.index.Index.put.Goals as goal
 
@@ -87,3 +87,13 @@ returns-in_default-clause-ok c =
     (Gains-one c.args.number c.in-Place.place (seen i.psw.items i.registers i.bytes i.others.entries) (seen i.psw.items i.registers i.bytes c.put_other.new.others.entries)
     (Changes-other (with_number c.args.number) i.psw.items i.registers i.bytes i.others.entries c.put_other.new.others.entries c.in-Place.place other (rw same at put))))
     c.put_other.ensures.ok
+
+pub returns-in_default-clause-err : goal.returns-in_default-clause-err
+returns-in_default-clause-err c =
+    let i = c.self.inside
+    in on_err_weaker c.put_other.result
+    (λ kept. GainsInPart-span c.args.number c.args.span (places_of_span c.args.span) (seen i.psw.items i.registers i.bytes i.others.entries) c.args.self.now
+    (seen i.psw.items i.registers i.bytes c.put_other.new.others.entries) refl c.self.view_is
+    (GainsInPart-none c.args.number (places_of_span c.args.span) (seen i.psw.items i.registers i.bytes i.others.entries) (seen i.psw.items i.registers i.bytes c.put_other.new.others.entries)
+    (Keeps-other i.psw.items i.registers i.bytes i.others.entries c.put_other.new.others.entries kept)))
+    c.put_other.ensures.err

@@ -2,10 +2,9 @@ use Rattle.std.proofs.Common.{◌≡◌, ap, subst}
 use Rattle.s360_model.specs.Core.{Core}
 use Rattle.s360_psw.specs.declared.class.Class.TheVariants.{InputOutput}
 use Rattle.s360_psw.specs.declared.instruction_length.InstructionLength.TheVariants.{NotAvailable}
-use Rattle.s360_channel.specs.ConfiguredUnits.{address_of_unit}
+use Rattle.s360_channel.specs.ConfiguredUnits.{address_of_unit, with_control_of}
 use Rattle.s360_channel.specs.declared.io_instructions.CswStore.TheVariants.{Csw as WholeCsw}
 use Rattle.s360_channel.specs.UnitChanges.{IsUnitsChangeTo}
-use Rattle.s360_channel.specs.ConfiguredUnits.{with_control_of}
 use Rattle.s360_channel.specs.declared.units.Units.{Units}
 use Rattle.s360_machine.specs.InputOutput.{core_with_csw}
 use Rattle.s360_machine.specs.Interruptions.{after_interruption}

@@ -1,8 +1,7 @@
 use Rattle.std.proofs.Common.{◌≡◌, ◌+◌, ◌-◌, ◌∙◌, sym, ap, length, take, drop, arith, subst}
 use Rattle.std.proofs.lemmas.List.{length-drop, length-take-le}
 use Rattle.s360_model.specs.Core.{Core, core_with_bytes}
-use Rattle.s360_store.specs.Cells.{after_exchange}
-use Rattle.s360_store.specs.Cells.{byte_cells}
+use Rattle.s360_store.specs.Cells.{after_exchange, byte_cells}
 use Rattle.s360_store.specs.Plans.{HasBytes}
 use Rattle.s360_store.proofs.RunLemmas.{AllFit-run, IsPlanOf-bytes, cells_after_exchange-bytes, run-fits, run-inside}
 use Rattle.s360_store.proofs.core_state.Core.exchange_run.Goals as goal

@@ -1,5 +1,5 @@
 use Rattle.std.proofs.Common.{refl}
-use Rattle.s360_tape.specs.declared.item.Item.TheVariants.{Block}
+use Rattle.s360_tape.specs.declared.item.TapeItem.TheVariants.{Block}
 use Rattle.s360_tape.specs.Tape.{with_item}
 use Rattle.s360_tape.specs.WholeTape.{seen_media}
 use Rattle.s360_tape.proofs.tape.TapeMedia.row_of_command.Goals as goal

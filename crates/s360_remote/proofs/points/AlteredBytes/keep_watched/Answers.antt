@@ -2,7 +2,7 @@ use Rattle.std.proofs.Common.{◌≡◌, ◌∙◌, ap, rules}
 use Rattle.std.specs.List.{filter}
 use Rattle.arrayvec.proofs.ArrayVecLemmas.{filter-from_retain}
 use Rattle.s360_remote.specs.Points.{is_watched}
-use Rattle.s360_remote.proofs.points.Altered.keep_watched.Goals as goal
+use Rattle.s360_remote.proofs.points.AlteredBytes.keep_watched.Goals as goal
 
 pub returns : goal.returns
 returns c =

@@ -1,5 +1,5 @@
 use Rattle.s360_logic.proofs.InstructionLemmas.{PutsInstruction-fetched}
-use Rattle.s360_logic.proofs.cpu.Fetched.put.Goals as goal
+use Rattle.s360_logic.proofs.cpu.FetchedInstruction.put.Goals as goal
 
 pub returns : goal.returns
 returns g c =

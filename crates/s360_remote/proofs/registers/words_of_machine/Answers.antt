@@ -2,7 +2,7 @@ use Rattle.std.proofs.Common.{◌≡◌, ◌+◌, ◌∙◌, ℕ, arith, ap}
 use Rattle.std.specs.Prelude.{slice_index, slice_set}
 use Rattle.s360_remote.proofs.RegisterLemmas.{words-one_more, words_so_far}
 use Rattle.s360_remote.specs.Registers.{address_word_of, mask_word_of}
-use Rattle.s360_remote.proofs.registers.words_of.Goals as goal
+use Rattle.s360_remote.proofs.registers.words_of_machine.Goals as goal
 
 pub loop-number-preserved : goal.loop-number-preserved
 loop-number-preserved c =
