@@ -1,4 +1,4 @@
--- The bytes that the words of an output gather, each word's after those of the words before it.
+-- The bytes that the words of an output gather, each word's after those of the words before it (kept).
 use Rattle.std.specs.Prelude.{ℕ, Option, Some, None, List, [], ◌++◌, ◌+◌, option_copied, reverse}
 use Rattle.s360_channel.specs.declared.gathered.Backward.{Backward}
 use Rattle.s360_channel.specs.declared.gathered.Parts.{Parts, First, After'}

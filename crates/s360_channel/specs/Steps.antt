@@ -1,4 +1,4 @@
--- What the code answers of a channel event: a step, and what is stored; and how they are those of the event's execution.
+-- What the code answers of a channel event: a step, and what is stored; and how they are those of the event's execution (kept).
 use Rattle.std.specs.Prelude.{◌≡◌, ◌<◌, ◌≤◌, ◌+◌, ℕ, IfSome, Option, Some, None, List, [], ◌++◌, length, option_copied, take, unwrap_or}
 use Rattle.s360_model.specs.Core.{Core}
 use Rattle.s360_model.specs.Storage.{Storage}

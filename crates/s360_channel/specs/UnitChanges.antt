@@ -1,5 +1,5 @@
 -- What an event alters of the units: it is exchanged with what stands there, and the same exchange done again takes it
--- back. A change alone tells which units it alters.
+-- back (kept). A change alone tells which units it alters.
 use Rattle.std.specs.Prelude.{◌≡◌, Option, Some, None, List, [], ◌∷◌, map}
 use Rattle.s360_model.specs.Exchanges.{CanIfAny, after_if_any}
 use Rattle.s360_store.specs.declared.place.Place.{Place}

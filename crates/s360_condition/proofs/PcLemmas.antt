@@ -1,9 +1,8 @@
 -- Instructions that are read have the value that the manual's machine finds in their bytes.
-use Rattle.std.proofs.Common.{◌≡◌, ℕ, zero, suc, ◌<◌, ◌≤◌, ◌+◌, ◌⊎◌, inl, inr, ◌∷◌, [], List, Option, Some, None, Result, Ok, Err, Bool, true, false, cond, length, drop, take, slice_index, nat_le, nat_lt, nat_eq, arith, refl, ap, ◌∙◌, sym, add-one}
+use Rattle.std.proofs.Common.{◌≡◌, ℕ, zero, suc, ◌<◌, ◌≤◌, ◌+◌, ◌⊎◌, inl, inr, ◌∷◌, [], List, Option, Some, None, Result, Ok, Err, Bool, true, false, cond, length, drop, take, slice_index, nat_le, nat_lt, nat_eq, arith, refl, ap, ◌∙◌, sym, add-one, drop-drop, length-drop}
 use Rattle.std.proofs.Math.ListN.{drop_of_length-le}
 use Rattle.std.proofs.Math.Seq.{drop-cons}
 use Rattle.std.proofs.lemmas.Bool.{cases_lt, cases_eq, cases_Bool, lt-ltb, le-ltb, leb-true, ne_eqb}
-use Rattle.std.proofs.lemmas.List.{drop-drop, length-drop}
 use Rattle.std.specs.List.{list_any}
 use Rattle.s360_condition.specs.Evaluation.{after_instruction, led_on, onwards, onwards_with, run, value_of}
 use Rattle.s360_condition.specs.Instructions.{jump_of, operand_bytes, instruction_with}

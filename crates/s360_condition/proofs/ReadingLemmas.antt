@@ -1,7 +1,6 @@
 -- The instructions of bytes, one after another.
-use Rattle.std.proofs.Common.{◌≡◌, ℕ, zero, suc, ◌<◌, ◌≤◌, ◌+◌, ◌++◌, ◌∷◌, [], List, Ok, Err, length, drop, slice_index, slice_range, arith, refl, ap, ◌∙◌, sym, append_assoc, add-one}
+use Rattle.std.proofs.Common.{◌≡◌, ℕ, zero, suc, ◌<◌, ◌≤◌, ◌+◌, ◌++◌, ◌∷◌, [], List, Ok, Err, length, drop, slice_index, slice_range, arith, refl, ap, ◌∙◌, sym, append_assoc, add-one, drop-drop, length-drop}
 use Rattle.std.proofs.Math.Seq.{drop-cons, take-length}
-use Rattle.std.proofs.lemmas.List.{drop-drop, length-drop}
 use Rattle.s360_condition.specs.Reading.{Reading, before, instruction_at, instructions_in}
 use Rattle.s360_condition.specs.declared.instruction.Instruction.{Instruction}
 use Rattle.s360_condition.specs.declared.instruction.Placed.{Placed}

@@ -1,7 +1,6 @@
 -- The evaluation of an expression (gdb manual, "The GDB Agent Expression Mechanism", "Bytecode Descriptions"). A stack is
 -- the list of its values, the top first.
-use Rattle.std.specs.Prelude.{◌≡◌, ℕ, nat_eq, nat_le, nat_lt, Bool, true, not, if◌then◌else◌, Ok, Err, List, [], ◌∷◌, length, slice_get}
-use Rattle.std.specs.Option.{ok_or}
+use Rattle.std.specs.Prelude.{◌≡◌, ℕ, nat_eq, nat_le, nat_lt, Bool, true, not, if◌then◌else◌, Ok, Err, List, [], ◌∷◌, length, slice_get, ok_or}
 use Rattle.s360_condition.specs.declared.evaluation.Next.{Next}
 use Rattle.s360_condition.specs.declared.evaluation.Next.TheVariants.{Following, At, Ended}
 use Rattle.s360_condition.specs.declared.fault.EvaluationFault.TheVariants.{StackUnderflow, StackOverflow, NoEnd}

@@ -1,7 +1,5 @@
 -- The instructions of an expression (gdb manual, "The GDB Agent Expression Mechanism", "Bytecode Descriptions").
-use Rattle.std.specs.Prelude.{ℕ, nat_eq, Option, None, Some, List, [], ◌∷◌}
-use Rattle.std.specs.List.{find}
-use Rattle.std.specs.Option.{option_map}
+use Rattle.std.specs.Prelude.{ℕ, nat_eq, Option, None, Some, List, [], ◌∷◌, find, option_map}
 use Rattle.s360_condition.specs.declared.instruction.Binary.TheVariants.{Add, Sub, Mul, DivSigned, DivUnsigned, RemSigned, RemUnsigned, Lsh, RshSigned}
 use Rattle.s360_condition.specs.declared.instruction.Binary.TheVariants.{RshUnsigned, BitAnd, BitOr, BitXor, Equal, LessSigned, LessUnsigned}
 use Rattle.s360_condition.specs.declared.instruction.Unary.TheVariants.{LogNot, BitNot, Ext, ZeroExt}

@@ -1,7 +1,6 @@
 -- What an expression reads of a target (gdb manual, "The GDB Agent Expression Mechanism", "Bytecode Descriptions", `reg`
 -- and `ref8` to `ref64`).
-use Rattle.std.specs.Prelude.{ℕ, ◌+◌, ◌^◌, nat_le, nat_lt, ◌&&◌, if◌then◌else◌, Ok, Err, List, length, slice_get, slice_range}
-use Rattle.std.specs.Option.{ok_or}
+use Rattle.std.specs.Prelude.{ℕ, ◌+◌, ◌^◌, nat_le, nat_lt, ◌&&◌, if◌then◌else◌, Ok, Err, List, length, slice_get, slice_range, ok_or}
 use Rattle.s360_condition.specs.declared.fault.EvaluationFault.TheVariants.{NoSuchRegister, OutsideStorage}
 use Rattle.s360_condition.specs.Reading.{big_endian}
 use Rattle.s360_condition.specs.Values.{Evaluated}

@@ -1,5 +1,5 @@
 -- What a command or the operator does to a device: the sense bytes, and what is done to its media, if anything, are
--- exchanged with it.
+-- exchanged with it (kept).
 use Rattle.std.specs.Prelude.{◌≡◌, ℕ, Bool}
 use Rattle.s360_model.specs.Exchanges.{CanIfAny, after_if_any, back_if_any, need_if_any}
 use Rattle.s360_device.specs.declared.device_with.DeviceChange.{DeviceChange}

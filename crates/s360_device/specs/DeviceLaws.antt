@@ -1,4 +1,4 @@
--- The exchange of a device with a change, done twice.
+-- The exchange of a device with a change, done twice (kept).
 use Rattle.std.proofs.Common.{◌≡◌, ◌∙◌, ℕ, ap}
 use Rattle.std.specs.Prelude.{Option}
 use Rattle.s360_model.specs.ExchangeLaws.{CanIfAny-again, after_if_any-twice, back_if_any-twice}

@@ -1,4 +1,4 @@
--- What the code says of a row, by the row of the table.
+-- What the code says of a row, by the row of the table (kept).
 use Rattle.std.specs.Prelude.{◌≡◌, ℕ, Bool, true, false, List, Option, reverse}
 use Rattle.s360_device.specs.declared.row.Given.{Given}
 use Rattle.s360_device.specs.declared.row.Row.{Row as Said}

@@ -1,5 +1,5 @@
 -- A kind of media: how they are seen, the rows of their commands, and their exchange with a change, which the same
--- exchange done again takes back.
+-- exchange done again takes back (kept).
 use Rattle.std.specs.Prelude.{◌≡◌, ◌-◌, ℕ, Option, IfSome, Vec, vec_capacity, vec_len}
 use Rattle.s360_model.specs.Exchanges.{CanIfAny, after_if_any, back_if_any, need_if_any}
 use Rattle.s360_device.specs.Rows.{Table}

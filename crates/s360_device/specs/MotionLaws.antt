@@ -1,4 +1,4 @@
--- A motion and what takes it back.
+-- A motion and what takes it back (kept).
 use Rattle.std.proofs.Common.{◌≡◌, ◌<◌, ◌+◌, ◌-◌, ◌++◌, ◌∷◌, ℕ, List, [], length, take, refl, arith, length-append}
 use Rattle.std.specs.Prelude.{slice_get, Some, get_or}
 use Rattle.std.proofs.lemmas.List.{take_at, get_or_at, take_more, take_all}

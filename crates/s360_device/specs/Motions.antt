@@ -1,4 +1,4 @@
--- What is done at the end of a list, and taken back: an item is put there, or the last one is taken.
+-- What is done at the end of a list, and taken back: an item is put there, or the last one is taken (kept).
 use Rattle.std.specs.Prelude.{ℕ, ◌-◌, ◌<◌, List, [], ◌∷◌, ◌++◌, length, take, slice_get}
 use Rattle.std.specs.Option.{option_map_or}
 use Rattle.s360_device.specs.declared.motion.Motion.{Motion}

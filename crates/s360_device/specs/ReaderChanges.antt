@@ -1,4 +1,4 @@
--- What a command or the operator does to the reader's media, exchanged with them.
+-- What a command or the operator does to the reader's media, exchanged with them (kept).
 use Rattle.std.specs.Prelude.{Option, Some, None}
 use Rattle.s360_device.specs.declared.card.ReadStacker.{ReadStacker}
 use Rattle.s360_device.specs.declared.reader_change.ReaderChange.{ReaderChange}

@@ -1,4 +1,4 @@
--- The exchange of the reader's media with a change, done twice.
+-- The exchange of the reader's media with a change, done twice (kept).
 use Rattle.std.proofs.Common.{List, ap}
 use Rattle.s360_device.specs.declared.card.ReadStacker.{ReadStacker}
 use Rattle.s360_device.specs.declared.motion.Motion.{Motion}

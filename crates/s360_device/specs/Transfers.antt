@@ -1,6 +1,5 @@
 -- What passes between a device and a channel, by how a command begins.
-use Rattle.std.specs.Prelude.{◌≡◌, ◌≤◌, ℕ, Bool, List, [], length}
-use Rattle.std.specs.Bool.{MatchBool}
+use Rattle.std.specs.Prelude.{◌≡◌, ◌≤◌, ℕ, Bool, List, [], length, MatchBool}
 use Rattle.s360_device.specs.declared.device.Begin.{Begin}
 use Rattle.s360_device.specs.declared.device.Begin.TheVariants.{Input, Output, NotYet}
 use Rattle.s360_device.specs.Rows.{Row, output}

@@ -1,4 +1,4 @@
--- What the puts of an instruction, and its plan, say of its outcome.
+-- What the puts of an instruction, and its plan, say of its outcome (kept).
 use Rattle.std.specs.Prelude.{◌≡◌, ◌≤◌, ℕ, ◌+◌, ◌*◌, nat_lt, if◌then◌else◌}
 use Rattle.std.specs.Prelude.{Option, None, Some, List, [], ◌∷◌, ◌++◌, length}
 use Rattle.s360_model.specs.Core.{Core, core_with_word}

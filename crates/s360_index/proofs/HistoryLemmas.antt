@@ -1,16 +1,13 @@
 -- The numbers of each place.
 use denote.Param.Members.{Mut, Called}
-use Rattle.std.proofs.Common.{◌≡◌, ◌≢◌, ◌<◌, ◌≤◌, ◌+◌, ◌||◌, ℕ, zero, suc, Bool, true, false, cond, eqb, eqb-true, List, [], ◌∷◌, length, get_or, set, Option, Some, None, Vec, refl, ap, sym, subst, inl, inr, ◌∙◌, map, arith}
+use Rattle.std.proofs.Common.{◌≡◌, ◌≢◌, ◌<◌, ◌≤◌, ◌+◌, ◌||◌, ℕ, zero, suc, Bool, true, false, cond, eqb, eqb-true, List, [], ◌∷◌, length, get_or, set, Option, Some, None, Vec, refl, ap, sym, subst, inl, inr, ◌∙◌, map, arith, option_map, Ordering, Less, Equal, Greater}
 use Rattle.std.proofs.Math.ListN.{get_or-map}
 use Rattle.std.proofs.lemmas.Bool.Decides.{eqb_tells}
 use Rattle.std.proofs.lemmas.List.FromFn.{length-range_with_len}
 use Rattle.std.proofs.lemmas.Option.{get_or_from_slice_get, slice_get-get_or, slice_get-map, slice_get_past, slice_get_within}
 use Rattle.std.specs.Array.{IsFromFnResultFrom}
 use Rattle.std.specs.List.{AllZip, range_with_len, slice_get}
-use Rattle.std.specs.Option.{option_map}
 use Rattle.std.specs.Ordering.{is_eq, match_ordering}
-use Rattle.std.specs.declared.cmp.Ordering.{Ordering}
-use Rattle.std.specs.declared.cmp.Ordering.TheVariants.{Less, Equal, Greater}
 use Rattle.std.specs.BTreeMap.{insert_entry, is_at}
 use Rattle.std.specs.Map.{lookup, set_value}
 use Rattle.s360_index.proofs.SegmentLemmas.{slice_get-set_at, slice_get-set_other}

@@ -1,4 +1,4 @@
--- Lists of numbers of changes.
+-- Lists of numbers of changes (kept).
 use Rattle.std.specs.Prelude.{◌≡◌, ◌-◌, ◌++◌, ◌⊎◌, ℕ, Bool, false, nat_eq, if◌then◌else◌, Option, Some, None, List, [], ◌∷◌, length, slice_get, take}
 
 -- the number is there, and it is this one

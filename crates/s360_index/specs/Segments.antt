@@ -1,4 +1,4 @@
--- The bytes of storage in segments: those of one were altered by the same changes.
+-- The bytes of storage in segments: those of one were altered by the same changes (kept).
 use Rattle.std.specs.Prelude.{◌≡◌, ◌<◌, ◌≤◌, ◌⊎◌, ℕ, Bool, true, false, ◌&&◌, if◌then◌else◌, nat_le, nat_lt}
 use Rattle.std.specs.Prelude.{Option, Some, None, List, [], length, slice_get, slice_index_or}
 use Rattle.s360_index.specs.Numbers.{MayGain, MayLose, with_number, without_number}

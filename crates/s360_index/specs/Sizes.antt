@@ -1,4 +1,4 @@
--- Places that some machine has: no storage has more than 1,048,576 bytes.
+-- Places that some machine has: no storage has more than 1,048,576 bytes (kept).
 use Rattle.std.specs.Prelude.{◌<◌, ◌≤◌, ◌+◌, List, [], ◌∷◌}
 use Rattle.s360_store.specs.declared.place.Place.{Place}
 use Rattle.s360_store.specs.declared.place.Place.TheVariants.{Byte}

@@ -1,4 +1,4 @@
--- What the parts of an index are seen as.
+-- What the parts of an index are seen as (kept).
 use Rattle.std.specs.Prelude.{ℕ, List, Vec, map, slice_get}
 use Rattle.std.specs.BTreeMap.{BTreeMap}
 use Rattle.s360_store.specs.declared.place.Place.{Place}

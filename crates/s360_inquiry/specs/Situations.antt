@@ -18,8 +18,8 @@ use Rattle.s360_inquiry.specs.Happenings.{cpu_words}
 -- a unit by its address: what the channel does for it, and its device
 abbrev pub unit_and_device : Machine → ConfiguredUnit → List ℕ
 unit_and_device m u =
-    hex_text 3 (address_of_unit u) ++ value_words m (unit_state (record { 0 = address_of_unit u })) ++ value_words m (UnitMedia (record { 0 = address_of_unit u }))
-    ++ codes "\n"
+    hex_text 3 (address_of_unit u) ++ value_words m (unit_state (record { 0 = address_of_unit u }))
+    ++ value_words m (UnitMedia (record { 0 = address_of_unit u })) ++ codes "\n"
 
 abbrev pub units_text : Machine → List ℕ
 units_text m = flat_map (unit_and_device m) configured_units

@@ -1,4 +1,4 @@
--- An event leads from one machine with its changes to another.
+-- An event leads from one machine with its changes to another (kept).
 use Rattle.std.specs.Prelude.{◌≡◌, ◌-◌, ◌++◌, List, [], ◌∷◌, Ok, IfSome, length, reverse, slice_get, slice_set}
 use Rattle.s360_machine.specs.declared.event.Event.{Event}
 use Rattle.s360_machine.specs.Change.{Change, change_after_swap}

@@ -1,4 +1,4 @@
--- Events in a byte each, with what some of them carry in lists apart. In all three lists the one that is nearest to the present
+-- Events in a byte each, with what some of them carry in lists apart (kept). In all three lists the one that is nearest to the present
 -- comes first.
 use Rattle.std.specs.Prelude.{◌≡◌, true, List, [], ◌∷◌, reverse}
 use Rattle.s360_word.specs.declared.unit.Unit.{Unit as UnitAddress}

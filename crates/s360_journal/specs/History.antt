@@ -1,4 +1,4 @@
--- What the changes of the journal say of the whole machine, the newest of them first.
+-- What the changes of the journal say of the whole machine, the newest of them first (kept).
 use Rattle.std.specs.Prelude.{◌≡◌, List, [], ◌∷◌, Ok, length, reverse}
 use Rattle.s360_machine.specs.declared.event.Event.{Event}
 use Rattle.s360_machine.specs.Machine.{Whole, seen}

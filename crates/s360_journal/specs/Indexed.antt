@@ -1,4 +1,4 @@
--- The changes that alter a place, by their numbers.
+-- The changes that alter a place, by their numbers (kept).
 use Rattle.std.specs.Bool.{MatchBool}
 use Rattle.std.specs.Prelude.{◌≡◌, ◌+◌, ℕ, if◌then◌else◌, List, [], ◌∷◌, length}
 use Rattle.s360_store.specs.declared.place.Place.{Place}

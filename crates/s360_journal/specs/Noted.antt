@@ -1,4 +1,4 @@
--- An event as it was recorded.
+-- An event as it was recorded (kept).
 use Rattle.std.specs.Option.{option_map}
 use Rattle.std.specs.Prelude.{Option, Some, None}
 use Rattle.s360_word.specs.declared.unit.Unit.{Unit as UnitAddress}

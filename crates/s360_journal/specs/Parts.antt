@@ -1,4 +1,4 @@
--- A list in two parts: the items that stand, the newest first, and those that come next.
+-- A list in two parts: the items that stand, the newest first, and those that come next (kept).
 use Rattle.std.specs.Prelude.{ℕ, ◌-◌, List, length}
 
 -- the parts, and how many items there is memory for

@@ -1,4 +1,4 @@
--- The places of a report, as spans.
+-- The places of a report, as spans (kept).
 use Rattle.std.specs.Prelude.{◌≡◌, ℕ, List, length}
 use Rattle.s360_store.specs.declared.span.Span.{Span}
 use Rattle.s360_store.specs.Spans.{AreSpans, places_of_spans}

@@ -1,5 +1,6 @@
 -- What a session is seen as: the events that were recorded, of which the first ones stand.
-use Rattle.std.specs.Prelude.{◌≡◌, ◌≤◌, ℕ, ◌+◌, ◌-◌, ◌++◌, if◌then◌else◌, List, [], ◌∷◌, take, drop, length, slice_get, ⊤, Option, Some, None, MatchOption, Result, Err, IsOkUnless, OnErr, OnOk}
+use Rattle.std.specs.Prelude.{◌≡◌, ◌≤◌, ℕ, ◌+◌, ◌-◌, ◌++◌, if◌then◌else◌, List, [], ◌∷◌, take, drop, length, slice_get, ⊤, Option, Some, None}
+use Rattle.std.specs.Prelude.{MatchOption, Result, Err, IsOkUnless, OnErr, OnOk}
 use Rattle.s360_machine.specs.declared.event.Event.{Event}
 use Rattle.s360_machine.specs.Machine.{Whole, seen, storage_size}
 use Rattle.s360_machine.specs.declared.refusal.Refusal.{Refusal}

@@ -1,4 +1,4 @@
--- Whether events are the same, with all that they carry.
+-- Whether events are the same, with all that they carry (kept).
 use Rattle.std.specs.Prelude.{Bool, true, false, ◌&&◌, nat_eq}
 use Rattle.std.specs.Bool.{beq}
 use Rattle.std.specs.Str.{bytes_eq}

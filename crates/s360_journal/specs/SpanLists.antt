@@ -1,4 +1,4 @@
--- Spans as a report keeps them.
+-- Spans as a report keeps them (kept).
 use Rattle.std.specs.Prelude.{List}
 use Rattle.s360_store.specs.declared.span.Span.{Span}
 use Rattle.s360_machine.specs.ChangeSpans.{spans_within}

@@ -1,4 +1,4 @@
--- Events that were recorded: those that stand, and the rest, with memory for some more.
+-- Events that were recorded: those that stand, and the rest, with memory for some more (kept).
 use Rattle.std.specs.Option.{option_map_or}
 use Rattle.std.specs.Prelude.{◌≡◌, ◌<◌, ◌++◌, ℕ, Bool, true, false, if◌then◌else◌, List, [], ◌∷◌, drop, length, slice_get}
 use Rattle.s360_machine.specs.declared.event.Event.{Event}

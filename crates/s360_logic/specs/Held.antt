@@ -1,5 +1,5 @@
 -- The bytes of a result from right to left, each made of the storage as it is and of one byte that is held
--- from those before it (ours). `made_byte` says which byte each has to be.
+-- from those before it (kept). `made_byte` says which byte each has to be.
 use Rattle.std.specs.Prelude.{ℕ, ◌+◌, ◌-◌, ◌*◌, ◌/◌, ◌%◌, nat_eq, if◌then◌else◌}
 use Rattle.s360_model.specs.Storage.{Storage}
 use Rattle.s360_logic.specs.declared.field.Field.{Field}

@@ -1,4 +1,4 @@
--- What is stored of an instruction so far: storage of which the bytes of the first operand are others.
+-- What is stored of an instruction so far: storage of which the bytes of the first operand are others (kept).
 use Rattle.std.specs.Prelude.{◌≤◌, ◌+◌, ◌⊎◌, ℕ, List, length}
 use Rattle.s360_model.specs.Storage.{Storage, with_run}
 use Rattle.s360_logic.specs.declared.field.Field.{Field}

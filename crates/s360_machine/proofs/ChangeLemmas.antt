@@ -1,6 +1,5 @@
 -- Changes of the whole machine.
-use Rattle.std.proofs.Common.{◌≡◌, List, [], arith, refl, subst, true}
-use Rattle.std.specs.Prelude.{Option, Some, None}
+use Rattle.std.proofs.Common.{◌≡◌, List, [], arith, refl, subst, true, Option, Some, None}
 use Rattle.s360_model.specs.Core.{Core}
 use Rattle.s360_model.specs.Exchanges.{need_if_any}
 use Rattle.s360_store.specs.declared.place.Cell.{Cell}

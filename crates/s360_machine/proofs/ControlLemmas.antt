@@ -1,8 +1,7 @@
 -- An exchange of control cells done twice restores the control part and the cells.
 use Rattle.std.proofs.Common.{◌≡◌, ◌≢◌, List, [], ◌∷◌, refl, ap, sym, ◌∙◌}
 use Rattle.s360_store.specs.declared.place.Place.{Place}
-use Rattle.s360_machine.specs.ControlCells.{ControlCell, run, external, place_of_control, places_of_control, with_control, control_at, control_after_exchange}
-use Rattle.s360_machine.specs.ControlCells.{control_cells_after_exchange, IsFreshControl, HasEachControlOnce}
+use Rattle.s360_machine.specs.ControlCells.{ControlCell, run, external, place_of_control, places_of_control, with_control, control_at, control_after_exchange, control_cells_after_exchange, IsFreshControl, HasEachControlOnce}
 use Rattle.s360_machine.specs.Machine.{Control}
 
 -- the laws of one exchange

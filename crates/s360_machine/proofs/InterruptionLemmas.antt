@@ -1,6 +1,5 @@
 -- The puts of an interruption.
-use Rattle.std.proofs.Common.{◌≡◌, ◌≤◌, ◌+◌, ◌-◌, ◌++◌, ℕ, zero, suc, List, refl, ap, arith, sym, ◌∙◌, drop, length, take, slice_index}
-use Rattle.std.proofs.lemmas.List.{append_assoc, drop-drop, drop_at, get_or-drop, length-append, length-take-le, take-take, take_at}
+use Rattle.std.proofs.Common.{◌≡◌, ◌≤◌, ◌+◌, ◌-◌, ◌++◌, ℕ, zero, suc, List, refl, ap, arith, sym, ◌∙◌, drop, length, take, slice_index, append_assoc, drop-drop, drop_at, get_or-drop, length-append, length-take-le, take-take, take_at}
 use Rattle.std.specs.Int.{bytes_high_first}
 use Rattle.s360_model.specs.Core.{Core, core_with_bytes, core_with_psw}
 use Rattle.s360_model.specs.Psw.{current_psw, stored_psw}

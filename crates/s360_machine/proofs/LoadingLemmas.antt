@@ -1,7 +1,6 @@
 -- The end of initial program loading.
-use Rattle.std.proofs.Common.{◌≡◌, ◌<◌, ◌≤◌, ◌+◌, ◌-◌, ◌∙◌, ◌⊎◌, ℕ, List, ap, arith, drop, get_or, inl, inr, length, refl, set-set, sym, take}
+use Rattle.std.proofs.Common.{◌≡◌, ◌<◌, ◌≤◌, ◌+◌, ◌-◌, ◌∙◌, ◌⊎◌, ℕ, List, ap, arith, drop, get_or, inl, inr, length, refl, set-set, sym, take, IfSome, Option, Some, None, if◌then◌else◌, nat_lt}
 use Rattle.std.specs.Int.{bytes_high_first}
-use Rattle.std.specs.Prelude.{IfSome, Option, Some, None, if◌then◌else◌, nat_lt}
 use Rattle.std.proofs.lemmas.Bool.{cases_lt, le-ltb, lt-ltb}
 use Rattle.std.proofs.lemmas.List.{get_or-drop, get_or-take, get_or_default, length-drop, length-take, same_lists}
 use Rattle.s360_model.specs.Core.{Core, core_with_bytes, core_with_psw}

@@ -1,8 +1,6 @@
 -- Changes in rows, with lists of what stands apart.
-use Rattle.std.proofs.Common.{subst, ◌≡◌, ◌<◌, ◌≤◌, ◌+◌, ◌-◌, ◌^◌, ◌++◌, ◌∙◌, ℕ, zero, suc, List, [], ◌∷◌, refl, ap, sym, take, drop, set, get_or, length, reverse, arith, Some, None, append-nil, Option, Bool, true, false}
+use Rattle.std.proofs.Common.{subst, ◌≡◌, ◌<◌, ◌≤◌, ◌+◌, ◌-◌, ◌^◌, ◌++◌, ◌∙◌, ℕ, zero, suc, List, [], ◌∷◌, refl, ap, sym, take, drop, set, get_or, length, reverse, arith, Some, None, append-nil, Option, Bool, true, false, slice_get, IfSome}
 use Rattle.std.proofs.lemmas.List.{append_assoc, drop-append-le, drop-drop, drop-take, drop_all, drop_at, length-append, length-drop, length-reverse, length-take-le, reverse-append, take-append-drop, take-take, take_all, take_at, take_more}
-use Rattle.std.specs.List.{slice_get}
-use Rattle.std.specs.Prelude.{IfSome}
 use Rattle.s360_machine.specs.declared.packed.End.{End}
 use Rattle.s360_machine.specs.declared.row.Row.{Row}
 use Rattle.s360_machine.specs.declared.row.Row.TheVariants.{Nothing, Psw, Register, Bytes, More}

@@ -1,7 +1,5 @@
 -- A channel event of a unit.
-use Rattle.std.proofs.Common.{◌≡◌, ◌∙◌, Bool, true, false, refl, ap, subst, sym, if◌then◌else◌}
-use Rattle.std.specs.Option.{option_map}
-use Rattle.std.specs.Prelude.{Option, Some, None}
+use Rattle.std.proofs.Common.{◌≡◌, ◌∙◌, Bool, true, false, refl, ap, subst, sym, if◌then◌else◌, option_map, Option, Some, None}
 use Rattle.s360_model.specs.Storage.{Storage}
 use Rattle.s360_device.specs.Commands.{command_of}
 use Rattle.s360_device.specs.declared.device.Device.{Ghosts}

@@ -1,6 +1,5 @@
 -- Stretches of successive bytes among the places of single cells and runs.
-use Rattle.std.proofs.Common.{◌≡◌, ◌<◌, ◌≤◌, ◌+◌, ◌++◌, ◌∙◌, ℕ, suc, Option, Some, None, List, [], ◌∷◌, Bool, true, false, refl, ap, sym, subst, take, drop, get_or, length, arith, nat_eq, if◌then◌else◌}
-use Rattle.std.proofs.lemmas.Bool.{eq-eqb}
+use Rattle.std.proofs.Common.{◌≡◌, ◌<◌, ◌≤◌, ◌+◌, ◌++◌, ◌∙◌, ℕ, suc, Option, Some, None, List, [], ◌∷◌, Bool, true, false, refl, ap, sym, subst, take, drop, get_or, length, arith, nat_eq, if◌then◌else◌, eq-eqb}
 use Rattle.std.proofs.lemmas.List.{drop_all, drop_more, length-append, length-drop, length-take-le, map-append}
 use Rattle.s360_store.specs.declared.items.Item.{Item}
 use Rattle.s360_store.specs.declared.items.Item.TheVariants.{Single, Run}

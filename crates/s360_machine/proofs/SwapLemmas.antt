@@ -1,6 +1,5 @@
 -- An exchange of a change done twice restores the whole machine and the change.
-use Rattle.std.proofs.Common.{◌≡◌, ap, ◌∙◌, refl, subst, sym, List, [], ◌∷◌}
-use Rattle.std.specs.Prelude.{Option, Some, None}
+use Rattle.std.proofs.Common.{◌≡◌, ap, ◌∙◌, refl, subst, sym, List, [], ◌∷◌, Option, Some, None}
 use Rattle.s360_model.specs.Exchanges.{back_if_any}
 use Rattle.s360_model.specs.ExchangeLaws.{CanIfAny-again, after_if_any-twice, back_if_any-twice}
 use Rattle.s360_device.specs.DeviceLaws.{CanSwapDevice-again, device_after_swap-twice, device_change_after_swap-twice}

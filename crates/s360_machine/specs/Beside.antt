@@ -1,4 +1,4 @@
--- What an event alters beside the core.
+-- What an event alters beside the core (kept).
 use Rattle.std.specs.Prelude.{◌≡◌, ◌++◌, None, List, []}
 use Rattle.s360_store.specs.declared.place.Place.{Place}
 use Rattle.s360_channel.specs.UnitChanges.{places_of_units}

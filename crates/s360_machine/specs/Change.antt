@@ -1,4 +1,4 @@
--- What an event alters: values for places, which are exchanged with what stands there. The same
+-- What an event alters: values for places, which are exchanged with what stands there (kept). The same
 -- exchange done again takes the event back. Cells have the places of the core, control cells those
 -- of the control part, and the other changes those of the units, so that a change alone tells which
 -- places it alters.

@@ -1,6 +1,5 @@
--- The places of a change as spans, in their order.
-use Rattle.std.specs.Option.{option_copied}
-use Rattle.std.specs.Prelude.{◌≡◌, ◌++◌, ℕ, Option, Some, None, List, [], ◌∷◌, drop, map}
+-- The places of a change as spans, in their order (kept).
+use Rattle.std.specs.Prelude.{◌≡◌, ◌++◌, ℕ, Option, Some, None, List, [], ◌∷◌, drop, map, option_copied}
 use Rattle.s360_store.specs.declared.place.Place.TheVariants.{Psw as psw_place, Register as register_place}
 use Rattle.s360_store.specs.declared.span.Span.{Span}
 use Rattle.s360_store.specs.declared.span.Span.TheVariants.{Place as OnePlace, Bytes as ByteSpan}

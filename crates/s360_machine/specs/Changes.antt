@@ -1,4 +1,4 @@
--- What an event alters, of the core and beside it.
+-- What an event alters, of the core and beside it (kept).
 use Rattle.std.specs.Prelude.{Option, Some, None, List, []}
 use Rattle.s360_store.specs.declared.place.Cell.{Cell}
 use Rattle.s360_machine.specs.declared.beside.Beside.{Beside}

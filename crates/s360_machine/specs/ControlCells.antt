@@ -1,4 +1,4 @@
--- The places of the control part: a control cell is one of them with a value of it. Control cells
+-- The places of the control part: a control cell is one of them with a value of it (kept). Control cells
 -- are exchanged with the control part one after another: it gets their values, and they get what
 -- stood there.
 use Rattle.std.specs.Prelude.{◌≢◌, Bool, true, false, List, [], ◌∷◌, map}

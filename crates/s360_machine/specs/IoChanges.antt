@@ -1,4 +1,4 @@
--- What an event alters of the devices: one of them, by an exchange with its change. The same exchange done again takes
+-- What an event alters of the devices: one of them, by an exchange with its change (kept). The same exchange done again takes
 -- it back.
 use Rattle.std.specs.Prelude.{ℕ, Option, Some, None, List, [], ◌∷◌}
 use Rattle.s360_device.specs.DeviceChanges.{CanSwapDevice, device_after_swap, device_change_after_swap, device_needs}

@@ -1,4 +1,4 @@
--- The devices with room in them, as the whole devices, and the tapes by their addresses.
+-- The devices with room in them, as the whole devices, and the tapes by their addresses (kept).
 use Rattle.std.specs.Prelude.{Option, Some, None, [], ◌∷◌}
 use Rattle.s360_device.specs.DeviceChanges.{bare}
 use Rattle.s360_tape.specs.WholeTape.{WholeTape}

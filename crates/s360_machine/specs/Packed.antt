@@ -1,5 +1,5 @@
 -- Changes as they stand in the journal: a row of 16 bytes for each, and three lists for what stands apart from the rows, with
--- that of the newest change at their ends: single cells and runs, the bytes of the runs, and what is beside the core.
+-- that of the newest change at their ends: single cells and runs, the bytes of the runs, and what is beside the core (kept).
 use Rattle.std.specs.Prelude.{◌≡◌, ◌<◌, ◌≤◌, ◌-◌, ◌++◌, ℕ, Bool, Option, Some, None, IfSome, List, [], ◌∷◌, length, take, drop, reverse, slice_get, Vec}
 use Rattle.s360_store.specs.declared.items.Item.{Item}
 use Rattle.s360_store.specs.declared.place.Cell.{Cell}

@@ -1,4 +1,4 @@
--- What puts and a change make of a machine.
+-- What puts and a change make of a machine (kept).
 use Rattle.std.specs.Prelude.{◌≡◌, ◌++◌, ◌∷◌, [], IfSome, Option, List}
 use Rattle.s360_model.specs.Exchanges.{CanIfAny, after_if_any, back_if_any, need_if_any}
 use Rattle.s360_machine.specs.declared.beside.Beside.{Beside}

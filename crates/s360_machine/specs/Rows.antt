@@ -1,5 +1,5 @@
 -- Rows of 16 bytes: what an event alters of the core where that is the PSW and little beside it, and else how much of it
--- stands in lists apart.
+-- stands in lists apart (kept).
 use Rattle.std.specs.Prelude.{◌≡◌, ◌<◌, ◌≤◌, ◌+◌, ◌^◌, ℕ, true, List, [], ◌∷◌, length}
 use Rattle.s360_store.specs.declared.place.Cell.{Cell}
 use Rattle.s360_store.specs.declared.items.Item.{Item}

@@ -1,4 +1,4 @@
--- Stretches of successive bytes of storage among places in their order.
+-- Stretches of successive bytes of storage among places in their order (kept).
 use Rattle.std.specs.Prelude.{◌+◌, ℕ, Bool, false, nat_eq, if◌then◌else◌, Option, Some, None, List, [], ◌∷◌}
 use Rattle.s360_store.specs.declared.items.Item.{Item}
 use Rattle.s360_store.specs.declared.items.Item.TheVariants.{Single, Run}

@@ -1,4 +1,4 @@
--- An exchange done again, of a change that may be there or not, where it restores both of one that is there.
+-- An exchange done again, of a change that may be there or not, where it restores both of one that is there (kept).
 use Rattle.std.proofs.Common.{◌≡◌, ap, refl}
 use Rattle.std.specs.Prelude.{Option, Some, None}
 use Rattle.s360_model.specs.Exchanges.{CanIfAny, after_if_any, back_if_any}

@@ -1,4 +1,4 @@
--- An exchange of one thing with another, which may be there or not: each becomes something of both.
+-- An exchange of one thing with another, which may be there or not: each becomes something of both (kept).
 use Rattle.std.specs.Prelude.{ℕ, Option, Some, None}
 
 -- it can be made

@@ -1,6 +1,5 @@
 -- The tests of whether two printers, or two consoles, are alike decide whether they are equal.
-use Rattle.std.proofs.Common.{refl}
-use Rattle.std.specs.Str.{bytes_eq}
+use Rattle.std.proofs.Common.{refl, bytes_eq}
 use Rattle.std.proofs.lemmas.Bool.Decides.{Decides-eqb, Decides-like}
 use Rattle.std.proofs.lemmas.Slice.Eq.{bytes_eq-Decides}
 use Rattle.s360_device.specs.Differences.{DecidesEquality}

@@ -1,4 +1,4 @@
--- What a command or the operator does to the console's media, exchanged with them.
+-- What a command or the operator does to the console's media, exchanged with them (kept).
 use Rattle.std.specs.Prelude.{ℕ, List}
 use Rattle.s360_device.specs.Kinds.{Kind}
 use Rattle.s360_device.specs.Motions.{CanMove, items_put, after_motion, motion_back}

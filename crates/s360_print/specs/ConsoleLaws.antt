@@ -1,4 +1,4 @@
--- The exchange of the console's media with a change, done twice.
+-- The exchange of the console's media with a change, done twice (kept).
 use Rattle.std.proofs.Common.{◌≡◌, List, ℕ, ap}
 use Rattle.s360_device.specs.declared.motion.Motion.{Motion}
 use Rattle.s360_device.specs.Kinds.{RestoresBoth}

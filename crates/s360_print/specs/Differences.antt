@@ -1,7 +1,6 @@
 -- Whether two printers, or two consoles, are alike in sense bytes and media, as a test (ours).
-use Rattle.std.specs.Prelude.{Bool, true, false, ◌&&◌, nat_eq}
+use Rattle.std.specs.Prelude.{Bool, true, false, ◌&&◌, nat_eq, bytes_eq}
 use Rattle.std.specs.Cmp.Lexicographic.{pointwise}
-use Rattle.std.specs.Str.{bytes_eq}
 use Rattle.s360_print.specs.declared.paper.Record.{Record}
 use Rattle.s360_print.specs.declared.typed_line.TypedItem.{TypedItem}
 use Rattle.s360_print.specs.declared.typed_line.TypedItem.TheVariants.{Text, Return, Alarm}

@@ -1,4 +1,4 @@
--- What a command does to the printer's media, exchanged with them.
+-- What a command does to the printer's media, exchanged with them (kept).
 use Rattle.s360_device.specs.Kinds.{Kind}
 use Rattle.s360_device.specs.Motions.{CanMove, items_put, after_motion, motion_back}
 use Rattle.s360_print.specs.declared.printer_change.PrinterChange.{PrinterChange}

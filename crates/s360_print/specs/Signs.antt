@@ -1,7 +1,6 @@
 -- The signs of EBCDIC bytes, and their bytes in ASCII (own profile: the letters, digits and special characters that
 -- both codes have).
-use Rattle.std.specs.Prelude.{ℕ, ◌+◌, Option, List, [], ◌∷◌, ◌++◌, codes}
-use Rattle.std.specs.List.{zip}
+use Rattle.std.specs.Prelude.{ℕ, ◌+◌, Option, List, [], ◌∷◌, ◌++◌, codes, zip}
 use Rattle.s360_model.specs.Tables.{entry_in}
 
 -- an EBCDIC byte, and the signs of it and of the bytes that follow it, each as its byte in ASCII

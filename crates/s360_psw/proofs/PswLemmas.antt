@@ -1,6 +1,5 @@
 -- What loading, storing and the two changes of a PSW keep.
-use Rattle.std.specs.Prelude.{◌≡◌, ℕ, ◌<◌, ◌%◌, ◌^◌}
-use Rattle.std.proofs.Common.{arith}
+use Rattle.std.proofs.Common.{arith, ◌≡◌, ℕ, ◌<◌, ◌%◌, ◌^◌}
 use Rattle.s360_model.specs.Psw.{IsCurrentPsw, current_psw, stored_psw, condition_code_of, instruction_address_of, with_condition_code, with_instruction_address}
 
 -- loading

@@ -1,4 +1,4 @@
--- What a target is seen as.
+-- What a target is seen as (kept).
 use Rattle.std.specs.Prelude.{ℕ, Bool, false, List, [], drop, take, Option, None}
 use Rattle.s360_journal.specs.Recorded.{Recorded, after_events}
 use Rattle.s360_journal.specs.declared.running.Reach.{Reach}

@@ -1,4 +1,4 @@
--- The stop that gdb is told before the machine goes on or back, if it is still to be told one (gdb manual, "Stop Reply Packets").
+-- The stop that gdb is told before the machine goes on or back, if it is still to be told one (gdb manual, "Stop Reply Packets") (kept).
 use Rattle.std.specs.Prelude.{ℕ, false, if◌then◌else◌, List, slice_get, drop, Option, Some}
 use Rattle.std.specs.List.{filter}
 use Rattle.std.specs.Option.{option_map}

@@ -1,5 +1,5 @@
 -- A device of the tests, a slate: it gives its line where it has one, has no answer yet where it has none, and keeps
--- each line that is written on it.
+-- each line that is written on it (kept).
 use Rattle.std.specs.Prelude.{ℕ, ◌-◌, Bool, false, List, [], ◌∷◌, ◌++◌, length, nat_eq, if◌then◌else◌, replicate}
 use Rattle.std.proofs.Common.{ap}
 use Rattle.s360_device.specs.declared.motion.Motion.{Motion}

@@ -1,6 +1,5 @@
 -- What an access and a fetch meet is the same in cores that have the same at the keys that it looks at.
-use Rattle.std.proofs.Common.{◌≡◌, ◌<◌, ◌≤◌, ◌+◌, ◌-◌, ◌/◌, ◌∙◌, ◌||◌, ℕ, zero, suc, Bool, true, false, not, List, [], refl, ap, sym, arith, get_or, subst, nat_eq}
-use Rattle.std.specs.Prelude.{if◌then◌else◌, nat_lt, slice_index}
+use Rattle.std.proofs.Common.{◌≡◌, ◌<◌, ◌≤◌, ◌+◌, ◌-◌, ◌/◌, ◌∙◌, ◌||◌, ℕ, zero, suc, Bool, true, false, not, List, [], refl, ap, sym, arith, get_or, subst, nat_eq, if◌then◌else◌, nat_lt, slice_index}
 use Rattle.s360_model.specs.Core.{Core}
 use Rattle.s360_model.specs.Psw.{protection_key_of}
 use Rattle.s360_model.specs.Storage.{Storage, keys_of_operand}

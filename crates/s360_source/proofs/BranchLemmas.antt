@@ -1,6 +1,5 @@
 -- Branches: the PSW and a link, a count or a sum follow their sources.
-use Rattle.std.proofs.Common.{◌≡◌, ◌+◌, ℕ, Bool, true, false, List, [], ◌∷◌, refl, ap, Option, Some, None, nat_eq, not}
-use Rattle.std.specs.Prelude.{if◌then◌else◌, slice_index}
+use Rattle.std.proofs.Common.{◌≡◌, ◌+◌, ℕ, Bool, true, false, List, [], ◌∷◌, refl, ap, Option, Some, None, nat_eq, not, if◌then◌else◌, slice_index}
 use Rattle.s360_model.specs.Core.{Core}
 use Rattle.s360_psw.specs.declared.instruction_length.InstructionLength.{InstructionLength}
 use Rattle.s360_store.specs.declared.place.Place.{Place}

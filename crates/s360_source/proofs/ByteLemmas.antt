@@ -1,8 +1,6 @@
 -- What a byte is made of, where bytes are stored from left to right: one that was stored of what it was made of then, and any other
 -- of itself.
-use Rattle.std.proofs.Common.{◌≡◌, ◌<◌, ◌≤◌, ◌+◌, ◌-◌, ◌∙◌, ◌++◌, ℕ, zero, suc, false, true, List, [], ◌∷◌, refl, ap, sym, arith, nat_eq, nat_le, map, inl, inr, append_assoc}
-use Rattle.std.specs.List.{flat_map}
-use Rattle.std.specs.Prelude.{if◌then◌else◌}
+use Rattle.std.proofs.Common.{◌≡◌, ◌<◌, ◌≤◌, ◌+◌, ◌-◌, ◌∙◌, ◌++◌, ℕ, zero, suc, false, true, List, [], ◌∷◌, refl, ap, sym, arith, nat_eq, nat_le, map, inl, inr, append_assoc, flat_map, if◌then◌else◌}
 use Rattle.std.proofs.lemmas.Bool.{cases_Bool, eq-eqb, eqb-false, eqb-true, leb-false, leb-true, ne_eqb}
 use Rattle.std.proofs.lemmas.List.{append-nil, map-append}
 use Rattle.s360_model.specs.Storage.{Storage}

@@ -1,9 +1,6 @@
 -- Machines that have the same at the deciders of a channel event have one shape of it.
-use Rattle.std.proofs.Common.{◌≡◌, ◌+◌, ◌-◌, ◌∙◌, ◌++◌, ℕ, Bool, true, false, List, [], ◌∷◌, refl, ap, sym, arith, length, subst, Option, Some, None, nat_eq}
-use Rattle.std.specs.List.{slice_range}
+use Rattle.std.proofs.Common.{◌≡◌, ◌+◌, ◌-◌, ◌∙◌, ◌++◌, ℕ, Bool, true, false, List, [], ◌∷◌, refl, ap, sym, arith, length, subst, Option, Some, None, nat_eq, slice_range, if◌then◌else◌, map, nat_le, take, length-append, length-take}
 use Rattle.std.specs.Option.{option_and_then, option_map, option_map_or}
-use Rattle.std.specs.Prelude.{if◌then◌else◌, map, nat_le, take}
-use Rattle.std.proofs.lemmas.List.{length-append, length-take}
 use Rattle.s360_model.specs.Core.{Core}
 use Rattle.s360_model.specs.Storage.{is_inside}
 use Rattle.s360_word.specs.declared.unit.Unit.{Unit as UnitAddress}
@@ -34,8 +31,7 @@ use Rattle.s360_channel.specs.declared.unit_control.UnitControl.{UnitControl}
 use Rattle.s360_channel.specs.declared.unit_state.UnitState.{UnitState as StateOfUnit}
 use Rattle.s360_channel.specs.declared.unit_state.UnitState.TheVariants.{Idle, Active, Waiting}
 use Rattle.s360_channel.specs.ConfiguredUnits.{control_of, unit_at}
-use Rattle.s360_channel.specs.Execution.{DeviceView, Execution, WordAtHand, access_of, after_input, after_output, channel_execution, command_ends, command_with, conclusion_of}
-use Rattle.s360_channel.specs.Execution.{execute_begun, input_transfer, lowest_address, next_ccw_address, output_transfer, run_of, stored_bytes, unless_checked, word_at_hand}
+use Rattle.s360_channel.specs.Execution.{DeviceView, Execution, WordAtHand, access_of, after_input, after_output, channel_execution, command_ends, command_with, conclusion_of, execute_begun, input_transfer, lowest_address, next_ccw_address, output_transfer, run_of, stored_bytes, unless_checked, word_at_hand}
 use Rattle.s360_channel.specs.Units.{program_of}
 use Rattle.s360_channel.specs.Words.{reads_backward}
 use Rattle.s360_machine.specs.ChannelEvents.{execution_at, execution_of, view_of}

@@ -1,6 +1,5 @@
 -- The deciders of a channel event as the code finds them: the keys of what a word would store or fetch.
-use Rattle.std.proofs.Common.{◌≡◌, ◌-◌, ◌∙◌, ℕ, Bool, true, false, List, [], refl, ap, sym, length, take, drop, Option, Some}
-use Rattle.std.specs.Prelude.{if◌then◌else◌, min}
+use Rattle.std.proofs.Common.{◌≡◌, ◌-◌, ◌∙◌, ℕ, Bool, true, false, List, [], refl, ap, sym, length, take, drop, Option, Some, if◌then◌else◌, min}
 use Rattle.s360_model.specs.Storage.{Storage}
 use Rattle.s360_store.specs.declared.protection.Access.TheVariants.{Fetch, Store}
 use Rattle.s360_device.specs.declared.device.Begin.{Begin}

@@ -1,9 +1,7 @@
 -- A channel event follows its sources: what is stored, the unit and its media, and the end of initial program loading.
-use Rattle.std.proofs.Common.{◌≡◌, ◌≢◌, ◌<◌, ◌≤◌, ◌+◌, ◌-◌, ◌∙◌, ◌++◌, ℕ, Bool, true, false, ◌&&◌, List, [], ◌∷◌, refl, ap, sym, arith, length, get_or, set, subst, Option, Some, None, nat_eq, inl, inr}
+use Rattle.std.proofs.Common.{◌≡◌, ◌≢◌, ◌<◌, ◌≤◌, ◌+◌, ◌-◌, ◌∙◌, ◌++◌, ℕ, Bool, true, false, ◌&&◌, List, [], ◌∷◌, refl, ap, sym, arith, length, get_or, set, subst, Option, Some, None, nat_eq, inl, inr, flat_map, if◌then◌else◌, MatchOption, nat_le, nat_lt}
 use Rattle.std.specs.Int.{bytes_high_first}
-use Rattle.std.specs.List.{flat_map}
 use Rattle.std.specs.Option.{option_and_then, option_map, option_map_or}
-use Rattle.std.specs.Prelude.{if◌then◌else◌, MatchOption, nat_le, nat_lt}
 use Rattle.std.proofs.lemmas.Bool.{cases_eq, cases_lt, eq-eqb, ne_eqb}
 use Rattle.std.proofs.lemmas.List.{get_or-set_other, get_or-set_same, get_or_past, length-set, set-get_or}
 use Rattle.s360_model.specs.Core.{Core, core_with_bytes}

@@ -1,8 +1,5 @@
 -- A channel event of a unit follows its sources.
-use Rattle.std.proofs.Common.{◌≡◌, ◌<◌, ◌+◌, ◌-◌, ◌∙◌, ◌++◌, ℕ, Bool, true, false, List, [], ◌∷◌, refl, sym, arith, length, drop, get_or, subst, Option, Some, None, ext_get_or}
-use Rattle.std.specs.List.{slice_range}
-use Rattle.std.specs.Prelude.{if◌then◌else◌}
-use Rattle.std.proofs.lemmas.List.{get_or-drop, get_or-take, length-drop, length-take}
+use Rattle.std.proofs.Common.{◌≡◌, ◌<◌, ◌+◌, ◌-◌, ◌∙◌, ◌++◌, ℕ, Bool, true, false, List, [], ◌∷◌, refl, sym, arith, length, drop, get_or, subst, Option, Some, None, ext_get_or, slice_range, if◌then◌else◌, get_or-drop, get_or-take, length-drop, length-take}
 use Rattle.s360_model.specs.Core.{Core}
 use Rattle.s360_model.specs.Storage.{Storage}
 use Rattle.s360_store.specs.declared.place.Place.{Place}

@@ -1,6 +1,5 @@
 -- Rows of R1 and a second operand: R1 and the condition code follow their sources.
-use Rattle.std.proofs.Common.{◌≡◌, ◌∙◌, ℕ, false, List, [], ◌∷◌, refl, ap}
-use Rattle.std.specs.Prelude.{slice_index}
+use Rattle.std.proofs.Common.{◌≡◌, ◌∙◌, ℕ, false, List, [], ◌∷◌, refl, ap, slice_index}
 use Rattle.s360_model.specs.Core.{Core}
 use Rattle.s360_model.specs.Storage.{halfword_at, word_at}
 use Rattle.s360_store.specs.declared.place.Place.{Place}

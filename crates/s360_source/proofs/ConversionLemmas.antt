@@ -1,6 +1,5 @@
 -- CONVERT TO BINARY follows its sources. A number that does not fit a word interrupts after the register has it.
-use Rattle.std.proofs.Common.{◌≡◌, ◌∙◌, ℕ, ℤ, Bool, true, false, List, [], ◌∷◌, refl, ap, sym, Option, Some, None}
-use Rattle.std.specs.Prelude.{if◌then◌else◌}
+use Rattle.std.proofs.Common.{◌≡◌, ◌∙◌, ℕ, ℤ, Bool, true, false, List, [], ◌∷◌, refl, ap, sym, Option, Some, None, if◌then◌else◌}
 use Rattle.s360_model.specs.Arithmetic.{word_of}
 use Rattle.s360_model.specs.Core.{Core}
 use Rattle.s360_model.specs.Numbers.{fits_word}

@@ -1,9 +1,5 @@
 -- Machines that have the same at the deciders of an event of the CPU have one shape of it.
-use Rattle.std.proofs.Common.{◌≡◌, ◌∙◌, ◌++◌, ℕ, Bool, true, false, ◌&&◌, ◌||◌, List, [], ◌∷◌, refl, ap, sym, subst, Option, Some, None, nat_eq, is_some}
-use Rattle.std.specs.List.{filter, find}
-use Rattle.std.specs.Option.{option_and_then, option_map}
-use Rattle.std.specs.Prelude.{if◌then◌else◌, map}
-use Rattle.std.proofs.lemmas.Bool.{eqb-true}
+use Rattle.std.proofs.Common.{◌≡◌, ◌∙◌, ◌++◌, ℕ, Bool, true, false, ◌&&◌, ◌||◌, List, [], ◌∷◌, refl, ap, sym, subst, Option, Some, None, nat_eq, is_some, filter, find, option_and_then, option_map, if◌then◌else◌, map, eqb-true}
 use Rattle.s360_model.specs.Psw.{channel_mask_of, external_mask_of, wait_of}
 use Rattle.s360_psw.specs.declared.class.Class.TheVariants.{External as external_class, InputOutput}
 use Rattle.s360_psw.specs.Pending.{takes_external, takes_input_output}

@@ -1,6 +1,5 @@
 -- Cores that have the same at the deciders of an instruction have one shape of it.
-use Rattle.std.proofs.Common.{◌≡◌, ◌+◌, ◌%◌, ◌∙◌, ◌++◌, ℕ, Bool, true, false, List, [], ◌∷◌, refl, ap, sym, subst, Option, Some, None, is_none, nat_eq}
-use Rattle.std.specs.Prelude.{if◌then◌else◌, bit_or, slice_index, slice_set}
+use Rattle.std.proofs.Common.{◌≡◌, ◌+◌, ◌%◌, ◌∙◌, ◌++◌, ℕ, Bool, true, false, List, [], ◌∷◌, refl, ap, sym, subst, Option, Some, None, is_none, nat_eq, if◌then◌else◌, bit_or, slice_index, slice_set}
 use Rattle.s360_model.specs.Core.{Core}
 use Rattle.s360_model.specs.Psw.{instruction_address_of, protection_key_of}
 use Rattle.s360_psw.specs.declared.instruction_length.InstructionLength.{InstructionLength}

@@ -1,8 +1,6 @@
 -- MOVE WITH OFFSET, PACK and UNPACK follow their sources.
-use Rattle.std.proofs.Common.{◌≡◌, ◌∙◌, ℕ, zero, suc, false, List, [], ◌∷◌, refl, ap, sym, length, get_or, nat_eq, nat_lt, inl, inr, None}
-use Rattle.std.specs.Prelude.{if◌then◌else◌}
+use Rattle.std.proofs.Common.{◌≡◌, ◌∙◌, ℕ, zero, suc, false, List, [], ◌∷◌, refl, ap, sym, length, get_or, nat_eq, nat_lt, inl, inr, None, if◌then◌else◌, length-set}
 use Rattle.std.proofs.lemmas.Bool.{cases_Bool, eq-eqb, ne_eqb}
-use Rattle.std.proofs.lemmas.List.{length-set}
 use Rattle.s360_model.specs.Core.{Core}
 use Rattle.s360_model.specs.Psw.{with_instruction_address}
 use Rattle.s360_model.specs.Storage.{Storage}

@@ -1,6 +1,5 @@
 -- What stands at a place after an effect on registers and PSW: it is the same in two cores where its sources are.
-use Rattle.std.proofs.Common.{◌≡◌, ◌≢◌, ◌+◌, ◌∙◌, ℕ, true, false, List, [], ◌∷◌, refl, sym, arith, length, get_or, set, inl, inr, nat_eq}
-use Rattle.std.specs.Prelude.{if◌then◌else◌}
+use Rattle.std.proofs.Common.{◌≡◌, ◌≢◌, ◌+◌, ◌∙◌, ℕ, true, false, List, [], ◌∷◌, refl, sym, arith, length, get_or, set, inl, inr, nat_eq, if◌then◌else◌}
 use Rattle.std.proofs.lemmas.Bool.{cases_lt, cases_eq, eq-eqb, ne_eqb}
 use Rattle.std.proofs.lemmas.List.{get_or-set_other, get_or-set_same, get_or_past, length-set}
 use Rattle.s360_model.specs.Core.{Core}

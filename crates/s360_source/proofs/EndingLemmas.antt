@@ -1,6 +1,5 @@
 -- How an outcome ends: by the code of the first condition that it meets, else as what is completed does.
-use Rattle.std.proofs.Common.{◌≡◌, ◌∙◌, ℕ, ℤ, Bool, true, false, List, [], refl, ap, subst, sym, Option, Some, None, nat_eq}
-use Rattle.std.specs.Prelude.{if◌then◌else◌, not, ◌&&◌}
+use Rattle.std.proofs.Common.{◌≡◌, ◌∙◌, ℕ, ℤ, Bool, true, false, List, [], refl, ap, subst, sym, Option, Some, None, nat_eq, if◌then◌else◌, not, ◌&&◌}
 use Rattle.s360_model.specs.Core.{Core}
 use Rattle.s360_model.specs.Numbers.{fits_word}
 use Rattle.s360_model.specs.Psw.{fixed_point_overflow_mask_of, protection_key_of}

@@ -1,8 +1,7 @@
 -- Events follow their sources: ticks, keys, patches, and of the CPU's events external interruptions and instructions that no
 -- interruption follows.
-use Rattle.std.proofs.Common.{◌≡◌, ◌≤◌, ◌+◌, ◌-◌, ◌/◌, ◌∙◌, ℕ, Bool, true, false, ◌&&◌, List, [], ◌∷◌, refl, ap, sym, arith, length, get_or, set, nat_eq}
+use Rattle.std.proofs.Common.{◌≡◌, ◌≤◌, ◌+◌, ◌-◌, ◌/◌, ◌∙◌, ℕ, Bool, true, false, ◌&&◌, List, [], ◌∷◌, refl, ap, sym, arith, length, get_or, set, nat_eq, if◌then◌else◌, nat_le, nat_lt, slice_index}
 use Rattle.std.specs.Int.{bytes_high_first}
-use Rattle.std.specs.Prelude.{if◌then◌else◌, nat_le, nat_lt, slice_index}
 use Rattle.s360_model.specs.Core.{Core, core_with_bytes, core_with_key}
 use Rattle.s360_model.specs.Storage.{block_size, fetch_bit_of_block, key_of_block, with_fetch_bit}
 use Rattle.s360_psw.specs.declared.class.Class.TheVariants.{External as external_class}

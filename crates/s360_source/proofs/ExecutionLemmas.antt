@@ -1,8 +1,5 @@
 -- What one channel command word does, in two storages: by the words that the channel fetches, and by the bytes of an output.
-use Rattle.std.proofs.Common.{◌≡◌, ◌≤◌, ◌+◌, ◌-◌, ◌∙◌, ◌++◌, ℕ, Bool, true, false, ◌&&◌, not, List, [], refl, ap, sym, subst, take, length, Option, Some, None, true≢false, nat_eq}
-use Rattle.std.specs.List.{slice_range}
-use Rattle.std.specs.Prelude.{if◌then◌else◌, MatchOption, min, nat_lt}
-use Rattle.std.proofs.lemmas.Bool.{leb-true}
+use Rattle.std.proofs.Common.{◌≡◌, ◌≤◌, ◌+◌, ◌-◌, ◌∙◌, ◌++◌, ℕ, Bool, true, false, ◌&&◌, not, List, [], refl, ap, sym, subst, take, length, Option, Some, None, true≢false, nat_eq, slice_range, if◌then◌else◌, MatchOption, min, nat_lt, leb-true}
 use Rattle.s360_model.specs.Storage.{Storage, is_inside}
 use Rattle.s360_store.specs.Protection.{access}
 use Rattle.s360_store.specs.declared.protection.Access.TheVariants.{Fetch, Store}
@@ -18,9 +15,7 @@ use Rattle.s360_channel.specs.declared.program.Progress.TheVariants.{First, Load
 use Rattle.s360_channel.specs.declared.unit_state.UnitState.{UnitState}
 use Rattle.s360_channel.specs.declared.unit_state.UnitState.TheVariants.{Waiting}
 use Rattle.s360_channel.specs.declared.transfer.Transfer.{Transfer}
-use Rattle.s360_channel.specs.Execution.{DeviceView, Execution, Run, WordAtHand, access_of, after_check, after_input, after_output, after_transfer, command_ends, command_with, conclusion_of}
-use Rattle.s360_channel.specs.Execution.{ends_with, execute_begun, execute_fetched, execute_input, execute_output, gathered_before, goes_on_after, input_transfer, is_clean}
-use Rattle.s360_channel.specs.Execution.{lowest_address, output_transfer, run_of, stored_bytes, storing, transfer_with, unless_checked, word_at_hand}
+use Rattle.s360_channel.specs.Execution.{DeviceView, Execution, Run, WordAtHand, access_of, after_check, after_input, after_output, after_transfer, command_ends, command_with, conclusion_of, ends_with, execute_begun, execute_fetched, execute_input, execute_output, gathered_before, goes_on_after, input_transfer, is_clean, lowest_address, output_transfer, run_of, stored_bytes, storing, transfer_with, unless_checked, word_at_hand}
 use Rattle.s360_channel.specs.Programs.{ccw_at, executed_at, goes_on_with_record, is_executable, is_first, is_loading, loading_word, next_ccw, next_ccw_with, transferred_to}
 use Rattle.s360_channel.specs.Words.{ccw_of, is_transfer, meets_program_check, meets_protection_check, reads_backward}
 use Rattle.s360_source.specs.ChannelShapes.{executed_word, if_executable, is_checked, led_to, next_word, state_shape, word_taken}

@@ -1,8 +1,5 @@
 -- Places that are found one after another, and the unit that interrupts.
-use Rattle.std.proofs.Common.{◌≡◌, ◌++◌, ◌∙◌, Bool, true, false, ◌&&◌, List, [], ◌∷◌, Option, Some, None, refl, ap, append_assoc}
-use Rattle.std.specs.List.{find}
-use Rattle.std.specs.Option.{option_and_then, option_map}
-use Rattle.std.specs.Prelude.{if◌then◌else◌, is_some}
+use Rattle.std.proofs.Common.{◌≡◌, ◌++◌, ◌∙◌, Bool, true, false, ◌&&◌, List, [], ◌∷◌, Option, Some, None, refl, ap, append_assoc, find, option_and_then, option_map, if◌then◌else◌, is_some}
 use Rattle.s360_model.specs.Psw.{channel_mask_of}
 use Rattle.s360_store.specs.declared.place.Place.{Place}
 use Rattle.s360_channel.specs.declared.configured_unit.ConfiguredUnit.{ConfiguredUnit}

@@ -1,8 +1,6 @@
 -- What the fetches of function bytes meet is the same in cores that have the same at the bytes that select them and at the keys
 -- that they look at.
-use Rattle.std.proofs.Common.{◌≡◌, ◌≤◌, ◌+◌, ◌∙◌, ℕ, zero, suc, Bool, true, false, List, [], refl, ap, sym, arith, length, nat_eq}
-use Rattle.std.specs.Prelude.{if◌then◌else◌}
-use Rattle.std.proofs.lemmas.List.{get_or-set_other, length-set}
+use Rattle.std.proofs.Common.{◌≡◌, ◌≤◌, ◌+◌, ◌∙◌, ℕ, zero, suc, Bool, true, false, List, [], refl, ap, sym, arith, length, nat_eq, if◌then◌else◌, get_or-set_other, length-set}
 use Rattle.s360_model.specs.Core.{Core}
 use Rattle.s360_model.specs.Storage.{Storage}
 use Rattle.s360_store.specs.declared.place.Place.{Place}

@@ -10,8 +10,7 @@ use Rattle.s360_fixed.specs.declared.ended.IoOperation.{IoOperation}
 use Rattle.s360_fixed.specs.declared.ended.IoOperation.TheVariants.{Start, Test, Halt, TestChannel as test_channel}
 use Rattle.s360_fixed.specs.declared.form.Form.TheVariants.{Si}
 use Rattle.s360_fixed.specs.declared.operation.Operation.{Operation}
-use Rattle.s360_fixed.specs.declared.operation.Operation.TheVariants.{Move, And, Or, ExclusiveOr, CompareLogical, TestUnderMask, TestAndSet}
-use Rattle.s360_fixed.specs.declared.operation.Operation.TheVariants.{SetSystemMask, LoadPsw, StartIo, TestIo, HaltIo, TestChannel}
+use Rattle.s360_fixed.specs.declared.operation.Operation.TheVariants.{Move, And, Or, ExclusiveOr, CompareLogical, TestUnderMask, TestAndSet, SetSystemMask, LoadPsw, StartIo, TestIo, HaltIo, TestChannel}
 use Rattle.s360_fixed.specs.Operands.{access_conditions, operand_address}
 use Rattle.s360_fixed.specs.Outcomes.{unless_met}
 use Rattle.s360_fixed.specs.ProgramCodes.{Conditions, no_conditions}

@@ -1,7 +1,5 @@
 -- The instructions of the format SI follow their sources.
-use Rattle.std.proofs.Common.{◌≡◌, ◌/◌, ◌∙◌, ℕ, false, List, [], ◌∷◌, refl, ap, nat_eq, pos, bit_and, bit_or, bit_xor, Option, None, Some}
-use Rattle.std.specs.Prelude.{slice_index}
-use Rattle.std.proofs.lemmas.List.{length-set}
+use Rattle.std.proofs.Common.{◌≡◌, ◌/◌, ◌∙◌, ℕ, false, List, [], ◌∷◌, refl, ap, nat_eq, pos, bit_and, bit_or, bit_xor, Option, None, Some, slice_index, length-set}
 use Rattle.s360_model.specs.ConditionCodes.{order_code}
 use Rattle.s360_model.specs.Core.{Core}
 use Rattle.s360_model.specs.Psw.{current_psw, with_instruction_address, with_system_mask}

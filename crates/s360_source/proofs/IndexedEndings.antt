@@ -1,6 +1,5 @@
 -- How the instructions of the format RX end: alike in cores that have the same at their deciders.
-use Rattle.std.proofs.Common.{◌≡◌, ◌+◌, ◌∙◌, ◌||◌, ℕ, Bool, false, true, List, [], ◌∷◌, refl, ap, sym, Option, is_none, nat_eq}
-use Rattle.std.specs.Prelude.{slice_index}
+use Rattle.std.proofs.Common.{◌≡◌, ◌+◌, ◌∙◌, ◌||◌, ℕ, Bool, false, true, List, [], ◌∷◌, refl, ap, sym, Option, is_none, nat_eq, slice_index}
 use Rattle.s360_model.specs.Arithmetic.{absolute_value, signed_complement, signed_difference, signed_sum}
 use Rattle.s360_model.specs.ConditionCodes.{signed_code}
 use Rattle.s360_model.specs.Core.{Core}
@@ -15,10 +14,7 @@ use Rattle.s360_store.specs.declared.protection.Access.TheVariants.{Fetch, Store
 use Rattle.s360_store.specs.Spans.{byte_places}
 use Rattle.s360_fixed.specs.declared.form.Form.TheVariants.{Rx}
 use Rattle.s360_fixed.specs.declared.operation.Operation.{Operation}
-use Rattle.s360_fixed.specs.declared.operation.Operation.TheVariants.{Load, LoadHalfword, InsertCharacter, MultiplyHalfword, LoadAndTest, LoadNegative}
-use Rattle.s360_fixed.specs.declared.operation.Operation.TheVariants.{LoadComplement, LoadPositive, Add, AddHalfword, Subtract, SubtractHalfword}
-use Rattle.s360_fixed.specs.declared.operation.Operation.TheVariants.{AddLogical, SubtractLogical, And, Or, ExclusiveOr, Compare, CompareHalfword, CompareLogical}
-use Rattle.s360_fixed.specs.declared.operation.Operation.TheVariants.{Multiply, Divide, Store, StoreHalfword, StoreCharacter, ConvertToBinary, ConvertToDecimal}
+use Rattle.s360_fixed.specs.declared.operation.Operation.TheVariants.{Load, LoadHalfword, InsertCharacter, MultiplyHalfword, LoadAndTest, LoadNegative, LoadComplement, LoadPositive, Add, AddHalfword, Subtract, SubtractHalfword, AddLogical, SubtractLogical, And, Or, ExclusiveOr, Compare, CompareHalfword, CompareLogical, Multiply, Divide, Store, StoreHalfword, StoreCharacter, ConvertToBinary, ConvertToDecimal}
 use Rattle.s360_fixed.specs.Operands.{access_conditions, operand_address}
 use Rattle.s360_fixed.specs.Outcomes.{is_odd, unless_met}
 use Rattle.s360_fixed.specs.ProgramCodes.{Conditions}

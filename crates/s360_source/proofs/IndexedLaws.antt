@@ -1,7 +1,6 @@
 -- The instructions of the format RX follow their sources.
-use Rattle.std.proofs.Common.{◌≡◌, ◌+◌, ◌∙◌, ◌||◌, ℕ, false, List, [], ◌∷◌, refl, ap, is_none, Some, Option, bit_and, bit_or, bit_xor, ◌/◌, ◌*◌, ◌%◌, pos}
+use Rattle.std.proofs.Common.{◌≡◌, ◌+◌, ◌∙◌, ◌||◌, ℕ, false, List, [], ◌∷◌, refl, ap, is_none, Some, Option, bit_and, bit_or, bit_xor, ◌/◌, ◌*◌, ◌%◌, pos, slice_index}
 use Rattle.std.specs.Int.{bytes_high_first}
-use Rattle.std.specs.Prelude.{slice_index}
 use Rattle.s360_model.specs.Arithmetic.{absolute_value, logical_difference, logical_sum, negative_absolute_value, signed_complement, signed_difference, signed_sum, word_of}
 use Rattle.s360_model.specs.ConditionCodes.{carry_code, order_code}
 use Rattle.s360_model.specs.Core.{Core}
@@ -17,11 +16,7 @@ use Rattle.s360_store.specs.declared.protection.Access.TheVariants.{Fetch}
 use Rattle.s360_store.specs.Spans.{byte_places}
 use Rattle.s360_fixed.specs.declared.form.Form.TheVariants.{Rx}
 use Rattle.s360_fixed.specs.declared.operation.Operation.{Operation}
-use Rattle.s360_fixed.specs.declared.operation.Operation.TheVariants.{Load, LoadHalfword, LoadAddress, InsertCharacter, LoadAndTest, LoadComplement, LoadPositive, LoadNegative}
-use Rattle.s360_fixed.specs.declared.operation.Operation.TheVariants.{Add, AddHalfword, Subtract, SubtractHalfword, AddLogical, SubtractLogical}
-use Rattle.s360_fixed.specs.declared.operation.Operation.TheVariants.{Compare, CompareHalfword, CompareLogical, And, Or, ExclusiveOr}
-use Rattle.s360_fixed.specs.declared.operation.Operation.TheVariants.{MultiplyHalfword, Multiply, Divide, BranchOnCondition, BranchAndLink, BranchOnCount}
-use Rattle.s360_fixed.specs.declared.operation.Operation.TheVariants.{Store, StoreHalfword, StoreCharacter, ConvertToBinary, ConvertToDecimal}
+use Rattle.s360_fixed.specs.declared.operation.Operation.TheVariants.{Load, LoadHalfword, LoadAddress, InsertCharacter, LoadAndTest, LoadComplement, LoadPositive, LoadNegative, Add, AddHalfword, Subtract, SubtractHalfword, AddLogical, SubtractLogical, Compare, CompareHalfword, CompareLogical, And, Or, ExclusiveOr, MultiplyHalfword, Multiply, Divide, BranchOnCondition, BranchAndLink, BranchOnCount, Store, StoreHalfword, StoreCharacter, ConvertToBinary, ConvertToDecimal}
 use Rattle.s360_fixed.specs.Operands.{access_conditions, operand_address}
 use Rattle.s360_fixed.specs.Outcomes.{is_odd}
 use Rattle.s360_fixed.specs.ProgramCodes.{Conditions, no_conditions}

@@ -1,7 +1,6 @@
 -- An instruction follows its sources: what stands at a place after it is the same in two cores that have one shape and the
 -- same at the sources of the place.
-use Rattle.std.proofs.Common.{◌≡◌, ◌+◌, ◌∙◌, ◌⊎◌, ℕ, Bool, true, false, refl, ap, sym, Option, Some, None, is_none, inl, inr}
-use Rattle.std.specs.Prelude.{if◌then◌else◌}
+use Rattle.std.proofs.Common.{◌≡◌, ◌+◌, ◌∙◌, ◌⊎◌, ℕ, Bool, true, false, refl, ap, sym, Option, Some, None, is_none, inl, inr, if◌then◌else◌}
 use Rattle.s360_model.specs.Core.{Core}
 use Rattle.s360_model.specs.Psw.{instruction_address_of, protection_key_of}
 use Rattle.s360_psw.specs.declared.instruction_length.InstructionLength.{InstructionLength}

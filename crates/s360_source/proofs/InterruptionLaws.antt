@@ -1,8 +1,6 @@
 -- An interruption follows its sources, and so does what happens in two steps.
-use Rattle.std.proofs.Common.{◌≤◌, ◌+◌, ◌-◌, ℕ, Bool, ◌&&◌, List, [], ◌∷◌, refl, ap, arith, length, get_or}
+use Rattle.std.proofs.Common.{◌≤◌, ◌+◌, ◌-◌, ℕ, Bool, ◌&&◌, List, [], ◌∷◌, refl, ap, arith, length, get_or, flat_map, nat_le, nat_lt}
 use Rattle.std.specs.Int.{bytes_high_first}
-use Rattle.std.specs.List.{flat_map}
-use Rattle.std.specs.Prelude.{nat_le, nat_lt}
 use Rattle.s360_model.specs.Core.{Core}
 use Rattle.s360_model.specs.Psw.{current_psw, stored_psw}
 use Rattle.s360_psw.specs.declared.class.Class.{Class}

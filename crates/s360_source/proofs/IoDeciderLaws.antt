@@ -1,7 +1,6 @@
 -- What the channels make of an input/output instruction comes from its deciders.
-use Rattle.std.proofs.Common.{◌≡◌, ◌/◌, ◌∙◌, ℕ, Bool, true, false, ◌&&◌, ◌||◌, List, [], refl, ap, Option, Some, None, nat_eq, is_some}
+use Rattle.std.proofs.Common.{◌≡◌, ◌/◌, ◌∙◌, ℕ, Bool, true, false, ◌&&◌, ◌||◌, List, [], refl, ap, Option, Some, None, nat_eq, is_some, if◌then◌else◌, unwrap_or}
 use Rattle.std.specs.Option.{option_map_or}
-use Rattle.std.specs.Prelude.{if◌then◌else◌, unwrap_or}
 use Rattle.s360_model.specs.Core.{Core}
 use Rattle.s360_model.specs.Storage.{Storage, word_at}
 use Rattle.s360_word.specs.declared.unit.Unit.{Unit as UnitAddress}

@@ -1,7 +1,5 @@
 -- The keys of the operator follow their sources.
-use Rattle.std.proofs.Common.{◌≡◌, ◌≢◌, ℕ, true, List, refl, ap, sym, ◌∙◌, arith, length, get_or, set, Option, Some, None}
-use Rattle.std.specs.Prelude.{MatchOption}
-use Rattle.std.proofs.lemmas.List.{get_or-set_other, get_or-set_same}
+use Rattle.std.proofs.Common.{◌≡◌, ◌≢◌, ℕ, true, List, refl, ap, sym, ◌∙◌, arith, length, get_or, set, Option, Some, None, MatchOption, get_or-set_other, get_or-set_same}
 use Rattle.s360_store.specs.declared.place.Place.{Place}
 use Rattle.s360_store.specs.declared.place.Place.TheVariants.{Psw, Register, Byte, Key, Run, External, UnitState, UnitMedia}
 use Rattle.s360_device.specs.Reader.{with_end_key}

@@ -1,7 +1,5 @@
 -- Every event follows its sources.
-use Rattle.std.proofs.Common.{◌≡◌, ◌+◌, Bool, true, false, refl, length, Option, Some, None}
-use Rattle.std.specs.Prelude.{if◌then◌else◌, nat_lt}
-use Rattle.std.proofs.lemmas.Bool.{ltb-false}
+use Rattle.std.proofs.Common.{◌≡◌, ◌+◌, Bool, true, false, refl, length, Option, Some, None, if◌then◌else◌, nat_lt, ltb-false}
 use Rattle.s360_store.specs.declared.place.Place.{Place}
 use Rattle.s360_machine.specs.declared.event.Event.{Event}
 use Rattle.s360_machine.specs.declared.event.Event.TheVariants.{Cpu, Channel, Tick, Key, Patch as patch}

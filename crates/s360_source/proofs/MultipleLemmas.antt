@@ -1,7 +1,6 @@
 -- Several registers that are stored or loaded follow their sources.
-use Rattle.std.proofs.Common.{◌≡◌, ◌≢◌, ◌<◌, ◌≤◌, ◌+◌, ◌-◌, ◌*◌, ◌/◌, ◌%◌, ◌∙◌, ℕ, zero, suc, Bool, false, ◌&&◌, List, [], ◌∷◌, refl, ap, sym, arith, length, get_or, inl, inr}
+use Rattle.std.proofs.Common.{◌≡◌, ◌≢◌, ◌<◌, ◌≤◌, ◌+◌, ◌-◌, ◌*◌, ◌/◌, ◌%◌, ◌∙◌, ℕ, zero, suc, Bool, false, ◌&&◌, List, [], ◌∷◌, refl, ap, sym, arith, length, get_or, inl, inr, nat_le, nat_lt, slice_index}
 use Rattle.std.specs.Int.{bytes_high_first}
-use Rattle.std.specs.Prelude.{nat_le, nat_lt, slice_index}
 use Rattle.std.proofs.lemmas.Bool.{cases_eq, cases_lt, le-ltb, lt-ltb}
 use Rattle.std.proofs.lemmas.List.{get_or_past, length-set}
 use Rattle.s360_model.specs.Core.{Core}

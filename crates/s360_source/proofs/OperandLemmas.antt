@@ -1,7 +1,6 @@
 -- Where the operands of an instruction are, and the subject of an execute: at the same places in cores that have the same in the
 -- registers of addresses.
-use Rattle.std.proofs.Common.{◌≡◌, ◌+◌, ◌%◌, ◌^◌, ◌∙◌, ℕ, Bool, true, false, [], ◌∷◌, refl, ap, Some, is_none, nat_eq}
-use Rattle.std.specs.Prelude.{slice_index}
+use Rattle.std.proofs.Common.{◌≡◌, ◌+◌, ◌%◌, ◌^◌, ◌∙◌, ℕ, Bool, true, false, [], ◌∷◌, refl, ap, Some, is_none, nat_eq, slice_index}
 use Rattle.s360_model.specs.Core.{Core}
 use Rattle.s360_psw.specs.declared.instruction_length.InstructionLength.{InstructionLength}
 use Rattle.s360_store.specs.declared.place.Place.TheVariants.{Register}

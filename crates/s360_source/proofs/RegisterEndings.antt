@@ -1,6 +1,5 @@
 -- How the instructions of the formats RR and RS end: alike in cores that have the same at their deciders.
-use Rattle.std.proofs.Common.{◌≡◌, ◌+◌, ◌*◌, ◌%◌, ◌∙◌, ◌||◌, ℕ, false, true, List, [], ◌∷◌, refl, ap, sym, Option, is_none, nat_eq}
-use Rattle.std.specs.Prelude.{if◌then◌else◌, slice_index}
+use Rattle.std.proofs.Common.{◌≡◌, ◌+◌, ◌*◌, ◌%◌, ◌∙◌, ◌||◌, ℕ, false, true, List, [], ◌∷◌, refl, ap, sym, Option, is_none, nat_eq, if◌then◌else◌, slice_index}
 use Rattle.s360_model.specs.Arithmetic.{absolute_value, signed_complement, signed_difference, signed_sum}
 use Rattle.s360_model.specs.ConditionCodes.{signed_code}
 use Rattle.s360_model.specs.Core.{Core}
@@ -15,9 +14,7 @@ use Rattle.s360_store.specs.declared.place.Place.TheVariants.{Register}
 use Rattle.s360_store.specs.declared.protection.Access.TheVariants.{Fetch, Store}
 use Rattle.s360_fixed.specs.declared.form.Form.TheVariants.{Rr, Rs}
 use Rattle.s360_fixed.specs.declared.operation.Operation.{Operation}
-use Rattle.s360_fixed.specs.declared.operation.Operation.TheVariants.{LoadComplement, LoadPositive, Add, AddHalfword, Subtract, SubtractHalfword}
-use Rattle.s360_fixed.specs.declared.operation.Operation.TheVariants.{Multiply, Divide, SetStorageKey, InsertStorageKey, StoreMultiple, LoadMultiple}
-use Rattle.s360_fixed.specs.declared.operation.Operation.TheVariants.{ShiftLeftSingle, ShiftLeftDouble, ShiftRightDouble, ShiftLeftDoubleLogical, ShiftRightDoubleLogical}
+use Rattle.s360_fixed.specs.declared.operation.Operation.TheVariants.{LoadComplement, LoadPositive, Add, AddHalfword, Subtract, SubtractHalfword, Multiply, Divide, SetStorageKey, InsertStorageKey, StoreMultiple, LoadMultiple, ShiftLeftSingle, ShiftLeftDouble, ShiftRightDouble, ShiftLeftDoubleLogical, ShiftRightDoubleLogical}
 use Rattle.s360_fixed.specs.Operands.{operand_address}
 use Rattle.s360_fixed.specs.Outcomes.{is_odd}
 use Rattle.s360_fixed.specs.ProgramCodes.{Conditions, no_conditions}

@@ -1,6 +1,5 @@
 -- The instructions of the format RR follow their sources.
-use Rattle.std.proofs.Common.{◌≡◌, ◌+◌, ◌||◌, ℕ, false, [], ◌∷◌, refl, is_none, bit_and, bit_or, bit_xor, ◌/◌, ◌*◌, ◌%◌, pos}
-use Rattle.std.specs.Prelude.{slice_index}
+use Rattle.std.proofs.Common.{◌≡◌, ◌+◌, ◌||◌, ℕ, false, [], ◌∷◌, refl, is_none, bit_and, bit_or, bit_xor, ◌/◌, ◌*◌, ◌%◌, pos, slice_index}
 use Rattle.s360_model.specs.Arithmetic.{absolute_value, logical_difference, logical_sum, negative_absolute_value, signed_complement, signed_difference, signed_sum, word_of}
 use Rattle.s360_model.specs.ConditionCodes.{carry_code, order_code}
 use Rattle.s360_model.specs.Core.{Core}
@@ -11,11 +10,7 @@ use Rattle.s360_store.specs.declared.place.Place.{Place}
 use Rattle.s360_store.specs.declared.place.Place.TheVariants.{Psw, Register, Key}
 use Rattle.s360_fixed.specs.declared.form.Form.TheVariants.{Rr}
 use Rattle.s360_fixed.specs.declared.operation.Operation.{Operation}
-use Rattle.s360_fixed.specs.declared.operation.Operation.TheVariants.{Load, LoadHalfword, LoadAddress, InsertCharacter, LoadAndTest, LoadComplement, LoadPositive, LoadNegative}
-use Rattle.s360_fixed.specs.declared.operation.Operation.TheVariants.{Add, AddHalfword, Subtract, SubtractHalfword, AddLogical, SubtractLogical}
-use Rattle.s360_fixed.specs.declared.operation.Operation.TheVariants.{Compare, CompareHalfword, CompareLogical, And, Or, ExclusiveOr}
-use Rattle.s360_fixed.specs.declared.operation.Operation.TheVariants.{SetProgramMask, SetStorageKey, InsertStorageKey}
-use Rattle.s360_fixed.specs.declared.operation.Operation.TheVariants.{MultiplyHalfword, Multiply, Divide, BranchOnCondition, BranchAndLink, BranchOnCount}
+use Rattle.s360_fixed.specs.declared.operation.Operation.TheVariants.{Load, LoadHalfword, LoadAddress, InsertCharacter, LoadAndTest, LoadComplement, LoadPositive, LoadNegative, Add, AddHalfword, Subtract, SubtractHalfword, AddLogical, SubtractLogical, Compare, CompareHalfword, CompareLogical, And, Or, ExclusiveOr, SetProgramMask, SetStorageKey, InsertStorageKey, MultiplyHalfword, Multiply, Divide, BranchOnCondition, BranchAndLink, BranchOnCount}
 use Rattle.s360_fixed.specs.Branching.{register_target}
 use Rattle.s360_fixed.specs.Outcomes.{is_odd}
 use Rattle.s360_fixed.specs.ProgramCodes.{no_conditions}

@@ -1,6 +1,5 @@
 -- The instructions of the format RS follow their sources.
-use Rattle.std.proofs.Common.{◌≡◌, ◌+◌, ◌%◌, ◌∙◌, ℕ, Bool, false, not, [], ◌∷◌, refl, ap, sym, Some}
-use Rattle.std.specs.Prelude.{int_lt, slice_index}
+use Rattle.std.proofs.Common.{◌≡◌, ◌+◌, ◌%◌, ◌∙◌, ℕ, Bool, false, not, [], ◌∷◌, refl, ap, sym, Some, int_lt, slice_index}
 use Rattle.s360_model.specs.Arithmetic.{signed_sum, word_of}
 use Rattle.s360_model.specs.Core.{Core}
 use Rattle.s360_model.specs.Numbers.{signed}
@@ -11,9 +10,7 @@ use Rattle.s360_store.specs.declared.place.Place.{Place}
 use Rattle.s360_store.specs.declared.place.Place.TheVariants.{Register}
 use Rattle.s360_fixed.specs.declared.form.Form.TheVariants.{Rs}
 use Rattle.s360_fixed.specs.declared.operation.Operation.{Operation}
-use Rattle.s360_fixed.specs.declared.operation.Operation.TheVariants.{StoreMultiple, LoadMultiple, BranchOnIndexHigh, BranchOnIndexLowOrEqual}
-use Rattle.s360_fixed.specs.declared.operation.Operation.TheVariants.{ShiftLeftSingleLogical, ShiftRightSingleLogical, ShiftLeftSingle, ShiftRightSingle}
-use Rattle.s360_fixed.specs.declared.operation.Operation.TheVariants.{ShiftLeftDoubleLogical, ShiftRightDoubleLogical, ShiftLeftDouble, ShiftRightDouble}
+use Rattle.s360_fixed.specs.declared.operation.Operation.TheVariants.{StoreMultiple, LoadMultiple, BranchOnIndexHigh, BranchOnIndexLowOrEqual, ShiftLeftSingleLogical, ShiftRightSingleLogical, ShiftLeftSingle, ShiftRightSingle, ShiftLeftDoubleLogical, ShiftRightDoubleLogical, ShiftLeftDouble, ShiftRightDouble}
 use Rattle.s360_fixed.specs.declared.setting.CodeSetting.{CodeSetting}
 use Rattle.s360_fixed.specs.Branching.{address_after_branch, comparand_of}
 use Rattle.s360_fixed.specs.Operands.{operand_address}

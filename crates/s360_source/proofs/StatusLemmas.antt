@@ -1,9 +1,7 @@
 -- Rows that set the PSW or a storage key follow their sources.
-use Rattle.std.proofs.Common.{◌≡◌, ℕ, false, List, [], ◌∷◌, refl, ap, set}
-use Rattle.std.proofs.lemmas.List.{length-set}
+use Rattle.std.proofs.Common.{◌≡◌, ℕ, false, List, [], ◌∷◌, refl, ap, set, length-set, nat_eq}
 use Rattle.s360_model.specs.Core.{Core}
 use Rattle.s360_model.specs.Psw.{with_instruction_address}
-use Rattle.std.specs.Prelude.{nat_eq}
 use Rattle.s360_store.specs.declared.place.Place.{Place}
 use Rattle.s360_store.specs.declared.place.Place.TheVariants.{Psw, Register, Byte, Key}
 use Rattle.s360_fixed.specs.declared.ended.Ended.TheVariants.{Done}

@@ -1,8 +1,5 @@
 -- Where a word stores bytes, as it is told from the word and from how the device begins its command.
-use Rattle.std.proofs.Common.{◌≡◌, ◌+◌, ◌-◌, ◌∙◌, ◌++◌, ℕ, Bool, true, false, ◌||◌, not, List, [], refl, ap, sym, arith, length, take, drop, subst, true≢false, Option, Some, None, nat_eq}
-use Rattle.std.specs.List.{slice_range}
-use Rattle.std.specs.Option.{option_and_then, option_map}
-use Rattle.std.specs.Prelude.{if◌then◌else◌, min, nat_lt}
+use Rattle.std.proofs.Common.{◌≡◌, ◌+◌, ◌-◌, ◌∙◌, ◌++◌, ℕ, Bool, true, false, ◌||◌, not, List, [], refl, ap, sym, arith, length, take, drop, subst, true≢false, Option, Some, None, nat_eq, slice_range, option_and_then, option_map, if◌then◌else◌, min, nat_lt}
 use Rattle.std.proofs.lemmas.List.{length-drop, length-take, length-reverse}
 use Rattle.s360_model.specs.Storage.{Storage}
 use Rattle.s360_store.specs.declared.protection.Access.TheVariants.{Fetch, Store}
@@ -24,8 +21,7 @@ use Rattle.s360_channel.specs.declared.unit_state.UnitState.TheVariants.{Active}
 use Rattle.s360_channel.specs.declared.configured_unit.ConfiguredUnit.TheVariants.{Tape0, Tape1}
 use Rattle.s360_channel.specs.ConfiguredUnits.{address_of_unit, control_of, unit_at}
 use Rattle.s360_channel.specs.declared.transfer.Transfer.{Transfer}
-use Rattle.s360_channel.specs.Execution.{DeviceView, Execution, WordAtHand, access_of, after_input, after_output, channel_execution, command_with, execute_begun, in_order}
-use Rattle.s360_channel.specs.Execution.{input_transfer, lowest_address, output_transfer, run_of, stored_bytes, unless_checked, word_at_hand}
+use Rattle.s360_channel.specs.Execution.{DeviceView, Execution, WordAtHand, access_of, after_input, after_output, channel_execution, command_with, execute_begun, in_order, input_transfer, lowest_address, output_transfer, run_of, stored_bytes, unless_checked, word_at_hand}
 use Rattle.s360_channel.specs.Words.{reads_backward}
 use Rattle.s360_source.specs.declared.channel_moves.ChannelMoves.{ChannelMoves}
 use Rattle.s360_machine.specs.ChannelEvents.{execution_of, view_of}

@@ -1,6 +1,5 @@
 -- An instruction that is suppressed leaves each place alone, in both of two cores or in neither.
-use Rattle.std.proofs.Common.{◌≡◌, ◌∙◌, ℕ, Bool, true, false, refl, ap, sym, Option, Some, None}
-use Rattle.std.specs.Prelude.{if◌then◌else◌, IfSome, ◌&&◌}
+use Rattle.std.proofs.Common.{◌≡◌, ◌∙◌, ℕ, Bool, true, false, refl, ap, sym, Option, Some, None, if◌then◌else◌, IfSome, ◌&&◌}
 use Rattle.s360_model.specs.Psw.{fixed_point_overflow_mask_of}
 use Rattle.s360_fixed.specs.declared.program_code.ProgramCode.TheVariants.{FixedPointOverflow}
 use Rattle.s360_fixed.specs.declared.setting.CodeSetting.{CodeSetting}

@@ -1,7 +1,5 @@
 -- A channel finds the same words in two cores that have the same bytes there.
-use Rattle.std.proofs.Common.{◌≡◌, ◌+◌, ◌∙◌, ℕ, Bool, true, false, ◌&&◌, refl, ap, Option, Some, None}
-use Rattle.std.specs.Option.{option_and_then, option_map}
-use Rattle.std.specs.Prelude.{if◌then◌else◌, nat_le}
+use Rattle.std.proofs.Common.{◌≡◌, ◌+◌, ◌∙◌, ℕ, Bool, true, false, ◌&&◌, refl, ap, Option, Some, None, option_and_then, option_map, if◌then◌else◌, nat_le}
 use Rattle.s360_model.specs.Core.{Core}
 use Rattle.s360_model.specs.Storage.{doubleword_at, is_inside}
 use Rattle.s360_channel.specs.declared.ccw.Ccw.{Ccw}

@@ -1,6 +1,5 @@
 -- The word that a channel executes, as it is found in storage.
-use Rattle.std.proofs.Common.{◌≡◌, ◌<◌, ◌∙◌, ◌^◌, ℕ, Bool, true, false, ◌&&◌, not, refl, ap, arith, Option, Some, None}
-use Rattle.std.specs.Prelude.{if◌then◌else◌}
+use Rattle.std.proofs.Common.{◌≡◌, ◌<◌, ◌∙◌, ◌^◌, ℕ, Bool, true, false, ◌&&◌, not, refl, ap, arith, Option, Some, None, if◌then◌else◌}
 use Rattle.s360_model.specs.Storage.{Storage}
 use Rattle.s360_channel.specs.declared.ccw.Ccw.{Ccw}
 use Rattle.s360_channel.specs.declared.fetching.Fetched.{Fetched}

@@ -1,7 +1,6 @@
 -- The deciders of an event of the CPU: the places that its shape comes from (GA22-6821, "Interruptions", and "Input/Output
 -- Operations", START I/O, TEST I/O, HALT I/O and TEST CHANNEL).
-use Rattle.std.specs.Prelude.{ℕ, ◌/◌, Bool, ◌||◌, nat_eq, if◌then◌else◌, List, [], ◌∷◌, ◌++◌, map}
-use Rattle.std.specs.List.{filter}
+use Rattle.std.specs.Prelude.{ℕ, ◌/◌, Bool, ◌||◌, nat_eq, if◌then◌else◌, List, [], ◌∷◌, ◌++◌, map, filter}
 use Rattle.std.specs.Option.{option_map_or}
 use Rattle.s360_model.specs.Psw.{channel_mask_of, external_mask_of}
 use Rattle.s360_model.specs.Storage.{Storage, word_at}

@@ -1,6 +1,5 @@
 -- The shape of an event: what happens, and where, but no value that it moves (ours).
-use Rattle.std.specs.Prelude.{ℕ, Option, Some, None}
-use Rattle.std.specs.Option.{option_and_then, option_map}
+use Rattle.std.specs.Prelude.{ℕ, Option, Some, None, option_and_then, option_map}
 use Rattle.s360_psw.specs.declared.class.Class.TheVariants.{External, InputOutput}
 use Rattle.s360_fixed.specs.declared.ended.Ended.{Ended}
 use Rattle.s360_fixed.specs.declared.ended.Ended.TheVariants.{Io}

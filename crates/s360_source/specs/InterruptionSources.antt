@@ -1,6 +1,5 @@
 -- The sources of an interruption, and of what happens in two steps (GA22-6821, "Interruptions").
-use Rattle.std.specs.Prelude.{[], ◌∷◌}
-use Rattle.std.specs.List.{flat_map}
+use Rattle.std.specs.Prelude.{[], ◌∷◌, flat_map}
 use Rattle.s360_psw.specs.declared.class.Class.{Class}
 use Rattle.s360_psw.specs.Class.{new_location_of, old_location_of}
 use Rattle.s360_store.specs.declared.place.Place.TheVariants.{Psw}

@@ -1,6 +1,5 @@
 -- Bytes put from an address on.
-use Rattle.std.proofs.Common.{◌≡◌, ◌<◌, ◌≤◌, ◌+◌, ◌++◌, ℕ, zero, suc, List, [], ◌∷◌, refl, ap, sym, ◌∙◌, inr, take, get_or, length, arith, append-nil, add-zero, Bool, true, false}
-use Rattle.std.proofs.lemmas.List.{append_assoc, take_all}
+use Rattle.std.proofs.Common.{◌≡◌, ◌<◌, ◌≤◌, ◌+◌, ◌++◌, ℕ, zero, suc, List, [], ◌∷◌, refl, ap, sym, ◌∙◌, inr, take, get_or, length, arith, append-nil, add-zero, Bool, true, false, append_assoc, take_all, if◌then◌else◌}
 use Rattle.s360_model.specs.Core.{core_with_bytes}
 use Rattle.s360_store.specs.declared.place.Place.{Place}
 use Rattle.s360_store.specs.declared.place.Place.TheVariants.{Byte}
@@ -8,7 +7,6 @@ use Rattle.s360_store.specs.declared.place.Cell.{Cell}
 use Rattle.s360_store.specs.Cells.{IsFresh, HasEachOnce, byte_cells, places_of_cells}
 use Rattle.s360_store.specs.CoreChanges.{AllBefore}
 use Rattle.s360_store.specs.PlanParts.{IsPlan}
-use Rattle.std.specs.Prelude.{if◌then◌else◌}
 use Rattle.s360_store.specs.Order.{IsAscending, IsBefore}
 use Rattle.s360_store.specs.Plans.{after_put, after_put_bytes, AddsToPlan, HasBytes}
 use Rattle.s360_store.proofs.AscendingLemmas.{IsBefore-trans}

@@ -1,7 +1,6 @@
 -- The places of ascending cells that alter them are those at which the cores differ.
-use Rattle.std.proofs.Common.{◌≡◌, ◌≢◌, ◌<◌, ◌≤◌, ◌+◌, ◌++◌, ℕ, List, [], ◌∷◌, refl, ap, sym, ◌∙◌, ◌⊎◌, inl, inr, arith, map, length, Bool, true, false, not, nat_eq}
+use Rattle.std.proofs.Common.{◌≡◌, ◌≢◌, ◌<◌, ◌≤◌, ◌+◌, ◌++◌, ℕ, List, [], ◌∷◌, refl, ap, sym, ◌∙◌, ◌⊎◌, inl, inr, arith, map, length, Bool, true, false, not, nat_eq, eqb-true, eq-eqb}
 use Rattle.std.specs.List.{range_with_len}
-use Rattle.std.proofs.lemmas.Bool.{eqb-true, eq-eqb}
 use Rattle.s360_model.specs.Core.{Core}
 use Rattle.s360_store.specs.declared.place.Place.{Place}
 use Rattle.s360_store.specs.declared.place.Place.TheVariants.{Psw, Register, Byte, Key}

@@ -1,7 +1,6 @@
 -- Cells as single ones and runs of bytes.
-use Rattle.std.proofs.Common.{◌≡◌, ◌≢◌, ◌<◌, ◌≤◌, ◌+◌, ◌-◌, ◌++◌, ◌⊎◌, ◌∙◌, ◌||◌, ◌^◌, cond, ℕ, zero, suc, Option, Some, None, List, [], ◌∷◌, Bool, true, false, refl, ap, sym, inl, inr, take, drop, set, get_or, length, append-nil, arith, nat_lt, add-zero}
+use Rattle.std.proofs.Common.{◌≡◌, ◌≢◌, ◌<◌, ◌≤◌, ◌+◌, ◌-◌, ◌++◌, ◌⊎◌, ◌∙◌, ◌||◌, ◌^◌, cond, ℕ, zero, suc, Option, Some, None, List, [], ◌∷◌, Bool, true, false, refl, ap, sym, inl, inr, take, drop, set, get_or, length, append-nil, arith, nat_lt, add-zero, if◌then◌else◌, IsSome}
 use Rattle.std.specs.List.{list_any, position, position_or_len, refill, slice_get}
-use Rattle.std.specs.Prelude.{if◌then◌else◌, IsSome}
 use Rattle.std.proofs.lemmas.List.Quantifiers.{position-Some}
 use Rattle.std.proofs.lemmas.List.Sums.{fails_before_first}
 use Rattle.std.proofs.Math.Dec.{leb}

@@ -1,10 +1,8 @@
 -- The derived order of places is the one by kind and number.
-use Rattle.std.proofs.Common.{◌≡◌, ◌≢◌, ◌<◌, true, false, refl, ap, sym, inl, inr, subst, arith}
+use Rattle.std.proofs.Common.{◌≡◌, ◌≢◌, ◌<◌, true, false, refl, ap, sym, inl, inr, subst, arith, Ordering, Less, Equal, Greater}
 use Rattle.std.proofs.lemmas.Cmp.{ranked}
 use Rattle.std.specs.Ordering.{is_eq, nat_cmp, MatchOrdering}
 use Rattle.std.specs.declared.cmp.Ord
-use Rattle.std.specs.declared.cmp.Ordering.{Ordering}
-use Rattle.std.specs.declared.cmp.Ordering.TheVariants.{Less, Equal, Greater}
 use denote.Param
 use Rattle.s360_store.specs.contracts.place.PlaceOrd.TheImpl
 use Rattle.s360_store.specs.declared.place.Place.{Place}

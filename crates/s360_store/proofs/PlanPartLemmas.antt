@@ -1,5 +1,5 @@
 -- Puts one after another, the entries of a plan's map, and cells that ascend.
-use Rattle.std.proofs.Common.{◌≡◌, ◌<◌, ◌≤◌, ◌++◌, ◌⊎◌, IsSome, ℕ, Some, List, [], ◌∷◌, Bool, true, false, cond, refl, ap, sym, subst, length}
+use Rattle.std.proofs.Common.{◌≡◌, ◌<◌, ◌≤◌, ◌++◌, ◌⊎◌, IsSome, ℕ, Some, List, [], ◌∷◌, Bool, true, false, cond, refl, ap, sym, subst, length, Ordering, Less, Equal, Greater}
 use Rattle.std.specs.Map.{lookup}
 use Rattle.std.specs.declared.cmp.PartialEq
 use Rattle.indexmap.specs.IndexMap.{insert_entry}
@@ -16,8 +16,6 @@ use Rattle.s360_store.specs.PlanParts.{IsPlan, cells_of_entries}
 use Rattle.s360_store.proofs.OrderOfPlaces.{compare, compare_is}
 use Rattle.s360_store.proofs.AscendingLemmas.{IsBefore-trans}
 use Rattle.std.specs.Ordering.{is_lt, MatchOrdering}
-use Rattle.std.specs.declared.cmp.Ordering.{Ordering}
-use Rattle.std.specs.declared.cmp.Ordering.TheVariants.{Less, Equal, Greater}
 use Rattle.s360_store.proofs.PlanLemmas.{same_place-false, same_place-sym, HasEachOnce-after_put, length-after_put-le}
 
 -- a put at any other place is a put to what follows

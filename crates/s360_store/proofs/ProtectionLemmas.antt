@@ -1,9 +1,8 @@
 -- The keys of an operand's bytes are those of the blocks that it lies in.
-use Rattle.std.proofs.Common.{◌≡◌, ◌≢◌, ◌<◌, ◌≤◌, ◌+◌, ◌-◌, ◌/◌, ℕ, zero, suc, List, ◌∷◌, Bool, true, false, ◌&&◌, refl, sym, get_or, length, map, arith, inl, inr}
+use Rattle.std.proofs.Common.{◌≡◌, ◌≢◌, ◌<◌, ◌≤◌, ◌+◌, ◌-◌, ◌/◌, ℕ, zero, suc, List, ◌∷◌, Bool, true, false, ◌&&◌, refl, sym, get_or, length, map, arith, inl, inr, slice_index, nat_eq, IsTrue}
 use Rattle.std.proofs.lemmas.Bool.{cases_lt, ne_eqb}
 use Rattle.std.proofs.lemmas.List.{drop_more}
 use Rattle.std.specs.List.{list_all, range_with_len, slice_range}
-use Rattle.std.specs.Prelude.{slice_index, nat_eq, IsTrue}
 use Rattle.std.proofs.lemmas.Grind.{common_steps}
 use Rattle.s360_model.specs.Storage.{Storage, is_storage_size}
 use Rattle.s360_store.specs.Protection.{block_allows, is_allowed}

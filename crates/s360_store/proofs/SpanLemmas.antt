@@ -1,7 +1,5 @@
 -- Spans of places.
-use Rattle.std.proofs.Common.{◌≡◌, ◌<◌, ◌≤◌, ◌+◌, ◌∙◌, ℕ, zero, suc, Some, List, [], ◌∷◌, refl, ap, sym, take, length, arith, add-zero}
-use Rattle.std.specs.List.{slice_get}
-use Rattle.std.proofs.lemmas.List.{length-take-le}
+use Rattle.std.proofs.Common.{◌≡◌, ◌<◌, ◌≤◌, ◌+◌, ◌∙◌, ℕ, zero, suc, Some, List, [], ◌∷◌, refl, ap, sym, take, length, arith, add-zero, slice_get, length-take-le}
 use Rattle.s360_store.specs.declared.place.Place.{Place}
 use Rattle.s360_store.specs.declared.place.Place.TheVariants.{Byte}
 use Rattle.s360_store.specs.Cells.{byte_cells, places_of_cells}

@@ -1,4 +1,4 @@
--- The cells beside the PSW that an event alters.
+-- The cells beside the PSW that an event alters (kept).
 use Rattle.std.specs.Prelude.{◌≡◌, Option, Some, None, List, [], ◌∷◌}
 use Rattle.s360_store.specs.declared.altered.AlteredRegister.{AlteredRegister}
 use Rattle.s360_store.specs.declared.altered.BesidePsw.{BesidePsw}

@@ -1,5 +1,5 @@
 -- Cells, each a place with a value, exchanged with a core one after another: the core gets their values,
--- and they get what stood at their places.
+-- and they get what stood at their places (kept).
 use Rattle.std.specs.Prelude.{◌≢◌, ◌+◌, ℕ, Bool, List, [], ◌∷◌, map}
 use Rattle.s360_model.specs.Core.{Core}
 use Rattle.s360_store.specs.declared.place.Place.{Place}

@@ -1,4 +1,4 @@
--- The change of a core that an event makes: the values that differ from what stands there, in the order of places.
+-- The change of a core that an event makes: the values that differ from what stands there, in the order of places (kept).
 use Rattle.std.specs.Prelude.{◌≢◌, ℕ, Option, Some, None, List, [], ◌∷◌, IfSome, nat_eq, if◌then◌else◌}
 use Rattle.s360_model.specs.Core.{Core, core_with_psw}
 use Rattle.s360_model.specs.Psw.{IsCurrentPsw}

@@ -1,4 +1,4 @@
--- Bytes that differ from those that stand there, run by run.
+-- Bytes that differ from those that stand there, run by run (kept).
 use Rattle.std.specs.Prelude.{◌≡◌, ◌≢◌, ◌<◌, ◌≤◌, ℕ, List, length, slice_index}
 
 -- from a place on the bytes are the same up to this one, at which they differ, or up to the end of all

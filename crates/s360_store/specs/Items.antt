@@ -1,4 +1,4 @@
--- Cells as they stand in memory: single ones, and runs of successive bytes of storage. The bytes of the runs stand in one
+-- Cells as they stand in memory: single ones, and runs of successive bytes of storage (kept). The bytes of the runs stand in one
 -- list, run after run.
 use Rattle.std.specs.Prelude.{◌≡◌, ◌<◌, ◌≤◌, ◌+◌, ◌-◌, ◌^◌, ◌++◌, ℕ, Bool, false, ◌&&◌, if◌then◌else◌, IsTrue, nat_le, nat_lt}
 use Rattle.std.specs.Prelude.{List, [], ◌∷◌, length, slice_index_or, slice_set, take, drop}

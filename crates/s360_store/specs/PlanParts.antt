@@ -1,4 +1,4 @@
--- A plan as it stands in memory: cells, or a map.
+-- A plan as it stands in memory: cells, or a map (kept).
 use Rattle.std.specs.Prelude.{◌≤◌, ℕ, List, length, map}
 use Rattle.s360_store.specs.declared.place.Place.{Place}
 use Rattle.s360_store.specs.declared.place.Cell.{Cell}

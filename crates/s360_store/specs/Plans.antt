@@ -1,4 +1,4 @@
--- A plan: the cells that an event puts, each place at most once, in the order of their first puts.
+-- A plan: the cells that an event puts, each place at most once, in the order of their first puts (kept).
 use Rattle.std.specs.Prelude.{◌≡◌, ◌<◌, ◌≤◌, ◌+◌, Bool, Option, Some, None, ℕ, if◌then◌else◌, List, [], ◌∷◌, length}
 use Rattle.s360_model.specs.Core.{Core}
 use Rattle.s360_model.specs.Storage.{key_limit}

@@ -1,5 +1,5 @@
 -- What takes the puts of an event, by what its puts so far make, whether they may be made, the places that they
--- have left, and their number.
+-- have left, and their number (kept).
 use Rattle.std.specs.Prelude.{◌≡◌, ℕ}
 use Rattle.s360_model.specs.Core.{Core}
 use Rattle.s360_store.specs.declared.place.Place.{Place}

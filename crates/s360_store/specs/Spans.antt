@@ -1,4 +1,4 @@
--- Places that follow each other in a list: one, or those of successive bytes.
+-- Places that follow each other in a list: one, or those of successive bytes (kept).
 use Rattle.std.specs.Prelude.{◌<◌, ◌≤◌, ◌+◌, ◌^◌, ◌++◌, ℕ, zero, suc, List, [], ◌∷◌}
 use Rattle.s360_store.specs.declared.place.Place.{Place}
 use Rattle.s360_store.specs.declared.place.Place.TheVariants.{Byte}

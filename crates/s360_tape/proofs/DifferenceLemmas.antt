@@ -1,7 +1,6 @@
 -- The test of whether two tapes are alike decides whether what is seen of them is equal.
-use Rattle.std.proofs.Common.{refl}
+use Rattle.std.proofs.Common.{refl, bytes_eq}
 use Rattle.std.specs.Cmp.{booleans_Decides}
-use Rattle.std.specs.Str.{bytes_eq}
 use Rattle.std.proofs.lemmas.Bool.Decides.{Decides-eqb, Decides-like}
 use Rattle.std.proofs.lemmas.Slice.Eq.{bytes_eq-Decides}
 use Rattle.s360_device.specs.Differences.{DecidesEquality}

@@ -1,6 +1,5 @@
 -- The file of items is that of a tape with these items.
-use Rattle.std.proofs.Common.{◌≤◌, ◌/◌, ◌%◌, ◌++◌, ◌∷◌, ℕ, List, [], None, length, sym, append_assoc}
-use Rattle.std.proofs.lemmas.List.{append-nil}
+use Rattle.std.proofs.Common.{◌≤◌, ◌/◌, ◌%◌, ◌++◌, ◌∷◌, ℕ, List, [], None, length, sym, append_assoc, append-nil}
 use Rattle.std.proofs.lemmas.List.Elements.{All-head, All-tail}
 use Rattle.s360_tape.specs.declared.item.TapeItem.{TapeItem}
 use Rattle.s360_tape.specs.declared.item.TapeItem.TheVariants.{Block, Mark}

@@ -1,9 +1,7 @@
 -- A reading of a tape's file, part by part.
-use Rattle.std.proofs.Common.{◌≡◌, ◌<◌, ◌≤◌, ◌+◌, ◌*◌, ◌/◌, ◌%◌, ◌∙◌, ◌++◌, ◌∷◌, ℕ, suc, List, [], Some, None, length, take, drop, get_or, refl, ap, sym, arith, length-append, length-take, length-drop}
-use Rattle.std.specs.Prelude.{Option, is_some, IfSome, slice_index}
+use Rattle.std.proofs.Common.{◌≡◌, ◌<◌, ◌≤◌, ◌+◌, ◌*◌, ◌/◌, ◌%◌, ◌∙◌, ◌++◌, ◌∷◌, ℕ, suc, List, [], Some, None, length, take, drop, get_or, refl, ap, sym, arith, length-append, length-take, length-drop, Option, is_some, IfSome, slice_index, take_all}
 use Rattle.std.specs.Option.{option_map, option_map_or}
 use Rattle.std.proofs.Math.Seq.{take-add}
-use Rattle.std.proofs.lemmas.List.{take_all}
 use Rattle.s360_tape.specs.declared.item.TapeItem.{TapeItem}
 use Rattle.s360_tape.specs.declared.part_kind.PartKind.{PartKind}
 use Rattle.s360_tape.specs.declared.part_kind.PartKind.TheVariants.{Whole, First, Middle, Last, Mark}

@@ -1,10 +1,7 @@
 -- A file is read in one way: what comes after each part is fixed, and a reading ends at the end of a tape's file or at
 -- the first fault.
-use Rattle.std.proofs.Common.{◌≡◌, ◌≤◌, ◌+◌, ◌*◌, ◌/◌, ◌%◌, ◌∙◌, ◌++◌, ◌∷◌, ℕ, suc, List, [], Bool, false, Some, None, length, take, drop, get_or, refl, ap, sym, arith, append_assoc, length-append}
-use Rattle.std.specs.Prelude.{Option, is_some, nat_lt}
-use Rattle.std.specs.Option.{option_map}
+use Rattle.std.proofs.Common.{◌≡◌, ◌≤◌, ◌+◌, ◌*◌, ◌/◌, ◌%◌, ◌∙◌, ◌++◌, ◌∷◌, ℕ, suc, List, [], Bool, false, Some, None, length, take, drop, get_or, refl, ap, sym, arith, append_assoc, length-append, Option, is_some, nat_lt, option_map, take_at, drop_at, append-nil}
 use Rattle.std.proofs.lemmas.Bool.Decides.{nat_tests}
-use Rattle.std.proofs.lemmas.List.{take_at, drop_at, append-nil}
 use Rattle.std.proofs.lemmas.Option.{same_Some, none-some}
 use Rattle.s360_model.specs.Tables.{entry_in}
 use Rattle.s360_tape.specs.declared.fault.TapeFault.{TapeFault}

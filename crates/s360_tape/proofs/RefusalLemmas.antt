@@ -1,6 +1,5 @@
 -- A file that is read as a tape is one, and a file that is refused has the fault, so it is no other way with either.
-use Rattle.std.proofs.Common.{◌≡◌, List, ℕ, ap, inl, inr}
-use Rattle.std.specs.Prelude.{Result, Ok, Err, IfOk, IfErr, IsOkUnless}
+use Rattle.std.proofs.Common.{◌≡◌, List, ℕ, ap, inl, inr, Result, Ok, Err, IfOk, IfErr, IsOkUnless}
 use Rattle.s360_tape.specs.declared.fault.TapeFault.{TapeFault}
 use Rattle.s360_tape.specs.declared.fault.TapeFault.TheVariants.{Memory}
 use Rattle.s360_tape.specs.declared.item.TapeItem.{TapeItem}

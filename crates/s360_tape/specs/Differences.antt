@@ -1,8 +1,7 @@
 -- Whether two tapes are alike in sense bytes and in what is seen of them, as a test (ours).
-use Rattle.std.specs.Prelude.{Bool, true, false, ◌&&◌, nat_eq}
+use Rattle.std.specs.Prelude.{Bool, true, false, ◌&&◌, nat_eq, bytes_eq}
 use Rattle.std.specs.Bool.{beq}
 use Rattle.std.specs.Cmp.Lexicographic.{pointwise}
-use Rattle.std.specs.Str.{bytes_eq}
 use Rattle.s360_tape.specs.declared.item.TapeItem.{TapeItem}
 use Rattle.s360_tape.specs.declared.item.TapeItem.TheVariants.{Block, Mark}
 use Rattle.s360_tape.specs.Tape.{Tape}

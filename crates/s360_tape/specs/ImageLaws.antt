@@ -1,6 +1,5 @@
 -- What a tape's file and its first fault are, in other words than those of their definitions.
-use Rattle.std.specs.Prelude.{◌≡◌, ◌≤◌, ℕ, List, length}
-use Rattle.std.specs.List.{All}
+use Rattle.std.specs.Prelude.{◌≡◌, ◌≤◌, ℕ, List, length, All}
 use Rattle.s360_tape.specs.declared.fault.TapeFault.{TapeFault}
 use Rattle.s360_tape.specs.declared.item.TapeItem.{TapeItem}
 use Rattle.s360_tape.specs.Blocks.{block_limit}

@@ -1,4 +1,4 @@
--- How far a reading of a file has come, and the part with which it goes on (ours).
+-- How far a reading of a file has come, and the part with which it goes on (kept).
 use Rattle.std.specs.Prelude.{◌≡◌, ◌≤◌, ◌<◌, ℕ, ◌+◌, Option, Some, None, is_some, List, [], ◌∷◌, ◌++◌, length, take, IfSome, slice_index}
 use Rattle.std.specs.Option.{option_map, option_map_or}
 use Rattle.s360_tape.specs.declared.item.TapeItem.{TapeItem}

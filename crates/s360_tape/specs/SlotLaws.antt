@@ -1,4 +1,4 @@
--- A change of slots and what takes it back.
+-- A change of slots and what takes it back (kept).
 use Rattle.std.proofs.Common.{◌≡◌, ◌∙◌, ◌∷◌, ℕ, zero, suc, List, [], set, get_or, refl, ap, arith, length-set}
 use Rattle.std.proofs.lemmas.List.{set-get_or, get_or-set_same}
 use Rattle.s360_device.specs.MotionLaws.{CanMove-again, after_motion-twice, motion_back-twice}

@@ -1,5 +1,5 @@
 -- The slots in which a tape's items lie, and what a command does to them (ours): a slot is put at the end or taken
--- from there, or the item in one is exchanged.
+-- from there, or the item in one is exchanged (kept).
 use Rattle.std.specs.Prelude.{ℕ, ◌<◌, List, length, set, get_or}
 use Rattle.s360_device.specs.Motions.{CanMove, items_put, after_motion, motion_back}
 use Rattle.s360_tape.specs.declared.item.TapeItem.{TapeItem}

@@ -1,4 +1,4 @@
--- The exchange of a tape's media with a change, done twice.
+-- The exchange of a tape's media with a change, done twice (kept).
 use Rattle.std.proofs.Common.{◌≡◌, List, ap}
 use Rattle.s360_device.specs.Kinds.{RestoresBoth}
 use Rattle.s360_tape.specs.declared.item.TapeItem.{TapeItem}

@@ -1,4 +1,4 @@
--- The whole tape (ours): the items that were discarded stay in their slots, out of sight, until a write takes the slot.
+-- The whole tape (ours): the items that were discarded stay in their slots, out of sight, until a write takes the slot (kept).
 -- So what takes a write back needs no memory, and the items that it discarded are seen again.
 use Rattle.std.specs.Prelude.{◌≤◌, ℕ, Bool, List, length, take}
 use Rattle.s360_device.specs.declared.device_with.DeviceWith.{DeviceWith}

@@ -1,6 +1,5 @@
 -- Writes one after another.
-use Rattle.std.proofs.Common.{◌+◌, ◌++◌, ℕ, List, [], sym, ap, ◌∙◌, take, drop, Option, Some, None, take-add, append_assoc}
-use Rattle.std.proofs.lemmas.List.{append-nil}
+use Rattle.std.proofs.Common.{◌+◌, ◌++◌, ℕ, List, [], sym, ap, ◌∙◌, take, drop, Option, Some, None, take-add, append_assoc, append-nil}
 use Rattle.std.specs.Io.KnownBytes.{Appends}
 
 pub Appends-join : (old mid new : Option (List ℕ)) (xs ys : List ℕ) → Appends old mid xs → Appends mid new ys → Appends old new (xs ++ ys)

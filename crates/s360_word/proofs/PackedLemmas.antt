@@ -1,13 +1,9 @@
 -- Fifteen digits, read or written from the high one to the low one, a step at each place; and a word that
 -- is written is the one that is read.
-use Rattle.std.proofs.Common.{◌≡◌, ◌<◌, ◌≤◌, ◌+◌, ◌-◌, ◌*◌, ◌/◌, ◌%◌, ◌^◌, ℕ, zero, suc, Bool, true, false, nat_lt, Option, Some, None, refl, ◌∙◌, ap, arith}
-use Rattle.std.specs.Option.{option_map}
-use Rattle.std.specs.Prelude.{if◌then◌else◌, ℤ, pos, ◌-ℤ◌, unsigned_abs}
-use Rattle.std.proofs.Common.{negsuc}
+use Rattle.std.proofs.Common.{◌≡◌, ◌<◌, ◌≤◌, ◌+◌, ◌-◌, ◌*◌, ◌/◌, ◌%◌, ◌^◌, ℕ, zero, suc, Bool, true, false, nat_lt, Option, Some, None, refl, ◌∙◌, ap, arith, negsuc, option_map, if◌then◌else◌, ℤ, pos, ◌-ℤ◌, unsigned_abs, lt-ltb, le-ltb, ltb-false, ltb-true}
 use Rattle.std.proofs.lemmas.Int.{ints}
 use Rattle.std.proofs.lemmas.Nat.{div-mul-add, mod-mul-add, div_below}
 use Rattle.std.proofs.Math.Nat.{div-div-eq-div-mul, pow-suc, pow-le-pow_right, mul_comm}
-use Rattle.std.proofs.lemmas.Bool.{lt-ltb, le-ltb, ltb-false, ltb-true}
 use Rattle.s360_model.specs.Arithmetic.{word_of}
 use Rattle.s360_model.specs.Numbers.{fits_word, signed}
 use Rattle.s360_model.specs.Packed.{digits_value, packed, packed_digits, packed_value, signed_magnitude}

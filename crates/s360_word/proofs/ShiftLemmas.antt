@@ -1,8 +1,6 @@
 -- A shift's overflow is a lost bit that is unlike the sign.
-use Rattle.std.proofs.Common.{◌≡◌, ◌≢◌, ◌<◌, ◌≤◌, ◌+◌, ◌-◌, ◌*◌, ◌%◌, ◌^◌, ◌↔◌, ℕ, zero, suc, Bool, true, false, nat_eq, nat_lt, refl, sym, ◌∙◌, ap, arith, subst}
-use Rattle.std.specs.Prelude.{ℤ, pos, int_lt, not, ◌&&◌, if◌then◌else◌}
+use Rattle.std.proofs.Common.{◌≡◌, ◌≢◌, ◌<◌, ◌≤◌, ◌+◌, ◌-◌, ◌*◌, ◌%◌, ◌^◌, ◌↔◌, ℕ, zero, suc, Bool, true, false, nat_eq, nat_lt, refl, sym, ◌∙◌, ap, arith, subst, negsuc, neg_ℤ, ℤ, pos, int_lt, not, ◌&&◌, if◌then◌else◌, eqb-true, eq-eqb, ltb-false, ltb-true}
 use Rattle.std.proofs.Math.IntN.{pos-*ℤ-pos, negsuc-*ℤ-pos}
-use Rattle.std.proofs.Common.{negsuc, neg_ℤ}
 use Rattle.std.proofs.lemmas.Int.{ints}
 use Rattle.s360_model.specs.ConditionCodes.{sign_code, signed_code}
 use Rattle.s360_model.specs.Numbers.{signed, fits_word}
@@ -11,7 +9,6 @@ use Rattle.s360_model.specs.Shifts.{times_power}
 use Rattle.std.specs.Int.{bit_at}
 use Rattle.std.proofs.lemmas.Nat.{mod-pow-add, pow_pos}
 use Rattle.std.proofs.lemmas.Nat.Bits.{bit_at-zero, bit_at_ones}
-use Rattle.std.proofs.lemmas.Bool.{eqb-true, eq-eqb, ltb-false, ltb-true}
 use Rattle.std.proofs.Math.Nat.{add-mul, mul_comm, mul-sub, mod-eq_of_lt, div-mul-le_self, lt-div-mul-add, lt_of_mul-lt-mul_right, mul-lt-mul_of_pos_right, mul-pos}
 use Rattle.s360_word.specs.Laws.{lost_bits, LosesBitUnlikeSign, WordOverflowIsALostBit, PairOverflowIsALostBit}
 

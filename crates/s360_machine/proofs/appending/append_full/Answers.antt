@@ -1,5 +1,4 @@
-use Rattle.std.proofs.Common.{◌++◌, ◌∷◌, ◌∙◌, [], List, ap, length, arith}
-use Rattle.std.proofs.lemmas.List.{length-append}
+use Rattle.std.proofs.Common.{◌++◌, ◌∷◌, ◌∙◌, [], List, ap, length, arith, length-append}
 use Rattle.s360_store.specs.CoreChanges.{cells_of_change}
 use Rattle.s360_machine.specs.declared.beside.Beside.{Beside}
 use Rattle.s360_machine.proofs.PackedLemmas.{appended-full, bytes-few, items-few}

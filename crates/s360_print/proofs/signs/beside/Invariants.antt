@@ -1,5 +1,4 @@
-use Rattle.std.proofs.Common.{◌≡◌, drop}
-use Rattle.std.specs.List.{zip}
+use Rattle.std.proofs.Common.{◌≡◌, drop, zip}
 use Rattle.s360_model.specs.Tables.{entry_in}
 use Rattle.s360_print.proofs.signs.beside.Given as goal
 

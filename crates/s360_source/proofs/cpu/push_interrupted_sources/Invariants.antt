@@ -1,5 +1,4 @@
-use Rattle.std.proofs.Common.{◌≡◌, ◌++◌, take}
-use Rattle.std.specs.List.{flat_map}
+use Rattle.std.proofs.Common.{◌≡◌, ◌++◌, take, flat_map}
 use Rattle.s360_source.specs.InstructionSources.{instruction_sources}
 use Rattle.s360_source.proofs.cpu.push_interrupted_sources.Given as goal
 

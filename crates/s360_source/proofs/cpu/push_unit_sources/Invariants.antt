@@ -1,5 +1,4 @@
-use Rattle.std.proofs.Common.{◌≡◌, ◌++◌, [], ◌∷◌, take}
-use Rattle.std.specs.List.{flat_map}
+use Rattle.std.proofs.Common.{◌≡◌, ◌++◌, [], ◌∷◌, take, flat_map}
 use Rattle.s360_channel.specs.IoInstructions.{csw_location}
 use Rattle.s360_channel.specs.Differences.{state_place}
 use Rattle.s360_source.specs.Sources.{bytes_made_of, itself}

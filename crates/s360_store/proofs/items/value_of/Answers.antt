@@ -1,5 +1,4 @@
-use Rattle.std.proofs.Common.{false, ◌≡◌, ◌<◌, ◌+◌, ◌-◌, sym, take, get_or, length, inl, inr, arith}
-use Rattle.std.proofs.lemmas.List.{get_or-take, length-take-le}
+use Rattle.std.proofs.Common.{false, ◌≡◌, ◌<◌, ◌+◌, ◌-◌, sym, take, get_or, length, inl, inr, arith, get_or-take, length-take-le}
 use Rattle.s360_store.proofs.ItemLemmas.{IsFresh-run, is_in_run-outside, length-take-most, no-byte-in-run, planned_value-fresh, planned_value-run}
 use Rattle.s360_store.specs.declared.place.Place.TheVariants.{Byte}
 use Rattle.s360_store.specs.Cells.{byte_cells}

@@ -1,5 +1,4 @@
-use Rattle.std.proofs.Common.{◌≡◌, ◌∙◌, refl, rules}
-use Rattle.std.specs.Option.{option_map}
+use Rattle.std.proofs.Common.{◌≡◌, ◌∙◌, refl, rules, option_map}
 use Rattle.s360_device.specs.Differences.{same_punch, same_reader}
 use Rattle.s360_device.specs.Punch.{punch_kind}
 use Rattle.s360_device.specs.ReaderChanges.{reader_kind}

@@ -1,5 +1,4 @@
-use Rattle.std.proofs.Common.{◌++◌, map}
-use Rattle.std.specs.List.{slice_get}
+use Rattle.std.proofs.Common.{◌++◌, map, slice_get}
 use Rattle.s360_store.specs.Spans.{span_of_item}
 use Rattle.s360_machine.specs.ChangeSpans.{AreSpansOf, spans_beside}
 use Rattle.s360_machine.proofs.SpanLemmas.{apart-own, no-more, within-own}

@@ -1,5 +1,4 @@
-use Rattle.std.proofs.Common.{◌≡◌, ◌++◌, ◌∷◌, ◌∙◌, [], List, sym, ap, subst, reverse, length, arith, ◌<◌}
-use Rattle.std.proofs.lemmas.List.{length-append}
+use Rattle.std.proofs.Common.{◌≡◌, ◌++◌, ◌∷◌, ◌∙◌, [], List, sym, ap, subst, reverse, length, arith, ◌<◌, length-append}
 use Rattle.s360_machine.specs.declared.row.Row.{Row}
 use Rattle.s360_machine.specs.Change.{Change}
 use Rattle.s360_store.specs.CoreChanges.{cells_of_change}

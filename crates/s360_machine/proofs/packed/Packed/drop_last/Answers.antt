@@ -1,10 +1,8 @@
-use Rattle.std.proofs.Common.{◌≡◌, ◌-◌, ◌∙◌, List, sym, ap, subst, arith, length, take, reverse}
-use Rattle.std.proofs.lemmas.List.{length-append}
+use Rattle.std.proofs.Common.{◌≡◌, ◌-◌, ◌∙◌, List, sym, ap, subst, arith, length, take, reverse, length-append, option_to_list}
 use Rattle.s360_machine.specs.declared.row.Row.{Row}
 use Rattle.s360_machine.specs.Change.{Change}
 use Rattle.s360_machine.specs.Packed.{ArePacked, Lists, changes_of_rows, lists, older}
 use Rattle.s360_machine.specs.Rows.{HasNoMore, bytes_of_row}
-use Rattle.std.specs.Option.{option_to_list}
 use Rattle.s360_machine.proofs.PackedLemmas.{Dropped, LastIs, dropped-last, last-is, length-changes, some-rows}
 use Rattle.s360_machine.proofs.packed.Packed.drop_last.Goals as goal
 use Rattle.s360_machine.proofs.packed.Packed.drop_last.Goals.{After-pop}

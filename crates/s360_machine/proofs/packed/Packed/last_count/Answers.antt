@@ -1,4 +1,4 @@
-use Rattle.std.proofs.Common.{◌≡◌, ◌-◌, ◌∙◌, [], List, sym, ap, subst, arith, length, map, append-nil}
+use Rattle.std.proofs.Common.{◌≡◌, ◌-◌, ◌∙◌, [], List, sym, ap, subst, arith, length, map, append-nil, slice_get, IfSome}
 use Rattle.std.proofs.lemmas.List.{length-map}
 use Rattle.s360_store.specs.declared.place.Cell.{Cell}
 use Rattle.s360_machine.specs.declared.row.Row.{Row}
@@ -6,8 +6,6 @@ use Rattle.s360_machine.specs.Change.{places_of_change}
 use Rattle.s360_machine.specs.Changes.{change_of_core}
 use Rattle.s360_machine.specs.Packed.{Lists, lists, newest}
 use Rattle.s360_machine.specs.Rows.{HasNoMore, bytes_of_row, cells_of_row}
-use Rattle.std.specs.List.{slice_get}
-use Rattle.std.specs.Prelude.{IfSome}
 use Rattle.s360_machine.proofs.PackedLemmas.{LastIs, last-is, length-changes, of-last, some-rows}
 use Rattle.s360_machine.proofs.packed.Packed.last_count.Goals as goal
 

@@ -1,11 +1,9 @@
-use Rattle.std.proofs.Common.{◌≡◌, ◌-◌, [], List, refl, sym, ap, subst, arith, length}
+use Rattle.std.proofs.Common.{◌≡◌, ◌-◌, [], List, refl, sym, ap, subst, arith, length, slice_get, IfSome}
 use Rattle.s360_machine.specs.declared.row.Row.{Row}
 use Rattle.s360_machine.specs.ChangeSpans.{AreSpansOf, spans_of, spans_within}
 use Rattle.s360_machine.specs.Changes.{change_of_core}
 use Rattle.s360_machine.specs.Packed.{Lists, lists, newest}
 use Rattle.s360_machine.specs.Rows.{HasNoMore, bytes_of_row, cells_of_row}
-use Rattle.std.specs.List.{slice_get}
-use Rattle.std.specs.Prelude.{IfSome}
 use Rattle.s360_machine.proofs.PackedLemmas.{LastIs, last-is, length-changes, of-last, some-rows, within-beside}
 use Rattle.s360_machine.proofs.SpanLemmas.{within-own}
 use Rattle.s360_machine.proofs.packed.Packed.last_spans.Goals as goal

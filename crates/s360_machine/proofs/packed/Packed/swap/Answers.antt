@@ -1,7 +1,6 @@
-use Rattle.std.proofs.Common.{◌-◌, ◌++◌, ◌∙◌, sym, ap, arith, length, take, drop, set, refl}
+use Rattle.std.proofs.Common.{◌-◌, ◌++◌, ◌∙◌, sym, ap, arith, length, take, drop, set, refl, length-set}
 use Rattle.s360_machine.specs.Packed.{IsEnd, Lists, change_of_row, changes_of_rows, lists}
 use Rattle.s360_machine.specs.Change.{Change}
-use Rattle.std.proofs.lemmas.List.{length-set}
 use Rattle.s360_machine.proofs.PackedLemmas.{Swapped, There, written, length-changes, own-there, same-lists, slices, swap-there, swapped-there}
 use Rattle.s360_machine.proofs.packed.Packed.swap.Goals as goal
 use Rattle.s360_machine.proofs.packed.Packed.swap.Goals.{After-exchange_row-arg-4-1, After-self-4-1}

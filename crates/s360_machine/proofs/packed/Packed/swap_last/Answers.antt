@@ -1,12 +1,9 @@
-use Rattle.std.proofs.Common.{◌≡◌, ◌-◌, ◌++◌, ◌∙◌, ℕ, [], List, sym, ap, subst, arith, length, take, drop, set, reverse}
-use Rattle.std.proofs.lemmas.List.{length-set}
+use Rattle.std.proofs.Common.{◌≡◌, ◌-◌, ◌++◌, ◌∙◌, ℕ, [], List, sym, ap, subst, arith, length, take, drop, set, reverse, length-set, slice_get, IfSome}
 use Rattle.s360_machine.specs.declared.row.Row.{Row}
 use Rattle.s360_machine.specs.Change.{CanSwap, Change, HasRoom, change_after_swap}
 use Rattle.s360_machine.specs.Changes.{change_of_core}
 use Rattle.s360_machine.specs.Packed.{ArePacked, IsSwapOf, Lists, changes_of_rows, lists, newest, older}
 use Rattle.s360_machine.specs.Rows.{HasNoMore, bytes_of_row, cells_of_row}
-use Rattle.std.specs.List.{slice_get}
-use Rattle.std.specs.Prelude.{IfSome}
 use Rattle.s360_machine.proofs.PackedLemmas.{LastIs, Swapped, at-last, end_of_all, last-is, length-changes, length-newest, lent-behind, of-last, same-got, some-rows, swap-there, swapped-last, written, written-behind}
 use Rattle.s360_machine.proofs.packed.Packed.swap_last.Goals as goal
 use Rattle.s360_machine.proofs.packed.Packed.swap_last.Goals.{After-exchange_within}

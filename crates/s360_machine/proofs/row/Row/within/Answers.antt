@@ -1,5 +1,4 @@
-use Rattle.std.proofs.Common.{◌≡◌, ◌∙◌, ℕ, Some, sym}
-use Rattle.std.specs.Prelude.{Ok, Err, OkIff, Result}
+use Rattle.std.proofs.Common.{◌≡◌, ◌∙◌, ℕ, Some, sym, Ok, Err, OkIff, Result}
 use Rattle.std.specs.Result.{result_ok}
 use Rattle.s360_store.specs.Items.{IsRunOf}
 use Rattle.s360_machine.proofs.PackedLemmas.{row-of-bytes}

@@ -1,5 +1,4 @@
-use Rattle.std.proofs.Common.{◌≡◌, ◌∙◌, ◌∷◌, [], ◌++◌, ap, length, arith}
-use Rattle.std.proofs.lemmas.List.{length-append}
+use Rattle.std.proofs.Common.{◌≡◌, ◌∙◌, ◌∷◌, [], ◌++◌, ap, length, arith, length-append}
 use Rattle.s360_store.specs.declared.items.Item.TheVariants.{Single}
 use Rattle.s360_store.specs.Items.{cells_of_items}
 use Rattle.s360_store.proofs.ItemLemmas.{AreItems-append, bytes_of_items-append, cells_of_items-single}

@@ -1,5 +1,4 @@
-use Rattle.std.proofs.Common.{◌≡◌, ◌++◌, ◌≤◌, ap, length, refl, ◌∙◌, arith}
-use Rattle.std.proofs.lemmas.List.{length-append}
+use Rattle.std.proofs.Common.{◌≡◌, ◌++◌, ◌≤◌, ap, length, refl, ◌∙◌, arith, length-append}
 use Rattle.s360_store.specs.Cells.{byte_cells}
 use Rattle.s360_store.specs.Items.{bytes_of_items, cells_of_items}
 use Rattle.s360_store.proofs.ByteCellLemmas.{length-byte_cells}
