@@ -45,8 +45,12 @@ impl Model for Index {
 
     ghost Value = { Histories };
 
-    ghost view = { λ i. record { psw = i.psw.items; registers = map (λ v. v.items) i.registers;
-        bytes = byte_numbers i.bytes; others = other_numbers i.others } };
+    ghost view = { λ i. record {
+      psw = i.psw.items;
+      registers = map (λ v. v.items) i.registers;
+      bytes = byte_numbers i.bytes;
+      others = other_numbers i.others;
+    } };
 
     ghost invariant = { λ i. AreSegments i.bytes };
 }

@@ -65,8 +65,8 @@ impl Model for Machine {
     ghost use Rattle.s360_machine.specs.Media.{media_of, room_of};
 
     ghost view = { λ m. record {
-        whole = record { core = m.core; control = m.control; units = m.units; media = media_of m.devices };
-        spare = room_of m.devices;
+      whole = record { core = m.core; control = m.control; units = m.units; media = media_of m.devices };
+      spare = room_of m.devices;
     } };
 }
 

@@ -46,8 +46,8 @@ impl Model for ConsoleMedia {
     ghost Value = { MediaWithRoom Seen };
 
     ghost view = { λ c. record {
-        media = record { typed = c.typed.items; entered = c.entered.items; taken = c.taken };
-        room = min (room_in c.typed) (room_in c.entered);
+      media = record { typed = c.typed.items; entered = c.entered.items; taken = c.taken };
+      room = min (room_in c.typed) (room_in c.entered);
     } };
 }
 

@@ -149,7 +149,10 @@ impl Target {
     fn tell_registers(&self, replies: &mut Text) -> Result<(), AllocError>
         ensures { OnOk result (replies.new ≡ replies.old ++ framed (registers_text (words_of_machine (machine_now self.now)))) }
     {
-        push_packet(replies, Answer::Registers(&words_of_machine(self.machine())))
+        push_packet(
+            replies,
+            Answer::Registers(&words_of_machine(self.machine())),
+        )
     }
 
     /// Tells one register.

@@ -92,7 +92,7 @@ pub record AddsRun (old new : List Item) (address count : ℕ) : Type 0 where
   pub whole : AreItems new
   pub bytes : bytes_of_items new ≡ bytes_of_items old + count
   pub cells : (bs more : List ℕ) → bytes_of_items old ≡ length bs → count ≡ length more
-    → cells_of_items new (bs ++ more) ≡ cells_of_items old bs ++ byte_cells address more
+      → cells_of_items new (bs ++ more) ≡ cells_of_items old bs ++ byte_cells address more
 
 -- the cell stands in place of the item at an index, if that is a single one
 abbrev pub IsSingle : Item → Type 0

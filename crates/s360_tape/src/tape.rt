@@ -54,8 +54,8 @@ impl Model for TapeMedia {
     ghost Value = { MediaWithRoom WholeTapeMedia };
 
     ghost view = { λ t. record {
-        media = record { slots = t.slots.items; visible = t.visible; position = t.position; protected = t.protected; unloaded = t.unloaded };
-        room = room_in t.slots;
+      media = record { slots = t.slots.items; visible = t.visible; position = t.position; protected = t.protected; unloaded = t.unloaded };
+      room = room_in t.slots;
     } };
 
     ghost invariant = { λ t. (t.position ≤ t.visible) × (t.visible ≤ length t.slots.items) };
