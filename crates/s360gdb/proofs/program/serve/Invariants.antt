@@ -1,4 +1,4 @@
-use Rattle.std.proofs.Common.{◌≡◌, ◌≤◌, ◌++◌, length}
+use Rattle.std.proofs.Common.{◌≤◌, ◌++◌, length}
 use Rattle.s360gdb.specs.Conversation.{IsServed, new_connection}
 use Rattle.s360gdb.specs.Saving.{known_of}
 use Rattle.s360gdb.proofs.program.serve.Given as goal
