@@ -1,6 +1,6 @@
 -- To go elsewhere in what was recorded (own profile). The record stays as it is.
 use Rattle.std.specs.Prelude.{ℕ, nat_le, if◌then◌else◌, Option, Some, None, List, ◌++◌, codes, length}
-use Rattle.s360_model.specs.Text.{decimal}
+use Rattle.s360_text.specs.Counts.{counted}
 use Rattle.s360_journal.specs.Recorded.{Recorded, with_standing}
 use Rattle.s360_inquiry.specs.declared.inquiry.Mark.{Mark}
 use Rattle.s360_inquiry.specs.declared.inquiry.Mark.TheVariants.{Change, Start, End, Last}
@@ -23,7 +23,7 @@ goto_number r stood mark = number_within (length r.events) (number_of_mark mark 
 
 -- how many changes stand, of how many that are recorded
 abbrev pub stands_line : Recorded → List ℕ
-stands_line r = codes "standing " ++ decimal r.standing ++ codes " of " ++ decimal (length r.events) ++ codes "\n"
+stands_line r = counted (codes "standing ") r.standing ++ counted (codes " of ") (length r.events) ++ codes "\n"
 
 -- how many stand then, and what is answered
 abbrev pub stands_after_goto : Recorded → Option ℕ → ℕ

@@ -7,7 +7,7 @@ ghost use Rattle.s360_inquiry.specs.Changes.{just_before};
 
 use crate::change::push_event_of;
 use crate::decider::decided_by;
-use crate::extent::{Extent, extents_of, words_of_extent};
+use crate::extent::{Extent, extents_of, push_words};
 use crate::going::go_to;
 use crate::place_set::places_before;
 use s360_journal::Session;
@@ -74,9 +74,11 @@ fn cause_with(
 ) -> Result<Cause, AllocError>
     ensures { IfOk result (λ cause. cause ≡ cause_with recording.now extent origin) }
 {
+    let mut value = Text::new(alloc);
+    push_words(&mut value, recording.machine(), extent)?;
     Ok(Cause {
         extent,
-        value: words_of_extent(alloc, recording.machine(), extent)?,
+        value,
         origin,
     })
 }

@@ -3,7 +3,7 @@ ghost use Rattle.std.specs.Prelude.{◌≡◌, ◌++◌, IfOk, OnOk};
 ghost use Rattle.s360_inquiry.specs.Causes.{decided_by, decider_words, named_decider};
 
 use crate::cause::{Origin, origin_in};
-use crate::extent::{Extent, extents_of, push_extent, words_of_extent};
+use crate::extent::{Extent, extents_of, push_extent, push_words};
 use crate::place_set::places_deciding;
 use s360_journal::Session;
 use s360_machine::Event;
@@ -21,34 +21,22 @@ pub(crate) fn decided_by(
     let places = places_deciding(alloc, recording.machine(), event)?;
     let mut words = Text::new(alloc);
     for extent in extents_of(alloc, recording, places.as_slice())?.iter() {
-        push_decider(alloc, &mut words, recording, *extent)?;
+        push_decider(&mut words, recording, *extent)?;
     }
     Ok(words)
 }
 
 /// Adds the name of a decider after a blank, and what is told of it.
-fn push_decider(
-    alloc: Global,
-    words: &mut Text,
-    recording: &Session,
-    extent: Extent,
-) -> Result<(), AllocError>
+fn push_decider(words: &mut Text, recording: &Session, extent: Extent) -> Result<(), AllocError>
     ensures { OnOk result (words.new ≡ words.old ++ named_decider recording.now extent) }
 {
     words.push_text(" ")?;
     push_extent(words, extent)?;
-    push_told(
-        alloc,
-        words,
-        recording,
-        extent,
-        origin_in(recording, extent),
-    )
+    push_told(words, recording, extent, origin_in(recording, extent))
 }
 
 /// Adds the number of a decider's last change, if one made it; or the value of the PSW.
 fn push_told(
-    alloc: Global,
     words: &mut Text,
     recording: &Session,
     extent: Extent,
@@ -57,10 +45,7 @@ fn push_told(
     ensures { OnOk result (words.new ≡ words.old ++ decider_words recording.now extent origin) }
 {
     match origin {
-        Origin::NotFollowed => {
-            let value = words_of_extent(alloc, recording.machine(), extent)?;
-            words.push_bytes(value.as_bytes())
-        }
+        Origin::NotFollowed => push_words(words, recording.machine(), extent),
         Origin::Start => Ok(()),
         Origin::Change(number) => {
             words.push_text(" (")?;

@@ -159,20 +159,18 @@ pub(crate) fn push_extent(text: &mut Text, extent: Extent) -> Result<(), AllocEr
     Ok(())
 }
 
-/// The value of an extent after a blank: of several bytes the first sixteen; nothing of places that the machine lacks.
-pub(crate) fn words_of_extent(
-    alloc: Global,
+/// Adds the value of an extent after a blank: of several bytes the first sixteen; nothing of places that the machine lacks.
+pub(crate) fn push_words(
+    text: &mut Text,
     machine: &Machine,
     extent: Extent,
-) -> Result<Text, AllocError>
-    ensures { IfOk result (λ text. text ≡ extent_words (seen machine.now.whole) extent) }
+) -> Result<(), AllocError>
+    ensures { OnOk result (text.new ≡ text.old ++ extent_words (seen machine.now.whole) extent) }
 {
-    let mut text = Text::new(alloc);
     match extent {
-        Extent::Bytes { first, last } => push_run(&mut text, machine.storage(), first, last)?,
-        Extent::Place(place) => push_value(&mut text, machine, place)?,
+        Extent::Bytes { first, last } => push_run(text, machine.storage(), first, last),
+        Extent::Place(place) => push_value(text, machine, place),
     }
-    Ok(text)
 }
 
 /// Adds the first sixteen of the bytes from one address to another, after a blank.

@@ -72,10 +72,8 @@ pub(crate) fn text_of_standing(alloc: Global, recording: &Session) -> Result<Tex
     ensures { IfOk result (λ text. text ≡ stands_line recording.now) }
 {
     let mut text = Text::new(alloc);
-    text.push_text("standing ")?;
-    text.push_decimal(u64::from(recording.standing()))?;
-    text.push_text(" of ")?;
-    text.push_decimal(u64::from(recording.recorded()))?;
+    text.push_counted("standing ", u64::from(recording.standing()))?;
+    text.push_counted(" of ", u64::from(recording.recorded()))?;
     text.push_text("\n")?;
     Ok(text)
 }

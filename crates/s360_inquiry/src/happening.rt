@@ -147,9 +147,7 @@ fn push_word(text: &mut Text, word: Option<u64>) -> Result<(), AllocError>
     let Some(word) = word else {
         return Ok(());
     };
-    text.push_text(" ")?;
-    text.push_hex(word, 16)?;
-    Ok(())
+    text.push_numbered(" ", word, 16)
 }
 
 /// Adds where a transfer in channel leads to, if the command word is one.

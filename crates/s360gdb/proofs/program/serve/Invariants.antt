@@ -1,4 +1,4 @@
-use Rattle.std.proofs.Common.{◌≡◌, ◌≤◌, ◌++◌, length}
+use Rattle.std.proofs.Common.{◌≤◌, ◌++◌, length}
 use Rattle.s360_remote.specs.Connecting.{new_connection}
 use Rattle.s360gdb.specs.Conversation.{IsServed, talking}
 use Rattle.s360gdb.specs.Saving.{known}
