@@ -1,24 +1,21 @@
 -- The addresses of operands, their conditions and their values (GA22-6821, "System Structure",
 -- information positioning and address generation).
-use Rattle.std.specs.Prelude.{ℕ, ◌+◌, ◌%◌, ◌^◌, Bool, true, false, not, nat_eq, nat_lt, if◌then◌else◌, slice_index, List, Option, Some}
-use Rattle.std.specs.Prelude.{None, Result, Ok, Err}
+use Rattle.std.specs.Prelude.{ℕ, ◌+◌, ◌%◌, ◌^◌, Bool, true, false, not, nat_eq, nat_lt, if◌then◌else◌, slice_index, List}
 use Rattle.s360_model.specs.Core.{Core}
 use Rattle.s360_model.specs.Psw.{protection_key_of}
 use Rattle.s360_model.specs.Storage.{halfword_at, word_at}
 use Rattle.s360_store.specs.declared.protection.Access.{Access}
 use Rattle.s360_store.specs.declared.protection.Access.TheVariants.{Fetch}
 use Rattle.s360_store.specs.declared.protection.Checked.{Checked}
-use Rattle.s360_store.specs.declared.protection.Checked.TheVariants.{Clear, Addressing, Protection}
+use Rattle.s360_store.specs.declared.protection.Checked.TheVariants.{Addressing, Protection}
 use Rattle.s360_store.specs.Protection.{access}
 use Rattle.s360_fixed.specs.declared.second_operand.SecondOperand.{SecondOperand}
 use Rattle.s360_fixed.specs.declared.second_operand.SecondOperand.TheVariants.{InStorage, Address}
 use Rattle.s360_fixed.specs.declared.second_operand.Width.{Width}
 use Rattle.s360_fixed.specs.declared.second_operand.Width.TheVariants.{Byte, Halfword, Word}
-use Rattle.s360_fixed.specs.ProgramCodes.{Conditions, no_conditions, program_code}
+use Rattle.s360_fixed.specs.ProgramCodes.{Conditions, no_conditions}
 use Rattle.s360_fixed.specs.Table.{displacement_at, high_digit, low_digit}
 use Rattle.s360_fixed.specs.View.{View}
-use Rattle.s360_fixed.specs.declared.program_code.ProgramCode.{ProgramCode}
-use Rattle.s360_fixed.specs.declared.program_code.ProgramCode.TheVariants.{Addressing as addressing_code, Protection as protection_code}
 
 -- what a base or an index register adds: nothing where it is register 0
 abbrev pub address_part : List ℕ → ℕ → ℕ
@@ -43,19 +40,15 @@ abbrev pub is_guarded : Checked → Bool
 is_guarded Protection = true
 is_guarded c = false
 
--- the program code of what an access meets
-abbrev pub code_of_access : Checked → Option ProgramCode
-code_of_access Clear = None
-code_of_access Addressing = Some addressing_code
-code_of_access Protection = Some protection_code
+-- the conditions of what an access meets
+abbrev pub conditions_of : Checked → Conditions
+conditions_of met = record no_conditions { addressing = is_outside met; protection = is_guarded met }
 
 -- the conditions of an access to so many bytes of storage, which lie on a boundary
 abbrev pub access_conditions : Core → ℕ → ℕ → ℕ → Access → Conditions
-access_conditions m address boundary count kind = record no_conditions {
-  specification = not (nat_eq (address % boundary) 0);
-  addressing = is_outside (access m.storage address count kind (protection_key_of m.psw));
-  protection = is_guarded (access m.storage address count kind (protection_key_of m.psw));
-}
+access_conditions m address boundary count kind =
+    let met = access m.storage address count kind (protection_key_of m.psw)
+    in record (conditions_of met) { specification = not (nat_eq (address % boundary) 0) }
 
 -- an operand: what keeps it from being used, and its value
 pub record Operand : Type 0 where
@@ -89,10 +82,3 @@ storage_operand m (InStorage width) address = record {
   value = word_in width m.storage.bytes address;
 }
 storage_operand m Address address = word_operand address
-
--- the value of an operand, or what keeps it from being used
-abbrev pub fetched : Operand → Result ℕ ProgramCode
-fetched s = unless_refused (program_code s.conditions) where
-  unless_refused : Option ProgramCode → Result ℕ ProgramCode
-  unless_refused None = Ok s.value
-  unless_refused (Some code) = Err code

@@ -1,10 +1,10 @@
 -- The instruction table: what each operation makes of its operands, the exact results, and the kinds of
 -- condition code (GA22-6821, "Fixed-Point Arithmetic", "Logical Operations" and "Branching").
 use Rattle.std.specs.Prelude.{ℕ, ◌+◌, ◌*◌, ◌/◌, ◌%◌, Bool, not, int_lt, ℤ, pos, Option, None, Some, bit_and, bit_or, bit_xor}
-use Rattle.s360_model.specs.Numbers.{signed}
-use Rattle.s360_model.specs.ConditionCodes.{sign_code, signed_code, carry_code, bits_code}
-use Rattle.s360_model.specs.Arithmetic.{signed_sum, signed_difference, signed_complement, absolute_value, negative_absolute_value, logical_sum}
-use Rattle.s360_model.specs.Arithmetic.{logical_difference}
+use Rattle.s360_model.specs.Numbers.{low32, signed}
+use Rattle.s360_model.specs.ConditionCodes.{sign_code, signed_code, carry_code, bits_code, order_code}
+use Rattle.s360_model.specs.Arithmetic.{signed_sum, signed_difference, signed_complement, absolute_value, negative_absolute_value}
+use Rattle.s360_model.specs.Arithmetic.{logical_sum, logical_difference, word_of}
 use Rattle.s360_model.specs.Pairs.{signed_pair_code}
 use Rattle.s360_model.specs.Products.{signed_product}
 use Rattle.s360_fixed.specs.declared.operation.Operation.{Operation}
@@ -33,17 +33,6 @@ use Rattle.s360_fixed.specs.Alterations.{set_by_signed, set_to, unchanged}
 use Rattle.s360_fixed.specs.declared.second_operand.SecondOperand.TheVariants.{InStorage, Address}
 use Rattle.s360_fixed.specs.declared.second_operand.Width.TheVariants.{Byte, Halfword, Word}
 
--- the kinds of results
-pub data Meaning : Type 0 where
-  -- a word of R1 and the second operand, of which the condition code is set
-  word_result : (ℕ → ℕ → ℕ) → (ℕ → CodeSetting) → Meaning
-  -- the word of an exact signed number
-  signed_result : (ℕ → ℕ → ℤ) → (ℤ → CodeSetting) → Meaning
-  -- the low 32 bits of an exact unsigned number
-  logical_result : (ℕ → ℕ → ℕ) → (ℕ → CodeSetting) → Meaning
-  -- none: R1 is compared with the second operand, both read in one way
-  comparison : (ℕ → ℤ) → Meaning
-
 -- the condition code of an exact signed number: by its sign, and where an overflow is told, of a word or of a pair
 abbrev pub by_sign : ℤ → CodeSetting
 by_sign n = set_to (sign_code n)
@@ -58,24 +47,32 @@ by_sign_or_pair_overflow n = set_by_signed (signed_pair_code n)
 abbrev pub by_bits : ℕ → CodeSetting
 by_bits word = set_to (bits_code word)
 
--- what is made of R1 and the second operand. A character that is inserted is a byte in place of the low eight bits
-abbrev pub meaning_of : Combination → Meaning
-meaning_of Second = word_result (λ first second. second) (λ word. unchanged)
-meaning_of InsertedCharacter = word_result (λ first second. first / 256 * 256 + second % 256) (λ word. unchanged)
-meaning_of Tested = word_result (λ first second. second) (λ word. by_sign (signed word))
-meaning_of Complement = signed_result (λ first second. signed_complement second) by_sign_or_overflow
-meaning_of Absolute = signed_result (λ first second. absolute_value second) by_sign_or_overflow
-meaning_of NegativeAbsolute = signed_result (λ first second. negative_absolute_value second) by_sign
-meaning_of Sum = signed_result signed_sum by_sign_or_overflow
-meaning_of Difference = signed_result signed_difference by_sign_or_overflow
-meaning_of LogicalSum = logical_result logical_sum (λ sum. set_to (carry_code sum))
-meaning_of LogicalDifference = logical_result logical_difference (λ sum. set_to (carry_code sum))
-meaning_of Comparison = comparison signed
-meaning_of LogicalComparison = comparison pos
-meaning_of BitwiseAnd = word_result bit_and by_bits
-meaning_of BitwiseOr = word_result bit_or by_bits
-meaning_of BitwiseExclusiveOr = word_result bit_xor by_bits
-meaning_of LowProduct = signed_result signed_product (λ product. unchanged)
+-- a word for R1 and the condition code, of an exact signed number and of an exact unsigned one
+abbrev pub signed_result : ℤ → (ℤ → CodeSetting) → Option ℕ × CodeSetting
+signed_result n kind = (Some (word_of n), kind n)
+
+abbrev pub logical_result : ℕ → Option ℕ × CodeSetting
+logical_result n = (Some (low32 n), set_to (carry_code n))
+
+-- what is made of R1 and the second operand: the word that R1 becomes, if it does, and the condition code. A character that is
+-- inserted is a byte in place of the low eight bits
+abbrev pub result_of : Combination → ℕ → ℕ → Option ℕ × CodeSetting
+result_of Second first second = (Some second, unchanged)
+result_of InsertedCharacter first second = (Some (first / 256 * 256 + second % 256), unchanged)
+result_of Tested first second = (Some second, by_sign (signed second))
+result_of Complement first second = signed_result (signed_complement second) by_sign_or_overflow
+result_of Absolute first second = signed_result (absolute_value second) by_sign_or_overflow
+result_of NegativeAbsolute first second = signed_result (negative_absolute_value second) by_sign
+result_of Sum first second = signed_result (signed_sum first second) by_sign_or_overflow
+result_of Difference first second = signed_result (signed_difference first second) by_sign_or_overflow
+result_of LogicalSum first second = logical_result (logical_sum first second)
+result_of LogicalDifference first second = logical_result (logical_difference first second)
+result_of Comparison first second = (None, set_to (order_code (signed first) (signed second)))
+result_of LogicalComparison first second = (None, set_to (order_code (pos first) (pos second)))
+result_of BitwiseAnd first second = (Some (bit_and first second), by_bits (bit_and first second))
+result_of BitwiseOr first second = (Some (bit_or first second), by_bits (bit_or first second))
+result_of BitwiseExclusiveOr first second = (Some (bit_xor first second), by_bits (bit_xor first second))
+result_of LowProduct first second = signed_result (signed_product first second) (λ product. unchanged)
 
 -- when a branch on index is taken, by the sum and the comparand
 abbrev pub is_taken : IndexBranch → ℤ → ℤ → Bool

@@ -1,5 +1,5 @@
 -- The rows that shift (GA22-6821, "Fixed-Point Arithmetic" and "Logical Operations", shifts).
-use Rattle.std.specs.Prelude.{ℕ, ◌+◌}
+use Rattle.std.specs.Prelude.{ℕ, ◌+◌, ◌%◌}
 use Rattle.s360_model.specs.Numbers.{signed}
 use Rattle.s360_model.specs.Pairs.{signed_pair}
 use Rattle.s360_model.specs.Shifts.{times_power, over_power, left_word, left_words, right_word, right_words, logical_left_word, logical_right_word}
@@ -27,19 +27,19 @@ shifted_words RightLogical high low count = (logical_right_words high low count,
 shifted_words Left high low count = (left_words high low count, by_sign_or_pair_overflow (times_power (signed_pair high low) count))
 shifted_words Right high low count = (right_words high low count, by_sign (over_power (signed_pair high low) count))
 
--- R1 is shifted
+-- R1 is shifted by the low six bits of the address
 abbrev pub shift_outcome : Shift → View → ℕ → ℕ → Outcome
-shift_outcome shift v r1 count =
-    let shifted = shifted_word shift (register_of v r1) count
+shift_outcome shift v r1 address =
+    let shifted = shifted_word shift (register_of v r1) (address % 64)
     in after_alteration v.core (one_register r1 shifted.0 shifted.1 v.next_address)
 
 -- a pair of registers begins with an even one
 abbrev pub register_pair_conditions : ℕ → Conditions
 register_pair_conditions r1 = record no_conditions { specification = is_odd r1 }
 
--- the pair R1, R1 + 1 is shifted
+-- and so is the pair R1, R1 + 1
 abbrev pub pair_shift_outcome : Shift → View → ℕ → ℕ → Outcome
-pair_shift_outcome shift v r1 count =
-    let shifted = shifted_words shift (register_of v r1) (register_of v (r1 + 1)) count
+pair_shift_outcome shift v r1 address =
+    let shifted = shifted_words shift (register_of v r1) (register_of v (r1 + 1)) (address % 64)
     in unless_met (register_pair_conditions r1) v.core
     (after_alteration v.core (register_pair r1 shifted.0 shifted.1 v.next_address))

@@ -23,12 +23,9 @@ use Rattle.s360_logic.specs.Logic.{outcome_of}
 abbrev pub length_of_bytes : ℕ → InstructionLength
 length_of_bytes bytes = if nat_eq bytes 2 then OneHalfword else (if nat_eq bytes 4 then TwoHalfwords else ThreeHalfwords)
 
--- what keeps the instruction at an address from being fetched with the key of the PSW, and decoded
+-- what keeps the instruction at an address from being fetched with the key of the PSW
 abbrev pub conditions_at : Core → ℕ → Conditions
 conditions_at m address = fetch_conditions m.storage address (protection_key_of m.psw)
-
-abbrev pub decoding_conditions : Core → ℕ → Option Form → Conditions
-decoding_conditions m address form = record (conditions_at m address) { operation = is_none form }
 
 -- what the instruction at an address works on: where it could not be fetched its length is not available,
 -- and the address stays (own profile)
@@ -48,7 +45,7 @@ fetched_outcome v None = record { ended = Program Operation; core = v.core }
 fetched_outcome v (Some form) = outcome_of v form
 
 abbrev pub instruction_of : Core → ℕ → Option Form → Outcome
-instruction_of m address form = unless_met (decoding_conditions m address form) m (fetched_outcome (view_at m address) form)
+instruction_of m address form = unless_met (conditions_at m address) m (fetched_outcome (view_at m address) form)
 
 -- what an instruction does, and what an interruption that follows stores of it
 pub record Instruction : Type 0 where

@@ -8,15 +8,15 @@ use Rattle.s360_store.specs.Protection.{access, met_of_both}
 use Rattle.s360_store.specs.declared.protection.Access.TheVariants.{Fetch, Store}
 use Rattle.s360_store.specs.declared.protection.Checked.{Checked}
 use Rattle.s360_store.specs.declared.protection.Checked.TheVariants.{Clear}
-use Rattle.s360_fixed.specs.Operands.{is_guarded, is_outside}
+use Rattle.s360_fixed.specs.Operands.{conditions_of}
 use Rattle.s360_fixed.specs.Alterations.{after_alteration, set_to}
 use Rattle.s360_fixed.specs.Outcomes.{unless_met}
-use Rattle.s360_fixed.specs.ProgramCodes.{Conditions, no_conditions}
+use Rattle.s360_fixed.specs.ProgramCodes.{Conditions}
 use Rattle.s360_fixed.specs.View.{Outcome, View, register_of}
 use Rattle.s360_logic.specs.declared.field.Field.{Field}
 use Rattle.s360_logic.specs.declared.row.ByteCombination.{ByteCombination}
 use Rattle.s360_logic.specs.Immediate.{code_alone}
-use Rattle.s360_logic.specs.Bytes.{byte_at, byte_result, combination_code, completed_with, fields_conditions, operand_bytes, with_byte}
+use Rattle.s360_logic.specs.Bytes.{byte_at, byte_result, combination_code, completed_with, field_access, fields_conditions, operand_bytes, with_byte}
 
 -- the storage after the bytes from number i on, so many of them, were made and stored, each of the storage as
 -- those before it left it
@@ -80,15 +80,11 @@ translate_access table key first i (suc n) s =
 abbrev pub translated : ℕ → ℕ → ℕ → Storage → Storage
 translated table first count s = left_to_right (translated_byte table first) first 0 count s
 
--- the conditions of what accesses meet
-abbrev pub conditions_of : Checked → Conditions
-conditions_of met = record no_conditions { addressing = is_outside met; protection = is_guarded met }
-
 -- the operand with the function bytes that it selects
 abbrev pub translate_conditions : View → ℕ → ℕ → ℕ → Conditions
 translate_conditions v first table count =
-    let key = protection_key_of v.core.psw
-    in conditions_of (met_of_both (access v.core.storage first count Store key) (translate_access table key first 0 count v.core.storage))
+    let functions = translate_access table (protection_key_of v.core.psw) first 0 count v.core.storage
+    in conditions_of (met_of_both (field_access v Store (field_at first count)) functions)
 
 abbrev pub translate_outcome : View → ℕ → ℕ → ℕ → Outcome
 translate_outcome v first table count =
@@ -111,8 +107,8 @@ search_access table key first i (suc n) s =
 
 abbrev pub search_conditions : View → ℕ → ℕ → ℕ → Conditions
 search_conditions v first table count =
-    let key = protection_key_of v.core.psw
-    in conditions_of (met_of_both (access v.core.storage first count Fetch key) (search_access table key first 0 count v.core.storage))
+    let functions = search_access table (protection_key_of v.core.psw) first 0 count v.core.storage
+    in conditions_of (met_of_both (field_access v Fetch (field_at first count)) functions)
 
 -- a register with another address in bits 8 to 31, and one with another byte in bits 24 to 31
 abbrev pub with_address : ℕ → ℕ → ℕ

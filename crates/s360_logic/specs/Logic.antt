@@ -2,7 +2,7 @@
 -- "Logical Operations", "Fixed-Point Arithmetic", "Decimal Arithmetic", "Status Switching", and "Branching",
 -- EXECUTE).
 use Rattle.std.specs.Prelude.{ℕ, ◌+◌, ◌/◌, ◌%◌, nat_eq, if◌then◌else◌, Option, Some, None, List, slice_index, slice_set, bit_or}
-use Rattle.std.specs.Option.{option_map}
+use Rattle.std.specs.Option.{option_map, option_map_or}
 use Rattle.s360_model.specs.Psw.{protection_key_of}
 use Rattle.s360_fixed.specs.declared.ended.Ended.TheVariants.{Program}
 use Rattle.s360_fixed.specs.declared.form.Form.{Form}
@@ -77,10 +77,7 @@ subject_bytes v r1 address = with_ored_byte v r1 (instruction_bytes v.core.stora
 -- what the subject does, with the next address and the length of the execute
 abbrev pub subject_outcome : View → Option Form → Outcome
 subject_outcome v None = record { ended = Program operation_code; core = v.core }
-subject_outcome v (Some form) = unless_execute (subject_of v form) where
-  unless_execute : Option (ℕ × ℕ) → Outcome
-  unless_execute None = row_outcome v form
-  unless_execute (Some subject) = record { ended = Program execute_code; core = v.core }
+subject_outcome v (Some form) = option_map_or (λ subject. record { ended = Program execute_code; core = v.core }) (subject_of v form) (row_outcome v form)
 
 -- execute: an odd address of the subject, one that cannot be fetched, and a subject that is an execute come
 -- before what the subject meets
@@ -91,7 +88,4 @@ execute_outcome v r1 address =
 
 -- what an instruction does
 abbrev pub outcome_of : View → Form → Outcome
-outcome_of v form = of_subject (subject_of v form) where
-  of_subject : Option (ℕ × ℕ) → Outcome
-  of_subject None = row_outcome v form
-  of_subject (Some subject) = execute_outcome v subject.0 subject.1
+outcome_of v form = option_map_or (λ (subject : ℕ × ℕ). execute_outcome v subject.0 subject.1) (subject_of v form) (row_outcome v form)

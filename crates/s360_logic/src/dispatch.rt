@@ -2,7 +2,11 @@
 //! format has. Source: GA22-6821, "Operation Codes", and "System Structure", program execution.
 ghost use Rattle.std.specs.Prelude.{◌≡◌, ◌<◌, ◌≤◌, IfOk, length, slice_index};
 ghost use Rattle.s360_fixed.specs.Branching.{index_outcome};
-ghost use Rattle.s360_fixed.specs.Fixed.{branch_rr, branch_rx, combination_rr, combination_rx, pair_rr, pair_rx, pair_shift_rs, shift_rs};
+ghost use Rattle.s360_fixed.specs.declared.second_operand.SecondOperand.TheVariants.{InStorage};
+ghost use Rattle.s360_fixed.specs.declared.second_operand.Width.TheVariants.{Word};
+ghost use Rattle.s360_fixed.specs.Fixed.{branch_rr, branch_rx, with_operand, with_register};
+ghost use Rattle.s360_fixed.specs.Outcomes.{combination_outcome, pair_outcome};
+ghost use Rattle.s360_fixed.specs.Shifting.{pair_shift_outcome, shift_outcome};
 ghost use Rattle.s360_fixed.specs.Plans.{PutsNothing, PutsOutcome};
 ghost use Rattle.s360_fixed.specs.Storing.{store_outcome};
 ghost use Rattle.s360_fixed.specs.Table.{form_of, instruction_length};
@@ -51,7 +55,7 @@ fn put_rr<P: Puts>(
 ) -> Result<Ended, AllocError>
     requires whole { 2 ≤ length bytes.now }
     requires none { PutsNothing P.Puts puts.old view.now }
-    ensures { IfOk result (PutsOutcome P.Puts puts.new view.now (in_rr (combination_rr combination) bytes.now view.now)) }
+    ensures { IfOk result (PutsOutcome P.Puts puts.new view.now (in_rr (with_register (combination_outcome combination)) bytes.now view.now)) }
 {
     let second = view.register(low_register(bytes, 1));
     put_combined(view, combination, high_register(bytes, 1), second, puts)
@@ -68,7 +72,7 @@ fn put_rx<P: Puts>(
 ) -> Result<Ended, AllocError>
     requires whole { 4 ≤ length bytes.now }
     requires none { PutsNothing P.Puts puts.old view.now }
-    ensures { IfOk result (PutsOutcome P.Puts puts.new view.now (in_rx (combination_rx second combination) bytes.now view.now)) }
+    ensures { IfOk result (PutsOutcome P.Puts puts.new view.now (in_rx (with_operand second (combination_outcome combination)) bytes.now view.now)) }
 {
     let address = indexed_address(bytes, view);
     put_combined_at(
@@ -91,7 +95,7 @@ fn put_pair_rr<P: Puts>(
 ) -> Result<Ended, AllocError>
     requires whole { 2 ≤ length bytes.now }
     requires none { PutsNothing P.Puts puts.old view.now }
-    ensures { IfOk result (PutsOutcome P.Puts puts.new view.now (in_rr (pair_rr pair) bytes.now view.now)) }
+    ensures { IfOk result (PutsOutcome P.Puts puts.new view.now (in_rr (with_register (pair_outcome pair)) bytes.now view.now)) }
 {
     put_pair(
         view,
@@ -112,7 +116,7 @@ fn put_pair_rx<P: Puts>(
 ) -> Result<Ended, AllocError>
     requires whole { 4 ≤ length bytes.now }
     requires none { PutsNothing P.Puts puts.old view.now }
-    ensures { IfOk result (PutsOutcome P.Puts puts.new view.now (in_rx (pair_rx pair) bytes.now view.now)) }
+    ensures { IfOk result (PutsOutcome P.Puts puts.new view.now (in_rx (with_operand (InStorage Word) (pair_outcome pair)) bytes.now view.now)) }
 {
     put_pair_at(
         view,
@@ -207,10 +211,10 @@ fn put_shift_rs<P: Puts>(
 ) -> Result<Ended, AllocError>
     requires whole { 4 ≤ length bytes.now }
     requires none { PutsNothing P.Puts puts.old view.now }
-    ensures { IfOk result (PutsOutcome P.Puts puts.new view.now (in_rs (shift_rs shift) bytes.now view.now)) }
+    ensures { IfOk result (PutsOutcome P.Puts puts.new view.now (in_rs (λ v r1 r3. shift_outcome shift v r1) bytes.now view.now)) }
 {
-    let count = (based_address(bytes, 2, view) % 64) as u8;
-    put_shift(view, shift, high_register(bytes, 1), count, puts)
+    let address = based_address(bytes, 2, view);
+    put_shift(view, shift, high_register(bytes, 1), address, puts)
 }
 
 /// Puts a shift of the pair by the low six bits of the address.
@@ -223,10 +227,10 @@ fn put_pair_shift_rs<P: Puts>(
 ) -> Result<Ended, AllocError>
     requires whole { 4 ≤ length bytes.now }
     requires none { PutsNothing P.Puts puts.old view.now }
-    ensures { IfOk result (PutsOutcome P.Puts puts.new view.now (in_rs (pair_shift_rs shift) bytes.now view.now)) }
+    ensures { IfOk result (PutsOutcome P.Puts puts.new view.now (in_rs (λ v r1 r3. pair_shift_outcome shift v r1) bytes.now view.now)) }
 {
-    let count = (based_address(bytes, 2, view) % 64) as u8;
-    put_pair_shift(view, shift, high_register(bytes, 1), count, puts)
+    let address = based_address(bytes, 2, view);
+    put_pair_shift(view, shift, high_register(bytes, 1), address, puts)
 }
 
 /// Puts a branch on the sum of R1 and R3.
