@@ -67,25 +67,19 @@ started u p (Whole last c) =
     if is_immediate c then with_status device_has_ended no_channel_status None
     else record { condition = 0; stores = Nothing; unit = becomes u (record { state = Active p; attention = false }) }
 
--- the program at the channel address word
+-- and the program at this channel address word
 abbrev pub start_with : Storage → ConfiguredUnit → Caw → IoResult
 start_with s u caw =
     if is_whole_caw caw then started u (program_at caw.key caw.address) (next_ccw s (program_at caw.key caw.address))
     else with_status no_unit_status meets_program_check None
 
-abbrev pub start_program : Storage → ConfiguredUnit → IoResult
-start_program s u = start_with s u (caw_of (word_at s.bytes caw_location))
-
--- START I/O of an idle unit: attention comes first
-abbrev pub start_idle : Storage → ConfiguredUnit → Bool → IoResult
-start_idle s u true = with_status (record asks_attention { busy = true }) no_channel_status (becomes u idle_unit)
-start_idle s u false = start_program s u
-
--- START I/O of a unit, where another program of its channel may be executed that runs one at a time
+-- START I/O of a unit, where another program of its channel may be executed that runs one at a time: of an idle one
+-- attention comes before the program
 abbrev pub start_unit : Storage → Bool → ConfiguredUnit → UnitControl → IoResult
 start_unit s occupied u control =
     if is_active control.state || (is_waiting control.state || occupied) then with_code 2
-    else start_idle s u control.attention
+    else if control.attention then with_status (record asks_attention { busy = true }) no_channel_status (becomes u idle_unit)
+    else start_with s u (caw_of (word_at s.bytes caw_location))
 
 abbrev pub start_io : Storage → Units → UnitAddress → IoResult
 start_io s us = at_unit (λ u. start_unit s (is_occupied us u) u (control_of us u))

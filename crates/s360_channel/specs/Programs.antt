@@ -1,6 +1,7 @@
 -- Channel programs: where the next channel command word is, and what keeps it from being executed (GA22-6821,
 -- "Input/Output Operations", channel command word, transfer in channel, and program check).
 use Rattle.std.specs.Prelude.{ℕ, ◌%◌, Bool, true, false, not, ◌&&◌, ◌||◌, nat_eq, if◌then◌else◌, Option, Some, None}
+use Rattle.std.specs.Option.{option_map_or}
 use Rattle.s360_model.specs.Storage.{Storage, doubleword_at, is_inside}
 use Rattle.s360_channel.specs.declared.ccw.Ccw.{Ccw}
 use Rattle.s360_channel.specs.declared.program.Program.{Program}
@@ -48,19 +49,15 @@ goes_on_with_record other = false
 abbrev pub is_executable : Bool → Ccw → Bool
 is_executable same_record c = nat_eq c.reserved 0 && (not (nat_eq c.count 0) && (same_record || not (nat_eq (c.command % 16) 0)))
 
--- the word at an address that is to be executed; a program check where there is none, or a transfer in channel
-abbrev pub executed_at : Bool → ℕ → Option Ccw → Fetched
-executed_at same_record address None = Broken address
-executed_at same_record address (Some c) =
-    if not (is_transfer c) && is_executable same_record c then Whole address c else Broken address
+-- the word at an address that is to be executed; a program check where it cannot be, or is a transfer in channel
+abbrev pub executed_at : Bool → ℕ → Ccw → Fetched
+executed_at same_record address c = if not (is_transfer c) && is_executable same_record c then Whole address c else Broken address
 
 -- the word that a transfer in channel leads to: a target that is no word leaves the transfer as the last one (own
 -- profile)
 abbrev pub transferred_to : Storage → Bool → ℕ → Ccw → Fetched
-transferred_to s same_record address transfer = at_target (ccw_at s transfer.address) where
-  at_target : Option Ccw → Fetched
-  at_target None = Broken address
-  at_target (Some c) = executed_at same_record transfer.address (Some c)
+transferred_to s same_record address transfer =
+    option_map_or (executed_at same_record transfer.address) (ccw_at s transfer.address) (Broken address)
 
 -- the word with which a program goes on: that at its next address, or where a transfer in channel stands there, and
 -- it is not the first, the one that it leads to
@@ -68,7 +65,7 @@ abbrev pub next_ccw_with : Storage → Progress → ℕ → Option Ccw → Fetch
 next_ccw_with s progress address None = Broken address
 next_ccw_with s progress address (Some c) =
     if is_transfer c && not (is_first progress) then transferred_to s (goes_on_with_record progress) address c
-    else executed_at (goes_on_with_record progress) address (Some c)
+    else executed_at (goes_on_with_record progress) address c
 
 abbrev pub next_ccw : Storage → Program → Fetched
 next_ccw s p = if is_loading p.progress then Whole 0 (ccw_of loading_word) else next_ccw_with s p.progress p.address (ccw_at s p.address)

@@ -8,22 +8,21 @@ use Rattle.s360_model.specs.Packed.{packed, packed_value}
 use Rattle.s360_model.specs.Psw.{ascii_mode_of}
 use Rattle.s360_model.specs.Storage.{doubleword_at}
 use Rattle.s360_store.specs.declared.protection.Access.TheVariants.{Fetch}
-use Rattle.s360_fixed.specs.declared.ended.Ended.TheVariants.{Done, Program}
+use Rattle.s360_fixed.specs.declared.ended.Ended.{Ended}
 use Rattle.s360_fixed.specs.declared.program_code.ProgramCode.TheVariants.{Data, FixedPointDivide}
 use Rattle.s360_fixed.specs.Operands.{access_conditions}
 use Rattle.s360_fixed.specs.Alterations.{core_with_alteration, one_register, unchanged}
 use Rattle.s360_fixed.specs.Outcomes.{unless_met}
 use Rattle.s360_fixed.specs.Storing.{bytes_outcome}
 use Rattle.s360_fixed.specs.View.{Outcome, View, register_of}
-use Rattle.s360_logic.specs.declared.row.Conversion.{Conversion}
-use Rattle.s360_logic.specs.declared.row.Conversion.TheVariants.{ToBinary, ToDecimal}
+use Rattle.s360_logic.specs.declared.row.Conversion.{Conversion, TheVariants.ToBinary, TheVariants.ToDecimal}
 
 -- R1 becomes the word of a number. One that does not fit a word interrupts with code 9, after R1 has its low
 -- 32 bits; a digit or sign that is none interrupts with code 7
 abbrev pub converted_outcome : Option ℤ → View → ℕ → Outcome
-converted_outcome None v r1 = record { ended = Program Data; core = v.core }
+converted_outcome None v r1 = record { ended = Ended.Program Data; core = v.core }
 converted_outcome (Some n) v r1 = record {
-  ended = if fits_word n then Done else Program FixedPointDivide;
+  ended = if fits_word n then Ended.Done else Ended.Program FixedPointDivide;
   core = core_with_alteration (one_register r1 (word_of n) unchanged v.next_address) v.core;
 }
 

@@ -6,9 +6,9 @@ use Rattle.s360_logic.proofs.right_to_left.make_digits.Given as goal
 
 abbrev pub invariant-loop-i : goal.invariant-loop-i
 invariant-loop-i l = record {
-  made : HasMade (digit_move l.row l.zone l.first l.second) (stored_in l.fn.operand) l.i l.held (stored_in l.operand);
+  made : HasMade (digit_move l.row l.zone l.fn.first l.second) (stored_in l.fn.operand) l.i l.held (stored_in l.operand);
   storage : l.operand.storage ≡ l.fn.operand.storage;
-  address : l.operand.address ≡ l.first.address;
-  count : length l.operand.bytes ≡ l.first.count;
-  n : l.count ≡ l.first.count;
+  address : l.operand.address ≡ l.fn.first.address;
+  count : length l.operand.bytes ≡ l.fn.first.count;
+  n : l.count ≡ l.fn.first.count;
 }
