@@ -12,7 +12,7 @@ use Rattle.s360_channel.specs.declared.program.Program.{Program}
 use Rattle.s360_channel.specs.declared.program.Progress.TheVariants.{First, Loading, CommandChained, InputChained, OutputChained}
 use Rattle.s360_channel.specs.declared.unit_control.UnitControl.{UnitControl}
 use Rattle.s360_channel.specs.declared.unit_state.UnitState.TheVariants.{Idle, Active, Waiting}
-use Rattle.s360_channel.specs.Differences.{same_unit_status, same_channel_status, same_csw, same_progress, same_program, same_state, same_unit}
+use Rattle.s360_channel.specs.UnitChanges.{same_unit_status, same_channel_status, same_csw, same_progress, same_program, same_state, same_unit}
 
 pub same_unit_status-Decides : DecidesEquality same_unit_status
 same_unit_status-Decides = by_parts

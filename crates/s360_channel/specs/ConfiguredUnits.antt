@@ -7,7 +7,6 @@ use Rattle.std.specs.List.{find}
 use Rattle.s360_model.specs.Psw.{channel_mask_of}
 use Rattle.s360_word.specs.declared.unit.Unit.{Unit as UnitAddress}
 use Rattle.s360_channel.specs.declared.configured_unit.ChannelKind.{ChannelKind}
-use Rattle.s360_channel.specs.declared.configured_unit.ChannelKind.TheVariants.{Multiplexer, Selector}
 use Rattle.s360_channel.specs.declared.configured_unit.ConfiguredUnit.{ConfiguredUnit}
 use Rattle.s360_channel.specs.declared.configured_unit.ConfiguredUnit.TheVariants.{Reader, Punch, Printer, Console, Tape0, Tape1}
 use Rattle.s360_channel.specs.declared.unit_control.UnitControl.{UnitControl}
@@ -44,9 +43,9 @@ channel_of u = address_of_unit u / 0x100
 
 -- channel 0 executes the programs of its units side by side, channel 1 one program at a time (own profile)
 abbrev pub kind_of : ConfiguredUnit → ChannelKind
-kind_of Tape0 = Selector
-kind_of Tape1 = Selector
-kind_of u = Multiplexer
+kind_of Tape0 = ChannelKind.Selector
+kind_of Tape1 = ChannelKind.Selector
+kind_of u = ChannelKind.Multiplexer
 
 -- how the units stand on their channels, one after another
 abbrev pub Units : Type 0

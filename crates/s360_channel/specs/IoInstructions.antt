@@ -4,18 +4,15 @@
 use Rattle.std.specs.Prelude.{ℕ, Bool, true, false, not, ◌&&◌, ◌||◌, nat_eq, if◌then◌else◌, unwrap_or, Option, Some, None}
 use Rattle.std.specs.Option.{option_map_or}
 use Rattle.s360_model.specs.Storage.{Storage, word_at}
+use Rattle.s360_word.specs.declared.unit.Unit.{Unit as UnitAddress}
 use Rattle.s360_channel.specs.declared.caw.Caw.{Caw}
 use Rattle.s360_channel.specs.declared.ccw.Ccw.{Ccw}
 use Rattle.s360_channel.specs.declared.csw.Csw.{Csw}
 use Rattle.s360_channel.specs.declared.csw.UnitStatus.{UnitStatus}
 use Rattle.s360_channel.specs.declared.csw.ChannelStatus.{ChannelStatus}
 use Rattle.s360_channel.specs.declared.fetching.Fetched.{Fetched}
-use Rattle.s360_channel.specs.declared.fetching.Fetched.TheVariants.{Broken, Whole}
-use Rattle.s360_word.specs.declared.unit.Unit.{Unit as UnitAddress}
 use Rattle.s360_channel.specs.declared.configured_unit.ChannelKind.{ChannelKind}
-use Rattle.s360_channel.specs.declared.configured_unit.ChannelKind.TheVariants.{Multiplexer, Selector}
 use Rattle.s360_channel.specs.declared.configured_unit.ConfiguredUnit.{ConfiguredUnit}
-use Rattle.s360_channel.specs.declared.configured_unit.ConfiguredUnit.TheVariants.{Tape0, Tape1}
 use Rattle.s360_channel.specs.declared.io_instructions.CswStore.TheVariants.{Nothing, Status, Csw as whole}
 use Rattle.s360_channel.specs.declared.io_instructions.IoResult.{IoResult}
 use Rattle.s360_channel.specs.declared.io_instructions.UnitAfter.{UnitAfter}
@@ -23,10 +20,9 @@ use Rattle.s360_channel.specs.declared.program.Program.{Program}
 use Rattle.s360_channel.specs.declared.unit_control.Condition.{Condition}
 use Rattle.s360_channel.specs.declared.unit_control.UnitControl.{UnitControl}
 use Rattle.s360_channel.specs.declared.unit_state.UnitState.{UnitState}
-use Rattle.s360_channel.specs.declared.unit_state.UnitState.TheVariants.{Active, Waiting}
 use Rattle.s360_channel.specs.ConfiguredUnits.{Units, active_beside, control_of, is_occupied, kind_of, unit_at, with_control_of}
 use Rattle.s360_channel.specs.Programs.{next_ccw, program_at}
-use Rattle.s360_channel.specs.Units.{condition_of, idle_unit, is_active, is_waiting}
+use Rattle.s360_channel.specs.Units.{condition_of, idle_unit, is_active, is_waiting, program_of}
 use Rattle.s360_channel.specs.Words.{asks_attention, caw_of, device_has_ended, is_whole_caw}
 use Rattle.s360_channel.specs.Words.{meets_program_check, no_channel_status, no_unit_status}
 
@@ -62,10 +58,10 @@ is_immediate c = nat_eq c.command 0x03 && (not c.flags.chain_data && not c.flags
 
 -- START I/O of a unit that is available: the program is checked as far as its first word
 abbrev pub started : ConfiguredUnit → Program → Fetched → IoResult
-started u p (Broken last) = with_status no_unit_status meets_program_check None
-started u p (Whole last c) =
+started u p (Fetched.Broken last) = with_status no_unit_status meets_program_check None
+started u p (Fetched.Whole last c) =
     if is_immediate c then with_status device_has_ended no_channel_status None
-    else record { condition = 0; stores = Nothing; unit = becomes u (record { state = Active p; attention = false }) }
+    else record { condition = 0; stores = Nothing; unit = becomes u (record { state = UnitState.Active p; attention = false }) }
 
 -- and the program at this channel address word
 abbrev pub start_with : Storage → ConfiguredUnit → Caw → IoResult
@@ -103,14 +99,13 @@ csw_of_halted p = record { key = p.key; address = p.address; unit = device_has_e
 -- HALT I/O of the unit whose program occupies the channel, if there is one: the multiplexer channel stores a status
 -- of zeros and ends with condition code 1, the selector channel with 2
 abbrev pub result_of_halt : ChannelKind → Option UnitAfter → IoResult
-result_of_halt Multiplexer next = with_status no_unit_status no_channel_status next
-result_of_halt Selector next = record { condition = 2; stores = Nothing; unit = next }
+result_of_halt ChannelKind.Multiplexer next = with_status no_unit_status no_channel_status next
+result_of_halt ChannelKind.Selector next = record { condition = 2; stores = Nothing; unit = next }
 
 abbrev pub halt_unit : ConfiguredUnit → UnitControl → IoResult
-halt_unit u control = of_state control.state where
-  of_state : UnitState → IoResult
-  of_state (Active p) = result_of_halt (kind_of u) (becomes u (record control { state = Waiting (csw_of_halted p) }))
-  of_state other = with_code 0
+halt_unit u control =
+    let halted = λ (p : Program). result_of_halt (kind_of u) (becomes u (record control { state = UnitState.Waiting (csw_of_halted p) }))
+    in option_map_or halted (program_of control.state) (with_code 0)
 
 -- the unit whose program HALT I/O ends: itself where it is active, or else the other tape where that one is
 abbrev pub halted_unit : Units → ConfiguredUnit → ConfiguredUnit
@@ -122,7 +117,7 @@ halt_io us = at_unit (λ u. halt_unit (halted_unit us u) (control_of us (halted_
 -- TEST CHANNEL by the number of the channel: the multiplexer channel 0 is available; the selector channel 1 is
 -- occupied by a program, or a status word of one of its units waits, or it is available; others are not there
 abbrev pub has_tape : (UnitState → Bool) → Units → Bool
-has_tape test us = test (control_of us Tape0).state || test (control_of us Tape1).state
+has_tape test us = test (control_of us ConfiguredUnit.Tape0).state || test (control_of us ConfiguredUnit.Tape1).state
 
 abbrev pub test_channel : Units → ℕ → IoResult
 test_channel us channel =

@@ -2,9 +2,7 @@ pub mod Words
 pub mod Units
 pub mod Programs
 pub mod IoInstructions
-pub mod Gathered
 pub mod Execution
 pub mod Steps
-pub mod Differences
 pub mod ConfiguredUnits
 pub mod UnitChanges

@@ -1,5 +1,6 @@
 -- What the code answers of a channel event: a step, and what is stored; and how they are those of the event's execution.
-use Rattle.std.specs.Prelude.{◌≡◌, ◌<◌, ◌≤◌, ◌+◌, ℕ, IfSome, Option, Some, None, List, [], ◌++◌, length, option_copied, take, unwrap_or}
+use Rattle.std.specs.Prelude.{◌≡◌, ◌<◌, ◌≤◌, ◌+◌, ℕ, IfSome, Option, Some, None, List, [], ◌++◌, length, option_copied, take, unwrap_or, reverse}
+use Rattle.std.specs.Option.{option_map_or}
 use Rattle.s360_model.specs.Core.{Core}
 use Rattle.s360_model.specs.Storage.{Storage}
 use Rattle.s360_store.specs.declared.place.Cell.{Cell}
@@ -9,16 +10,14 @@ use Rattle.s360_device.specs.Transfers.{MovesBytes}
 use Rattle.s360_channel.specs.declared.command_word.CommandWord.{CommandWord}
 use Rattle.s360_channel.specs.declared.csw.ChannelStatus.{ChannelStatus}
 use Rattle.s360_channel.specs.declared.engine.ChannelStep.{ChannelStep}
-use Rattle.s360_channel.specs.declared.engine.ChannelStep.TheVariants.{NotYet, GoesOn, Ends}
 use Rattle.s360_channel.specs.declared.engine.Executed.{Executed}
 use Rattle.s360_channel.specs.declared.fetching.Fetched.{Fetched}
-use Rattle.s360_channel.specs.declared.fetching.Fetched.TheVariants.{Broken, Whole}
 use Rattle.s360_channel.specs.declared.gathering.OutputBytes.{OutputBytes}
 use Rattle.s360_channel.specs.declared.program.Program.{Program}
 use Rattle.s360_channel.specs.declared.unit_state.UnitState.{UnitState}
-use Rattle.s360_channel.specs.declared.unit_state.UnitState.TheVariants.{Active, Waiting}
-use Rattle.s360_channel.specs.Execution.{DeviceView, Ending, Execution, Run, WordAtHand}
-use Rattle.s360_channel.specs.Execution.{after_check, channel_execution, command_with, core_with_run, word_with}
+use Rattle.s360_channel.specs.declared.gathered.Backward.{Backward}
+use Rattle.s360_channel.specs.declared.gathered.Parts.{Parts, First, After'}
+use Rattle.s360_channel.specs.Execution.{DeviceView, Ending, Execution, Run, WordAtHand, after_check, channel_execution, command_with, core_with_run, word_with}
 use Rattle.s360_channel.specs.Programs.{next_ccw}
 
 -- a device as its channel sees it, and the word at hand that the code has, by the device's contract
@@ -42,14 +41,14 @@ LiesIn s r = (0 < length r.bytes) × (length r.bytes ≤ 65535) × (r.at + lengt
 
 -- the state of the unit after a step of a program, and the change of the device
 abbrev pub state_after_step : {C : Type 0} → Program → ChannelStep C → UnitState
-state_after_step p NotYet = Active p
-state_after_step p (GoesOn program change) = Active program
-state_after_step p (Ends csw change) = Waiting csw
+state_after_step p ChannelStep.NotYet = UnitState.Active p
+state_after_step p (ChannelStep.GoesOn program change) = UnitState.Active program
+state_after_step p (ChannelStep.Ends csw change) = UnitState.Waiting csw
 
 abbrev pub change_of_step : {C : Type 0} → ChannelStep C → Option C
-change_of_step NotYet = None
-change_of_step (GoesOn program change) = change
-change_of_step (Ends csw change) = change
+change_of_step ChannelStep.NotYet = None
+change_of_step (ChannelStep.GoesOn program change) = change
+change_of_step (ChannelStep.Ends csw change) = change
 
 -- the change makes of the device what a command that ends makes of it: it can be exchanged with the device bare of room,
 -- which then is as after the command, and needs no room to be taken back. The device was not so before
@@ -101,8 +100,27 @@ pub record PlansEvent {D C : Type 0} (g : Ghosts D C) (d : D) (s : Storage) (p :
 -- the word with which a program goes on moves bytes, by how its device begins the command; one that meets a program
 -- check moves none
 abbrev pub FetchedMovesBytes : DeviceView → Program → Fetched → Type 0
-FetchedMovesBytes d p (Broken last) = ⊥
-FetchedMovesBytes d p (Whole at c) = MovesBytes (d.begin (command_with p.progress c))
+FetchedMovesBytes d p (Fetched.Broken last) = ⊥
+FetchedMovesBytes d p (Fetched.Whole at c) = MovesBytes (d.begin (command_with p.progress c))
 
 abbrev pub EventMovesBytes : DeviceView → Storage → Program → Type 0
 EventMovesBytes d s p = FetchedMovesBytes d p (next_ccw s p)
+
+-- the bytes that the words of an output gather, each word's after those of the words before it: those of the last word
+abbrev pub part_of : Parts → List ℕ
+part_of (First bytes) = bytes.items
+part_of (After' p before bytes) = bytes.items
+
+-- those of all words
+abbrev pub bytes_of : Parts → List ℕ
+bytes_of (First bytes) = bytes.items
+bytes_of (After' p before bytes) = bytes_of before ++ bytes.items
+
+-- of how many words they are
+abbrev pub words_of : Parts → ℕ
+words_of (First bytes) = 1
+words_of (After' p before bytes) = words_of before + 1
+
+-- what is left from the last to the first
+abbrev pub left_of : Backward → List ℕ
+left_of b = reverse (option_map_or bytes_of (option_copied b.before) [] ++ b.part.now)

@@ -1,36 +1,101 @@
--- What an event alters of the units: it is exchanged with what stands there, and the same exchange done again takes it
--- back. A change alone tells which units it alters.
-use Rattle.std.specs.Prelude.{◌≡◌, Option, Some, None, List, [], ◌∷◌, map}
+-- Which units stand otherwise (ours), and what an event alters of the units: it is exchanged with what stands there, and the same exchange done
+-- again takes it back. A change alone tells which units it alters.
+use Rattle.std.specs.Prelude.{◌≡◌, Option, Some, None, List, [], ◌∷◌, map, Bool, true, false, not, ◌&&◌, nat_eq}
+use Rattle.std.specs.Bool.{beq}
+use Rattle.std.specs.List.{filter}
+use Rattle.std.specs.Str.{bytes_eq}
 use Rattle.s360_model.specs.Exchanges.{CanIfAny, after_if_any}
 use Rattle.s360_store.specs.declared.place.Place.{Place}
 use Rattle.s360_channel.specs.declared.configured_unit.ConfiguredUnit.{ConfiguredUnit}
 use Rattle.s360_channel.specs.declared.unit_change.UnitChange.{UnitChange}
-use Rattle.s360_channel.specs.declared.unit_change.UnitChange.TheVariants.{One, Attention, Several}
-use Rattle.s360_channel.specs.ConfiguredUnits.{Units, HasEachUnit, control_of, with_control_of}
-use Rattle.s360_channel.specs.Differences.{state_place, unit_differences}
+use Rattle.s360_channel.specs.declared.csw.Csw.{Csw}
+use Rattle.s360_channel.specs.declared.csw.UnitStatus.{UnitStatus}
+use Rattle.s360_channel.specs.declared.csw.ChannelStatus.{ChannelStatus}
+use Rattle.s360_channel.specs.declared.program.Program.{Program}
+use Rattle.s360_channel.specs.declared.program.Progress.{Progress}
+use Rattle.s360_channel.specs.declared.unit_control.UnitControl.{UnitControl}
+use Rattle.s360_channel.specs.declared.unit_state.UnitState.{UnitState}
+use Rattle.s360_channel.specs.ConfiguredUnits.{Units, HasEachUnit, control_of, with_control_of, address_of_unit, configured_units}
+
+-- whether a unit is in the same state twice, as a test: two active units are alike where their programs are at the same point
+abbrev pub same_unit_status : UnitStatus → UnitStatus → Bool
+same_unit_status s t =
+    beq s.attention t.attention
+    && (beq s.status_modifier t.status_modifier
+    && (beq s.control_unit_end t.control_unit_end
+    && (beq s.busy t.busy
+    && (beq s.channel_end t.channel_end
+    && (beq s.device_end t.device_end
+    && (beq s.unit_check t.unit_check
+    && beq s.unit_exception t.unit_exception))))))
+
+abbrev pub same_channel_status : ChannelStatus → ChannelStatus → Bool
+same_channel_status s t =
+    beq s.program_controlled t.program_controlled
+    && (beq s.incorrect_length t.incorrect_length
+    && (beq s.program_check t.program_check
+    && beq s.protection_check t.protection_check))
+
+abbrev pub same_csw : Csw → Csw → Bool
+same_csw c d =
+    nat_eq c.key d.key
+    && (nat_eq c.address d.address
+    && (same_unit_status c.unit d.unit
+    && (same_channel_status c.channel d.channel
+    && nat_eq c.count d.count)))
+
+abbrev pub same_progress : Progress → Progress → Bool
+same_progress Progress.First Progress.First = true
+same_progress Progress.Loading Progress.Loading = true
+same_progress Progress.CommandChained Progress.CommandChained = true
+same_progress (Progress.InputChained command moved) (Progress.InputChained other count) = nat_eq command other && nat_eq moved count
+same_progress (Progress.OutputChained command gathered) (Progress.OutputChained other bytes) = nat_eq command other && bytes_eq gathered bytes
+same_progress p q = false
+
+abbrev pub same_program : Program → Program → Bool
+same_program p q = nat_eq p.key q.key && (nat_eq p.address q.address && same_progress p.progress q.progress)
+
+abbrev pub same_state : UnitState → UnitState → Bool
+same_state UnitState.Idle UnitState.Idle = true
+same_state (UnitState.Active p) (UnitState.Active q) = same_program p q
+same_state (UnitState.Waiting c) (UnitState.Waiting d) = same_csw c d
+same_state s t = false
+
+abbrev pub same_unit : UnitControl → UnitControl → Bool
+same_unit u v = same_state u.state v.state && beq u.attention v.attention
+
+-- the units that stand otherwise, and their places
+abbrev pub altered_units : Units → Units → List ConfiguredUnit
+altered_units us vs = filter (λ u. not (same_unit (control_of us u) (control_of vs u))) configured_units
+
+abbrev pub state_place : ConfiguredUnit → Place
+state_place u = Place.UnitState (record { 0 = address_of_unit u })
+
+abbrev pub unit_differences : Units → Units → List Place
+unit_differences us vs = map (λ u. state_place u) (altered_units us vs)
 
 -- it can be exchanged with the units
 abbrev pub CanSwapUnits : Units → UnitChange → Type 0
-CanSwapUnits us (One u v) = HasEachUnit us
-CanSwapUnits us (Attention u asks) = HasEachUnit us
-CanSwapUnits us (Several x) = HasEachUnit us × HasEachUnit x.units
+CanSwapUnits us (UnitChange.One u v) = HasEachUnit us
+CanSwapUnits us (UnitChange.Attention u asks) = HasEachUnit us
+CanSwapUnits us (UnitChange.Several x) = HasEachUnit us × HasEachUnit x.units
 
 -- the units after the exchange, and the change
 abbrev pub units_after_swap : Units → UnitChange → Units
-units_after_swap us (One u v) = with_control_of us u v
-units_after_swap us (Attention u asks) = with_control_of us u (record (control_of us u) { attention = asks })
-units_after_swap us (Several x) = x.units
+units_after_swap us (UnitChange.One u v) = with_control_of us u v
+units_after_swap us (UnitChange.Attention u asks) = with_control_of us u (record (control_of us u) { attention = asks })
+units_after_swap us (UnitChange.Several x) = x.units
 
 abbrev pub unit_change_after_swap : Units → UnitChange → UnitChange
-unit_change_after_swap us (One u v) = One u (control_of us u)
-unit_change_after_swap us (Attention u asks) = Attention u (control_of us u).attention
-unit_change_after_swap us (Several x) = Several (record x { units = us })
+unit_change_after_swap us (UnitChange.One u v) = UnitChange.One u (control_of us u)
+unit_change_after_swap us (UnitChange.Attention u asks) = UnitChange.Attention u (control_of us u).attention
+unit_change_after_swap us (UnitChange.Several x) = UnitChange.Several (record x { units = us })
 
 -- the units that it alters, and their places
 abbrev pub altered_by : UnitChange → List ConfiguredUnit
-altered_by (One u v) = u ∷ []
-altered_by (Attention u asks) = u ∷ []
-altered_by (Several x) = x.altered
+altered_by (UnitChange.One u v) = u ∷ []
+altered_by (UnitChange.Attention u asks) = u ∷ []
+altered_by (UnitChange.Several x) = x.altered
 
 abbrev pub places_of_units : Option UnitChange → List Place
 places_of_units None = []

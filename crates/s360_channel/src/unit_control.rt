@@ -1,7 +1,7 @@
 //! A unit as its channel sees it, and the condition that it has for an interruption. Source:
 //! GA22-6821, "Input/Output Operations", input/output interruptions.
 ghost use Rattle.std.specs.Prelude.{◌≡◌};
-ghost use Rattle.s360_channel.specs.Differences.{same_unit};
+ghost use Rattle.s360_channel.specs.UnitChanges.{same_unit};
 ghost use Rattle.s360_channel.specs.Units.{attention_csw, condition_of, idle_unit, is_pending};
 
 use crate::csw::{ChannelStatus, Csw, UnitStatus};

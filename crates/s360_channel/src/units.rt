@@ -5,7 +5,7 @@ ghost use Rattle.s360_model.specs.Exchanges.{after_if_any};
 ghost use Rattle.s360_channel.specs.Units.{is_active};
 ghost use Rattle.s360_channel.specs.ConfiguredUnits.{HasEachUnit, active_beside, active_unit, control_of, idle_units};
 ghost use Rattle.s360_channel.specs.ConfiguredUnits.{interrupting_unit, is_occupied, pending_unit, with_control_of};
-ghost use Rattle.s360_channel.specs.Differences.{altered_units};
+ghost use Rattle.s360_channel.specs.UnitChanges.{altered_units};
 ghost use Rattle.s360_channel.specs.UnitChanges.{IsUnitsChangeTo};
 ghost use Rattle.s360_channel.specs.UnitChanges.{unit_change_after_swap, units_after_swap};
 

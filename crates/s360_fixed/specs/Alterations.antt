@@ -5,7 +5,6 @@ use Rattle.std.specs.Prelude.{ℕ, ◌+◌, false, ◌&&◌, nat_eq, if◌then�
 use Rattle.s360_model.specs.Core.{Core}
 use Rattle.s360_model.specs.Psw.{fixed_point_overflow_mask_of, with_condition_code, with_instruction_address}
 use Rattle.s360_fixed.specs.declared.ended.Ended.{Ended}
-use Rattle.s360_fixed.specs.declared.ended.Ended.TheVariants.{Done, Program}
 use Rattle.s360_fixed.specs.declared.program_code.ProgramCode.TheVariants.{FixedPointOverflow}
 use Rattle.s360_fixed.specs.declared.setting.CodeSetting.{CodeSetting}
 use Rattle.s360_fixed.specs.View.{Outcome}
@@ -61,7 +60,7 @@ core_with_alteration a m = record m {
 
 -- an overflow interrupts with code 8, where its mask is one, after the instruction is completed
 abbrev pub ended_by : CodeSetting → ℕ → Ended
-ended_by setting psw = if setting.overflow && fixed_point_overflow_mask_of psw then Program FixedPointOverflow else Done
+ended_by setting psw = if setting.overflow && fixed_point_overflow_mask_of psw then Ended.Program FixedPointOverflow else Ended.Done
 
 abbrev pub after_alteration : Core → Alteration → Outcome
 after_alteration m a = record { ended = ended_by a.setting m.psw; core = core_with_alteration a m }

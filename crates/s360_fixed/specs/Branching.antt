@@ -6,7 +6,6 @@ use Rattle.s360_model.specs.Numbers.{low32, signed}
 use Rattle.s360_model.specs.Psw.{condition_code_of, stored_psw, with_instruction_address}
 use Rattle.s360_psw.specs.InstructionLength.{length_code_of}
 use Rattle.s360_fixed.specs.declared.row.Branch.{Branch}
-use Rattle.s360_fixed.specs.declared.row.Branch.TheVariants.{OnCondition, AndLink, OnCount}
 use Rattle.s360_fixed.specs.declared.row.IndexBranch.{IndexBranch}
 use Rattle.s360_fixed.specs.Alterations.{after_alteration, no_register, one_register, unchanged}
 use Rattle.s360_fixed.specs.Rows.{is_taken}
@@ -35,11 +34,11 @@ count_less_one count = low32 (count + (2 ^ 32 - 1))
 -- on condition: the mask selects the condition code, and no register is altered. And link: R1 becomes the link. On count:
 -- R1 becomes the count less one, and the branch is taken where that is not zero
 abbrev pub branch_outcome : Branch → View → ℕ → Option ℕ → Outcome
-branch_outcome OnCondition v mask target =
+branch_outcome Branch.OnCondition v mask target =
     let taken = is_selected mask (condition_code_of v.core.psw)
     in after_alteration v.core (no_register unchanged (address_after_branch v taken target))
-branch_outcome AndLink v r1 target = after_alteration v.core (one_register r1 (link_of v) unchanged (address_after_branch v true target))
-branch_outcome OnCount v r1 target =
+branch_outcome Branch.AndLink v r1 target = after_alteration v.core (one_register r1 (link_of v) unchanged (address_after_branch v true target))
+branch_outcome Branch.OnCount v r1 target =
     let count = count_less_one (register_of v r1)
     in after_alteration v.core (one_register r1 count unchanged (address_after_branch v (not (nat_eq count 0)) target))
 

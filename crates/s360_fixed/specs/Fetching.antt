@@ -4,7 +4,6 @@ use Rattle.std.specs.List.{slice_range}
 use Rattle.s360_model.specs.Storage.{Storage}
 use Rattle.s360_store.specs.declared.protection.Access.TheVariants.{Fetch}
 use Rattle.s360_store.specs.declared.protection.Checked.{Checked}
-use Rattle.s360_store.specs.declared.protection.Checked.TheVariants.{Clear}
 use Rattle.s360_store.specs.Protection.{access}
 use Rattle.s360_fixed.specs.Operands.{conditions_of}
 use Rattle.s360_fixed.specs.Outcomes.{is_odd}
@@ -21,7 +20,7 @@ instruction_bytes s address = slice_range s.bytes address (address + length_at s
 
 -- what two accesses meet, of which the second is made where the first meets nothing
 abbrev pub met_in_turn : Checked → Checked → Checked
-met_in_turn Clear second = second
+met_in_turn Checked.Clear second = second
 met_in_turn first second = first
 
 -- what keeps it from being fetched with a protection key: its first halfword is looked at before the whole

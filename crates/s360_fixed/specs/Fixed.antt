@@ -3,13 +3,8 @@
 use Rattle.std.specs.Prelude.{ℕ, Option, None, Some}
 use Rattle.std.specs.Option.{option_and_then, option_map}
 use Rattle.s360_fixed.specs.declared.form.Form.{Form}
-use Rattle.s360_fixed.specs.declared.form.Form.TheVariants.{Rr, Rx, Rs}
-use Rattle.s360_fixed.specs.declared.row.Branch.{Branch as BranchKind}
 use Rattle.s360_fixed.specs.declared.row.Row.{Row}
-use Rattle.s360_fixed.specs.declared.row.Row.TheVariants.{Combine, CombinePair, Branch, StoreBytes, StoreRegisters, LoadRegisters, Shift, ShiftPair}
-use Rattle.s360_fixed.specs.declared.row.Row.TheVariants.{BranchOnIndex}
 use Rattle.s360_fixed.specs.declared.second_operand.SecondOperand.{SecondOperand}
-use Rattle.s360_fixed.specs.declared.second_operand.SecondOperand.TheVariants.{InStorage}
 use Rattle.s360_fixed.specs.declared.second_operand.Width.TheVariants.{Word}
 use Rattle.s360_fixed.specs.Branching.{branch_outcome, index_outcome, register_target}
 use Rattle.s360_fixed.specs.Operands.{Operand, operand_address, storage_operand, word_operand}
@@ -26,42 +21,35 @@ with_register row v r1 r2 = row v r1 (word_operand (register_of v r2))
 abbrev pub with_operand : SecondOperand → (View → ℕ → Operand → Outcome) → View → ℕ → ℕ → Outcome
 with_operand second row v r1 address = row v r1 (storage_operand v.core second address)
 
--- a branch address in R2, or the address of the format RX
-abbrev pub branch_rr : BranchKind → View → ℕ → ℕ → Outcome
-branch_rr b v r1 r2 = branch_outcome b v r1 (register_target v r2)
-
-abbrev pub branch_rx : BranchKind → View → ℕ → ℕ → Outcome
-branch_rx b v r1 address = branch_outcome b v r1 (Some address)
-
--- the rows of the format RR, by R1 and R2
+-- the rows of the format RR, by R1 and R2, which has the branch address
 abbrev pub rr_outcome : Row → Option (View → ℕ → ℕ → Outcome)
-rr_outcome (Combine second c) = Some (with_register (combination_outcome c))
-rr_outcome (CombinePair c) = Some (with_register (pair_outcome c))
-rr_outcome (Branch b) = Some (branch_rr b)
+rr_outcome (Row.Combine second c) = Some (with_register (combination_outcome c))
+rr_outcome (Row.CombinePair c) = Some (with_register (pair_outcome c))
+rr_outcome (Row.Branch b) = Some (λ v r1 r2. branch_outcome b v r1 (register_target v r2))
 rr_outcome row = None
 
 -- the rows of the format RX, by R1 and the address
 abbrev pub rx_outcome : Row → Option (View → ℕ → ℕ → Outcome)
-rx_outcome (Combine second c) = Some (with_operand second (combination_outcome c))
-rx_outcome (CombinePair c) = Some (with_operand (InStorage Word) (pair_outcome c))
-rx_outcome (Branch b) = Some (branch_rx b)
-rx_outcome (StoreBytes width) = Some (store_outcome width)
+rx_outcome (Row.Combine second c) = Some (with_operand second (combination_outcome c))
+rx_outcome (Row.CombinePair c) = Some (with_operand (SecondOperand.InStorage Word) (pair_outcome c))
+rx_outcome (Row.Branch b) = Some (λ v r1 address. branch_outcome b v r1 (Some address))
+rx_outcome (Row.StoreBytes width) = Some (store_outcome width)
 rx_outcome row = None
 
 -- the rows of the format RS, by R1, R3 and the address. A shift has no R3
 abbrev pub rs_outcome : Row → Option (View → ℕ → ℕ → ℕ → Outcome)
-rs_outcome StoreRegisters = Some store_multiple_outcome
-rs_outcome LoadRegisters = Some load_multiple_outcome
-rs_outcome (Shift s) = Some (λ v r1 r3. shift_outcome s v r1)
-rs_outcome (ShiftPair s) = Some (λ v r1 r3. pair_shift_outcome s v r1)
-rs_outcome (BranchOnIndex b) = Some (index_outcome b)
+rs_outcome Row.StoreRegisters = Some store_multiple_outcome
+rs_outcome Row.LoadRegisters = Some load_multiple_outcome
+rs_outcome (Row.Shift s) = Some (λ v r1 r3. shift_outcome s v r1)
+rs_outcome (Row.ShiftPair s) = Some (λ v r1 r3. pair_shift_outcome s v r1)
+rs_outcome (Row.BranchOnIndex b) = Some (index_outcome b)
 rs_outcome row = None
 
 -- what an instruction does, where it is one of these chapters
 abbrev pub fixed_outcome : Form → Option (View → Outcome)
-fixed_outcome (Rr operation r1 r2) = option_map (λ f v. f v r1 r2) (option_and_then rr_outcome (row_of operation))
-fixed_outcome (Rx operation r1 x2 b2 d2) =
+fixed_outcome (Form.Rr operation r1 r2) = option_map (λ f v. f v r1 r2) (option_and_then rr_outcome (row_of operation))
+fixed_outcome (Form.Rx operation r1 x2 b2 d2) =
     option_map (λ f v. f v r1 (operand_address v.core.registers x2 b2 d2)) (option_and_then rx_outcome (row_of operation))
-fixed_outcome (Rs operation r1 r3 b2 d2) =
+fixed_outcome (Form.Rs operation r1 r3 b2 d2) =
     option_map (λ f v. f v r1 r3 (operand_address v.core.registers 0 b2 d2)) (option_and_then rs_outcome (row_of operation))
 fixed_outcome form = None

@@ -5,17 +5,11 @@ use Rattle.s360_model.specs.Core.{Core}
 use Rattle.s360_model.specs.Psw.{protection_key_of}
 use Rattle.s360_model.specs.Storage.{halfword_at, word_at}
 use Rattle.s360_store.specs.declared.protection.Access.{Access}
-use Rattle.s360_store.specs.declared.protection.Access.TheVariants.{Fetch}
 use Rattle.s360_store.specs.declared.protection.Checked.{Checked}
-use Rattle.s360_store.specs.declared.protection.Checked.TheVariants.{Addressing, Protection}
 use Rattle.s360_store.specs.Protection.{access}
 use Rattle.s360_fixed.specs.declared.second_operand.SecondOperand.{SecondOperand}
-use Rattle.s360_fixed.specs.declared.second_operand.SecondOperand.TheVariants.{InStorage, Address}
 use Rattle.s360_fixed.specs.declared.second_operand.Width.{Width}
-use Rattle.s360_fixed.specs.declared.second_operand.Width.TheVariants.{Byte, Halfword, Word}
 use Rattle.s360_fixed.specs.ProgramCodes.{Conditions, no_conditions}
-use Rattle.s360_fixed.specs.Table.{displacement_at, high_digit, low_digit}
-use Rattle.s360_fixed.specs.View.{View}
 
 -- what a base or an index register adds: nothing where it is register 0
 abbrev pub address_part : List ℕ → ℕ → ℕ
@@ -25,19 +19,12 @@ address_part registers r = if nat_eq r 0 then 0 else slice_index registers r
 abbrev pub operand_address : List ℕ → ℕ → ℕ → ℕ → ℕ
 operand_address registers index base displacement = (address_part registers index + address_part registers base + displacement) % 2 ^ 24
 
--- the address of the format RX, and the one that a base and a displacement make from a byte of an instruction on
-abbrev pub indexed_address : View → List ℕ → ℕ
-indexed_address v bytes = operand_address v.core.registers (low_digit bytes 1) (high_digit bytes 2) (displacement_at bytes 2)
-
-abbrev pub based_address : View → List ℕ → ℕ → ℕ
-based_address v bytes i = operand_address v.core.registers 0 (high_digit bytes i) (displacement_at bytes i)
-
 abbrev pub is_outside : Checked → Bool
-is_outside Addressing = true
+is_outside Checked.Addressing = true
 is_outside c = false
 
 abbrev pub is_guarded : Checked → Bool
-is_guarded Protection = true
+is_guarded Checked.Protection = true
 is_guarded c = false
 
 -- the conditions of what an access meets
@@ -65,20 +52,20 @@ word_operand word = record { conditions = no_conditions; value = word }
 
 -- the bytes of an operand in storage
 abbrev pub bytes_of_width : Width → ℕ
-bytes_of_width Byte = 1
-bytes_of_width Halfword = 2
-bytes_of_width Word = 4
+bytes_of_width Width.Byte = 1
+bytes_of_width Width.Halfword = 2
+bytes_of_width Width.Word = 4
 
 -- the word that they are
 abbrev pub word_in : Width → List ℕ → ℕ → ℕ
-word_in Byte bytes address = slice_index bytes address
-word_in Halfword bytes address = extended_halfword (halfword_at bytes address)
-word_in Word bytes address = word_at bytes address
+word_in Width.Byte bytes address = slice_index bytes address
+word_in Width.Halfword bytes address = extended_halfword (halfword_at bytes address)
+word_in Width.Word bytes address = word_at bytes address
 
 -- a second operand in storage, on the boundary of its width, or an address
 abbrev pub storage_operand : Core → SecondOperand → ℕ → Operand
-storage_operand m (InStorage width) address = record {
-  conditions = access_conditions m address (bytes_of_width width) (bytes_of_width width) Fetch;
+storage_operand m (SecondOperand.InStorage width) address = record {
+  conditions = access_conditions m address (bytes_of_width width) (bytes_of_width width) Access.Fetch;
   value = word_in width m.storage.bytes address;
 }
-storage_operand m Address address = word_operand address
+storage_operand m SecondOperand.Address address = word_operand address

@@ -5,12 +5,11 @@ use Rattle.std.specs.Option.{option_map, option_map_or}
 use Rattle.s360_model.specs.Core.{Core}
 use Rattle.s360_model.specs.Products.{product_words, division}
 use Rattle.s360_fixed.specs.declared.ended.Ended.TheVariants.{Program}
+use Rattle.s360_fixed.specs.declared.row.Combination.{Combination}
+use Rattle.s360_fixed.specs.declared.row.PairCombination.{PairCombination}
 use Rattle.s360_fixed.specs.Alterations.{Alteration, after_alteration, no_register, register_pair, unchanged}
 use Rattle.s360_fixed.specs.ProgramCodes.{Conditions, program_code}
 use Rattle.s360_fixed.specs.Operands.{Operand}
-use Rattle.s360_fixed.specs.declared.row.Combination.{Combination}
-use Rattle.s360_fixed.specs.declared.row.PairCombination.{PairCombination}
-use Rattle.s360_fixed.specs.declared.row.PairCombination.TheVariants.{Product, Quotient}
 use Rattle.s360_fixed.specs.Rows.{result_of}
 use Rattle.s360_fixed.specs.View.{View, Outcome, register_of}
 
@@ -35,8 +34,8 @@ is_odd r = nat_eq (r % 2) 1
 
 -- the words that the pair becomes: the product, or the remainder and the quotient, where there is a quotient
 abbrev pub pair_result : PairCombination → ℕ → ℕ → ℕ → Option (ℕ × ℕ)
-pair_result Product high low second = Some (product_words low second)
-pair_result Quotient high low second = option_map (λ (words : ℕ × ℕ). (words.1, words.0)) (division high low second)
+pair_result PairCombination.Product high low second = Some (product_words low second)
+pair_result PairCombination.Quotient high low second = option_map (λ (words : ℕ × ℕ). (words.1, words.0)) (division high low second)
 
 abbrev pub pair_alteration : ℕ → Option (ℕ × ℕ) → ℕ → Alteration
 pair_alteration r1 None address = no_register unchanged address

@@ -10,7 +10,6 @@ use Rattle.s360_store.specs.Plans.{IsPlanOf}
 use Rattle.s360_store.specs.Puts.{HasNoPuts}
 use Rattle.s360_fixed.specs.declared.effect.Effect.{Effect}
 use Rattle.s360_fixed.specs.declared.ended.Ended.{Ended}
-use Rattle.s360_fixed.specs.declared.ended.Ended.TheVariants.{Done, Io}
 use Rattle.s360_fixed.specs.declared.register_words.RegisterWords.{RegisterWords}
 use Rattle.s360_fixed.specs.Alterations.{Alteration}
 use Rattle.s360_fixed.specs.Outcomes.{word_for}
@@ -24,8 +23,8 @@ PutsNothing p puts v = HasNoPuts v.core (p.made puts) (p.may puts) (p.past puts)
 -- what may be put behind an instruction that ends so: all behind one that the channels do, which has put nothing; and
 -- the PSW, and bytes of storage, which stands as it was, behind one that an interruption follows
 abbrev pub MayFollow : {S : Type 0} → Ghosts S → S → Core → Ended → Type 0
-MayFollow p puts m Done = Unit {0}
-MayFollow p puts m (Io operation unit) = HasNoPuts m (p.made puts) (p.may puts) (p.past puts) (p.count puts)
+MayFollow p puts m Ended.Done = Unit {0}
+MayFollow p puts m (Ended.Io operation unit) = HasNoPuts m (p.made puts) (p.may puts) (p.past puts) (p.count puts)
 MayFollow p puts m other = ((p.made puts m).storage ≡ m.storage) × ((a : ℕ) → p.past puts (Byte a))
 
 -- an instruction ends as its outcome does, and its puts make the outcome's core and may be made. They are of few

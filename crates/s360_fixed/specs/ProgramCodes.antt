@@ -2,19 +2,17 @@
 -- "Interruptions", program interruption; the order is own profile).
 use Rattle.std.specs.Prelude.{ℕ, Bool, false, if◌then◌else◌, Option, Some, None}
 use Rattle.s360_fixed.specs.declared.program_code.ProgramCode.{ProgramCode}
-use Rattle.s360_fixed.specs.declared.program_code.ProgramCode.TheVariants.{Operation, Privileged, Execute, Protection, Addressing, Specification, Data}
-use Rattle.s360_fixed.specs.declared.program_code.ProgramCode.TheVariants.{FixedPointOverflow, FixedPointDivide}
 
 abbrev pub number_of_code : ProgramCode → ℕ
-number_of_code Operation = 1
-number_of_code Privileged = 2
-number_of_code Execute = 3
-number_of_code Protection = 4
-number_of_code Addressing = 5
-number_of_code Specification = 6
-number_of_code Data = 7
-number_of_code FixedPointOverflow = 8
-number_of_code FixedPointDivide = 9
+number_of_code ProgramCode.Operation = 1
+number_of_code ProgramCode.Privileged = 2
+number_of_code ProgramCode.Execute = 3
+number_of_code ProgramCode.Protection = 4
+number_of_code ProgramCode.Addressing = 5
+number_of_code ProgramCode.Specification = 6
+number_of_code ProgramCode.Data = 7
+number_of_code ProgramCode.FixedPointOverflow = 8
+number_of_code ProgramCode.FixedPointDivide = 9
 
 -- what keeps an instruction from being done. Three things more are found where they arise, after all of these that can be met
 -- there: a code that is no operation, a subject of an execute that is an execute, and a digit or sign that is none
@@ -36,9 +34,9 @@ no_conditions = record { privileged = false; specification = false; addressing =
 -- the code of the first condition that holds
 abbrev pub program_code : Conditions → Option ProgramCode
 program_code c =
-    if c.privileged then Some Privileged
-    else if c.specification then Some Specification
-    else if c.addressing then Some Addressing
-    else if c.protection then Some Protection
-    else if c.divide then Some FixedPointDivide
+    if c.privileged then Some ProgramCode.Privileged
+    else if c.specification then Some ProgramCode.Specification
+    else if c.addressing then Some ProgramCode.Addressing
+    else if c.protection then Some ProgramCode.Protection
+    else if c.divide then Some ProgramCode.FixedPointDivide
     else None

@@ -8,14 +8,6 @@ use Rattle.s360_model.specs.Arithmetic.{logical_sum, logical_difference, word_of
 use Rattle.s360_model.specs.Pairs.{signed_pair_code}
 use Rattle.s360_model.specs.Products.{signed_product}
 use Rattle.s360_fixed.specs.declared.operation.Operation.{Operation}
-use Rattle.s360_fixed.specs.declared.operation.Operation.TheVariants.{Load, LoadHalfword, LoadAndTest, LoadComplement, LoadPositive, LoadNegative, Add}
-use Rattle.s360_fixed.specs.declared.operation.Operation.TheVariants.{AddHalfword, Subtract, SubtractHalfword, AddLogical, SubtractLogical, Compare}
-use Rattle.s360_fixed.specs.declared.operation.Operation.TheVariants.{CompareHalfword, CompareLogical, And, Or, ExclusiveOr, Multiply, MultiplyHalfword, Divide}
-use Rattle.s360_fixed.specs.declared.operation.Operation.TheVariants.{StoreHalfword, Store, StoreCharacter, InsertCharacter, LoadAddress, StoreMultiple}
-use Rattle.s360_fixed.specs.declared.operation.Operation.TheVariants.{LoadMultiple, ShiftRightSingleLogical, ShiftLeftSingleLogical, ShiftRightDoubleLogical}
-use Rattle.s360_fixed.specs.declared.operation.Operation.TheVariants.{ShiftLeftDoubleLogical, ShiftRightSingle, ShiftRightDouble, ShiftLeftSingle}
-use Rattle.s360_fixed.specs.declared.operation.Operation.TheVariants.{ShiftLeftDouble, BranchOnCondition, BranchAndLink, BranchOnCount, BranchOnIndexHigh}
-use Rattle.s360_fixed.specs.declared.operation.Operation.TheVariants.{BranchOnIndexLowOrEqual}
 use Rattle.s360_fixed.specs.declared.row.Combination.{Combination}
 use Rattle.s360_fixed.specs.declared.row.Combination.TheVariants.{Second, InsertedCharacter, Tested, Complement, Absolute, NegativeAbsolute, Sum, Difference}
 use Rattle.s360_fixed.specs.declared.row.Combination.TheVariants.{LogicalSum, LogicalDifference, Comparison, LogicalComparison, BitwiseAnd, BitwiseOr}
@@ -24,14 +16,11 @@ use Rattle.s360_fixed.specs.declared.row.PairCombination.TheVariants.{Product, Q
 use Rattle.s360_fixed.specs.declared.row.Branch.TheVariants.{OnCondition, AndLink, OnCount}
 use Rattle.s360_fixed.specs.declared.row.Shift.TheVariants.{LeftLogical, RightLogical, Left, Right}
 use Rattle.s360_fixed.specs.declared.row.IndexBranch.{IndexBranch}
-use Rattle.s360_fixed.specs.declared.row.IndexBranch.TheVariants.{High, LowOrEqual}
 use Rattle.s360_fixed.specs.declared.row.Row.{Row}
-use Rattle.s360_fixed.specs.declared.row.Row.TheVariants.{Combine, CombinePair, Branch, StoreBytes, StoreRegisters, LoadRegisters, Shift, ShiftPair}
-use Rattle.s360_fixed.specs.declared.row.Row.TheVariants.{BranchOnIndex}
 use Rattle.s360_fixed.specs.declared.setting.CodeSetting.{CodeSetting}
-use Rattle.s360_fixed.specs.Alterations.{set_by_signed, set_to, unchanged}
 use Rattle.s360_fixed.specs.declared.second_operand.SecondOperand.TheVariants.{InStorage, Address}
 use Rattle.s360_fixed.specs.declared.second_operand.Width.TheVariants.{Byte, Halfword, Word}
+use Rattle.s360_fixed.specs.Alterations.{set_by_signed, set_to, unchanged}
 
 -- the condition code of an exact signed number: by its sign, and where an overflow is told, of a word or of a pair
 abbrev pub by_sign : ℤ → CodeSetting
@@ -76,57 +65,57 @@ result_of LowProduct first second = signed_result (signed_product first second) 
 
 -- when a branch on index is taken, by the sum and the comparand
 abbrev pub is_taken : IndexBranch → ℤ → ℤ → Bool
-is_taken High sum comparand = int_lt comparand sum
-is_taken LowOrEqual sum comparand = not (int_lt comparand sum)
+is_taken IndexBranch.High sum comparand = int_lt comparand sum
+is_taken IndexBranch.LowOrEqual sum comparand = not (int_lt comparand sum)
 
 -- rows of R1 and a word or a halfword. In the format RR the second operand is in a register
 abbrev pub on_word : Combination → Option Row
-on_word combination = Some (Combine (InStorage Word) combination)
+on_word combination = Some (Row.Combine (InStorage Word) combination)
 
 abbrev pub on_halfword : Combination → Option Row
-on_halfword combination = Some (Combine (InStorage Halfword) combination)
+on_halfword combination = Some (Row.Combine (InStorage Halfword) combination)
 
 -- the row of an operation, where it is one of these chapters
 abbrev pub row_of : Operation → Option Row
-row_of Load = on_word Second
-row_of LoadHalfword = on_halfword Second
-row_of LoadAddress = Some (Combine Address Second)
-row_of InsertCharacter = Some (Combine (InStorage Byte) InsertedCharacter)
-row_of LoadAndTest = on_word Tested
-row_of LoadComplement = on_word Complement
-row_of LoadPositive = on_word Absolute
-row_of LoadNegative = on_word NegativeAbsolute
-row_of Add = on_word Sum
-row_of AddHalfword = on_halfword Sum
-row_of Subtract = on_word Difference
-row_of SubtractHalfword = on_halfword Difference
-row_of AddLogical = on_word LogicalSum
-row_of SubtractLogical = on_word LogicalDifference
-row_of Compare = on_word Comparison
-row_of CompareHalfword = on_halfword Comparison
-row_of CompareLogical = on_word LogicalComparison
-row_of And = on_word BitwiseAnd
-row_of Or = on_word BitwiseOr
-row_of ExclusiveOr = on_word BitwiseExclusiveOr
-row_of MultiplyHalfword = on_halfword LowProduct
-row_of Multiply = Some (CombinePair Product)
-row_of Divide = Some (CombinePair Quotient)
-row_of Store = Some (StoreBytes Word)
-row_of StoreHalfword = Some (StoreBytes Halfword)
-row_of StoreCharacter = Some (StoreBytes Byte)
-row_of StoreMultiple = Some StoreRegisters
-row_of LoadMultiple = Some LoadRegisters
-row_of ShiftLeftSingleLogical = Some (Shift LeftLogical)
-row_of ShiftRightSingleLogical = Some (Shift RightLogical)
-row_of ShiftLeftSingle = Some (Shift Left)
-row_of ShiftRightSingle = Some (Shift Right)
-row_of ShiftLeftDoubleLogical = Some (ShiftPair LeftLogical)
-row_of ShiftRightDoubleLogical = Some (ShiftPair RightLogical)
-row_of ShiftLeftDouble = Some (ShiftPair Left)
-row_of ShiftRightDouble = Some (ShiftPair Right)
-row_of BranchOnCondition = Some (Branch OnCondition)
-row_of BranchAndLink = Some (Branch AndLink)
-row_of BranchOnCount = Some (Branch OnCount)
-row_of BranchOnIndexHigh = Some (BranchOnIndex High)
-row_of BranchOnIndexLowOrEqual = Some (BranchOnIndex LowOrEqual)
+row_of Operation.Load = on_word Second
+row_of Operation.LoadHalfword = on_halfword Second
+row_of Operation.LoadAddress = Some (Row.Combine Address Second)
+row_of Operation.InsertCharacter = Some (Row.Combine (InStorage Byte) InsertedCharacter)
+row_of Operation.LoadAndTest = on_word Tested
+row_of Operation.LoadComplement = on_word Complement
+row_of Operation.LoadPositive = on_word Absolute
+row_of Operation.LoadNegative = on_word NegativeAbsolute
+row_of Operation.Add = on_word Sum
+row_of Operation.AddHalfword = on_halfword Sum
+row_of Operation.Subtract = on_word Difference
+row_of Operation.SubtractHalfword = on_halfword Difference
+row_of Operation.AddLogical = on_word LogicalSum
+row_of Operation.SubtractLogical = on_word LogicalDifference
+row_of Operation.Compare = on_word Comparison
+row_of Operation.CompareHalfword = on_halfword Comparison
+row_of Operation.CompareLogical = on_word LogicalComparison
+row_of Operation.And = on_word BitwiseAnd
+row_of Operation.Or = on_word BitwiseOr
+row_of Operation.ExclusiveOr = on_word BitwiseExclusiveOr
+row_of Operation.MultiplyHalfword = on_halfword LowProduct
+row_of Operation.Multiply = Some (Row.CombinePair Product)
+row_of Operation.Divide = Some (Row.CombinePair Quotient)
+row_of Operation.Store = Some (Row.StoreBytes Word)
+row_of Operation.StoreHalfword = Some (Row.StoreBytes Halfword)
+row_of Operation.StoreCharacter = Some (Row.StoreBytes Byte)
+row_of Operation.StoreMultiple = Some Row.StoreRegisters
+row_of Operation.LoadMultiple = Some Row.LoadRegisters
+row_of Operation.ShiftLeftSingleLogical = Some (Row.Shift LeftLogical)
+row_of Operation.ShiftRightSingleLogical = Some (Row.Shift RightLogical)
+row_of Operation.ShiftLeftSingle = Some (Row.Shift Left)
+row_of Operation.ShiftRightSingle = Some (Row.Shift Right)
+row_of Operation.ShiftLeftDoubleLogical = Some (Row.ShiftPair LeftLogical)
+row_of Operation.ShiftRightDoubleLogical = Some (Row.ShiftPair RightLogical)
+row_of Operation.ShiftLeftDouble = Some (Row.ShiftPair Left)
+row_of Operation.ShiftRightDouble = Some (Row.ShiftPair Right)
+row_of Operation.BranchOnCondition = Some (Row.Branch OnCondition)
+row_of Operation.BranchAndLink = Some (Row.Branch AndLink)
+row_of Operation.BranchOnCount = Some (Row.Branch OnCount)
+row_of Operation.BranchOnIndexHigh = Some (Row.BranchOnIndex IndexBranch.High)
+row_of Operation.BranchOnIndexLowOrEqual = Some (Row.BranchOnIndex IndexBranch.LowOrEqual)
 row_of other = None

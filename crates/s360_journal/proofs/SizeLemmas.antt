@@ -12,7 +12,7 @@ use Rattle.s360_store.specs.Spans.{AreSpans, IsSpan, byte_places, places_of_span
 use Rattle.s360_index.specs.Sizes.{AreSpansWithinSize, AreWithinSize, IsSpanWithinSize, IsWithinSize}
 use Rattle.s360_channel.specs.declared.configured_unit.ConfiguredUnit.{ConfiguredUnit}
 use Rattle.s360_channel.specs.declared.unit_change.UnitChange.{UnitChange}
-use Rattle.s360_channel.specs.Differences.{state_place}
+use Rattle.s360_channel.specs.UnitChanges.{state_place}
 use Rattle.s360_channel.specs.UnitChanges.{altered_by, places_of_units}
 use Rattle.s360_machine.specs.declared.media.MediaChange.{MediaChange}
 use Rattle.s360_machine.specs.Change.{CanSwap, Change, places_of_change}

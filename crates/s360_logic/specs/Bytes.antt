@@ -6,7 +6,6 @@ use Rattle.std.specs.List.{list_all, slice_range}
 use Rattle.s360_model.specs.Psw.{protection_key_of, with_instruction_address}
 use Rattle.s360_model.specs.Storage.{Storage}
 use Rattle.s360_store.specs.declared.protection.Access.{Access}
-use Rattle.s360_store.specs.declared.protection.Access.TheVariants.{Fetch}
 use Rattle.s360_store.specs.declared.protection.Checked.{Checked}
 use Rattle.s360_store.specs.Protection.{access, met_of_both}
 use Rattle.s360_fixed.specs.declared.ended.Ended.TheVariants.{Done}
@@ -16,8 +15,7 @@ use Rattle.s360_fixed.specs.ProgramCodes.{Conditions}
 use Rattle.s360_fixed.specs.View.{Outcome, View}
 use Rattle.s360_logic.specs.declared.field.Field.{Field}
 use Rattle.s360_logic.specs.declared.row.ByteCombination.{ByteCombination}
-use Rattle.s360_logic.specs.declared.row.ByteCombination.TheVariants.{Second, LowHalf, HighHalf}
-use Rattle.s360_logic.specs.declared.row.ByteCombination.TheVariants.{BitwiseAnd, BitwiseOr, BitwiseExclusiveOr}
+use Rattle.s360_logic.specs.declared.row.ByteCombination.TheVariants.{Second, LowHalf, HighHalf, BitwiseAnd, BitwiseOr, BitwiseExclusiveOr}
 
 -- the byte at an address, and the storage with another one there
 abbrev pub byte_at : Storage → ℕ → ℕ
@@ -56,7 +54,7 @@ field_access v kind field = access v.core.storage field.address field.count kind
 
 -- the conditions of two operands, of which the second is fetched: one outside storage comes before a protected one
 abbrev pub fields_conditions : View → Access → Field → Field → Conditions
-fields_conditions v kind first second = conditions_of (met_of_both (field_access v kind first) (field_access v Fetch second))
+fields_conditions v kind first second = conditions_of (met_of_both (field_access v kind first) (field_access v Access.Fetch second))
 
 -- the instruction is completed with a condition code, if one is set, and this storage, and the program goes on with the next
 abbrev pub completed_with : View → Option ℕ → Storage → Outcome

@@ -4,10 +4,9 @@ use Rattle.std.specs.Prelude.{ℕ, zero, suc, ◌+◌, ◌*◌, ◌/◌, ◌%◌
 use Rattle.s360_model.specs.ConditionCodes.{order_code}
 use Rattle.s360_model.specs.Psw.{protection_key_of}
 use Rattle.s360_model.specs.Storage.{Storage}
-use Rattle.s360_store.specs.Protection.{access, met_of_both}
 use Rattle.s360_store.specs.declared.protection.Access.TheVariants.{Fetch, Store}
 use Rattle.s360_store.specs.declared.protection.Checked.{Checked}
-use Rattle.s360_store.specs.declared.protection.Checked.TheVariants.{Clear}
+use Rattle.s360_store.specs.Protection.{access, met_of_both}
 use Rattle.s360_fixed.specs.Operands.{conditions_of}
 use Rattle.s360_fixed.specs.Alterations.{after_alteration, set_to}
 use Rattle.s360_fixed.specs.Outcomes.{unless_met}
@@ -72,7 +71,7 @@ translated_byte table first i s = function_byte table (first + i) s
 -- what the fetches of the function bytes meet, each byte being translated before the next selects its own: a
 -- function byte decides what follows though it is protected
 abbrev pub translate_access : ℕ → ℕ → ℕ → ℕ → ℕ → Storage → Checked
-translate_access table key first i zero s = Clear
+translate_access table key first i zero s = Checked.Clear
 translate_access table key first i (suc n) s =
     met_of_both (function_access table key (first + i) s)
     (translate_access table key first (i + 1) n (with_byte (first + i) (translated_byte table first i s) s))
@@ -100,10 +99,10 @@ found_at table first i (suc n) s =
 
 -- what the fetches of the function bytes up to there meet
 abbrev pub search_access : ℕ → ℕ → ℕ → ℕ → ℕ → Storage → Checked
-search_access table key first i zero s = Clear
+search_access table key first i zero s = Checked.Clear
 search_access table key first i (suc n) s =
     met_of_both (function_access table key (first + i) s)
-    (if nat_eq (function_byte table (first + i) s) 0 then search_access table key first (i + 1) n s else Clear)
+    (if nat_eq (function_byte table (first + i) s) 0 then search_access table key first (i + 1) n s else Checked.Clear)
 
 abbrev pub search_conditions : View → ℕ → ℕ → ℕ → Conditions
 search_conditions v first table count =

@@ -3,8 +3,8 @@
 ghost use Rattle.std.specs.Prelude.{◌≡◌, ◌≤◌, ◌<◌, ◌+◌, IfOk, length};
 ghost use Rattle.s360_fixed.specs.Plans.{PutsNothing, PutsOutcome};
 ghost use Rattle.s360_logic.specs.Operands.{stored_in};
-ghost use Rattle.s360_logic.specs.Held.{next_byte};
-ghost use Rattle.s360_logic.specs.RightToLeft.{byte_from_right, digit_move, digits, digits_outcome, digits_stored, exchanged, zone_of};
+ghost use Rattle.s360_logic.specs.Operands.{next_byte};
+ghost use Rattle.s360_logic.specs.RightToLeft.{byte_from_right, digits, digits_outcome, digits_stored, exchanged, zone_of};
 
 use crate::field::{Field, fields_exception};
 use crate::first_operand::FirstOperand;
@@ -109,7 +109,7 @@ fn make_digits(row: DigitRow, zone: u8, operand: &mut FirstOperand, first: Field
     requires some { 0 < first.count }
     requires address { operand.old.address ≡ first.address }
     requires count { length operand.old.bytes ≡ first.count }
-    ensures stored { stored_in operand.new ≡ digits_stored (digit_move row zone first second) (stored_in operand.old) }
+    ensures stored { stored_in operand.new ≡ digits_stored (record { row = row; zone = zone; first = first; second = second }) (stored_in operand.old) }
     ensures storage { operand.new.storage ≡ operand.old.storage }
 {
     let count = operand.len();

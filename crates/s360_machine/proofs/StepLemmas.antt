@@ -17,7 +17,7 @@ use Rattle.s360_channel.specs.declared.program.Program.{Program}
 use Rattle.s360_channel.specs.declared.unit_control.UnitControl.{UnitControl}
 use Rattle.s360_channel.specs.declared.unit_state.UnitState.{UnitState}
 use Rattle.s360_channel.specs.declared.unit_state.UnitState.TheVariants.{Idle, Active, Waiting}
-use Rattle.s360_channel.specs.Differences.{same_unit}
+use Rattle.s360_channel.specs.UnitChanges.{same_unit}
 use Rattle.s360_channel.specs.Execution.{DeviceView, Ending, Execution, channel_execution}
 use Rattle.s360_channel.specs.Steps.{ExecutesEvent, IsChangeBy, IsChangeOf, change_of_step, device_view}
 use Rattle.s360_channel.proofs.DifferenceLemmas.{same_unit-Decides}

@@ -21,7 +21,7 @@ use Rattle.s360_channel.specs.Execution.{DeviceView, Ending, Execution, channel_
 use Rattle.s360_channel.specs.Steps.{IsChangeOf, LiesIn, device_view, state_after_step}
 use Rattle.s360_channel.specs.declared.engine.ChannelStep.{ChannelStep}
 use Rattle.s360_channel.specs.declared.program.Program.{Program}
-use Rattle.s360_channel.specs.Differences.{same_unit}
+use Rattle.s360_channel.specs.UnitChanges.{same_unit}
 use Rattle.s360_machine.specs.declared.channel_event.UnitStep.{UnitStep}
 use Rattle.s360_channel.specs.declared.configured_unit.ConfiguredUnit.{ConfiguredUnit}
 use Rattle.s360_channel.specs.declared.configured_unit.ConfiguredUnit.TheVariants.{Reader, Punch, Printer, Console, Tape0, Tape1}

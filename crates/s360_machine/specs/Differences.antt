@@ -14,7 +14,7 @@ use Rattle.s360_machine.specs.declared.run_state.RunState.{RunState}
 use Rattle.s360_machine.specs.declared.run_state.RunState.TheVariants.{Operating, Stopped, Loading}
 use Rattle.s360_channel.specs.declared.configured_unit.ConfiguredUnit.TheVariants.{Reader, Punch, Printer, Console, Tape0, Tape1}
 use Rattle.s360_channel.specs.ConfiguredUnits.{configured_units}
-use Rattle.s360_channel.specs.Differences.{unit_differences}
+use Rattle.s360_channel.specs.UnitChanges.{unit_differences}
 use Rattle.s360_machine.specs.Machine.{Machine, Media, Control}
 use Rattle.s360_machine.specs.IoChanges.{media_place}
 

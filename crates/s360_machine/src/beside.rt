@@ -1,7 +1,7 @@
 //! What an event alters beside the core: of the control part, of the units and of their devices.
 ghost use Rattle.std.specs.Prelude.{◌≡◌, ◌≤◌, ◌<◌, ◌+◌, ◌++◌, ◌∷◌, [], if◌then◌else◌, length, map, IfSome, IsTrue};
 ghost use Rattle.s360_model.specs.Exchanges.{CanIfAny, after_if_any, back_if_any};
-ghost use Rattle.s360_channel.specs.Differences.{state_place};
+ghost use Rattle.s360_channel.specs.UnitChanges.{state_place};
 ghost use Rattle.s360_channel.specs.UnitChanges.{unit_change_after_swap, units_after_swap};
 ghost use Rattle.s360_machine.specs.Beside.{IsNothing, places_of_beside};
 ghost use Rattle.s360_machine.specs.ControlCells.{control_after_exchange, control_cells, control_cells_after_exchange};

@@ -1,5 +1,5 @@
 use Rattle.std.proofs.Common.{◌≡◌, ◌+◌, ◌++◌, length, map, take}
-use Rattle.s360_channel.specs.Differences.{state_place}
+use Rattle.s360_channel.specs.UnitChanges.{state_place}
 use Rattle.s360_machine.proofs.beside.push_states.Given as goal
 
 abbrev pub invariant-loop-unit : goal.invariant-loop-unit

@@ -2,7 +2,7 @@ use Rattle.std.proofs.Common.{◌≡◌, ◌<◌, ◌∙◌, true, false, arith,
 use Rattle.s360_channel.specs.declared.configured_unit.ConfiguredUnit.{ConfiguredUnit}
 use Rattle.s360_channel.specs.declared.configured_unit.ConfiguredUnit.TheVariants.{Reader}
 use Rattle.s360_channel.specs.ConfiguredUnits.{configured_units, control_of}
-use Rattle.s360_channel.specs.Differences.{same_unit}
+use Rattle.s360_channel.specs.UnitChanges.{same_unit}
 use Rattle.s360_channel.proofs.UnitChangeLemmas.{altered-other, altered-same, control-at}
 use Rattle.s360_channel.proofs.units.Units.altered.Goals as goal
 use Rattle.s360_channel.proofs.units.Units.altered.Goals.{then-not-is, else-not-is}

@@ -1,6 +1,6 @@
 use Rattle.std.proofs.Common.{◌≡◌, ◌≤◌, filter, length, not, take}
 use Rattle.s360_channel.specs.ConfiguredUnits.{configured_units, control_of}
-use Rattle.s360_channel.specs.Differences.{same_unit}
+use Rattle.s360_channel.specs.UnitChanges.{same_unit}
 use Rattle.s360_channel.proofs.units.Units.altered.Given as goal
 
 abbrev pub invariant-loop-unit : goal.invariant-loop-unit

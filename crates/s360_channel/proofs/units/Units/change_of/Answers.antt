@@ -1,6 +1,6 @@
 use Rattle.std.proofs.Common.{◌≡◌, ◌∙◌, sym, true, false}
 use Rattle.s360_channel.specs.ConfiguredUnits.{control_of}
-use Rattle.s360_channel.specs.Differences.{same_unit}
+use Rattle.s360_channel.specs.UnitChanges.{same_unit}
 use Rattle.s360_channel.proofs.UnitChangeLemmas.{IsUnitsChangeTo-one}
 use Rattle.s360_channel.proofs.units.Units.change_of.Goals as goal
 

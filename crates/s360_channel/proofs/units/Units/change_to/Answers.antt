@@ -1,5 +1,5 @@
 use Rattle.std.proofs.Common.{◌≡◌, []}
-use Rattle.s360_channel.specs.Differences.{altered_units}
+use Rattle.s360_channel.specs.UnitChanges.{altered_units}
 use Rattle.s360_channel.proofs.UnitChangeLemmas.{IsUnitsChangeTo-several, is-empty, none-altered}
 use Rattle.s360_channel.proofs.units.Units.change_to.Goals as goal
 
