@@ -2,6 +2,7 @@ pub mod Words
 pub mod Units
 pub mod Programs
 pub mod IoInstructions
+pub mod Gathered
 pub mod Execution
 pub mod Steps
 pub mod ConfiguredUnits

@@ -1,6 +1,5 @@
 -- What the code answers of a channel event: a step, and what is stored; and how they are those of the event's execution.
-use Rattle.std.specs.Prelude.{◌≡◌, ◌<◌, ◌≤◌, ◌+◌, ℕ, IfSome, Option, Some, None, List, [], ◌++◌, length, option_copied, take, unwrap_or, reverse}
-use Rattle.std.specs.Option.{option_map_or}
+use Rattle.std.specs.Prelude.{◌≡◌, ◌<◌, ◌≤◌, ◌+◌, ℕ, IfSome, Option, Some, None, List, [], ◌++◌, length, option_copied, take, unwrap_or}
 use Rattle.s360_model.specs.Core.{Core}
 use Rattle.s360_model.specs.Storage.{Storage}
 use Rattle.s360_store.specs.declared.place.Cell.{Cell}
@@ -15,8 +14,6 @@ use Rattle.s360_channel.specs.declared.fetching.Fetched.{Fetched}
 use Rattle.s360_channel.specs.declared.gathering.OutputBytes.{OutputBytes}
 use Rattle.s360_channel.specs.declared.program.Program.{Program}
 use Rattle.s360_channel.specs.declared.unit_state.UnitState.{UnitState}
-use Rattle.s360_channel.specs.declared.gathered.Backward.{Backward}
-use Rattle.s360_channel.specs.declared.gathered.Parts.{Parts, First, After'}
 use Rattle.s360_channel.specs.Execution.{DeviceView, Ending, Execution, Run, WordAtHand, after_check, channel_execution, command_with, core_with_run, word_with}
 use Rattle.s360_channel.specs.Programs.{next_ccw}
 
@@ -105,22 +102,3 @@ FetchedMovesBytes d p (Fetched.Whole at c) = MovesBytes (d.begin (command_with p
 
 abbrev pub EventMovesBytes : DeviceView → Storage → Program → Type 0
 EventMovesBytes d s p = FetchedMovesBytes d p (next_ccw s p)
-
--- the bytes that the words of an output gather, each word's after those of the words before it: those of the last word
-abbrev pub part_of : Parts → List ℕ
-part_of (First bytes) = bytes.items
-part_of (After' p before bytes) = bytes.items
-
--- those of all words
-abbrev pub bytes_of : Parts → List ℕ
-bytes_of (First bytes) = bytes.items
-bytes_of (After' p before bytes) = bytes_of before ++ bytes.items
-
--- of how many words they are
-abbrev pub words_of : Parts → ℕ
-words_of (First bytes) = 1
-words_of (After' p before bytes) = words_of before + 1
-
--- what is left from the last to the first
-abbrev pub left_of : Backward → List ℕ
-left_of b = reverse (option_map_or bytes_of (option_copied b.before) [] ++ b.part.now)

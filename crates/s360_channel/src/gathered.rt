@@ -2,7 +2,7 @@
 //! Operations", chaining of data.
 ghost use Rattle.std.specs.Prelude.{◌≡◌, ◌<◌, ◌+◌, ◌^◌, [], ◌++◌, IfOk, length, reverse};
 ghost use Rattle.std.specs.Option.{option_copied, option_map_or};
-ghost use Rattle.s360_channel.specs.Steps.{bytes_of, left_of, part_of, words_of};
+ghost use Rattle.s360_channel.specs.Gathered.{bytes_of, left_of, part_of, words_of};
 
 use std::alloc::{AllocError, Global};
 use std::marker::Model;
@@ -18,7 +18,7 @@ pub struct Gathered {
 
 impl Model for Gathered {
     ghost use Rattle.std.specs.Prelude.{◌≡◌, ℕ, List, length};
-    ghost use Rattle.s360_channel.specs.Steps.{bytes_of};
+    ghost use Rattle.s360_channel.specs.Gathered.{bytes_of};
 
     ghost Value = { List ℕ };
 
@@ -91,7 +91,7 @@ impl<'a> Backward<'a> {
 
 impl Iterator for Backward<'_> {
     ghost use Rattle.std.specs.Iterator.{YieldsFirst, item_count};
-    ghost use Rattle.s360_channel.specs.Steps.{left_of};
+    ghost use Rattle.s360_channel.specs.Gathered.{left_of};
 
     type Item = u8;
 

@@ -1,6 +1,6 @@
 use Rattle.std.proofs.Common.{◌≡◌}
 use Rattle.std.specs.Option.{option_copied, option_map_or}
-use Rattle.s360_channel.specs.Steps.{left_of, words_of}
+use Rattle.s360_channel.specs.Gathered.{left_of, words_of}
 use Rattle.s360_channel.proofs.gathered.BackwardIterator.next.Given as goal
 
 abbrev pub invariant-loop-last : goal.invariant-loop-last

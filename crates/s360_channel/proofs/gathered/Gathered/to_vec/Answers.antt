@@ -2,7 +2,7 @@ use Rattle.std.proofs.Common.{◌≡◌, ◌∙◌, reverse, refl, sym, ap, map-
 use Rattle.std.proofs.lemmas.Iterator.{items_from_drains}
 use Rattle.std.proofs.lemmas.Iterator.Consumers.{YieldsList-from_first}
 use Rattle.std.proofs.lemmas.List.{reverse-reverse}
-use Rattle.s360_channel.specs.Steps.{left_of}
+use Rattle.s360_channel.specs.Gathered.{left_of}
 use Rattle.s360_channel.proofs.gathered.Gathered.to_vec.Goals as goal
 
 pub returns : goal.returns

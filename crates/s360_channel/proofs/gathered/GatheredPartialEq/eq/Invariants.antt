@@ -1,5 +1,5 @@
 use Rattle.std.proofs.Common.{◌≡◌, bytes_eq}
-use Rattle.s360_channel.specs.Steps.{left_of}
+use Rattle.s360_channel.specs.Gathered.{left_of}
 use Rattle.s360_channel.proofs.gathered.GatheredPartialEq.eq.Given as goal
 
 abbrev pub invariant-loop-one : goal.invariant-loop-one
