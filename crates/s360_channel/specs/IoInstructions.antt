@@ -80,13 +80,11 @@ start_unit s occupied u control =
 abbrev pub start_io : Storage → Units → UnitAddress → IoResult
 start_io s us = at_unit (λ u. start_unit s (is_occupied us u) u (control_of us u))
 
--- TEST I/O of it: its condition is taken, and its status word stored whole
-abbrev pub take_condition : ConfiguredUnit → Option Condition → IoResult
-take_condition u None = with_code 0
-take_condition u (Some c) = record { condition = 1; stores = whole c.csw; unit = becomes u c.unit }
-
+-- TEST I/O of it: its condition is taken, if it has one, and its status word stored whole
 abbrev pub test_unit : Bool → ConfiguredUnit → UnitControl → IoResult
-test_unit occupied u control = if is_active control.state || occupied then with_code 2 else take_condition u (condition_of control)
+test_unit occupied u control =
+    let taken : Condition → IoResult = λ c. record { condition = 1; stores = whole c.csw; unit = becomes u c.unit }
+    in if is_active control.state || occupied then with_code 2 else option_map_or taken (condition_of control) (with_code 0)
 
 abbrev pub test_io : Units → UnitAddress → IoResult
 test_io us = at_unit (λ u. test_unit (is_occupied us u) u (control_of us u))

@@ -15,7 +15,7 @@ use Rattle.s360_fixed.specs.Alterations.{core_with_alteration, one_register, unc
 use Rattle.s360_fixed.specs.Outcomes.{unless_met}
 use Rattle.s360_fixed.specs.Storing.{bytes_outcome}
 use Rattle.s360_fixed.specs.View.{Outcome, View, register_of}
-use Rattle.s360_logic.specs.declared.row.Conversion.{Conversion, TheVariants.ToBinary, TheVariants.ToDecimal}
+use Rattle.s360_logic.specs.declared.row.Conversion.{Conversion}
 
 -- R1 becomes the word of a number. One that does not fit a word interrupts with code 9, after R1 has its low
 -- 32 bits; a digit or sign that is none interrupts with code 7
@@ -27,8 +27,8 @@ converted_outcome (Some n) v r1 = record {
 }
 
 abbrev pub conversion_outcome : Conversion → View → ℕ → ℕ → Outcome
-conversion_outcome ToBinary v r1 address =
+conversion_outcome Conversion.ToBinary v r1 address =
     unless_met (access_conditions v.core address 8 8 Fetch) v.core
     (converted_outcome (packed_value (doubleword_at v.core.storage.bytes address)) v r1)
-conversion_outcome ToDecimal v r1 address =
+conversion_outcome Conversion.ToDecimal v r1 address =
     bytes_outcome (bytes_high_first 8 (packed (ascii_mode_of v.core.psw) (signed (register_of v r1)))) v address

@@ -6,7 +6,6 @@ use Rattle.s360_fixed.specs.Operands.{access_conditions}
 use Rattle.s360_fixed.specs.Alterations.{after_alteration, no_register, set_to}
 use Rattle.s360_fixed.specs.Outcomes.{unless_met}
 use Rattle.s360_fixed.specs.View.{Outcome, View}
-use Rattle.s360_logic.specs.declared.row.ByteCombination.{ByteCombination}
 use Rattle.s360_logic.specs.declared.row.ImmediateRow.{ImmediateRow}
 use Rattle.s360_logic.specs.Bytes.{byte_at, byte_result, combination_code, completed_with, with_byte}
 
@@ -15,15 +14,15 @@ abbrev pub mask_code : ℕ → ℕ → ℕ
 mask_code byte mask =
     if nat_eq (bit_and byte mask) 0 then 0 else (if nat_eq (bit_and byte mask) mask then 3 else 1)
 
--- what a row makes of the byte at an address: another byte and a condition code, or a condition code alone
-abbrev pub stored_byte : View → ℕ → ℕ → ByteCombination → Outcome
-stored_byte v address result c = completed_with v (combination_code c (result ∷ [])) (with_byte address result v.core.storage)
-
+-- a condition code is set, and nothing else is altered
 abbrev pub code_alone : View → ℕ → Outcome
 code_alone v code = after_alteration v.core (no_register (set_to code) v.next_address)
 
+-- what a row makes of the byte at an address: another byte and a condition code, or a condition code alone
 abbrev pub immediate_result : ImmediateRow → View → ℕ → ℕ → ℕ → Outcome
-immediate_result (ImmediateRow.Combine c) v byte i2 address = stored_byte v address (byte_result c byte i2) c
+immediate_result (ImmediateRow.Combine c) v byte i2 address =
+    let result = byte_result c byte i2
+    in completed_with v (combination_code c (result ∷ [])) (with_byte address result v.core.storage)
 immediate_result ImmediateRow.Compare v byte i2 address = code_alone v (order_code (pos byte) (pos i2))
 immediate_result ImmediateRow.TestUnderMask v byte i2 address = code_alone v (mask_code byte i2)
 immediate_result ImmediateRow.TestAndSet v byte i2 address = completed_with v (Some (byte / 128)) (with_byte address 0xFF v.core.storage)

@@ -1,6 +1,7 @@
 -- One instruction: it is fetched, decoded and done by its row (GA22-6821, "System Structure", program
 -- execution, and "Interruptions").
-use Rattle.std.specs.Prelude.{◌≡◌, ◌<◌, ℕ, ◌+◌, nat_eq, if◌then◌else◌, Option, Some, None, is_none, List, length, slice_index}
+use Rattle.std.specs.Prelude.{◌≡◌, ◌<◌, ℕ, ◌+◌, nat_eq, if◌then◌else◌, Option, None, is_none, List, length, slice_index}
+use Rattle.std.specs.Option.{option_map_or}
 use Rattle.s360_model.specs.Core.{Core}
 use Rattle.s360_model.specs.Psw.{instruction_address_of, protection_key_of}
 use Rattle.s360_psw.specs.declared.instruction_length.InstructionLength.{InstructionLength}
@@ -31,18 +32,14 @@ conditions_at m address = fetch_conditions m.storage address (protection_key_of 
 -- and the address stays (own profile)
 abbrev pub view_at : Core → ℕ → View
 view_at m address =
-    if is_none (program_code (conditions_at m address))
-    then record {
-      core = m;
-      next_address = address + length_at m.storage address;
-      instruction_length = length_of_bytes (length_at m.storage address);
-    }
+    let length = length_at m.storage address
+    in if is_none (program_code (conditions_at m address))
+    then record { core = m; next_address = address + length; instruction_length = length_of_bytes length }
     else record { core = m; next_address = address; instruction_length = NotAvailable }
 
 -- what it does that was fetched: a code that no instruction has is an operation exception
 abbrev pub fetched_outcome : View → Option Form → Outcome
-fetched_outcome v None = record { ended = Program Operation; core = v.core }
-fetched_outcome v (Some form) = outcome_of v form
+fetched_outcome v form = option_map_or (outcome_of v) form (record { ended = Program Operation; core = v.core })
 
 abbrev pub instruction_of : Core → ℕ → Option Form → Outcome
 instruction_of m address form = unless_met (conditions_at m address) m (fetched_outcome (view_at m address) form)
