@@ -1,5 +1,4 @@
--- One channel event: the execution of one channel command word over a device (GA22-6821, "Input/Output Operations",
--- execution of input/output operations, chaining, and conclusion of input/output operations).
+-- One channel event: the execution of one channel command word over a device (GA22-6821, "Input/Output Operations", execution, chaining and conclusion).
 use Rattle.std.specs.Prelude.{ℕ, ◌+◌, ◌-◌, ◌%◌, ◌^◌, nat_eq, nat_le, nat_lt, min, Bool, true, false, not, ◌&&◌, if◌then◌else◌}
 use Rattle.std.specs.Prelude.{Option, Some, None, List, [], ◌++◌, length, slice_range, take, drop, reverse}
 use Rattle.s360_model.specs.Core.{Core, core_with_bytes}
@@ -21,8 +20,7 @@ use Rattle.s360_channel.specs.Programs.{next_ccw}
 use Rattle.s360_channel.specs.Words.{device_has_ended, meets_program_check, meets_protection_check}
 use Rattle.s360_channel.specs.Words.{no_channel_status, no_unit_status, reads_backward}
 
--- a device as its channel sees it: how it begins a command, the bytes that it gives, and whether it ends it with unit
--- exception
+-- a device as its channel sees it: how it begins a command, the bytes that it gives, and whether it ends it with unit exception
 pub record DeviceView : Type 0 where
   pub begin : ℕ → Begin
   pub input : ℕ → List ℕ
@@ -38,8 +36,7 @@ pub record Ending : Type 0 where
   pub command : ℕ
   pub output : List ℕ
 
--- what a word does: what is stored, the state of the unit afterwards, and the command that ends at the device, which is
--- as it was where none does
+-- what a word does: what is stored, the state of the unit afterwards, and the command that ends at the device, which is as it was where none does
 pub record Execution : Type 0 where
   pub stores : Option Run
   pub state : UnitState
@@ -65,8 +62,8 @@ abbrev pub gathered_before : Progress → List ℕ
 gathered_before (Progress.OutputChained command gathered) = gathered
 gathered_before other = []
 
--- the word at hand: its program, its address and itself; the command of its record, and the bytes of the record that the
--- words before have moved or gathered; and what the device answers to the command
+-- the word at hand: its program, its address and itself; the command of its record, and the bytes of the record that the words before have moved or gathered;
+-- and what the device answers to the command
 pub record WordAtHand : Type 0 where
   pub program : Program
   pub at : ℕ
@@ -118,8 +115,7 @@ unless_checked w Checked.Clear e = e
 unless_checked w Checked.Addressing e = after_check w.program w.at meets_program_check
 unless_checked w Checked.Protection e = after_check w.program w.at meets_protection_check
 
--- a command ends: after channel end and device end alone, and no incorrect length, another follows where commands are
--- chained and data are not; else the status word waits
+-- after channel end and device end alone, and no incorrect length, another command follows where commands, and not data, are chained; else the status waits
 abbrev pub is_clean : Conclusion → Bool
 is_clean e = not e.unit.unit_check && (not e.unit.unit_exception && not e.channel.incorrect_length)
 
@@ -139,9 +135,9 @@ refused_unit = record no_unit_status { unit_check = true }
 abbrev pub ended_unit : Bool → UnitStatus
 ended_unit exception = record device_has_ended { unit_exception = exception }
 
--- a word moves of the n bytes that are left as many as its count, at most. Where data are chained and n is no less than
--- the count, the record goes on with the next word. Else the command ends, and what is left of the count is the residual
--- count. A wrong length is told, but where suppress length indication is one and data are not chained
+-- a word moves of the n bytes that are left as many as its count, at most. Where data are chained and n is no less than the count, the record goes on with the
+-- next word. Else the command ends, and what is left of the count is the residual count. A wrong length is told, but where suppress length indication is one
+-- and data are not chained
 abbrev pub transfer_with : Ccw → ℕ → Bool → Transfer
 transfer_with c n wrong = record {
   count = min n c.count;
@@ -150,8 +146,7 @@ transfer_with c n wrong = record {
   incorrect_length = wrong && not (c.flags.suppress_length && not c.flags.chain_data);
 }
 
--- the length of an input is wrong where n differs from the count, that of an output where the count exceeds n (own
--- profile)
+-- the length of an input is wrong where n differs from the count, that of an output where the count exceeds n (own profile)
 abbrev pub input_transfer : Ccw → ℕ → Transfer
 input_transfer c n = transfer_with c n (not (nat_eq n c.count))
 
@@ -169,8 +164,7 @@ after_transfer w t progress output =
     if t.goes_on then record { stores = None; state = goes_on_after w.program w.at progress; ending = None }
     else command_ends w (conclusion_of w t) output
 
--- the lowest address of so many bytes, which rise from the data address, or fall from it; none where they fall below
--- address 0
+-- the lowest address of so many bytes, which rise from the data address, or fall from it; none where they fall below address 0
 abbrev pub lowest_address : Bool → ℕ → ℕ → Option ℕ
 lowest_address false address count = Some address
 lowest_address true address count = if nat_lt address (count - 1) then None else Some (address - (count - 1))
@@ -205,8 +199,7 @@ execute_input s w total =
     let t : Transfer = input_transfer w.ccw (total - w.moved)
     in storing s w (stored_bytes w t.count) (after_input w t)
 
--- output: n is the limit less the bytes gathered before; the word gathers what it fetches, whatever skip is, and the
--- device takes no more than its limit
+-- output: n is the limit less the bytes gathered before; the word gathers what it fetches, whatever skip is, and the device takes no more than its limit
 abbrev pub after_output : WordAtHand → Transfer → List ℕ → Execution
 after_output w t output = after_transfer w t (Progress.OutputChained w.command output) output
 

@@ -1,6 +1,5 @@
--- The input/output instructions (GA22-6821, "Input/Output Operations", START I/O, TEST I/O, HALT I/O and TEST
--- CHANNEL): the condition code, what is stored of the channel status word, and which unit becomes what. Of each
--- instruction the first case that holds; their order is the own profile.
+-- The input/output instructions (GA22-6821, "Input/Output Operations", START I/O, TEST I/O, HALT I/O and TEST CHANNEL): the condition code, what is stored of
+-- the channel status word, and which unit becomes what. Of each instruction the first case that holds; their order is the own profile.
 use Rattle.std.specs.Prelude.{ℕ, Bool, true, false, not, ◌&&◌, ◌||◌, nat_eq, if◌then◌else◌, unwrap_or, Option, Some, None}
 use Rattle.std.specs.Option.{option_map_or}
 use Rattle.s360_model.specs.Storage.{Storage, word_at}
@@ -69,8 +68,7 @@ start_with s u caw =
     if is_whole_caw caw then started u (program_at caw.key caw.address) (next_ccw s (program_at caw.key caw.address))
     else with_status no_unit_status meets_program_check None
 
--- START I/O of a unit, where another program of its channel may be executed that runs one at a time: of an idle one
--- attention comes before the program
+-- START I/O of a unit, where another program of its channel may be executed that runs one at a time: of an idle one attention comes before the program
 abbrev pub start_unit : Storage → Bool → ConfiguredUnit → UnitControl → IoResult
 start_unit s occupied u control =
     if is_active control.state || (is_waiting control.state || occupied) then with_code 2
@@ -89,13 +87,11 @@ test_unit occupied u control =
 abbrev pub test_io : Units → UnitAddress → IoResult
 test_io us = at_unit (λ u. test_unit (is_occupied us u) u (control_of us u))
 
--- a program that is halted: its status word waits, with the address of the word that would have come next, and
--- device and media as they are (own profile)
+-- a program that is halted: its status word waits, with the address of the word that would have come next, and device and media as they are (own profile)
 abbrev pub csw_of_halted : Program → Csw
 csw_of_halted p = record { key = p.key; address = p.address; unit = device_has_ended; channel = no_channel_status; count = 0 }
 
--- HALT I/O of the unit whose program occupies the channel, if there is one: the multiplexer channel stores a status
--- of zeros and ends with condition code 1, the selector channel with 2
+-- HALT I/O of the unit whose program occupies the channel: the multiplexer channel stores a status of zeros with condition code 1, the selector ends with 2
 abbrev pub result_of_halt : ChannelKind → Option UnitAfter → IoResult
 result_of_halt ChannelKind.Multiplexer next = with_status no_unit_status no_channel_status next
 result_of_halt ChannelKind.Selector next = record { condition = 2; stores = Nothing; unit = next }
@@ -112,8 +108,8 @@ halted_unit us u = if is_active (control_of us u).state then u else unwrap_or (a
 abbrev pub halt_io : Units → UnitAddress → IoResult
 halt_io us = at_unit (λ u. halt_unit (halted_unit us u) (control_of us (halted_unit us u)))
 
--- TEST CHANNEL by the number of the channel: the multiplexer channel 0 is available; the selector channel 1 is
--- occupied by a program, or a status word of one of its units waits, or it is available; others are not there
+-- TEST CHANNEL by the number of the channel: the multiplexer channel 0 is available; the selector channel 1 is occupied by a program, or a status word of one
+-- of its units waits, or it is available; others are not there
 abbrev pub has_tape : (UnitState → Bool) → Units → Bool
 has_tape test us = test (control_of us ConfiguredUnit.Tape0).state || test (control_of us ConfiguredUnit.Tape1).state
 

@@ -47,8 +47,8 @@ change_of_step ChannelStep.NotYet = None
 change_of_step (ChannelStep.GoesOn program change) = change
 change_of_step (ChannelStep.Ends csw change) = change
 
--- the change makes of the device what a command that ends makes of it: it can be exchanged with the device bare of room,
--- which then is as after the command, and needs no room to be taken back. The device was not so before
+-- the change makes of the device what a command that ends makes of it: it can be exchanged with the device bare of room, which then is as after the command,
+-- and needs no room to be taken back. The device was not so before
 pub record IsChangeBy {D C : Type 0} (g : Ghosts D C) (d : D) (e : Ending) (x : C) : Type 0 where
   pub can : g.can_swap (g.bare d) x
   pub row : g.is_after d e.command e.output (g.after_swap (g.bare d) x)
@@ -87,15 +87,13 @@ ExecutesEvent g d s p x = Executes g d s p (channel_execution (device_view g d) 
 abbrev pub StoresRun : Storage → List Cell → Option Run → Type 0
 StoresRun s plan run = (m : Core) → m.storage ≡ s → IsPlanOf m plan (core_with_run run m)
 
--- the plan puts what the channel event stores into any such core, in no more cells than a count has bytes, and the step
--- is the event's
+-- the plan puts what the channel event stores into any such core, in no more cells than a count has bytes, and the step is the event's
 pub record PlansEvent {D C : Type 0} (g : Ghosts D C) (d : D) (s : Storage) (p : Program) (plan : List Cell) (x : ChannelStep C) : Type 0 where
   pub stores : StoresRun s plan (channel_execution (device_view g d) s p).stores
   pub few : length plan ≤ 65535
   pub step : IsStepOf g d p (channel_execution (device_view g d) s p) x
 
--- the word with which a program goes on moves bytes, by how its device begins the command; one that meets a program
--- check moves none
+-- the word with which a program goes on moves bytes, by how its device begins the command; one that meets a program check moves none
 abbrev pub FetchedMovesBytes : DeviceView → Program → Fetched → Type 0
 FetchedMovesBytes d p (Fetched.Broken last) = ⊥
 FetchedMovesBytes d p (Fetched.Whole at c) = MovesBytes (d.begin (command_with p.progress c))

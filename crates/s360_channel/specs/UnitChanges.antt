@@ -1,5 +1,4 @@
--- Which units stand otherwise (ours), and what an event alters of the units: it is exchanged with what stands there, and the same exchange done
--- again takes it back. A change alone tells which units it alters.
+-- Which units stand otherwise (ours), and what an event alters of them: it is exchanged with what stands there, and the exchange done again takes it back.
 use Rattle.std.specs.Prelude.{◌≡◌, Option, Some, None, List, [], ◌∷◌, map, Bool, true, false, not, ◌&&◌, nat_eq}
 use Rattle.std.specs.Bool.{beq}
 use Rattle.std.specs.List.{filter}

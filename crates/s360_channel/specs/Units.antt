@@ -1,5 +1,4 @@
--- The state of a unit on its channel, and the condition that it has for an interruption (GA22-6821, "Input/Output
--- Operations", states of the input/output system, and input/output interruptions).
+-- The state of a unit on its channel, and its condition for an interruption (GA22-6821, "Input/Output Operations", states, and input/output interruptions).
 use Rattle.std.specs.Prelude.{Bool, true, false, Option, Some, None, is_some, if◌then◌else◌}
 use Rattle.s360_channel.specs.declared.csw.Csw.{Csw}
 use Rattle.s360_channel.specs.declared.program.Program.{Program}
@@ -28,8 +27,7 @@ idle_unit = record { state = UnitState.Idle; attention = false }
 abbrev pub attention_csw : Csw
 attention_csw = record { key = 0; address = 0; unit = asks_attention; channel = no_channel_status; count = 0 }
 
--- the condition of a unit: the status word that waits, or attention of an idle unit. A unit keeps its attention
--- while a status word waits and is taken (own profile)
+-- the condition of a unit: the status word that waits, or attention of an idle one. Attention is kept while a status word waits and is taken (own profile)
 abbrev pub condition_with : UnitState → Bool → Option Condition
 condition_with (UnitState.Waiting csw) attention = Some (record { csw = csw; unit = record { state = UnitState.Idle; attention = attention } })
 condition_with UnitState.Idle attention = if attention then Some (record { csw = attention_csw; unit = idle_unit }) else None

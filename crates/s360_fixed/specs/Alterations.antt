@@ -1,6 +1,5 @@
--- What an instruction alters that is completed: general registers, the condition code and the instruction address
--- (GA22-6821, "System Structure", program status word, and "Fixed-Point Arithmetic", condition code and program
--- interruptions).
+-- What an instruction alters that is completed: general registers, the condition code and the instruction address (GA22-6821, "System Structure", program
+-- status word, and "Fixed-Point Arithmetic", condition code and program interruptions).
 use Rattle.std.specs.Prelude.{ℕ, ◌+◌, false, ◌&&◌, nat_eq, if◌then◌else◌, Option, None, Some, List, [], ◌∷◌, slice_set}
 use Rattle.s360_model.specs.Core.{Core}
 use Rattle.s360_model.specs.Psw.{fixed_point_overflow_mask_of, with_condition_code, with_instruction_address}

@@ -1,5 +1,4 @@
--- The rows that branch (GA22-6821, "Branching"). The branch address is taken before the link, the count or
--- the sum is stored.
+-- The rows that branch (GA22-6821, "Branching"). The branch address is taken before the link, the count or the sum is stored.
 use Rattle.std.specs.Prelude.{ℕ, ◌+◌, ◌-◌, ◌/◌, ◌%◌, ◌^◌, Bool, true, not, nat_eq, if◌then◌else◌, Option, Some, None, unwrap_or}
 use Rattle.s360_model.specs.Arithmetic.{signed_sum, word_of}
 use Rattle.s360_model.specs.Numbers.{low32, signed}
@@ -31,8 +30,7 @@ link_of v = low32 (stored_psw (with_instruction_address v.core.psw v.next_addres
 abbrev pub count_less_one : ℕ → ℕ
 count_less_one count = low32 (count + (2 ^ 32 - 1))
 
--- on condition: the mask selects the condition code, and no register is altered. And link: R1 becomes the link. On count:
--- R1 becomes the count less one, and the branch is taken where that is not zero
+-- on condition: taken where the mask selects the code. And link: R1 becomes the link. On count: R1 becomes the count less one; taken where it is not zero
 abbrev pub branch_outcome : Branch → View → ℕ → Option ℕ → Outcome
 branch_outcome Branch.OnCondition v mask target =
     let taken = is_selected mask (condition_code_of v.core.psw)

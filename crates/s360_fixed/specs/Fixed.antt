@@ -1,5 +1,4 @@
--- A fixed-point, branch or shift instruction: its row in its format (GA22-6821, "Fixed-Point Arithmetic",
--- "Logical Operations" and "Branching").
+-- A fixed-point, branch or shift instruction: its row in its format (GA22-6821, "Fixed-Point Arithmetic", "Logical Operations" and "Branching").
 use Rattle.std.specs.Prelude.{ℕ, Option, None, Some}
 use Rattle.std.specs.Option.{option_and_then, option_map}
 use Rattle.s360_fixed.specs.declared.form.Form.{Form}

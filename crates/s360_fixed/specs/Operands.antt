@@ -1,5 +1,4 @@
--- The addresses of operands, their conditions and their values (GA22-6821, "System Structure",
--- information positioning and address generation).
+-- The addresses of operands, their conditions and their values (GA22-6821, "System Structure", information positioning and address generation).
 use Rattle.std.specs.Prelude.{ℕ, ◌+◌, ◌%◌, ◌^◌, Bool, true, false, not, nat_eq, nat_lt, if◌then◌else◌, slice_index, List}
 use Rattle.s360_model.specs.Core.{Core}
 use Rattle.s360_model.specs.Psw.{protection_key_of}

@@ -1,5 +1,4 @@
--- What instructions with a second operand do (GA22-6821, "Fixed-Point Arithmetic", and "Logical
--- Operations").
+-- What instructions with a second operand do (GA22-6821, "Fixed-Point Arithmetic", and "Logical Operations").
 use Rattle.std.specs.Prelude.{ℕ, ◌+◌, ◌%◌, Bool, ◌||◌, nat_eq, Option, Some, None, is_none, List, [], ◌∷◌}
 use Rattle.std.specs.Option.{option_map, option_map_or}
 use Rattle.s360_model.specs.Core.{Core}

@@ -20,15 +20,13 @@ use Rattle.s360_fixed.specs.View.{Outcome, View}
 abbrev pub PutsNothing : {S : Type 0} → Ghosts S → S → View → Type 0
 PutsNothing p puts v = HasNoPuts v.core (p.made puts) (p.may puts) (p.past puts) (p.count puts)
 
--- what may be put behind an instruction that ends so: all behind one that the channels do, which has put nothing; and
--- the PSW, and bytes of storage, which stands as it was, behind one that an interruption follows
+-- what may be put behind an instruction: all behind one that the channels do; the PSW, and bytes of storage as it was, behind one that an interruption follows
 abbrev pub MayFollow : {S : Type 0} → Ghosts S → S → Core → Ended → Type 0
 MayFollow p puts m Ended.Done = Unit {0}
 MayFollow p puts m (Ended.Io operation unit) = HasNoPuts m (p.made puts) (p.may puts) (p.past puts) (p.count puts)
 MayFollow p puts m other = ((p.made puts m).storage ≡ m.storage) × ((a : ℕ) → p.past puts (Byte a))
 
--- an instruction ends as its outcome does, and its puts make the outcome's core and may be made. They are of few
--- places: the PSW, two registers, and the 256 bytes of the longest operand, or fewer
+-- an instruction ends as its outcome does, and its puts make the outcome's core and may be made: of the PSW, two registers and 256 bytes, or fewer places
 pub record PutsOutcome {S : Type 0} (p : Ghosts S) (puts : S) (v : View) (outcome : Outcome) (ended : Ended) : Type 0 where
   pub ends : ended ≡ outcome.ended
   pub makes : p.made puts v.core ≡ outcome.core

@@ -1,5 +1,4 @@
--- The program interruption codes, and which one is taken where several conditions hold (GA22-6821,
--- "Interruptions", program interruption; the order is own profile).
+-- The program interruption codes, and which is taken where several conditions hold (GA22-6821, "Interruptions", program interruption; order: own profile).
 use Rattle.std.specs.Prelude.{ℕ, Bool, false, if◌then◌else◌, Option, Some, None}
 use Rattle.s360_fixed.specs.declared.program_code.ProgramCode.{ProgramCode}
 
@@ -14,8 +13,8 @@ number_of_code ProgramCode.Data = 7
 number_of_code ProgramCode.FixedPointOverflow = 8
 number_of_code ProgramCode.FixedPointDivide = 9
 
--- what keeps an instruction from being done. Three things more are found where they arise, after all of these that can be met
--- there: a code that is no operation, a subject of an execute that is an execute, and a digit or sign that is none
+-- what keeps an instruction from being done. Three things more are found where they arise, after all of these that can be met there: a code that is no
+-- operation, a subject of an execute that is an execute, and a digit or sign that is none
 pub record Conditions : Type 0 where
   -- it is privileged, in the problem state
   pub privileged : Bool

@@ -1,5 +1,4 @@
--- The instruction table: what each operation makes of its operands, the exact results, and the kinds of
--- condition code (GA22-6821, "Fixed-Point Arithmetic", "Logical Operations" and "Branching").
+-- What each operation makes of its operands, and the kinds of condition code (GA22-6821, "Fixed-Point Arithmetic", "Logical Operations" and "Branching").
 use Rattle.std.specs.Prelude.{ℕ, ◌+◌, ◌*◌, ◌/◌, ◌%◌, Bool, not, int_lt, ℤ, pos, Option, None, Some, bit_and, bit_or, bit_xor}
 use Rattle.s360_model.specs.Numbers.{low32, signed}
 use Rattle.s360_model.specs.ConditionCodes.{sign_code, signed_code, carry_code, bits_code, order_code}
@@ -43,8 +42,7 @@ signed_result n kind = (Some (word_of n), kind n)
 abbrev pub logical_result : ℕ → Option ℕ × CodeSetting
 logical_result n = (Some (low32 n), set_to (carry_code n))
 
--- what is made of R1 and the second operand: the word that R1 becomes, if it does, and the condition code. A character that is
--- inserted is a byte in place of the low eight bits
+-- the word that R1 becomes, if it does, and the condition code. A character that is inserted is a byte in place of the low eight bits
 abbrev pub result_of : Combination → ℕ → ℕ → Option ℕ × CodeSetting
 result_of Second first second = (Some second, unchanged)
 result_of InsertedCharacter first second = (Some (first / 256 * 256 + second % 256), unchanged)

@@ -1,5 +1,4 @@
--- The rows that store registers and load several of them (GA22-6821, "Fixed-Point Arithmetic" and "Logical
--- Operations").
+-- The rows that store registers and load several of them (GA22-6821, "Fixed-Point Arithmetic" and "Logical Operations").
 use Rattle.std.specs.Prelude.{ℕ, zero, suc, ◌+◌, ◌-◌, ◌*◌, ◌%◌, List, length, slice_index}
 use Rattle.std.specs.Int.{bytes_high_first}
 use Rattle.s360_model.specs.Core.{Core, core_with_bytes, core_with_psw, core_with_word}

@@ -1,5 +1,4 @@
--- The operation codes: the format and the operation of each (GA22-6821, "Operation Codes"), and the
--- fields of the formats ("System Structure", program execution).
+-- The operation codes with their formats and operations (GA22-6821, "Operation Codes"), and the fields of formats ("System Structure", program execution).
 use Rattle.std.specs.Prelude.{ℕ, ◌+◌, ◌*◌, ◌/◌, ◌%◌, nat_lt, if◌then◌else◌, Option, List, [], ◌∷◌, slice_index}
 use Rattle.std.specs.Option.{option_map}
 use Rattle.s360_model.specs.Tables.{entry_in}
@@ -109,8 +108,7 @@ rows =
 abbrev pub entry_of : ℕ → Option Entry
 entry_of code = entry_in rows code
 
--- the length of an instruction in bytes, by the first two bits of its code: 2 for 00, 4 for 01 and 10,
--- 6 for 11
+-- the length of an instruction in bytes, by the first two bits of its code: 2 for 00, 4 for 01 and 10, 6 for 11
 abbrev pub instruction_length : ℕ → ℕ
 instruction_length code = if nat_lt code 0x40 then 2 else (if nat_lt code 0xC0 then 4 else 6)
 

@@ -1,5 +1,4 @@
--- What the rows on bytes share: storage with another byte, what a byte becomes, the conditions of two
--- operands, and the instruction that is completed with another storage (GA22-6821, "Logical Operations").
+-- What the rows on bytes share: what a byte becomes, the conditions of two operands, and storage with other bytes (GA22-6821, "Logical Operations").
 use Rattle.std.specs.Prelude.{ℕ, ◌+◌, ◌*◌, ◌/◌, ◌%◌, nat_eq, if◌then◌else◌, Option, None, Some, List, slice_index, slice_set}
 use Rattle.std.specs.Prelude.{bit_and, bit_or, bit_xor}
 use Rattle.std.specs.List.{list_all, slice_range}

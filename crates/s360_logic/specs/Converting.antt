@@ -1,5 +1,5 @@
--- Conversions between a word in a register and a packed decimal number, which is a doubleword in storage
--- (GA22-6821, "Fixed-Point Arithmetic", CONVERT TO BINARY and CONVERT TO DECIMAL).
+-- Conversions between a word in a register and a packed decimal number, which is a doubleword in storage (GA22-6821, "Fixed-Point Arithmetic", CONVERT TO
+-- BINARY and CONVERT TO DECIMAL).
 use Rattle.std.specs.Prelude.{ℕ, if◌then◌else◌, ℤ, Option, Some, None}
 use Rattle.std.specs.Int.{bytes_high_first}
 use Rattle.s360_model.specs.Arithmetic.{word_of}
@@ -17,8 +17,7 @@ use Rattle.s360_fixed.specs.Storing.{bytes_outcome}
 use Rattle.s360_fixed.specs.View.{Outcome, View, register_of}
 use Rattle.s360_logic.specs.declared.row.Conversion.{Conversion}
 
--- R1 becomes the word of a number. One that does not fit a word interrupts with code 9, after R1 has its low
--- 32 bits; a digit or sign that is none interrupts with code 7
+-- R1 becomes the word of a number. One that does not fit interrupts with code 9, after R1 has its low 32 bits; a digit or sign that is none with code 7
 abbrev pub converted_outcome : Option ℤ → View → ℕ → Outcome
 converted_outcome None v r1 = record { ended = Ended.Program Data; core = v.core }
 converted_outcome (Some n) v r1 = record {

@@ -1,5 +1,4 @@
--- One instruction: it is fetched, decoded and done by its row (GA22-6821, "System Structure", program
--- execution, and "Interruptions").
+-- One instruction: it is fetched, decoded and done by its row (GA22-6821, "System Structure", program execution, and "Interruptions").
 use Rattle.std.specs.Prelude.{◌≡◌, ◌<◌, ℕ, ◌+◌, nat_eq, if◌then◌else◌, Option, None, is_none, List, length, slice_index}
 use Rattle.std.specs.Option.{option_map_or}
 use Rattle.s360_model.specs.Core.{Core}
@@ -28,8 +27,7 @@ length_of_bytes bytes = if nat_eq bytes 2 then OneHalfword else (if nat_eq bytes
 abbrev pub conditions_at : Core → ℕ → Conditions
 conditions_at m address = fetch_conditions m.storage address (protection_key_of m.psw)
 
--- what the instruction at an address works on: where it could not be fetched its length is not available,
--- and the address stays (own profile)
+-- what the instruction at an address works on: where it could not be fetched its length is not available, and the address stays (own profile)
 abbrev pub view_at : Core → ℕ → View
 view_at m address =
     let length = length_at m.storage address
@@ -77,8 +75,7 @@ abbrev pub AreFetched : List ℕ → View → Type 0
 AreFetched bytes v =
     (0 < length bytes) × (length bytes ≡ instruction_length (slice_index bytes 0)) × IsFetched (record { view = v; form = form_of bytes })
 
--- an instruction ends as the definition's does, with its next address and its length, and its puts make the
--- definition's core
+-- an instruction ends as the definition's does, with its next address and its length, and its puts make the definition's core
 pub record PutsInstruction {S : Type 0} (p : Ghosts S) (taken : S) (m : Core) (i : Instruction) (planned : PlannedInstruction) : Type 0 where
   pub puts : PutsOutcome p taken (record { core = m; next_address = i.next_address; instruction_length = i.instruction_length }) i.outcome planned.ended
   pub next : planned.next_address ≡ i.next_address

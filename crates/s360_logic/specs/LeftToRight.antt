@@ -1,5 +1,4 @@
--- Rows of two operands in storage of one length, a byte after another from left to right: a byte that was
--- stored is seen by later fetches (GA22-6821, "Logical Operations").
+-- Rows of two operands of one length, byte by byte from left to right: what was stored is seen by later fetches (GA22-6821, "Logical Operations").
 use Rattle.std.specs.Prelude.{ℕ, zero, suc, ◌+◌, ◌*◌, ◌/◌, ◌%◌, ◌^◌, nat_eq, if◌then◌else◌, Option, Some, None, [], ◌∷◌, pos}
 use Rattle.s360_model.specs.ConditionCodes.{order_code}
 use Rattle.s360_model.specs.Psw.{protection_key_of}
@@ -17,8 +16,7 @@ use Rattle.s360_logic.specs.declared.row.ByteCombination.{ByteCombination}
 use Rattle.s360_logic.specs.Immediate.{code_alone}
 use Rattle.s360_logic.specs.Bytes.{byte_at, byte_result, combination_code, completed_with, field_access, fields_conditions, operand_bytes, with_byte}
 
--- the storage after the bytes from number i on, so many of them, were made and stored, each of the storage as
--- those before it left it
+-- the storage after the bytes from number i on, so many of them, were made and stored, each of the storage as those before it left it
 abbrev pub left_to_right : (ℕ → Storage → ℕ) → ℕ → ℕ → ℕ → Storage → Storage
 left_to_right byte first i zero s = s
 left_to_right byte first i (suc n) s = left_to_right byte first (i + 1) n (with_byte (first + i) (byte i s) s)
@@ -68,8 +66,7 @@ function_access table key address s = access s (function_address table (byte_at 
 abbrev pub translated_byte : ℕ → ℕ → ℕ → Storage → ℕ
 translated_byte table first i s = function_byte table (first + i) s
 
--- what the fetches of the function bytes meet, each byte being translated before the next selects its own: a
--- function byte decides what follows though it is protected
+-- what the fetches of the function bytes meet, each byte being translated before the next: a function byte decides what follows though it is protected
 abbrev pub translate_access : ℕ → ℕ → ℕ → ℕ → ℕ → Storage → Checked
 translate_access table key first i zero s = Checked.Clear
 translate_access table key first i (suc n) s =
@@ -90,8 +87,7 @@ translate_outcome v first table count =
     unless_met (translate_conditions v first table count) v.core
     (completed_with v None (translated table first count v.core.storage))
 
--- translate and test: the bytes select function bytes until one is not zero. The number of such a byte, where
--- there is one
+-- translate and test: the bytes select function bytes until one is not zero. The number of such a byte, where there is one
 abbrev pub found_at : ℕ → ℕ → ℕ → ℕ → Storage → Option ℕ
 found_at table first i zero s = None
 found_at table first i (suc n) s =
@@ -116,8 +112,7 @@ with_address word address = word / 2 ^ 24 * 2 ^ 24 + address
 abbrev pub with_low_byte : ℕ → ℕ → ℕ
 with_low_byte word byte = word / 256 * 256 + byte
 
--- the address of the argument byte is in register 1 and the function byte in register 2; the condition code is
--- 1 before the last byte, and 2 at it
+-- the address of the argument byte is in register 1 and the function byte in register 2; the condition code is 1 before the last byte, and 2 at it
 abbrev pub found_outcome : ℕ → ℕ → View → ℕ → ℕ → Outcome
 found_outcome i byte v first count =
     after_alteration v.core (record {

@@ -1,6 +1,5 @@
--- What an instruction does that was decoded: by its row, or by that of the subject of an execute (GA22-6821,
--- "Logical Operations", "Fixed-Point Arithmetic", "Decimal Arithmetic", "Status Switching", and "Branching",
--- EXECUTE).
+-- What an instruction does that was decoded: by its row, or by that of the subject of an execute (GA22-6821, "Logical Operations", "Fixed-Point Arithmetic",
+-- "Decimal Arithmetic", "Status Switching", and "Branching", EXECUTE).
 use Rattle.std.specs.Prelude.{ℕ, ◌+◌, ◌/◌, ◌%◌, nat_eq, if◌then◌else◌, Option, Some, None, List, slice_index, slice_set, bit_or}
 use Rattle.std.specs.Option.{option_map, option_map_or}
 use Rattle.s360_model.specs.Psw.{protection_key_of}
@@ -22,8 +21,7 @@ use Rattle.s360_logic.specs.RightToLeft.{digits_outcome}
 use Rattle.s360_logic.specs.Rows.{conversion_of, immediate_row_of, register_status_of, storage_row_of, storage_status_of}
 use Rattle.s360_logic.specs.Status.{register_status_outcome, storage_status_outcome}
 
--- a row of two operands in storage, by the length field and the addresses. The field is one less than the
--- number of bytes; of the rows of digits it is two such fields
+-- a row of two operands in storage, by the length field, which is one less than the number of bytes, or two such fields for digits, and by the addresses
 abbrev pub storage_outcome : StorageRow → View → ℕ → ℕ → ℕ → Outcome
 storage_outcome (StorageRow.Combine c) v l first second = combine_outcome c v first second (l + 1)
 storage_outcome StorageRow.Compare v l first second = compare_outcome v first second (l + 1)
@@ -78,8 +76,7 @@ abbrev pub subject_outcome : View → Option Form → Outcome
 subject_outcome v None = record { ended = Program operation_code; core = v.core }
 subject_outcome v (Some form) = option_map_or (λ subject. record { ended = Program execute_code; core = v.core }) (subject_of v form) (row_outcome v form)
 
--- execute: an odd address of the subject, one that cannot be fetched, and a subject that is an execute come
--- before what the subject meets
+-- execute: an odd address of the subject, one that cannot be fetched, and a subject that is an execute come before what the subject meets
 abbrev pub execute_outcome : View → ℕ → ℕ → Outcome
 execute_outcome v r1 address =
     unless_met (fetch_conditions v.core.storage address (protection_key_of v.core.psw)) v.core

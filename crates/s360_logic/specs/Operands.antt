@@ -15,8 +15,7 @@ pub record FirstOperand : Type 0 where
 abbrev pub stored_in : FirstOperand → Storage
 stored_in o = record o.storage { bytes = with_run o.storage.bytes o.address o.bytes }
 
--- the byte of the result at i from the right, which `made_byte` says too, made of the storage as it is and of one byte that is held; and
--- what is held then: the byte of the second operand whose high digit the next byte may need
+-- the byte of the result at i from the right, which `made_byte` says, made of storage as it is and of one byte held; and what is held for the next byte
 abbrev pub next_byte : DigitRow → ℕ → Field → ℕ → ℕ → Storage → NextByte
 next_byte DigitRow.MoveWithOffset zone second i held s =
     let fetched = byte_from_right second s i

@@ -1,7 +1,6 @@
--- MOVE WITH OFFSET, PACK and UNPACK: two operands in storage, each with its length. The bytes of the result are made and
--- stored one after another, from right to left, and bytes are counted from 0 at the right. A byte of the second operand is
--- fetched once, just before the first byte of the result that needs it is stored; past its end digits are zero; what does
--- not fit is dropped (GA22-6821, "Decimal Arithmetic"; the order is own profile).
+-- MOVE WITH OFFSET, PACK and UNPACK: two operands in storage, each with its length. The bytes of the result are made and stored one after another, from right
+-- to left, and bytes are counted from 0 at the right. A byte of the second operand is fetched once, just before the first byte of the result that needs it is
+-- stored; past its end digits are zero; what does not fit is dropped (GA22-6821, "Decimal Arithmetic"; the order is own profile).
 use Rattle.std.specs.Prelude.{ℕ, zero, suc, ◌+◌, ◌-◌, ◌*◌, ◌/◌, ◌%◌, nat_eq, nat_lt, if◌then◌else◌, None, ◌≡◌, ◌<◌, ◌≤◌, ◌⊎◌, length}
 use Rattle.s360_model.specs.Psw.{ascii_mode_of}
 use Rattle.s360_model.specs.Storage.{Storage}
@@ -33,10 +32,9 @@ pub record DigitMove : Type 0 where
   pub first : Field
   pub second : Field
 
--- the byte of the result at i, of the bytes of the second operand and of the rightmost byte of the first. Move
--- with offset: the low digit of one byte, and on its right the high digit of the byte before, at first the low
--- digit of the first operand. Pack: the low digits of two bytes. Unpack: a zone, and the low and then the high
--- digit of a byte. The rightmost byte of pack and unpack is the second operand's with its digits exchanged
+-- the byte of the result at i, of the bytes of the second operand and of the rightmost byte of the first. Move with offset: the low digit of one byte, and on
+-- its right the high digit of the byte before, at first the low digit of the first operand. Pack: the low digits of two bytes. Unpack: a zone, and the low and
+-- then the high digit of a byte. The rightmost byte of pack and unpack is the second operand's with its digits exchanged
 abbrev pub result_byte : DigitRow → ℕ → ℕ → (ℕ → ℕ) → ℕ → ℕ
 result_byte DigitRow.MoveWithOffset zone rightmost source i = digits (source i) (if nat_eq i 0 then rightmost else source (i - 1) / 16)
 result_byte DigitRow.Pack zone rightmost source i = if nat_eq i 0 then exchanged (source 0) else digits (source (2 * i)) (source (2 * i - 1))
@@ -51,8 +49,8 @@ first_user DigitRow.MoveWithOffset j = j
 first_user DigitRow.Pack j = (j + 1) / 2
 first_user DigitRow.Unpack j = 2 * j - 1
 
--- by what storage is before each byte of the result is made: a byte of the second operand as it stands just before the
--- first byte of the result that needs it; the byte of the result at i; and storage after that is stored
+-- by what storage is before each byte of the result is made: a byte of the second operand as it stands just before the first byte of the result that needs it;
+-- the byte of the result at i; and storage after that is stored
 abbrev pub source_byte : DigitMove → (ℕ → Storage) → ℕ → ℕ
 source_byte d before j = byte_from_right d.second (before (first_user d.row j)) j
 
@@ -84,8 +82,7 @@ digits_outcome row v first second =
 abbrev pub ShareNoByte : Field → Field → Type 0
 ShareNoByte first second = (first.address + first.count ≤ second.address) ⊎ (second.address + second.count ≤ first.address)
 
--- each byte of the first operand is the one that the bytes of the second make as they stood before, and nothing else
--- of storage is altered
+-- each byte of the first operand is the one that the bytes of the second make as they stood before, and nothing else of storage is altered
 pub record MakesEachByte (d : DigitMove) (before after : Storage) : Type 0 where
   pub made : (i : ℕ) → i < d.first.count → byte_at after (address_from_right d.first i) ≡ made_byte d (λ k. before) i
   pub others : (a : ℕ) → (a < d.first.address) ⊎ (d.first.address + d.first.count ≤ a) → byte_at after a ≡ byte_at before a

@@ -1,5 +1,5 @@
--- The instruction table: what the operations of these chapters do (GA22-6821, "Logical Operations",
--- "Fixed-Point Arithmetic", "Decimal Arithmetic", "Status Switching" and "Input/Output Operations").
+-- The instruction table: what the operations of these chapters do (GA22-6821, "Logical Operations", "Fixed-Point Arithmetic", "Decimal Arithmetic", "Status
+-- Switching" and "Input/Output Operations").
 use Rattle.std.specs.Prelude.{Option, Some, None}
 use Rattle.s360_fixed.specs.declared.operation.Operation.{Operation}
 use Rattle.s360_fixed.specs.declared.ended.IoOperation.{IoOperation}

@@ -1,6 +1,5 @@
--- Status switching: the PSW and its masks, the storage keys and the supervisor call (GA22-6821, "Status
--- Switching", and "System Structure", protection feature). All but SPM and SVC are privileged: in the problem
--- state they are refused before anything else is looked at.
+-- Status switching: the PSW and its masks, the storage keys and the supervisor call (GA22-6821, "Status Switching", and "System Structure", protection
+-- feature). All but SPM and SVC are privileged: in the problem state they are refused before anything else is looked at.
 use Rattle.std.specs.Prelude.{ℕ, ◌+◌, ◌*◌, ◌/◌, ◌%◌, ◌^◌, Bool, not, ◌&&◌, nat_eq, nat_le, if◌then◌else◌, length, slice_index}
 use Rattle.s360_model.specs.Core.{core_with_key, core_with_psw, core_with_word}
 use Rattle.s360_model.specs.Psw.{current_psw, problem_state_of, with_program_mask, with_system_mask}
@@ -65,8 +64,7 @@ privileged_fetch v address count = privileged v (access_conditions v.core addres
 abbrev pub unit_of : ℕ → Unit
 unit_of address = record { 0 = address % 2 ^ 11 }
 
--- the rows of the format SI: the system mask becomes a byte, the PSW becomes a doubleword; the unit that
--- bits 21 to 31 of the address name is handed to the channels
+-- the rows of the format SI: the system mask becomes a byte, the PSW a doubleword; the unit that bits 21 to 31 of the address name is handed to the channels
 abbrev pub storage_status_outcome : StorageStatus → View → ℕ → Outcome
 storage_status_outcome StorageStatus.SetSystemMask v address =
     unless_met (privileged_fetch v address 1) v.core (with_psw v (with_system_mask (next_psw v) (byte_at v.core.storage address)))
