@@ -1,9 +1,8 @@
 -- The units of the machine: the card reader 00C, the card punch 00D, the printer 00E and the console 01F on channel 0, and the magnetic tapes 180 and 181 on
 -- channel 1 (own profile).
-use Rattle.std.specs.Prelude.{◌≡◌, ℕ, ◌/◌, nat_eq, Bool, false, ◌&&◌, if◌then◌else◌, Option, Some, None, is_some}
-use Rattle.std.specs.Prelude.{List, [], ◌∷◌, length, map, slice_index_or, slice_set}
-use Rattle.std.specs.Option.{option_map, option_map_or}
-use Rattle.std.specs.List.{find}
+use Rattle.std.specs.Prelude.{◌≡◌, ℕ, ◌/◌, nat_eq, Bool, false, ◌&&◌, if◌then◌else◌, Option, Some, None, is_some, List, [], ◌∷◌, length, map, slice_index_or}
+use Rattle.std.specs.Prelude.{slice_set}
+use Rattle.std.specs.{Option.option_map, Option.option_map_or, List.find}
 use Rattle.s360_model.specs.Psw.{channel_mask_of}
 use Rattle.s360_word.specs.declared.unit.Unit.{Unit as UnitAddress}
 use Rattle.s360_channel.specs.declared.configured_unit.ChannelKind.{ChannelKind}

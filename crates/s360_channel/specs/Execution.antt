@@ -1,24 +1,14 @@
 -- One channel event: the execution of one channel command word over a device (GA22-6821, "Input/Output Operations", execution, chaining and conclusion).
-use Rattle.std.specs.Prelude.{ℕ, ◌+◌, ◌-◌, ◌%◌, ◌^◌, nat_eq, nat_le, nat_lt, min, Bool, true, false, not, ◌&&◌, if◌then◌else◌}
-use Rattle.std.specs.Prelude.{Option, Some, None, List, [], ◌++◌, length, slice_range, take, drop, reverse}
-use Rattle.s360_model.specs.Core.{Core, core_with_bytes}
-use Rattle.s360_model.specs.Storage.{Storage}
-use Rattle.s360_store.specs.declared.protection.Access.{Access}
-use Rattle.s360_store.specs.declared.protection.Checked.{Checked}
-use Rattle.s360_store.specs.Protection.{access}
+use Rattle.std.specs.Prelude.{ℕ, ◌+◌, ◌-◌, ◌%◌, ◌^◌, nat_eq, nat_le, nat_lt, min, Bool, true, false, not, ◌&&◌, if◌then◌else◌, Option, Some, None, List, []}
+use Rattle.std.specs.Prelude.{◌++◌, length, slice_range, take, drop, reverse}
+use Rattle.s360_model.specs.{Core.Core, Core.core_with_bytes, Storage.Storage}
+use Rattle.s360_store.specs.{declared.protection.Access.Access, declared.protection.Checked.Checked, Protection.access}
 use Rattle.s360_device.specs.declared.device.Begin.{Begin}
-use Rattle.s360_channel.specs.declared.ccw.Ccw.{Ccw}
-use Rattle.s360_channel.specs.declared.csw.ChannelStatus.{ChannelStatus}
-use Rattle.s360_channel.specs.declared.csw.UnitStatus.{UnitStatus}
-use Rattle.s360_channel.specs.declared.conclusion.Conclusion.{Conclusion}
-use Rattle.s360_channel.specs.declared.fetching.Fetched.{Fetched}
-use Rattle.s360_channel.specs.declared.program.Program.{Program}
-use Rattle.s360_channel.specs.declared.program.Progress.{Progress}
-use Rattle.s360_channel.specs.declared.transfer.Transfer.{Transfer}
-use Rattle.s360_channel.specs.declared.unit_state.UnitState.{UnitState}
-use Rattle.s360_channel.specs.Programs.{next_ccw}
-use Rattle.s360_channel.specs.Words.{device_has_ended, meets_program_check, meets_protection_check}
-use Rattle.s360_channel.specs.Words.{no_channel_status, no_unit_status, reads_backward}
+use Rattle.s360_channel.specs.declared.{ccw.Ccw.Ccw, csw.ChannelStatus.ChannelStatus, csw.UnitStatus.UnitStatus, conclusion.Conclusion.Conclusion}
+use Rattle.s360_channel.specs.declared.{fetching.Fetched.Fetched, program.Program.Program, program.Progress.Progress, transfer.Transfer.Transfer}
+use Rattle.s360_channel.specs.declared.{unit_state.UnitState.UnitState}
+use Rattle.s360_channel.specs.{Programs.next_ccw, Words.device_has_ended, Words.meets_program_check, Words.meets_protection_check, Words.no_channel_status}
+use Rattle.s360_channel.specs.{Words.no_unit_status, Words.reads_backward}
 
 -- a device as its channel sees it: how it begins a command, the bytes that it gives, and whether it ends it with unit exception
 pub record DeviceView : Type 0 where

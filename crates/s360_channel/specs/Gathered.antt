@@ -1,8 +1,7 @@
 -- The bytes that the words of an output gather, each word's after those of the words before it.
 use Rattle.std.specs.Prelude.{ℕ, List, [], ◌++◌, ◌+◌, option_copied, reverse}
 use Rattle.std.specs.Option.{option_map_or}
-use Rattle.s360_channel.specs.declared.gathered.Backward.{Backward}
-use Rattle.s360_channel.specs.declared.gathered.Parts.{Parts, First, After'}
+use Rattle.s360_channel.specs.declared.gathered.{Backward.Backward, Parts.Parts, Parts.First, Parts.After'}
 
 -- those of the last word
 abbrev pub part_of : Parts → List ℕ

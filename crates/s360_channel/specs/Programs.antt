@@ -3,10 +3,7 @@
 use Rattle.std.specs.Prelude.{ℕ, ◌%◌, Bool, true, false, not, ◌&&◌, ◌||◌, nat_eq, if◌then◌else◌, Option, Some, None}
 use Rattle.std.specs.Option.{option_map_or}
 use Rattle.s360_model.specs.Storage.{Storage, doubleword_at, is_inside}
-use Rattle.s360_channel.specs.declared.ccw.Ccw.{Ccw}
-use Rattle.s360_channel.specs.declared.program.Program.{Program}
-use Rattle.s360_channel.specs.declared.program.Progress.{Progress}
-use Rattle.s360_channel.specs.declared.fetching.Fetched.{Fetched}
+use Rattle.s360_channel.specs.declared.{ccw.Ccw.Ccw, program.Program.Program, program.Progress.Progress, fetching.Fetched.Fetched}
 use Rattle.s360_channel.specs.Words.{ccw_of, is_doubleword_address, is_transfer}
 
 -- the word at an address, where it is that of a doubleword inside storage

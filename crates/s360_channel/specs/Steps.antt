@@ -1,21 +1,13 @@
 -- What the code answers of a channel event: a step, and what is stored; and how they are those of the event's execution.
 use Rattle.std.specs.Prelude.{◌≡◌, ◌<◌, ◌≤◌, ◌+◌, ℕ, IfSome, Option, Some, None, List, [], ◌++◌, length, option_copied, take, unwrap_or}
-use Rattle.s360_model.specs.Core.{Core}
-use Rattle.s360_model.specs.Storage.{Storage}
-use Rattle.s360_store.specs.declared.place.Cell.{Cell}
-use Rattle.s360_store.specs.Plans.{IsPlanOf}
-use Rattle.s360_device.specs.declared.device.Device.{Ghosts}
-use Rattle.s360_device.specs.Transfers.{MovesBytes}
-use Rattle.s360_channel.specs.declared.command_word.CommandWord.{CommandWord}
-use Rattle.s360_channel.specs.declared.csw.ChannelStatus.{ChannelStatus}
-use Rattle.s360_channel.specs.declared.engine.ChannelStep.{ChannelStep}
-use Rattle.s360_channel.specs.declared.engine.Executed.{Executed}
-use Rattle.s360_channel.specs.declared.fetching.Fetched.{Fetched}
-use Rattle.s360_channel.specs.declared.gathering.OutputBytes.{OutputBytes}
-use Rattle.s360_channel.specs.declared.program.Program.{Program}
-use Rattle.s360_channel.specs.declared.unit_state.UnitState.{UnitState}
-use Rattle.s360_channel.specs.Execution.{DeviceView, Ending, Execution, Run, WordAtHand, after_check, channel_execution, command_with, core_with_run, word_with}
-use Rattle.s360_channel.specs.Programs.{next_ccw}
+use Rattle.s360_model.specs.{Core.Core, Storage.Storage}
+use Rattle.s360_store.specs.{declared.place.Cell.Cell, Plans.IsPlanOf}
+use Rattle.s360_device.specs.{declared.device.Device.Ghosts, Transfers.MovesBytes}
+use Rattle.s360_channel.specs.declared.{command_word.CommandWord.CommandWord, csw.ChannelStatus.ChannelStatus, engine.ChannelStep.ChannelStep}
+use Rattle.s360_channel.specs.declared.{engine.Executed.Executed, fetching.Fetched.Fetched, gathering.OutputBytes.OutputBytes, program.Program.Program}
+use Rattle.s360_channel.specs.declared.{unit_state.UnitState.UnitState}
+use Rattle.s360_channel.specs.{Execution.DeviceView, Execution.Ending, Execution.Execution, Execution.Run, Execution.WordAtHand, Execution.after_check}
+use Rattle.s360_channel.specs.{Execution.channel_execution, Execution.command_with, Execution.core_with_run, Execution.word_with, Programs.next_ccw}
 
 -- a device as its channel sees it, and the word at hand that the code has, by the device's contract
 abbrev pub device_view : {D C : Type 0} → Ghosts D C → D → DeviceView

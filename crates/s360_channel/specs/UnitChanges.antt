@@ -1,19 +1,11 @@
 -- Which units stand otherwise (ours), and what an event alters of them: it is exchanged with what stands there, and the exchange done again takes it back.
 use Rattle.std.specs.Prelude.{◌≡◌, Option, Some, None, List, [], ◌∷◌, map, Bool, true, false, not, ◌&&◌, nat_eq}
-use Rattle.std.specs.Bool.{beq}
-use Rattle.std.specs.List.{filter}
-use Rattle.std.specs.Str.{bytes_eq}
+use Rattle.std.specs.{Bool.beq, List.filter, Str.bytes_eq}
 use Rattle.s360_model.specs.Exchanges.{CanIfAny, after_if_any}
 use Rattle.s360_store.specs.declared.place.Place.{Place}
-use Rattle.s360_channel.specs.declared.configured_unit.ConfiguredUnit.{ConfiguredUnit}
-use Rattle.s360_channel.specs.declared.unit_change.UnitChange.{UnitChange}
-use Rattle.s360_channel.specs.declared.csw.Csw.{Csw}
-use Rattle.s360_channel.specs.declared.csw.UnitStatus.{UnitStatus}
-use Rattle.s360_channel.specs.declared.csw.ChannelStatus.{ChannelStatus}
-use Rattle.s360_channel.specs.declared.program.Program.{Program}
-use Rattle.s360_channel.specs.declared.program.Progress.{Progress}
-use Rattle.s360_channel.specs.declared.unit_control.UnitControl.{UnitControl}
-use Rattle.s360_channel.specs.declared.unit_state.UnitState.{UnitState}
+use Rattle.s360_channel.specs.declared.{configured_unit.ConfiguredUnit.ConfiguredUnit, unit_change.UnitChange.UnitChange, csw.Csw.Csw}
+use Rattle.s360_channel.specs.declared.{csw.UnitStatus.UnitStatus, csw.ChannelStatus.ChannelStatus, program.Program.Program, program.Progress.Progress}
+use Rattle.s360_channel.specs.declared.{unit_control.UnitControl.UnitControl, unit_state.UnitState.UnitState}
 use Rattle.s360_channel.specs.ConfiguredUnits.{Units, HasEachUnit, control_of, with_control_of, address_of_unit, configured_units}
 
 -- whether a unit is in the same state twice, as a test: two active units are alike where their programs are at the same point

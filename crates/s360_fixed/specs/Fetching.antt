@@ -2,13 +2,8 @@
 use Rattle.std.specs.Prelude.{ℕ, ◌+◌, List, slice_index}
 use Rattle.std.specs.List.{slice_range}
 use Rattle.s360_model.specs.Storage.{Storage}
-use Rattle.s360_store.specs.declared.protection.Access.TheVariants.{Fetch}
-use Rattle.s360_store.specs.declared.protection.Checked.{Checked}
-use Rattle.s360_store.specs.Protection.{access}
-use Rattle.s360_fixed.specs.Operands.{conditions_of}
-use Rattle.s360_fixed.specs.Outcomes.{is_odd}
-use Rattle.s360_fixed.specs.ProgramCodes.{Conditions}
-use Rattle.s360_fixed.specs.Table.{instruction_length}
+use Rattle.s360_store.specs.{declared.protection.Access.TheVariants.Fetch, declared.protection.Checked.Checked, Protection.access}
+use Rattle.s360_fixed.specs.{Operands.conditions_of, Outcomes.is_odd, ProgramCodes.Conditions, Table.instruction_length}
 
 -- the length of the instruction that begins at an address, in bytes
 abbrev pub length_at : Storage → ℕ → ℕ

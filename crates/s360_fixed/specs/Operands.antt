@@ -1,13 +1,8 @@
 -- The addresses of operands, their conditions and their values (GA22-6821, "System Structure", information positioning and address generation).
 use Rattle.std.specs.Prelude.{ℕ, ◌+◌, ◌%◌, ◌^◌, Bool, true, false, not, nat_eq, nat_lt, if◌then◌else◌, slice_index, List}
-use Rattle.s360_model.specs.Core.{Core}
-use Rattle.s360_model.specs.Psw.{protection_key_of}
-use Rattle.s360_model.specs.Storage.{halfword_at, word_at}
-use Rattle.s360_store.specs.declared.protection.Access.{Access}
-use Rattle.s360_store.specs.declared.protection.Checked.{Checked}
-use Rattle.s360_store.specs.Protection.{access}
-use Rattle.s360_fixed.specs.declared.second_operand.SecondOperand.{SecondOperand}
-use Rattle.s360_fixed.specs.declared.second_operand.Width.{Width}
+use Rattle.s360_model.specs.{Core.Core, Psw.protection_key_of, Storage.halfword_at, Storage.word_at}
+use Rattle.s360_store.specs.{declared.protection.Access.Access, declared.protection.Checked.Checked, Protection.access}
+use Rattle.s360_fixed.specs.declared.second_operand.{SecondOperand.SecondOperand, Width.Width}
 use Rattle.s360_fixed.specs.ProgramCodes.{Conditions, no_conditions}
 
 -- what a base or an index register adds: nothing where it is register 0

@@ -1,16 +1,10 @@
 -- What instructions with a second operand do (GA22-6821, "Fixed-Point Arithmetic", and "Logical Operations").
 use Rattle.std.specs.Prelude.{ℕ, ◌+◌, ◌%◌, Bool, ◌||◌, nat_eq, Option, Some, None, is_none, List, [], ◌∷◌}
 use Rattle.std.specs.Option.{option_map, option_map_or}
-use Rattle.s360_model.specs.Core.{Core}
-use Rattle.s360_model.specs.Products.{product_words, division}
-use Rattle.s360_fixed.specs.declared.ended.Ended.TheVariants.{Program}
-use Rattle.s360_fixed.specs.declared.row.Combination.{Combination}
-use Rattle.s360_fixed.specs.declared.row.PairCombination.{PairCombination}
-use Rattle.s360_fixed.specs.Alterations.{Alteration, after_alteration, no_register, register_pair, unchanged}
-use Rattle.s360_fixed.specs.ProgramCodes.{Conditions, program_code}
-use Rattle.s360_fixed.specs.Operands.{Operand}
-use Rattle.s360_fixed.specs.Rows.{result_of}
-use Rattle.s360_fixed.specs.View.{View, Outcome, register_of}
+use Rattle.s360_model.specs.{Core.Core, Products.product_words, Products.division}
+use Rattle.s360_fixed.specs.declared.{ended.Ended.TheVariants.Program, row.Combination.Combination, row.PairCombination.PairCombination}
+use Rattle.s360_fixed.specs.{Alterations.Alteration, Alterations.after_alteration, Alterations.no_register, Alterations.register_pair, Alterations.unchanged}
+use Rattle.s360_fixed.specs.{ProgramCodes.Conditions, ProgramCodes.program_code, Operands.Operand, Rows.result_of, View.View, View.Outcome, View.register_of}
 
 -- a program interruption with nothing stored or loaded, where a condition holds
 abbrev pub unless_met : Conditions → Core → Outcome → Outcome

@@ -1,20 +1,10 @@
 -- What the puts of an instruction, and its plan, say of its outcome.
-use Rattle.std.specs.Prelude.{◌≡◌, ◌≤◌, ℕ, ◌+◌, ◌*◌, nat_lt, if◌then◌else◌}
-use Rattle.std.specs.Prelude.{Option, None, Some, List, [], ◌∷◌, ◌++◌, length}
-use Rattle.s360_model.specs.Core.{Core, core_with_word}
-use Rattle.s360_model.specs.Storage.{word_at}
-use Rattle.s360_store.specs.declared.place.Cell.{Cell}
-use Rattle.s360_store.specs.declared.place.Place.TheVariants.{Byte}
-use Rattle.s360_store.specs.declared.puts.Puts.{Ghosts}
-use Rattle.s360_store.specs.Plans.{IsPlanOf}
-use Rattle.s360_store.specs.Puts.{HasNoPuts}
-use Rattle.s360_fixed.specs.declared.effect.Effect.{Effect}
-use Rattle.s360_fixed.specs.declared.ended.Ended.{Ended}
-use Rattle.s360_fixed.specs.declared.register_words.RegisterWords.{RegisterWords}
-use Rattle.s360_fixed.specs.Alterations.{Alteration}
-use Rattle.s360_fixed.specs.Outcomes.{word_for}
-use Rattle.s360_fixed.specs.Storing.{register_distance, with_registers_loaded, with_registers_stored}
-use Rattle.s360_fixed.specs.View.{Outcome, View}
+use Rattle.std.specs.Prelude.{◌≡◌, ◌≤◌, ℕ, ◌+◌, ◌*◌, nat_lt, if◌then◌else◌, Option, None, Some, List, [], ◌∷◌, ◌++◌, length}
+use Rattle.s360_model.specs.{Core.Core, Core.core_with_word, Storage.word_at}
+use Rattle.s360_store.specs.{declared.place.Cell.Cell, declared.place.Place.TheVariants.Byte, declared.puts.Puts.Ghosts, Plans.IsPlanOf, Puts.HasNoPuts}
+use Rattle.s360_fixed.specs.declared.{effect.Effect.Effect, ended.Ended.Ended, register_words.RegisterWords.RegisterWords}
+use Rattle.s360_fixed.specs.{Alterations.Alteration, Outcomes.word_for, Storing.register_distance, Storing.with_registers_loaded, Storing.with_registers_stored}
+use Rattle.s360_fixed.specs.{View.Outcome, View.View}
 
 -- what takes puts has none yet of an instruction that works on this view
 abbrev pub PutsNothing : {S : Type 0} → Ghosts S → S → View → Type 0

@@ -1,11 +1,9 @@
 -- What each operation makes of its operands, and the kinds of condition code (GA22-6821, "Fixed-Point Arithmetic", "Logical Operations" and "Branching").
 use Rattle.std.specs.Prelude.{ℕ, ◌+◌, ◌*◌, ◌/◌, ◌%◌, Bool, not, int_lt, ℤ, pos, Option, None, Some, bit_and, bit_or, bit_xor}
-use Rattle.s360_model.specs.Numbers.{low32, signed}
-use Rattle.s360_model.specs.ConditionCodes.{sign_code, signed_code, carry_code, bits_code, order_code}
-use Rattle.s360_model.specs.Arithmetic.{signed_sum, signed_difference, signed_complement, absolute_value, negative_absolute_value}
-use Rattle.s360_model.specs.Arithmetic.{logical_sum, logical_difference, word_of}
-use Rattle.s360_model.specs.Pairs.{signed_pair_code}
-use Rattle.s360_model.specs.Products.{signed_product}
+use Rattle.s360_model.specs.{Numbers.low32, Numbers.signed, ConditionCodes.sign_code, ConditionCodes.signed_code, ConditionCodes.carry_code}
+use Rattle.s360_model.specs.{ConditionCodes.bits_code, ConditionCodes.order_code, Arithmetic.signed_sum, Arithmetic.signed_difference}
+use Rattle.s360_model.specs.{Arithmetic.signed_complement, Arithmetic.absolute_value, Arithmetic.negative_absolute_value, Arithmetic.logical_sum}
+use Rattle.s360_model.specs.{Arithmetic.logical_difference, Arithmetic.word_of, Pairs.signed_pair_code, Products.signed_product}
 use Rattle.s360_fixed.specs.declared.operation.Operation.{Operation}
 use Rattle.s360_fixed.specs.declared.row.Combination.{Combination}
 use Rattle.s360_fixed.specs.declared.row.Combination.TheVariants.{Second, InsertedCharacter, Tested, Complement, Absolute, NegativeAbsolute, Sum, Difference}

@@ -1,16 +1,10 @@
 -- The rows that store registers and load several of them (GA22-6821, "Fixed-Point Arithmetic" and "Logical Operations").
 use Rattle.std.specs.Prelude.{ℕ, zero, suc, ◌+◌, ◌-◌, ◌*◌, ◌%◌, List, length, slice_index}
 use Rattle.std.specs.Int.{bytes_high_first}
-use Rattle.s360_model.specs.Core.{Core, core_with_bytes, core_with_psw, core_with_word}
-use Rattle.s360_model.specs.Psw.{with_instruction_address}
-use Rattle.s360_model.specs.Storage.{word_at}
+use Rattle.s360_model.specs.{Core.Core, Core.core_with_bytes, Core.core_with_psw, Core.core_with_word, Psw.with_instruction_address, Storage.word_at}
 use Rattle.s360_store.specs.declared.protection.Access.{Access}
-use Rattle.s360_fixed.specs.declared.ended.Ended.TheVariants.{Done}
-use Rattle.s360_fixed.specs.declared.second_operand.Width.{Width}
-use Rattle.s360_fixed.specs.Operands.{access_conditions, bytes_of_width}
-use Rattle.s360_fixed.specs.Outcomes.{unless_met}
-use Rattle.s360_fixed.specs.ProgramCodes.{Conditions}
-use Rattle.s360_fixed.specs.View.{View, Outcome, register_of}
+use Rattle.s360_fixed.specs.{declared.ended.Ended.TheVariants.Done, declared.second_operand.Width.Width, Operands.access_conditions, Operands.bytes_of_width}
+use Rattle.s360_fixed.specs.{Outcomes.unless_met, ProgramCodes.Conditions, View.View, View.Outcome, View.register_of}
 
 -- the PSW after an instruction that sets no condition code and does not branch
 abbrev pub next_psw : View → ℕ

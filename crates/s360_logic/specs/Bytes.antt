@@ -1,17 +1,10 @@
 -- What the rows on bytes share: what a byte becomes, the conditions of two operands, and storage with other bytes (GA22-6821, "Logical Operations").
-use Rattle.std.specs.Prelude.{ℕ, ◌+◌, ◌*◌, ◌/◌, ◌%◌, nat_eq, if◌then◌else◌, Option, None, Some, List, slice_index, slice_set}
-use Rattle.std.specs.Prelude.{bit_and, bit_or, bit_xor}
+use Rattle.std.specs.Prelude.{ℕ, ◌+◌, ◌*◌, ◌/◌, ◌%◌, nat_eq, if◌then◌else◌, Option, None, Some, List, slice_index, slice_set, bit_and, bit_or, bit_xor}
 use Rattle.std.specs.List.{list_all, slice_range}
-use Rattle.s360_model.specs.Psw.{protection_key_of, with_instruction_address}
-use Rattle.s360_model.specs.Storage.{Storage}
-use Rattle.s360_store.specs.declared.protection.Access.{Access}
-use Rattle.s360_store.specs.declared.protection.Checked.{Checked}
-use Rattle.s360_store.specs.Protection.{access, met_of_both}
+use Rattle.s360_model.specs.{Psw.protection_key_of, Psw.with_instruction_address, Storage.Storage}
+use Rattle.s360_store.specs.{declared.protection.Access.Access, declared.protection.Checked.Checked, Protection.access, Protection.met_of_both}
 use Rattle.s360_fixed.specs.declared.ended.Ended.TheVariants.{Done}
-use Rattle.s360_fixed.specs.Alterations.{psw_with}
-use Rattle.s360_fixed.specs.Operands.{conditions_of}
-use Rattle.s360_fixed.specs.ProgramCodes.{Conditions}
-use Rattle.s360_fixed.specs.View.{Outcome, View}
+use Rattle.s360_fixed.specs.{Alterations.psw_with, Operands.conditions_of, ProgramCodes.Conditions, View.Outcome, View.View}
 use Rattle.s360_logic.specs.declared.field.Field.{Field}
 use Rattle.s360_logic.specs.declared.row.ByteCombination.{ByteCombination}
 use Rattle.s360_logic.specs.declared.row.ByteCombination.TheVariants.{Second, LowHalf, HighHalf, BitwiseAnd, BitwiseOr, BitwiseExclusiveOr}

@@ -1,23 +1,15 @@
 -- One instruction: it is fetched, decoded and done by its row (GA22-6821, "System Structure", program execution, and "Interruptions").
 use Rattle.std.specs.Prelude.{◌≡◌, ◌<◌, ℕ, ◌+◌, nat_eq, if◌then◌else◌, Option, None, is_none, List, length, slice_index}
 use Rattle.std.specs.Option.{option_map_or}
-use Rattle.s360_model.specs.Core.{Core}
-use Rattle.s360_model.specs.Psw.{instruction_address_of, protection_key_of}
+use Rattle.s360_model.specs.{Core.Core, Psw.instruction_address_of, Psw.protection_key_of}
 use Rattle.s360_psw.specs.declared.instruction_length.InstructionLength.{InstructionLength}
 use Rattle.s360_psw.specs.declared.instruction_length.InstructionLength.TheVariants.{NotAvailable, OneHalfword, TwoHalfwords, ThreeHalfwords}
-use Rattle.s360_store.specs.declared.place.Cell.{Cell}
-use Rattle.s360_store.specs.declared.puts.Puts.{Ghosts}
-use Rattle.s360_fixed.specs.declared.ended.Ended.TheVariants.{Program}
-use Rattle.s360_fixed.specs.declared.form.Form.{Form}
-use Rattle.s360_fixed.specs.declared.program_code.ProgramCode.TheVariants.{Operation}
-use Rattle.s360_fixed.specs.Fetching.{fetch_conditions, instruction_bytes, length_at}
-use Rattle.s360_fixed.specs.Outcomes.{unless_met}
-use Rattle.s360_fixed.specs.Plans.{PlansOutcome, PutsOutcome}
-use Rattle.s360_fixed.specs.ProgramCodes.{Conditions, program_code}
-use Rattle.s360_fixed.specs.Table.{form_of, instruction_length}
-use Rattle.s360_fixed.specs.View.{Outcome, View}
-use Rattle.s360_logic.specs.declared.cpu.PlannedInstruction.{PlannedInstruction}
-use Rattle.s360_logic.specs.Logic.{outcome_of}
+use Rattle.s360_store.specs.declared.{place.Cell.Cell, puts.Puts.Ghosts}
+use Rattle.s360_fixed.specs.declared.{ended.Ended.TheVariants.Program, form.Form.Form, program_code.ProgramCode.TheVariants.Operation}
+use Rattle.s360_fixed.specs.{Fetching.fetch_conditions, Fetching.instruction_bytes, Fetching.length_at, Outcomes.unless_met, Plans.PlansOutcome}
+use Rattle.s360_fixed.specs.{Plans.PutsOutcome, ProgramCodes.Conditions, ProgramCodes.program_code, Table.form_of, Table.instruction_length, View.Outcome}
+use Rattle.s360_fixed.specs.{View.View}
+use Rattle.s360_logic.specs.{declared.cpu.PlannedInstruction.PlannedInstruction, Logic.outcome_of}
 
 -- a length of 2, 4 or 6 bytes as an instruction length
 abbrev pub length_of_bytes : ℕ → InstructionLength

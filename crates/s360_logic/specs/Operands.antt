@@ -1,9 +1,7 @@
 -- What the code has of an instruction so far (ours): storage of which the bytes of the first operand are others.
 use Rattle.std.specs.Prelude.{ℕ, List, ◌+◌, ◌-◌, ◌*◌, ◌/◌, ◌%◌, nat_eq, if◌then◌else◌}
 use Rattle.s360_model.specs.Storage.{Storage, with_run}
-use Rattle.s360_logic.specs.declared.field.Field.{Field}
-use Rattle.s360_logic.specs.declared.right_to_left.NextByte.{NextByte}
-use Rattle.s360_logic.specs.declared.row.DigitRow.{DigitRow}
+use Rattle.s360_logic.specs.declared.{field.Field.Field, right_to_left.NextByte.NextByte, row.DigitRow.DigitRow}
 use Rattle.s360_logic.specs.RightToLeft.{byte_from_right, digits, exchanged}
 
 pub record FirstOperand : Type 0 where

@@ -2,13 +2,10 @@
 -- to left, and bytes are counted from 0 at the right. A byte of the second operand is fetched once, just before the first byte of the result that needs it is
 -- stored; past its end digits are zero; what does not fit is dropped (GA22-6821, "Decimal Arithmetic"; the order is own profile).
 use Rattle.std.specs.Prelude.{ℕ, zero, suc, ◌+◌, ◌-◌, ◌*◌, ◌/◌, ◌%◌, nat_eq, nat_lt, if◌then◌else◌, None, ◌≡◌, ◌<◌, ◌≤◌, ◌⊎◌, length}
-use Rattle.s360_model.specs.Psw.{ascii_mode_of}
-use Rattle.s360_model.specs.Storage.{Storage}
+use Rattle.s360_model.specs.{Psw.ascii_mode_of, Storage.Storage}
 use Rattle.s360_store.specs.declared.protection.Access.TheVariants.{Store}
-use Rattle.s360_fixed.specs.Outcomes.{unless_met}
-use Rattle.s360_fixed.specs.View.{Outcome, View}
-use Rattle.s360_logic.specs.declared.field.Field.{Field}
-use Rattle.s360_logic.specs.declared.row.DigitRow.{DigitRow}
+use Rattle.s360_fixed.specs.{Outcomes.unless_met, View.Outcome, View.View}
+use Rattle.s360_logic.specs.declared.{field.Field.Field, row.DigitRow.DigitRow}
 use Rattle.s360_logic.specs.Bytes.{byte_at, completed_with, fields_conditions, with_byte}
 
 -- the address of the byte of an operand at i, and that byte, which is zero past the end

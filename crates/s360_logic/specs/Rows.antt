@@ -1,16 +1,11 @@
 -- The instruction table: what the operations of these chapters do (GA22-6821, "Logical Operations", "Fixed-Point Arithmetic", "Decimal Arithmetic", "Status
 -- Switching" and "Input/Output Operations").
 use Rattle.std.specs.Prelude.{Option, Some, None}
-use Rattle.s360_fixed.specs.declared.operation.Operation.{Operation}
-use Rattle.s360_fixed.specs.declared.ended.IoOperation.{IoOperation}
-use Rattle.s360_logic.specs.declared.row.ByteCombination.TheVariants.{Second, LowHalf, HighHalf, BitwiseAnd, BitwiseOr, BitwiseExclusiveOr}
-use Rattle.s360_logic.specs.declared.row.ImmediateRow.{ImmediateRow}
-use Rattle.s360_logic.specs.declared.row.DigitRow.{DigitRow}
-use Rattle.s360_logic.specs.declared.row.StorageRow.{StorageRow}
-use Rattle.s360_logic.specs.declared.row.Conversion.{Conversion}
-use Rattle.s360_logic.specs.declared.row.KeyRow.{KeyRow}
-use Rattle.s360_logic.specs.declared.row.RegisterStatus.{RegisterStatus}
-use Rattle.s360_logic.specs.declared.row.StorageStatus.{StorageStatus}
+use Rattle.s360_fixed.specs.declared.{operation.Operation.Operation, ended.IoOperation.IoOperation}
+use Rattle.s360_logic.specs.declared.row.{ByteCombination.TheVariants.Second, ByteCombination.TheVariants.LowHalf, ByteCombination.TheVariants.HighHalf}
+use Rattle.s360_logic.specs.declared.row.{ByteCombination.TheVariants.BitwiseAnd, ByteCombination.TheVariants.BitwiseOr}
+use Rattle.s360_logic.specs.declared.row.{ByteCombination.TheVariants.BitwiseExclusiveOr, ImmediateRow.ImmediateRow, DigitRow.DigitRow, StorageRow.StorageRow}
+use Rattle.s360_logic.specs.declared.row.{Conversion.Conversion, KeyRow.KeyRow, RegisterStatus.RegisterStatus, StorageStatus.StorageStatus}
 
 -- the rows with an immediate byte
 abbrev pub immediate_row_of : Operation → Option ImmediateRow

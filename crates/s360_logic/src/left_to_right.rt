@@ -5,8 +5,8 @@ ghost use Rattle.std.specs.Prelude.{◌≡◌, ◌≤◌, ◌<◌, ◌+◌, ◌^
 ghost use Rattle.s360_fixed.specs.Plans.{PutsNothing, PutsOutcome};
 ghost use Rattle.s360_fixed.specs.ProgramCodes.{program_code};
 ghost use Rattle.s360_fixed.specs.Operands.{conditions_of};
-ghost use Rattle.s360_logic.specs.LeftToRight.{combine_outcome, combined, compare_outcome, comparison_code, found_at, found_outcome, function_address, function_byte};
-ghost use Rattle.s360_logic.specs.LeftToRight.{search_access, translate_access, translate_and_test_outcome, translate_outcome, translated};
+ghost use Rattle.s360_logic.specs.LeftToRight.{combine_outcome, combined, compare_outcome, comparison_code, found_at, found_outcome, function_address};
+ghost use Rattle.s360_logic.specs.LeftToRight.{function_byte, search_access, translate_access, translate_and_test_outcome, translate_outcome, translated};
 ghost use Rattle.s360_logic.specs.LeftToRight.{with_address, with_low_byte};
 ghost use Rattle.s360_logic.specs.declared.left_to_right.Found.{Found};
 ghost use Rattle.s360_logic.specs.Bytes.{operand_bytes};
