@@ -52,7 +52,7 @@ started u p (Fetched.Whole last c) =
     if is_immediate c then with_status device_has_ended no_channel_status None
     else record { condition = 0; stores = Nothing; unit = becomes u (record { state = UnitState.Active p; attention = false }) }
 
--- and the program at this channel address word
+-- START I/O of it with the program that this channel address word leads to
 abbrev pub start_with : Storage → ConfiguredUnit → Caw → IoResult
 start_with s u caw =
     if is_whole_caw caw then started u (program_at caw.key caw.address) (next_ccw s (program_at caw.key caw.address))

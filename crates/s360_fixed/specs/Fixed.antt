@@ -14,7 +14,7 @@ with_register row v r1 r2 = row v r1 (word_operand (register_of v r2))
 abbrev pub with_operand : SecondOperand → (View → ℕ → Operand → Outcome) → View → ℕ → ℕ → Outcome
 with_operand second row v r1 address = row v r1 (storage_operand v.core second address)
 
--- the rows of the format RR, by R1 and R2, which has the branch address
+-- the rows of the format RR, by R1 and R2, which has the second operand or the branch address
 abbrev pub rr_outcome : Row → Option (View → ℕ → ℕ → Outcome)
 rr_outcome (Row.Combine second c) = Some (with_register (combination_outcome c))
 rr_outcome (Row.CombinePair c) = Some (with_register (pair_outcome c))

@@ -22,6 +22,7 @@ combination_outcome combination v r1 s =
     in unless_met s.conditions v.core
     (after_alteration v.core (record { registers = word_for r1 result.0; setting = result.1; address = v.next_address }))
 
+-- the number of a register, or an address, is odd
 abbrev pub is_odd : ℕ → Bool
 is_odd r = nat_eq (r % 2) 1
 
