@@ -5,12 +5,9 @@ use Rattle.std.specs.Prelude.{slice_set}
 use Rattle.std.specs.{Option.option_map, Option.option_map_or, List.find}
 use Rattle.s360_model.specs.Psw.{channel_mask_of}
 use Rattle.s360_word.specs.declared.unit.Unit.{Unit as UnitAddress}
-use Rattle.s360_channel.specs.declared.configured_unit.ChannelKind.{ChannelKind}
-use Rattle.s360_channel.specs.declared.configured_unit.ConfiguredUnit.{ConfiguredUnit}
+use Rattle.s360_channel.specs.{declared.configured_unit.ChannelKind.ChannelKind, Units.idle_unit, Units.is_active, Units.is_pending}
+use Rattle.s360_channel.specs.declared.{configured_unit.ConfiguredUnit.ConfiguredUnit, unit_control.UnitControl.UnitControl, unit_state.UnitState.UnitState}
 use Rattle.s360_channel.specs.declared.configured_unit.ConfiguredUnit.TheVariants.{Reader, Punch, Printer, Console, Tape0, Tape1}
-use Rattle.s360_channel.specs.declared.unit_control.UnitControl.{UnitControl}
-use Rattle.s360_channel.specs.declared.unit_state.UnitState.{UnitState}
-use Rattle.s360_channel.specs.Units.{idle_unit, is_active, is_pending}
 
 -- the units in the order of their addresses, and the place of each among them
 abbrev pub configured_units : List ConfiguredUnit

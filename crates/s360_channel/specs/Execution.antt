@@ -4,11 +4,10 @@ use Rattle.std.specs.Prelude.{◌++◌, length, slice_range, take, drop, reverse
 use Rattle.s360_model.specs.{Core.Core, Core.core_with_bytes, Storage.Storage}
 use Rattle.s360_store.specs.{declared.protection.Access.Access, declared.protection.Checked.Checked, Protection.access}
 use Rattle.s360_device.specs.declared.device.Begin.{Begin}
-use Rattle.s360_channel.specs.declared.{ccw.Ccw.Ccw, csw.ChannelStatus.ChannelStatus, csw.UnitStatus.UnitStatus, conclusion.Conclusion.Conclusion}
-use Rattle.s360_channel.specs.declared.{fetching.Fetched.Fetched, program.Program.Program, program.Progress.Progress, transfer.Transfer.Transfer}
-use Rattle.s360_channel.specs.declared.{unit_state.UnitState.UnitState}
-use Rattle.s360_channel.specs.{Programs.next_ccw, Words.device_has_ended, Words.meets_program_check, Words.meets_protection_check, Words.no_channel_status}
-use Rattle.s360_channel.specs.{Words.no_unit_status, Words.reads_backward}
+use Rattle.s360_channel.specs.{declared.ccw.Ccw.Ccw, Programs.next_ccw}
+use Rattle.s360_channel.specs.declared.{csw.ChannelStatus.ChannelStatus, program.Progress.Progress, transfer.Transfer.Transfer, unit_state.UnitState.UnitState}
+use Rattle.s360_channel.specs.declared.{csw.UnitStatus.UnitStatus, conclusion.Conclusion.Conclusion, fetching.Fetched.Fetched, program.Program.Program}
+use Rattle.s360_channel.specs.Words.{device_has_ended, meets_program_check, meets_protection_check, no_channel_status, no_unit_status, reads_backward}
 
 -- a device as its channel sees it: how it begins a command, the bytes that it gives, and whether it ends it with unit exception
 pub record DeviceView : Type 0 where

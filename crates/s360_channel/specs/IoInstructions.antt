@@ -4,16 +4,15 @@ use Rattle.std.specs.Prelude.{ℕ, Bool, true, false, not, ◌&&◌, ◌||◌, n
 use Rattle.std.specs.Option.{option_map_or}
 use Rattle.s360_model.specs.Storage.{Storage, word_at}
 use Rattle.s360_word.specs.declared.unit.Unit.{Unit as UnitAddress}
-use Rattle.s360_channel.specs.declared.{caw.Caw.Caw, ccw.Ccw.Ccw, csw.Csw.Csw, csw.UnitStatus.UnitStatus, csw.ChannelStatus.ChannelStatus}
-use Rattle.s360_channel.specs.declared.{fetching.Fetched.Fetched, configured_unit.ChannelKind.ChannelKind, configured_unit.ConfiguredUnit.ConfiguredUnit}
-use Rattle.s360_channel.specs.declared.{io_instructions.CswStore.TheVariants.Nothing, io_instructions.CswStore.TheVariants.Status}
-use Rattle.s360_channel.specs.declared.{io_instructions.CswStore.TheVariants.Csw as whole, io_instructions.IoResult.IoResult}
-use Rattle.s360_channel.specs.declared.{io_instructions.UnitAfter.UnitAfter, program.Program.Program, unit_control.Condition.Condition}
-use Rattle.s360_channel.specs.declared.{unit_control.UnitControl.UnitControl, unit_state.UnitState.UnitState}
-use Rattle.s360_channel.specs.{ConfiguredUnits.Units, ConfiguredUnits.active_beside, ConfiguredUnits.control_of, ConfiguredUnits.is_occupied}
-use Rattle.s360_channel.specs.{ConfiguredUnits.kind_of, ConfiguredUnits.unit_at, ConfiguredUnits.with_control_of, Programs.next_ccw, Programs.program_at}
-use Rattle.s360_channel.specs.{Units.condition_of, Units.idle_unit, Units.is_active, Units.is_waiting, Units.program_of, Words.asks_attention, Words.caw_of}
-use Rattle.s360_channel.specs.{Words.device_has_ended, Words.is_whole_caw, Words.meets_program_check, Words.no_channel_status, Words.no_unit_status}
+use Rattle.s360_channel.specs.declared.{caw.Caw.Caw, ccw.Ccw.Ccw, fetching.Fetched.Fetched, configured_unit.ChannelKind.ChannelKind}
+use Rattle.s360_channel.specs.declared.csw.{Csw.Csw, UnitStatus.UnitStatus, ChannelStatus.ChannelStatus}
+use Rattle.s360_channel.specs.declared.{configured_unit.ConfiguredUnit.ConfiguredUnit, program.Program.Program, unit_state.UnitState.UnitState}
+use Rattle.s360_channel.specs.declared.io_instructions.CswStore.TheVariants.{Nothing, Status, Csw as whole}
+use Rattle.s360_channel.specs.declared.io_instructions.{IoResult.IoResult, UnitAfter.UnitAfter}
+use Rattle.s360_channel.specs.declared.unit_control.{Condition.Condition, UnitControl.UnitControl}
+use Rattle.s360_channel.specs.ConfiguredUnits.{Units, active_beside, control_of, is_occupied, kind_of, unit_at, with_control_of}
+use Rattle.s360_channel.specs.{Programs.next_ccw, Programs.program_at, Units.condition_of, Units.idle_unit, Units.is_active, Units.is_waiting, Units.program_of}
+use Rattle.s360_channel.specs.Words.{asks_attention, caw_of, device_has_ended, is_whole_caw, meets_program_check, no_channel_status, no_unit_status}
 
 abbrev pub caw_location : ℕ
 caw_location = 72

@@ -3,11 +3,10 @@ use Rattle.std.specs.Prelude.{◌≡◌, ◌<◌, ◌≤◌, ◌+◌, ℕ, IfSom
 use Rattle.s360_model.specs.{Core.Core, Storage.Storage}
 use Rattle.s360_store.specs.{declared.place.Cell.Cell, Plans.IsPlanOf}
 use Rattle.s360_device.specs.{declared.device.Device.Ghosts, Transfers.MovesBytes}
-use Rattle.s360_channel.specs.declared.{command_word.CommandWord.CommandWord, csw.ChannelStatus.ChannelStatus, engine.ChannelStep.ChannelStep}
-use Rattle.s360_channel.specs.declared.{engine.Executed.Executed, fetching.Fetched.Fetched, gathering.OutputBytes.OutputBytes, program.Program.Program}
-use Rattle.s360_channel.specs.declared.{unit_state.UnitState.UnitState}
-use Rattle.s360_channel.specs.{Execution.DeviceView, Execution.Ending, Execution.Execution, Execution.Run, Execution.WordAtHand, Execution.after_check}
-use Rattle.s360_channel.specs.{Execution.channel_execution, Execution.command_with, Execution.core_with_run, Execution.word_with, Programs.next_ccw}
+use Rattle.s360_channel.specs.{declared.command_word.CommandWord.CommandWord, Programs.next_ccw}
+use Rattle.s360_channel.specs.declared.{csw.ChannelStatus.ChannelStatus, fetching.Fetched.Fetched, program.Program.Program, unit_state.UnitState.UnitState}
+use Rattle.s360_channel.specs.declared.{engine.ChannelStep.ChannelStep, engine.Executed.Executed, gathering.OutputBytes.OutputBytes}
+use Rattle.s360_channel.specs.Execution.{DeviceView, Ending, Execution, Run, WordAtHand, after_check, channel_execution, command_with, core_with_run, word_with}
 
 -- a device as its channel sees it, and the word at hand that the code has, by the device's contract
 abbrev pub device_view : {D C : Type 0} → Ghosts D C → D → DeviceView

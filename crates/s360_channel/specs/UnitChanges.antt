@@ -3,9 +3,9 @@ use Rattle.std.specs.Prelude.{◌≡◌, Option, Some, None, List, [], ◌∷◌
 use Rattle.std.specs.{Bool.beq, List.filter, Str.bytes_eq}
 use Rattle.s360_model.specs.Exchanges.{CanIfAny, after_if_any}
 use Rattle.s360_store.specs.declared.place.Place.{Place}
-use Rattle.s360_channel.specs.declared.{configured_unit.ConfiguredUnit.ConfiguredUnit, unit_change.UnitChange.UnitChange, csw.Csw.Csw}
-use Rattle.s360_channel.specs.declared.{csw.UnitStatus.UnitStatus, csw.ChannelStatus.ChannelStatus, program.Program.Program, program.Progress.Progress}
-use Rattle.s360_channel.specs.declared.{unit_control.UnitControl.UnitControl, unit_state.UnitState.UnitState}
+use Rattle.s360_channel.specs.declared.{configured_unit.ConfiguredUnit.ConfiguredUnit, unit_control.UnitControl.UnitControl, unit_state.UnitState.UnitState}
+use Rattle.s360_channel.specs.declared.{unit_change.UnitChange.UnitChange, program.Program.Program, program.Progress.Progress}
+use Rattle.s360_channel.specs.declared.csw.{Csw.Csw, UnitStatus.UnitStatus, ChannelStatus.ChannelStatus}
 use Rattle.s360_channel.specs.ConfiguredUnits.{Units, HasEachUnit, control_of, with_control_of, address_of_unit, configured_units}
 
 -- whether a unit is in the same state twice, as a test: two active units are alike where their programs are at the same point

@@ -1,8 +1,7 @@
 -- The state of a unit on its channel, and its condition for an interruption (GA22-6821, "Input/Output Operations", states, and input/output interruptions).
 use Rattle.std.specs.Prelude.{Bool, true, false, Option, Some, None, is_some, if◌then◌else◌}
-use Rattle.s360_channel.specs.declared.{csw.Csw.Csw, program.Program.Program, unit_state.UnitState.UnitState, unit_control.Condition.Condition}
-use Rattle.s360_channel.specs.declared.{unit_control.UnitControl.UnitControl}
-use Rattle.s360_channel.specs.Words.{asks_attention, no_channel_status}
+use Rattle.s360_channel.specs.declared.{csw.Csw.Csw, unit_state.UnitState.UnitState, unit_control.Condition.Condition, unit_control.UnitControl.UnitControl}
+use Rattle.s360_channel.specs.{declared.program.Program.Program, Words.asks_attention, Words.no_channel_status}
 
 -- the program that it executes
 abbrev pub program_of : UnitState → Option Program

@@ -1,7 +1,7 @@
 -- The channel address word, command word and status word (GA22-6821, "Input/Output Operations"). Bits are numbered from 0 at the left.
 use Rattle.std.specs.Prelude.{ℕ, ◌+◌, ◌*◌, ◌/◌, ◌%◌, ◌^◌, Bool, true, ◌&&◌, nat_eq, if◌then◌else◌}
-use Rattle.s360_channel.specs.declared.{caw.Caw.Caw, ccw.Ccw.Ccw, ccw.CcwFlags.CcwFlags, csw.Csw.Csw, csw.UnitStatus.UnitStatus}
-use Rattle.s360_channel.specs.declared.{csw.ChannelStatus.ChannelStatus}
+use Rattle.s360_channel.specs.declared.{caw.Caw.Caw, ccw.Ccw.Ccw, ccw.CcwFlags.CcwFlags}
+use Rattle.s360_channel.specs.declared.csw.{Csw.Csw, UnitStatus.UnitStatus, ChannelStatus.ChannelStatus}
 
 -- what a bit counts that is one or zero
 abbrev pub weight_of : Bool → ℕ → ℕ

@@ -1,10 +1,10 @@
 -- The rows that branch (GA22-6821, "Branching"). The branch address is taken before the link, the count or the sum is stored.
 use Rattle.std.specs.Prelude.{ℕ, ◌+◌, ◌-◌, ◌/◌, ◌%◌, ◌^◌, Bool, true, not, nat_eq, if◌then◌else◌, Option, Some, None, unwrap_or}
-use Rattle.s360_model.specs.{Arithmetic.signed_sum, Arithmetic.word_of, Numbers.low32, Numbers.signed, Psw.condition_code_of, Psw.stored_psw}
-use Rattle.s360_model.specs.{Psw.with_instruction_address}
+use Rattle.s360_model.specs.Arithmetic.{signed_sum, word_of}
+use Rattle.s360_model.specs.{Numbers.low32, Numbers.signed, Psw.condition_code_of, Psw.stored_psw, Psw.with_instruction_address}
 use Rattle.s360_psw.specs.InstructionLength.{length_code_of}
-use Rattle.s360_fixed.specs.{declared.row.Branch.Branch, declared.row.IndexBranch.IndexBranch, Alterations.after_alteration, Alterations.no_register}
-use Rattle.s360_fixed.specs.{Alterations.one_register, Alterations.unchanged, Rows.is_taken, Outcomes.is_odd, View.View, View.Outcome, View.register_of}
+use Rattle.s360_fixed.specs.{declared.row.Branch.Branch, declared.row.IndexBranch.IndexBranch, Outcomes.is_odd, View.View, View.Outcome, View.register_of}
+use Rattle.s360_fixed.specs.{Alterations.after_alteration, Alterations.no_register, Alterations.one_register, Alterations.unchanged, Rows.is_taken}
 
 -- the branch address in a register: none in register 0
 abbrev pub register_target : View → ℕ → Option ℕ

@@ -2,10 +2,10 @@
 use Rattle.std.specs.Prelude.{ℕ, Option, None, Some}
 use Rattle.std.specs.Option.{option_and_then, option_map}
 use Rattle.s360_fixed.specs.declared.{form.Form.Form, row.Row.Row, second_operand.SecondOperand.SecondOperand, second_operand.Width.TheVariants.Word}
-use Rattle.s360_fixed.specs.{Branching.branch_outcome, Branching.index_outcome, Branching.register_target, Operands.Operand, Operands.operand_address}
-use Rattle.s360_fixed.specs.{Operands.storage_operand, Operands.word_operand, Outcomes.combination_outcome, Outcomes.pair_outcome, Rows.row_of}
-use Rattle.s360_fixed.specs.{Shifting.pair_shift_outcome, Shifting.shift_outcome, Storing.load_multiple_outcome, Storing.store_multiple_outcome}
-use Rattle.s360_fixed.specs.{Storing.store_outcome, View.Outcome, View.View, View.register_of}
+use Rattle.s360_fixed.specs.Branching.{branch_outcome, index_outcome, register_target}
+use Rattle.s360_fixed.specs.Operands.{Operand, operand_address, storage_operand, word_operand}
+use Rattle.s360_fixed.specs.{Outcomes.combination_outcome, Outcomes.pair_outcome, Rows.row_of, Shifting.pair_shift_outcome, Shifting.shift_outcome}
+use Rattle.s360_fixed.specs.{Storing.load_multiple_outcome, Storing.store_multiple_outcome, Storing.store_outcome, View.Outcome, View.View, View.register_of}
 
 -- a row of R1 and a second operand that is in R2; and one that is in storage at an address, or the address
 abbrev pub with_register : (View → ℕ → Operand → Outcome) → View → ℕ → ℕ → Outcome

@@ -3,7 +3,7 @@ use Rattle.std.specs.Prelude.{ℕ, ◌+◌, ◌%◌, Bool, ◌||◌, nat_eq, Opt
 use Rattle.std.specs.Option.{option_map, option_map_or}
 use Rattle.s360_model.specs.{Core.Core, Products.product_words, Products.division}
 use Rattle.s360_fixed.specs.declared.{ended.Ended.TheVariants.Program, row.Combination.Combination, row.PairCombination.PairCombination}
-use Rattle.s360_fixed.specs.{Alterations.Alteration, Alterations.after_alteration, Alterations.no_register, Alterations.register_pair, Alterations.unchanged}
+use Rattle.s360_fixed.specs.Alterations.{Alteration, after_alteration, no_register, register_pair, unchanged}
 use Rattle.s360_fixed.specs.{ProgramCodes.Conditions, ProgramCodes.program_code, Operands.Operand, Rows.result_of, View.View, View.Outcome, View.register_of}
 
 -- a program interruption with nothing stored or loaded, where a condition holds

@@ -3,8 +3,8 @@ use Rattle.std.specs.Prelude.{◌≡◌, ◌≤◌, ℕ, ◌+◌, ◌*◌, nat_l
 use Rattle.s360_model.specs.{Core.Core, Core.core_with_word, Storage.word_at}
 use Rattle.s360_store.specs.{declared.place.Cell.Cell, declared.place.Place.TheVariants.Byte, declared.puts.Puts.Ghosts, Plans.IsPlanOf, Puts.HasNoPuts}
 use Rattle.s360_fixed.specs.declared.{effect.Effect.Effect, ended.Ended.Ended, register_words.RegisterWords.RegisterWords}
-use Rattle.s360_fixed.specs.{Alterations.Alteration, Outcomes.word_for, Storing.register_distance, Storing.with_registers_loaded, Storing.with_registers_stored}
-use Rattle.s360_fixed.specs.{View.Outcome, View.View}
+use Rattle.s360_fixed.specs.{Alterations.Alteration, Outcomes.word_for, View.Outcome, View.View}
+use Rattle.s360_fixed.specs.Storing.{register_distance, with_registers_loaded, with_registers_stored}
 
 -- what takes puts has none yet of an instruction that works on this view
 abbrev pub PutsNothing : {S : Type 0} → Ghosts S → S → View → Type 0

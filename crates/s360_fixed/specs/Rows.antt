@@ -1,23 +1,15 @@
 -- What each operation makes of its operands, and the kinds of condition code (GA22-6821, "Fixed-Point Arithmetic", "Logical Operations" and "Branching").
 use Rattle.std.specs.Prelude.{ℕ, ◌+◌, ◌*◌, ◌/◌, ◌%◌, Bool, not, int_lt, ℤ, pos, Option, None, Some, bit_and, bit_or, bit_xor}
-use Rattle.s360_model.specs.{Numbers.low32, Numbers.signed, ConditionCodes.sign_code, ConditionCodes.signed_code, ConditionCodes.carry_code}
-use Rattle.s360_model.specs.{ConditionCodes.bits_code, ConditionCodes.order_code, Arithmetic.signed_sum, Arithmetic.signed_difference}
-use Rattle.s360_model.specs.{Arithmetic.signed_complement, Arithmetic.absolute_value, Arithmetic.negative_absolute_value, Arithmetic.logical_sum}
-use Rattle.s360_model.specs.{Arithmetic.logical_difference, Arithmetic.word_of, Pairs.signed_pair_code, Products.signed_product}
-use Rattle.s360_fixed.specs.declared.operation.Operation.{Operation}
-use Rattle.s360_fixed.specs.declared.row.Combination.{Combination}
+use Rattle.s360_model.specs.{Numbers.low32, Numbers.signed, Pairs.signed_pair_code, Products.signed_product}
+use Rattle.s360_model.specs.ConditionCodes.{sign_code, signed_code, carry_code, bits_code, order_code}
+use Rattle.s360_model.specs.Arithmetic.{signed_sum, signed_difference, signed_complement, absolute_value, negative_absolute_value, logical_sum}
+use Rattle.s360_model.specs.Arithmetic.{logical_difference, word_of}
+use Rattle.s360_fixed.specs.{declared.operation.Operation.Operation, Alterations.set_by_signed, Alterations.set_to, Alterations.unchanged}
+use Rattle.s360_fixed.specs.declared.row.{Combination.Combination, PairCombination.PairCombination, Branch.Branch, IndexBranch.IndexBranch, Row.Row}
 use Rattle.s360_fixed.specs.declared.row.Combination.TheVariants.{Second, InsertedCharacter, Tested, Complement, Absolute, NegativeAbsolute, Sum, Difference}
 use Rattle.s360_fixed.specs.declared.row.Combination.TheVariants.{LogicalSum, LogicalDifference, Comparison, LogicalComparison, BitwiseAnd, BitwiseOr}
 use Rattle.s360_fixed.specs.declared.row.Combination.TheVariants.{BitwiseExclusiveOr, LowProduct}
-use Rattle.s360_fixed.specs.declared.row.PairCombination.TheVariants.{Product, Quotient}
-use Rattle.s360_fixed.specs.declared.row.Branch.TheVariants.{OnCondition, AndLink, OnCount}
-use Rattle.s360_fixed.specs.declared.row.Shift.TheVariants.{LeftLogical, RightLogical, Left, Right}
-use Rattle.s360_fixed.specs.declared.row.IndexBranch.{IndexBranch}
-use Rattle.s360_fixed.specs.declared.row.Row.{Row}
-use Rattle.s360_fixed.specs.declared.setting.CodeSetting.{CodeSetting}
-use Rattle.s360_fixed.specs.declared.second_operand.SecondOperand.TheVariants.{InStorage, Address}
-use Rattle.s360_fixed.specs.declared.second_operand.Width.TheVariants.{Byte, Halfword, Word}
-use Rattle.s360_fixed.specs.Alterations.{set_by_signed, set_to, unchanged}
+use Rattle.s360_fixed.specs.declared.{row.Shift.Shift, setting.CodeSetting.CodeSetting, second_operand.SecondOperand.SecondOperand, second_operand.Width.Width}
 
 -- the condition code of an exact signed number: by its sign, and where an overflow is told, of a word or of a pair
 abbrev pub by_sign : ℤ → CodeSetting
@@ -66,17 +58,17 @@ is_taken IndexBranch.LowOrEqual sum comparand = not (int_lt comparand sum)
 
 -- rows of R1 and a word or a halfword. In the format RR the second operand is in a register
 abbrev pub on_word : Combination → Option Row
-on_word combination = Some (Row.Combine (InStorage Word) combination)
+on_word combination = Some (Row.Combine (SecondOperand.InStorage Width.Word) combination)
 
 abbrev pub on_halfword : Combination → Option Row
-on_halfword combination = Some (Row.Combine (InStorage Halfword) combination)
+on_halfword combination = Some (Row.Combine (SecondOperand.InStorage Width.Halfword) combination)
 
 -- the row of an operation, where it is one of these chapters
 abbrev pub row_of : Operation → Option Row
 row_of Operation.Load = on_word Second
 row_of Operation.LoadHalfword = on_halfword Second
-row_of Operation.LoadAddress = Some (Row.Combine Address Second)
-row_of Operation.InsertCharacter = Some (Row.Combine (InStorage Byte) InsertedCharacter)
+row_of Operation.LoadAddress = Some (Row.Combine SecondOperand.Address Second)
+row_of Operation.InsertCharacter = Some (Row.Combine (SecondOperand.InStorage Width.Byte) InsertedCharacter)
 row_of Operation.LoadAndTest = on_word Tested
 row_of Operation.LoadComplement = on_word Complement
 row_of Operation.LoadPositive = on_word Absolute
@@ -94,24 +86,24 @@ row_of Operation.And = on_word BitwiseAnd
 row_of Operation.Or = on_word BitwiseOr
 row_of Operation.ExclusiveOr = on_word BitwiseExclusiveOr
 row_of Operation.MultiplyHalfword = on_halfword LowProduct
-row_of Operation.Multiply = Some (Row.CombinePair Product)
-row_of Operation.Divide = Some (Row.CombinePair Quotient)
-row_of Operation.Store = Some (Row.StoreBytes Word)
-row_of Operation.StoreHalfword = Some (Row.StoreBytes Halfword)
-row_of Operation.StoreCharacter = Some (Row.StoreBytes Byte)
+row_of Operation.Multiply = Some (Row.CombinePair PairCombination.Product)
+row_of Operation.Divide = Some (Row.CombinePair PairCombination.Quotient)
+row_of Operation.Store = Some (Row.StoreBytes Width.Word)
+row_of Operation.StoreHalfword = Some (Row.StoreBytes Width.Halfword)
+row_of Operation.StoreCharacter = Some (Row.StoreBytes Width.Byte)
 row_of Operation.StoreMultiple = Some Row.StoreRegisters
 row_of Operation.LoadMultiple = Some Row.LoadRegisters
-row_of Operation.ShiftLeftSingleLogical = Some (Row.Shift LeftLogical)
-row_of Operation.ShiftRightSingleLogical = Some (Row.Shift RightLogical)
-row_of Operation.ShiftLeftSingle = Some (Row.Shift Left)
-row_of Operation.ShiftRightSingle = Some (Row.Shift Right)
-row_of Operation.ShiftLeftDoubleLogical = Some (Row.ShiftPair LeftLogical)
-row_of Operation.ShiftRightDoubleLogical = Some (Row.ShiftPair RightLogical)
-row_of Operation.ShiftLeftDouble = Some (Row.ShiftPair Left)
-row_of Operation.ShiftRightDouble = Some (Row.ShiftPair Right)
-row_of Operation.BranchOnCondition = Some (Row.Branch OnCondition)
-row_of Operation.BranchAndLink = Some (Row.Branch AndLink)
-row_of Operation.BranchOnCount = Some (Row.Branch OnCount)
+row_of Operation.ShiftLeftSingleLogical = Some (Row.Shift Shift.LeftLogical)
+row_of Operation.ShiftRightSingleLogical = Some (Row.Shift Shift.RightLogical)
+row_of Operation.ShiftLeftSingle = Some (Row.Shift Shift.Left)
+row_of Operation.ShiftRightSingle = Some (Row.Shift Shift.Right)
+row_of Operation.ShiftLeftDoubleLogical = Some (Row.ShiftPair Shift.LeftLogical)
+row_of Operation.ShiftRightDoubleLogical = Some (Row.ShiftPair Shift.RightLogical)
+row_of Operation.ShiftLeftDouble = Some (Row.ShiftPair Shift.Left)
+row_of Operation.ShiftRightDouble = Some (Row.ShiftPair Shift.Right)
+row_of Operation.BranchOnCondition = Some (Row.Branch Branch.OnCondition)
+row_of Operation.BranchAndLink = Some (Row.Branch Branch.AndLink)
+row_of Operation.BranchOnCount = Some (Row.Branch Branch.OnCount)
 row_of Operation.BranchOnIndexHigh = Some (Row.BranchOnIndex IndexBranch.High)
 row_of Operation.BranchOnIndexLowOrEqual = Some (Row.BranchOnIndex IndexBranch.LowOrEqual)
 row_of other = None

@@ -1,11 +1,11 @@
 -- The rows that shift (GA22-6821, "Fixed-Point Arithmetic" and "Logical Operations", shifts).
 use Rattle.std.specs.Prelude.{ℕ, ◌+◌, ◌%◌}
-use Rattle.s360_model.specs.{Numbers.signed, Pairs.signed_pair, Shifts.times_power, Shifts.over_power, Shifts.left_word, Shifts.left_words, Shifts.right_word}
-use Rattle.s360_model.specs.{Shifts.right_words, Shifts.logical_left_word, Shifts.logical_right_word, Shifts.logical_left_words, Shifts.logical_right_words}
-use Rattle.s360_fixed.specs.declared.{row.Shift.Shift, setting.CodeSetting.CodeSetting}
-use Rattle.s360_fixed.specs.{Alterations.after_alteration, Alterations.one_register, Alterations.register_pair, Alterations.unchanged, Outcomes.is_odd}
-use Rattle.s360_fixed.specs.{Outcomes.unless_met, ProgramCodes.Conditions, ProgramCodes.no_conditions, Rows.by_sign, Rows.by_sign_or_overflow}
-use Rattle.s360_fixed.specs.{Rows.by_sign_or_pair_overflow, View.View, View.Outcome, View.register_of}
+use Rattle.s360_model.specs.{Numbers.signed, Pairs.signed_pair}
+use Rattle.s360_model.specs.Shifts.{times_power, over_power, left_word, left_words, right_word, right_words, logical_left_word, logical_right_word}
+use Rattle.s360_model.specs.Shifts.{logical_left_words, logical_right_words}
+use Rattle.s360_fixed.specs.{declared.row.Shift.Shift, Alterations.after_alteration, Alterations.one_register, Alterations.register_pair, Alterations.unchanged}
+use Rattle.s360_fixed.specs.{declared.setting.CodeSetting.CodeSetting, Outcomes.is_odd, Outcomes.unless_met, View.View, View.Outcome, View.register_of}
+use Rattle.s360_fixed.specs.{ProgramCodes.Conditions, ProgramCodes.no_conditions, Rows.by_sign, Rows.by_sign_or_overflow, Rows.by_sign_or_pair_overflow}
 
 -- a word shifted, and its kind of condition code
 abbrev pub shifted_word : Shift → ℕ → ℕ → ℕ × CodeSetting

@@ -3,8 +3,8 @@ use Rattle.std.specs.Prelude.{ℕ, zero, suc, ◌+◌, ◌-◌, ◌*◌, ◌%◌
 use Rattle.std.specs.Int.{bytes_high_first}
 use Rattle.s360_model.specs.{Core.Core, Core.core_with_bytes, Core.core_with_psw, Core.core_with_word, Psw.with_instruction_address, Storage.word_at}
 use Rattle.s360_store.specs.declared.protection.Access.{Access}
-use Rattle.s360_fixed.specs.{declared.ended.Ended.TheVariants.Done, declared.second_operand.Width.Width, Operands.access_conditions, Operands.bytes_of_width}
-use Rattle.s360_fixed.specs.{Outcomes.unless_met, ProgramCodes.Conditions, View.View, View.Outcome, View.register_of}
+use Rattle.s360_fixed.specs.{declared.ended.Ended.TheVariants.Done, Outcomes.unless_met, ProgramCodes.Conditions, View.View, View.Outcome, View.register_of}
+use Rattle.s360_fixed.specs.{declared.second_operand.Width.Width, Operands.access_conditions, Operands.bytes_of_width}
 
 -- the PSW after an instruction that sets no condition code and does not branch
 abbrev pub next_psw : View → ℕ

@@ -2,8 +2,8 @@
 use Rattle.std.specs.Prelude.{ℕ, ◌+◌, ◌*◌, ◌/◌, ◌%◌, nat_lt, if◌then◌else◌, Option, List, [], ◌∷◌, slice_index}
 use Rattle.std.specs.Option.{option_map}
 use Rattle.s360_model.specs.Tables.{entry_in}
-use Rattle.s360_fixed.specs.declared.{operation.Operation.Operation, form.Format.Format, form.Format.TheVariants.Rr, form.Format.TheVariants.Rx}
-use Rattle.s360_fixed.specs.declared.{form.Format.TheVariants.Rs, form.Format.TheVariants.Si, form.Format.TheVariants.Ss, form.Entry.Entry, form.Form.Form}
+use Rattle.s360_fixed.specs.declared.{operation.Operation.Operation, form.Format.Format, form.Entry.Entry, form.Form.Form}
+use Rattle.s360_fixed.specs.declared.form.Format.TheVariants.{Rr, Rx, Rs, Si, Ss}
 
 -- the instruction with a code has a format and an operation
 abbrev pub row : ℕ → Format → Operation → ℕ × Entry

@@ -3,10 +3,9 @@ use Rattle.std.specs.Prelude.{ℕ, ◌+◌, ◌*◌, ◌/◌, ◌%◌, nat_eq, i
 use Rattle.std.specs.List.{list_all, slice_range}
 use Rattle.s360_model.specs.{Psw.protection_key_of, Psw.with_instruction_address, Storage.Storage}
 use Rattle.s360_store.specs.{declared.protection.Access.Access, declared.protection.Checked.Checked, Protection.access, Protection.met_of_both}
-use Rattle.s360_fixed.specs.declared.ended.Ended.TheVariants.{Done}
-use Rattle.s360_fixed.specs.{Alterations.psw_with, Operands.conditions_of, ProgramCodes.Conditions, View.Outcome, View.View}
-use Rattle.s360_logic.specs.declared.field.Field.{Field}
-use Rattle.s360_logic.specs.declared.row.ByteCombination.{ByteCombination}
+use Rattle.s360_fixed.specs.{declared.ended.Ended.TheVariants.Done, Alterations.psw_with, Operands.conditions_of, ProgramCodes.Conditions}
+use Rattle.s360_fixed.specs.View.{Outcome, View}
+use Rattle.s360_logic.specs.declared.{field.Field.Field, row.ByteCombination.ByteCombination}
 use Rattle.s360_logic.specs.declared.row.ByteCombination.TheVariants.{Second, LowHalf, HighHalf, BitwiseAnd, BitwiseOr, BitwiseExclusiveOr}
 
 -- the byte at an address, and the storage with another one there

@@ -2,12 +2,12 @@
 -- BINARY and CONVERT TO DECIMAL).
 use Rattle.std.specs.Prelude.{ℕ, if◌then◌else◌, ℤ, Option, Some, None}
 use Rattle.std.specs.Int.{bytes_high_first}
-use Rattle.s360_model.specs.{Arithmetic.word_of, Numbers.fits_word, Numbers.signed, Packed.packed, Packed.packed_value, Psw.ascii_mode_of}
-use Rattle.s360_model.specs.{Storage.doubleword_at}
+use Rattle.s360_model.specs.{Arithmetic.word_of, Packed.packed, Packed.packed_value, Psw.ascii_mode_of, Storage.doubleword_at}
+use Rattle.s360_model.specs.Numbers.{fits_word, signed}
 use Rattle.s360_store.specs.declared.protection.Access.TheVariants.{Fetch}
-use Rattle.s360_fixed.specs.declared.{ended.Ended.Ended, program_code.ProgramCode.TheVariants.Data, program_code.ProgramCode.TheVariants.FixedPointDivide}
-use Rattle.s360_fixed.specs.{Operands.access_conditions, Alterations.core_with_alteration, Alterations.one_register, Alterations.unchanged, Outcomes.unless_met}
-use Rattle.s360_fixed.specs.{Storing.bytes_outcome, View.Outcome, View.View, View.register_of}
+use Rattle.s360_fixed.specs.{declared.ended.Ended.Ended, Outcomes.unless_met, Storing.bytes_outcome, View.Outcome, View.View, View.register_of}
+use Rattle.s360_fixed.specs.declared.program_code.ProgramCode.TheVariants.{Data, FixedPointDivide}
+use Rattle.s360_fixed.specs.{Operands.access_conditions, Alterations.core_with_alteration, Alterations.one_register, Alterations.unchanged}
 use Rattle.s360_logic.specs.declared.row.Conversion.{Conversion}
 
 -- R1 becomes the word of a number. One that does not fit interrupts with code 9, after R1 has its low 32 bits; a digit or sign that is none with code 7

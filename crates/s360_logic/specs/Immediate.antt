@@ -2,8 +2,8 @@
 use Rattle.std.specs.Prelude.{ℕ, ◌/◌, nat_eq, if◌then◌else◌, Some, [], ◌∷◌, pos, bit_and}
 use Rattle.s360_model.specs.ConditionCodes.{order_code}
 use Rattle.s360_store.specs.declared.protection.Access.{Access}
-use Rattle.s360_fixed.specs.{Operands.access_conditions, Alterations.after_alteration, Alterations.no_register, Alterations.set_to, Outcomes.unless_met}
-use Rattle.s360_fixed.specs.{View.Outcome, View.View}
+use Rattle.s360_fixed.specs.{Operands.access_conditions, Outcomes.unless_met, View.Outcome, View.View}
+use Rattle.s360_fixed.specs.Alterations.{after_alteration, no_register, set_to}
 use Rattle.s360_logic.specs.declared.row.ImmediateRow.{ImmediateRow}
 use Rattle.s360_logic.specs.Bytes.{byte_at, byte_result, combination_code, completed_with, with_byte}
 

@@ -6,9 +6,8 @@ use Rattle.s360_psw.specs.declared.instruction_length.InstructionLength.{Instruc
 use Rattle.s360_psw.specs.declared.instruction_length.InstructionLength.TheVariants.{NotAvailable, OneHalfword, TwoHalfwords, ThreeHalfwords}
 use Rattle.s360_store.specs.declared.{place.Cell.Cell, puts.Puts.Ghosts}
 use Rattle.s360_fixed.specs.declared.{ended.Ended.TheVariants.Program, form.Form.Form, program_code.ProgramCode.TheVariants.Operation}
-use Rattle.s360_fixed.specs.{Fetching.fetch_conditions, Fetching.instruction_bytes, Fetching.length_at, Outcomes.unless_met, Plans.PlansOutcome}
-use Rattle.s360_fixed.specs.{Plans.PutsOutcome, ProgramCodes.Conditions, ProgramCodes.program_code, Table.form_of, Table.instruction_length, View.Outcome}
-use Rattle.s360_fixed.specs.{View.View}
+use Rattle.s360_fixed.specs.{Fetching.fetch_conditions, Fetching.instruction_bytes, Fetching.length_at, Outcomes.unless_met, View.Outcome, View.View}
+use Rattle.s360_fixed.specs.{Plans.PlansOutcome, Plans.PutsOutcome, ProgramCodes.Conditions, ProgramCodes.program_code, Table.form_of, Table.instruction_length}
 use Rattle.s360_logic.specs.{declared.cpu.PlannedInstruction.PlannedInstruction, Logic.outcome_of}
 
 -- a length of 2, 4 or 6 bytes as an instruction length

@@ -3,10 +3,10 @@ use Rattle.std.specs.Prelude.{ℕ, zero, suc, ◌+◌, ◌*◌, ◌/◌, ◌%◌
 use Rattle.s360_model.specs.{ConditionCodes.order_code, Psw.protection_key_of, Storage.Storage}
 use Rattle.s360_store.specs.declared.protection.{Access.TheVariants.Fetch, Access.TheVariants.Store, Checked.Checked}
 use Rattle.s360_store.specs.Protection.{access, met_of_both}
-use Rattle.s360_fixed.specs.{Operands.conditions_of, Alterations.after_alteration, Alterations.set_to, Outcomes.unless_met, ProgramCodes.Conditions}
-use Rattle.s360_fixed.specs.{View.Outcome, View.View, View.register_of}
-use Rattle.s360_logic.specs.{declared.field.Field.Field, declared.row.ByteCombination.ByteCombination, Immediate.code_alone, Bytes.byte_at, Bytes.byte_result}
-use Rattle.s360_logic.specs.{Bytes.combination_code, Bytes.completed_with, Bytes.field_access, Bytes.fields_conditions, Bytes.operand_bytes, Bytes.with_byte}
+use Rattle.s360_fixed.specs.{Operands.conditions_of, Outcomes.unless_met, ProgramCodes.Conditions, View.Outcome, View.View, View.register_of}
+use Rattle.s360_fixed.specs.Alterations.{after_alteration, set_to}
+use Rattle.s360_logic.specs.{declared.field.Field.Field, declared.row.ByteCombination.ByteCombination, Immediate.code_alone}
+use Rattle.s360_logic.specs.Bytes.{byte_at, byte_result, combination_code, completed_with, field_access, fields_conditions, operand_bytes, with_byte}
 
 -- the storage after the bytes from number i on, so many of them, were made and stored, each of the storage as those before it left it
 abbrev pub left_to_right : (ℕ → Storage → ℕ) → ℕ → ℕ → ℕ → Storage → Storage

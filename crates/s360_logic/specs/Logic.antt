@@ -4,14 +4,13 @@ use Rattle.std.specs.Prelude.{ℕ, ◌+◌, ◌/◌, ◌%◌, nat_eq, if◌then�
 use Rattle.std.specs.Option.{option_map, option_map_or}
 use Rattle.s360_model.specs.Psw.{protection_key_of}
 use Rattle.s360_fixed.specs.declared.{ended.Ended.TheVariants.Program, form.Form.Form, operation.Operation.TheVariants.Execute}
-use Rattle.s360_fixed.specs.declared.{program_code.ProgramCode.TheVariants.Execute as execute_code}
-use Rattle.s360_fixed.specs.declared.{program_code.ProgramCode.TheVariants.Operation as operation_code}
-use Rattle.s360_fixed.specs.{Fetching.fetch_conditions, Fetching.instruction_bytes, Fixed.fixed_outcome, Operands.operand_address, Outcomes.unless_met}
-use Rattle.s360_fixed.specs.{Table.form_of, Table.displacement_at, Table.high_digit, Table.low_digit, View.Outcome, View.View, View.register_of}
-use Rattle.s360_logic.specs.{declared.row.StorageRow.StorageRow, Converting.conversion_outcome, Immediate.immediate_outcome, LeftToRight.combine_outcome}
-use Rattle.s360_logic.specs.{LeftToRight.compare_outcome, LeftToRight.translate_outcome, LeftToRight.translate_and_test_outcome, RightToLeft.digits_outcome}
-use Rattle.s360_logic.specs.{Rows.conversion_of, Rows.immediate_row_of, Rows.register_status_of, Rows.storage_row_of, Rows.storage_status_of}
-use Rattle.s360_logic.specs.{Status.register_status_outcome, Status.storage_status_outcome}
+use Rattle.s360_fixed.specs.declared.program_code.ProgramCode.TheVariants.{Execute as execute_code, Operation as operation_code}
+use Rattle.s360_fixed.specs.{Fetching.fetch_conditions, Fetching.instruction_bytes, Outcomes.unless_met, View.Outcome, View.View, View.register_of}
+use Rattle.s360_fixed.specs.{Fixed.fixed_outcome, Operands.operand_address, Table.form_of, Table.displacement_at, Table.high_digit, Table.low_digit}
+use Rattle.s360_logic.specs.{declared.row.StorageRow.StorageRow, Converting.conversion_outcome, Immediate.immediate_outcome, RightToLeft.digits_outcome}
+use Rattle.s360_logic.specs.LeftToRight.{combine_outcome, compare_outcome, translate_outcome, translate_and_test_outcome}
+use Rattle.s360_logic.specs.Rows.{conversion_of, immediate_row_of, register_status_of, storage_row_of, storage_status_of}
+use Rattle.s360_logic.specs.Status.{register_status_outcome, storage_status_outcome}
 
 -- a row of two operands in storage, by the length field, which is one less than the number of bytes, or two such fields for digits, and by the addresses
 abbrev pub storage_outcome : StorageRow → View → ℕ → ℕ → ℕ → Outcome

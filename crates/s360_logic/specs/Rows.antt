@@ -2,10 +2,9 @@
 -- Switching" and "Input/Output Operations").
 use Rattle.std.specs.Prelude.{Option, Some, None}
 use Rattle.s360_fixed.specs.declared.{operation.Operation.Operation, ended.IoOperation.IoOperation}
-use Rattle.s360_logic.specs.declared.row.{ByteCombination.TheVariants.Second, ByteCombination.TheVariants.LowHalf, ByteCombination.TheVariants.HighHalf}
-use Rattle.s360_logic.specs.declared.row.{ByteCombination.TheVariants.BitwiseAnd, ByteCombination.TheVariants.BitwiseOr}
-use Rattle.s360_logic.specs.declared.row.{ByteCombination.TheVariants.BitwiseExclusiveOr, ImmediateRow.ImmediateRow, DigitRow.DigitRow, StorageRow.StorageRow}
-use Rattle.s360_logic.specs.declared.row.{Conversion.Conversion, KeyRow.KeyRow, RegisterStatus.RegisterStatus, StorageStatus.StorageStatus}
+use Rattle.s360_logic.specs.declared.row.ByteCombination.TheVariants.{Second, LowHalf, HighHalf, BitwiseAnd, BitwiseOr, BitwiseExclusiveOr}
+use Rattle.s360_logic.specs.declared.row.{ImmediateRow.ImmediateRow, KeyRow.KeyRow, RegisterStatus.RegisterStatus, StorageStatus.StorageStatus}
+use Rattle.s360_logic.specs.declared.row.{DigitRow.DigitRow, StorageRow.StorageRow, Conversion.Conversion}
 
 -- the rows with an immediate byte
 abbrev pub immediate_row_of : Operation → Option ImmediateRow

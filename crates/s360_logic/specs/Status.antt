@@ -7,8 +7,8 @@ use Rattle.s360_model.specs.Storage.{block_size, doubleword_at, fetch_bit_of_blo
 use Rattle.s360_word.specs.declared.unit.Unit.{Unit}
 use Rattle.s360_store.specs.declared.protection.Access.TheVariants.{Fetch}
 use Rattle.s360_fixed.specs.declared.ended.Ended.TheVariants.{Done, Svc, Io}
-use Rattle.s360_fixed.specs.{Operands.access_conditions, Outcomes.unless_met, ProgramCodes.Conditions, ProgramCodes.no_conditions, Storing.completed}
-use Rattle.s360_fixed.specs.{Storing.next_psw, View.Outcome, View.View, View.register_of}
+use Rattle.s360_fixed.specs.{Operands.access_conditions, Outcomes.unless_met, Storing.completed, Storing.next_psw, View.Outcome, View.View, View.register_of}
+use Rattle.s360_fixed.specs.ProgramCodes.{Conditions, no_conditions}
 use Rattle.s360_logic.specs.{declared.row.KeyRow.KeyRow, declared.row.RegisterStatus.RegisterStatus, declared.row.StorageStatus.StorageStatus, Bytes.byte_at}
 
 -- what a privileged instruction meets beside its other conditions
