@@ -13,10 +13,8 @@ use Rattle.s360_channel.specs.declared.unit_change.UnitChange.{UnitChange}
 use Rattle.s360_channel.specs.declared.unit_change.UnitChange.TheVariants.{One, Attention, Several}
 use Rattle.s360_channel.specs.declared.unit_control.UnitControl.{UnitControl}
 use Rattle.s360_channel.specs.Units.{idle_unit}
-use Rattle.s360_channel.specs.Differences.{same_unit}
-use Rattle.s360_channel.specs.ConfiguredUnits.{Units, HasEachUnit, configured_units, control_of, index_of, with_control_of}
-use Rattle.s360_channel.specs.ConfiguredUnits.{SeveralUnits}
-use Rattle.s360_channel.specs.Differences.{altered_units, state_place}
+use Rattle.s360_channel.specs.Differences.{same_unit, altered_units, state_place}
+use Rattle.s360_channel.specs.ConfiguredUnits.{Units, HasEachUnit, configured_units, control_of, index_of, with_control_of, SeveralUnits}
 use Rattle.s360_channel.specs.UnitChanges.{CanSwapUnits, IsUnitsChangeTo, places_of_units, unit_change_after_swap, units_after_swap}
 use Rattle.s360_channel.proofs.DifferenceLemmas.{same_unit-Decides}
 

@@ -1,18 +1,13 @@
--- The units of the machine: the card reader 00C, the card punch 00D, the printer 00E and the console 01F on channel 0,
--- and the magnetic tapes 180 and 181 on channel 1 (own profile).
-use Rattle.std.specs.Prelude.{◌≡◌, ℕ, ◌/◌, nat_eq, Bool, false, ◌&&◌, if◌then◌else◌, Option, Some, None, is_some}
-use Rattle.std.specs.Prelude.{List, [], ◌∷◌, length, map, slice_index_or, slice_set}
-use Rattle.std.specs.Option.{option_map, option_map_or}
-use Rattle.std.specs.List.{find}
+-- The units of the machine: the card reader 00C, the card punch 00D, the printer 00E and the console 01F on channel 0, and the magnetic tapes 180 and 181 on
+-- channel 1 (own profile).
+use Rattle.std.specs.Prelude.{◌≡◌, ℕ, ◌/◌, nat_eq, Bool, false, ◌&&◌, if◌then◌else◌, Option, Some, None, is_some, List, [], ◌∷◌, length, map, slice_index_or}
+use Rattle.std.specs.Prelude.{slice_set}
+use Rattle.std.specs.{Option.option_map, Option.option_map_or, List.find}
 use Rattle.s360_model.specs.Psw.{channel_mask_of}
 use Rattle.s360_word.specs.declared.unit.Unit.{Unit as UnitAddress}
-use Rattle.s360_channel.specs.declared.configured_unit.ChannelKind.{ChannelKind}
-use Rattle.s360_channel.specs.declared.configured_unit.ChannelKind.TheVariants.{Multiplexer, Selector}
-use Rattle.s360_channel.specs.declared.configured_unit.ConfiguredUnit.{ConfiguredUnit}
+use Rattle.s360_channel.specs.{declared.configured_unit.ChannelKind.ChannelKind, Units.idle_unit, Units.is_active, Units.is_pending}
+use Rattle.s360_channel.specs.declared.{configured_unit.ConfiguredUnit.ConfiguredUnit, unit_control.UnitControl.UnitControl, unit_state.UnitState.UnitState}
 use Rattle.s360_channel.specs.declared.configured_unit.ConfiguredUnit.TheVariants.{Reader, Punch, Printer, Console, Tape0, Tape1}
-use Rattle.s360_channel.specs.declared.unit_control.UnitControl.{UnitControl}
-use Rattle.s360_channel.specs.declared.unit_state.UnitState.{UnitState}
-use Rattle.s360_channel.specs.Units.{idle_unit, is_active, is_pending}
 
 -- the units in the order of their addresses, and the place of each among them
 abbrev pub configured_units : List ConfiguredUnit
@@ -44,9 +39,9 @@ channel_of u = address_of_unit u / 0x100
 
 -- channel 0 executes the programs of its units side by side, channel 1 one program at a time (own profile)
 abbrev pub kind_of : ConfiguredUnit → ChannelKind
-kind_of Tape0 = Selector
-kind_of Tape1 = Selector
-kind_of u = Multiplexer
+kind_of Tape0 = ChannelKind.Selector
+kind_of Tape1 = ChannelKind.Selector
+kind_of u = ChannelKind.Multiplexer
 
 -- how the units stand on their channels, one after another
 abbrev pub Units : Type 0

@@ -1,23 +1,13 @@
--- Whether a unit is in the same state twice, as a test (ours): two active units are alike where their programs are at
--- the same point. And the places of the units that differ.
+-- Whether a unit is in the same state twice, as a test (ours), and the places of the units that differ.
 use Rattle.std.specs.Prelude.{Bool, true, false, not, ◌&&◌, nat_eq, List, map}
-use Rattle.std.specs.Bool.{beq}
-use Rattle.std.specs.List.{filter}
-use Rattle.std.specs.Str.{bytes_eq}
+use Rattle.std.specs.{Bool.beq, List.filter, Str.bytes_eq}
 use Rattle.s360_store.specs.declared.place.Place.{Place}
-use Rattle.s360_store.specs.declared.place.Place.TheVariants.{UnitState as state_of_unit}
-use Rattle.s360_channel.specs.declared.configured_unit.ConfiguredUnit.{ConfiguredUnit}
-use Rattle.s360_channel.specs.declared.csw.Csw.{Csw}
-use Rattle.s360_channel.specs.declared.csw.UnitStatus.{UnitStatus}
-use Rattle.s360_channel.specs.declared.csw.ChannelStatus.{ChannelStatus}
-use Rattle.s360_channel.specs.declared.program.Program.{Program}
-use Rattle.s360_channel.specs.declared.program.Progress.{Progress}
-use Rattle.s360_channel.specs.declared.program.Progress.TheVariants.{First, Loading, CommandChained, InputChained, OutputChained}
-use Rattle.s360_channel.specs.declared.unit_control.UnitControl.{UnitControl}
-use Rattle.s360_channel.specs.declared.unit_state.UnitState.{UnitState}
-use Rattle.s360_channel.specs.declared.unit_state.UnitState.TheVariants.{Idle, Active, Waiting}
+use Rattle.s360_channel.specs.declared.{configured_unit.ConfiguredUnit.ConfiguredUnit, unit_control.UnitControl.UnitControl, unit_state.UnitState.UnitState}
+use Rattle.s360_channel.specs.declared.{program.Program.Program, program.Progress.Progress}
+use Rattle.s360_channel.specs.declared.csw.{Csw.Csw, UnitStatus.UnitStatus, ChannelStatus.ChannelStatus}
 use Rattle.s360_channel.specs.ConfiguredUnits.{Units, address_of_unit, configured_units, control_of}
 
+-- whether a unit is in the same state twice, as a test: two active units are alike where their programs are at the same point
 abbrev pub same_unit_status : UnitStatus → UnitStatus → Bool
 same_unit_status s t =
     beq s.attention t.attention
@@ -45,20 +35,20 @@ same_csw c d =
     && nat_eq c.count d.count)))
 
 abbrev pub same_progress : Progress → Progress → Bool
-same_progress First First = true
-same_progress Loading Loading = true
-same_progress CommandChained CommandChained = true
-same_progress (InputChained command moved) (InputChained other count) = nat_eq command other && nat_eq moved count
-same_progress (OutputChained command gathered) (OutputChained other bytes) = nat_eq command other && bytes_eq gathered bytes
+same_progress Progress.First Progress.First = true
+same_progress Progress.Loading Progress.Loading = true
+same_progress Progress.CommandChained Progress.CommandChained = true
+same_progress (Progress.InputChained command moved) (Progress.InputChained other count) = nat_eq command other && nat_eq moved count
+same_progress (Progress.OutputChained command gathered) (Progress.OutputChained other bytes) = nat_eq command other && bytes_eq gathered bytes
 same_progress p q = false
 
 abbrev pub same_program : Program → Program → Bool
 same_program p q = nat_eq p.key q.key && (nat_eq p.address q.address && same_progress p.progress q.progress)
 
 abbrev pub same_state : UnitState → UnitState → Bool
-same_state Idle Idle = true
-same_state (Active p) (Active q) = same_program p q
-same_state (Waiting c) (Waiting d) = same_csw c d
+same_state UnitState.Idle UnitState.Idle = true
+same_state (UnitState.Active p) (UnitState.Active q) = same_program p q
+same_state (UnitState.Waiting c) (UnitState.Waiting d) = same_csw c d
 same_state s t = false
 
 abbrev pub same_unit : UnitControl → UnitControl → Bool
@@ -69,7 +59,7 @@ abbrev pub altered_units : Units → Units → List ConfiguredUnit
 altered_units us vs = filter (λ u. not (same_unit (control_of us u) (control_of vs u))) configured_units
 
 abbrev pub state_place : ConfiguredUnit → Place
-state_place u = state_of_unit (record { 0 = address_of_unit u })
+state_place u = Place.UnitState (record { 0 = address_of_unit u })
 
 abbrev pub unit_differences : Units → Units → List Place
 unit_differences us vs = map (λ u. state_place u) (altered_units us vs)

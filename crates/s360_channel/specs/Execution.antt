@@ -1,34 +1,15 @@
--- One channel event: the execution of one channel command word over a device (GA22-6821, "Input/Output Operations",
--- execution of input/output operations, chaining, and conclusion of input/output operations).
-use Rattle.std.specs.Prelude.{ℕ, ◌+◌, ◌-◌, ◌%◌, ◌^◌, nat_eq, nat_le, nat_lt, min, Bool, true, false, not, ◌&&◌, if◌then◌else◌}
-use Rattle.std.specs.Prelude.{Option, Some, None, List, [], ◌++◌, length, slice_range, take, drop, reverse}
-use Rattle.s360_model.specs.Core.{Core, core_with_bytes}
-use Rattle.s360_model.specs.Storage.{Storage}
-use Rattle.s360_store.specs.Protection.{access}
-use Rattle.s360_store.specs.declared.protection.Access.{Access}
-use Rattle.s360_store.specs.declared.protection.Access.TheVariants.{Fetch, Store}
-use Rattle.s360_store.specs.declared.protection.Checked.{Checked}
-use Rattle.s360_store.specs.declared.protection.Checked.TheVariants.{Clear, Addressing, Protection}
+-- One channel event: the execution of one channel command word over a device (GA22-6821, "Input/Output Operations", execution, chaining and conclusion).
+use Rattle.std.specs.Prelude.{ℕ, ◌+◌, ◌-◌, ◌%◌, ◌^◌, nat_eq, nat_le, nat_lt, min, Bool, true, false, not, ◌&&◌, if◌then◌else◌, Option, Some, None, List, []}
+use Rattle.std.specs.Prelude.{◌++◌, length, slice_range, take, drop, reverse}
+use Rattle.s360_model.specs.{Core.Core, Core.core_with_bytes, Storage.Storage}
+use Rattle.s360_store.specs.{declared.protection.Access.Access, declared.protection.Checked.Checked, Protection.access}
 use Rattle.s360_device.specs.declared.device.Begin.{Begin}
-use Rattle.s360_device.specs.declared.device.Begin.TheVariants.{Input, Output, Control, NotYet, Refused}
-use Rattle.s360_channel.specs.declared.ccw.Ccw.{Ccw}
-use Rattle.s360_channel.specs.declared.csw.ChannelStatus.{ChannelStatus}
-use Rattle.s360_channel.specs.declared.csw.UnitStatus.{UnitStatus}
-use Rattle.s360_channel.specs.declared.conclusion.Conclusion.{Conclusion}
-use Rattle.s360_channel.specs.declared.fetching.Fetched.{Fetched}
-use Rattle.s360_channel.specs.declared.fetching.Fetched.TheVariants.{Broken, Whole}
-use Rattle.s360_channel.specs.declared.program.Program.{Program}
-use Rattle.s360_channel.specs.declared.program.Progress.{Progress}
-use Rattle.s360_channel.specs.declared.program.Progress.TheVariants.{CommandChained, InputChained, OutputChained}
-use Rattle.s360_channel.specs.declared.transfer.Transfer.{Transfer}
-use Rattle.s360_channel.specs.declared.unit_state.UnitState.{UnitState}
-use Rattle.s360_channel.specs.declared.unit_state.UnitState.TheVariants.{Active, Waiting}
-use Rattle.s360_channel.specs.Programs.{next_ccw}
-use Rattle.s360_channel.specs.Words.{device_has_ended, meets_program_check, meets_protection_check}
-use Rattle.s360_channel.specs.Words.{no_channel_status, no_unit_status, reads_backward}
+use Rattle.s360_channel.specs.{declared.ccw.Ccw.Ccw, Programs.next_ccw}
+use Rattle.s360_channel.specs.declared.{csw.ChannelStatus.ChannelStatus, program.Progress.Progress, transfer.Transfer.Transfer, unit_state.UnitState.UnitState}
+use Rattle.s360_channel.specs.declared.{csw.UnitStatus.UnitStatus, conclusion.Conclusion.Conclusion, fetching.Fetched.Fetched, program.Program.Program}
+use Rattle.s360_channel.specs.Words.{device_has_ended, meets_program_check, meets_protection_check, no_channel_status, no_unit_status, reads_backward}
 
--- a device as its channel sees it: how it begins a command, the bytes that it gives, and whether it ends it with unit
--- exception
+-- a device as its channel sees it: how it begins a command, the bytes that it gives, and whether it ends it with unit exception
 pub record DeviceView : Type 0 where
   pub begin : ℕ → Begin
   pub input : ℕ → List ℕ
@@ -44,8 +25,7 @@ pub record Ending : Type 0 where
   pub command : ℕ
   pub output : List ℕ
 
--- what a word does: what is stored, the state of the unit afterwards, and the command that ends at the device, which is
--- as it was where none does
+-- what a word does: what is stored, the state of the unit afterwards, and the command that ends at the device, which is as it was where none does
 pub record Execution : Type 0 where
   pub stores : Option Run
   pub state : UnitState
@@ -58,21 +38,21 @@ core_with_run (Some r) m = core_with_bytes r.at r.bytes m
 
 -- the command of a word: under chain data that of the record's first word
 abbrev pub command_with : Progress → Ccw → ℕ
-command_with (InputChained command moved) c = command
-command_with (OutputChained command gathered) c = command
+command_with (Progress.InputChained command moved) c = command
+command_with (Progress.OutputChained command gathered) c = command
 command_with other c = c.command
 
 -- of the record the words before have moved so many bytes of an input, or gathered these of an output
 abbrev pub moved_before : Progress → ℕ
-moved_before (InputChained command moved) = moved
+moved_before (Progress.InputChained command moved) = moved
 moved_before other = 0
 
 abbrev pub gathered_before : Progress → List ℕ
-gathered_before (OutputChained command gathered) = gathered
+gathered_before (Progress.OutputChained command gathered) = gathered
 gathered_before other = []
 
--- the word at hand: its program, its address and itself; the command of its record, and the bytes of the record that the
--- words before have moved or gathered; and what the device answers to the command
+-- the word at hand: its program, its address and itself; the command of its record, and the bytes of the record that the words before have moved or gathered;
+-- and what the device answers to the command
 pub record WordAtHand : Type 0 where
   pub program : Program
   pub at : ℕ
@@ -106,11 +86,11 @@ next_ccw_address at = (at + 8) % 2 ^ 24
 
 -- the program goes on with the word after the one at an address
 abbrev pub goes_on_after : Program → ℕ → Progress → UnitState
-goes_on_after p at progress = Active (record { key = p.key; address = next_ccw_address at; progress = progress })
+goes_on_after p at progress = UnitState.Active (record { key = p.key; address = next_ccw_address at; progress = progress })
 
 -- the program has ended with the word at an address, and its status word waits
 abbrev pub ends_with : Program → ℕ → Conclusion → UnitState
-ends_with p at e = Waiting (record { key = p.key; address = next_ccw_address at; unit = e.unit; channel = e.channel; count = e.residual })
+ends_with p at e = UnitState.Waiting (record { key = p.key; address = next_ccw_address at; unit = e.unit; channel = e.channel; count = e.residual })
 
 -- a channel check ends the program: it moves no byte, leaves the device as it was, and has residual count 0 (own profile)
 abbrev pub after_check : Program → ℕ → ChannelStatus → Execution
@@ -120,18 +100,17 @@ after_check p at status =
 
 -- where bytes move, one outside storage is a program check, and else a protected one a protection check
 abbrev pub unless_checked : WordAtHand → Checked → Execution → Execution
-unless_checked w Clear e = e
-unless_checked w Addressing e = after_check w.program w.at meets_program_check
-unless_checked w Protection e = after_check w.program w.at meets_protection_check
+unless_checked w Checked.Clear e = e
+unless_checked w Checked.Addressing e = after_check w.program w.at meets_program_check
+unless_checked w Checked.Protection e = after_check w.program w.at meets_protection_check
 
--- a command ends: after channel end and device end alone, and no incorrect length, another follows where commands are
--- chained and data are not; else the status word waits
+-- after channel end and device end alone, and no incorrect length, another command follows where commands, and not data, are chained; else the status waits
 abbrev pub is_clean : Conclusion → Bool
 is_clean e = not e.unit.unit_check && (not e.unit.unit_exception && not e.channel.incorrect_length)
 
 abbrev pub after_conclusion : WordAtHand → Conclusion → UnitState
 after_conclusion w e =
-    if w.ccw.flags.chain_command && (not w.ccw.flags.chain_data && is_clean e) then goes_on_after w.program w.at CommandChained
+    if w.ccw.flags.chain_command && (not w.ccw.flags.chain_data && is_clean e) then goes_on_after w.program w.at Progress.CommandChained
     else ends_with w.program w.at e
 
 abbrev pub command_ends : WordAtHand → Conclusion → List ℕ → Execution
@@ -145,9 +124,9 @@ refused_unit = record no_unit_status { unit_check = true }
 abbrev pub ended_unit : Bool → UnitStatus
 ended_unit exception = record device_has_ended { unit_exception = exception }
 
--- a word moves of the n bytes that are left as many as its count, at most. Where data are chained and n is no less than
--- the count, the record goes on with the next word. Else the command ends, and what is left of the count is the residual
--- count. A wrong length is told, but where suppress length indication is one and data are not chained
+-- a word moves of the n bytes that are left as many as its count, at most. Where data are chained and n is no less than the count, the record goes on with the
+-- next word. Else the command ends, and what is left of the count is the residual count. A wrong length is told, but where suppress length indication is one
+-- and data are not chained
 abbrev pub transfer_with : Ccw → ℕ → Bool → Transfer
 transfer_with c n wrong = record {
   count = min n c.count;
@@ -156,8 +135,7 @@ transfer_with c n wrong = record {
   incorrect_length = wrong && not (c.flags.suppress_length && not c.flags.chain_data);
 }
 
--- the length of an input is wrong where n differs from the count, that of an output where the count exceeds n (own
--- profile)
+-- the length of an input is wrong where n differs from the count, that of an output where the count exceeds n (own profile)
 abbrev pub input_transfer : Ccw → ℕ → Transfer
 input_transfer c n = transfer_with c n (not (nat_eq n c.count))
 
@@ -175,16 +153,15 @@ after_transfer w t progress output =
     if t.goes_on then record { stores = None; state = goes_on_after w.program w.at progress; ending = None }
     else command_ends w (conclusion_of w t) output
 
--- the lowest address of so many bytes, which rise from the data address, or fall from it; none where they fall below
--- address 0
+-- the lowest address of so many bytes, which rise from the data address, or fall from it; none where they fall below address 0
 abbrev pub lowest_address : Bool → ℕ → ℕ → Option ℕ
 lowest_address false address count = Some address
 lowest_address true address count = if nat_lt address (count - 1) then None else Some (address - (count - 1))
 
 -- what so many bytes meet, from their lowest address on: where there are none, nothing
 abbrev pub access_of : Storage → ℕ → Access → ℕ → Option ℕ → Checked
-access_of s key kind count None = Addressing
-access_of s key kind count (Some at) = if nat_eq count 0 then Clear else access s at count kind key
+access_of s key kind count None = Checked.Addressing
+access_of s key kind count (Some at) = if nat_eq count 0 then Checked.Clear else access s at count kind key
 
 -- an input's bytes in the order of their addresses, and the run of them, if there are any
 abbrev pub in_order : Bool → List ℕ → List ℕ
@@ -197,30 +174,29 @@ run_of (Some at) bytes = if nat_eq (length bytes) 0 then None else Some (record 
 abbrev pub storing : Storage → WordAtHand → List ℕ → Execution → Execution
 storing s w bytes e =
     let lowest : Option ℕ = lowest_address (reads_backward w.command) w.ccw.address (length bytes)
-    in unless_checked w (access_of s w.program.key Store (length bytes) lowest) (record e { stores = run_of lowest bytes })
+    in unless_checked w (access_of s w.program.key Access.Store (length bytes) lowest) (record e { stores = run_of lowest bytes })
 
 -- input: n is the record less the bytes moved before; the word stores what it moves, but nothing where skip is one
 abbrev pub stored_bytes : WordAtHand → ℕ → List ℕ
 stored_bytes w count = if w.ccw.flags.skip then [] else in_order (reads_backward w.command) (take count (drop w.moved w.input))
 
 abbrev pub after_input : WordAtHand → Transfer → Execution
-after_input w t = after_transfer w t (InputChained w.command (w.moved + t.count)) []
+after_input w t = after_transfer w t (Progress.InputChained w.command (w.moved + t.count)) []
 
 abbrev pub execute_input : Storage → WordAtHand → ℕ → Execution
 execute_input s w total =
     let t : Transfer = input_transfer w.ccw (total - w.moved)
     in storing s w (stored_bytes w t.count) (after_input w t)
 
--- output: n is the limit less the bytes gathered before; the word gathers what it fetches, whatever skip is, and the
--- device takes no more than its limit
+-- output: n is the limit less the bytes gathered before; the word gathers what it fetches, whatever skip is, and the device takes no more than its limit
 abbrev pub after_output : WordAtHand → Transfer → List ℕ → Execution
-after_output w t output = after_transfer w t (OutputChained w.command output) output
+after_output w t output = after_transfer w t (Progress.OutputChained w.command output) output
 
 abbrev pub execute_output : Storage → WordAtHand → ℕ → Execution
 execute_output s w limit =
     let t : Transfer = output_transfer w.ccw (limit - length w.gathered)
     in let fetched : List ℕ = slice_range s.bytes w.ccw.address (w.ccw.address + t.count)
-    in unless_checked w (access_of s w.program.key Fetch t.count (Some w.ccw.address)) (after_output w t (take limit (w.gathered ++ fetched)))
+    in unless_checked w (access_of s w.program.key Access.Fetch t.count (Some w.ccw.address)) (after_output w t (take limit (w.gathered ++ fetched)))
 
 -- control, and a command that is refused: nothing moves, and the count is left
 abbrev pub moves_nothing : WordAtHand → UnitStatus → Execution
@@ -228,15 +204,15 @@ moves_nothing w unit = command_ends w (record { unit = unit; channel = no_channe
 
 -- by how the device begins the command: where it cannot begin it yet, nothing happens
 abbrev pub execute_begun : Storage → WordAtHand → Begin → Execution
-execute_begun s w (Input total) = execute_input s w total
-execute_begun s w (Output limit) = execute_output s w limit
-execute_begun s w Control = moves_nothing w (ended_unit w.exception)
-execute_begun s w (Refused sense) = moves_nothing w refused_unit
-execute_begun s w NotYet = record { stores = None; state = Active w.program; ending = None }
+execute_begun s w (Begin.Input total) = execute_input s w total
+execute_begun s w (Begin.Output limit) = execute_output s w limit
+execute_begun s w Begin.Control = moves_nothing w (ended_unit w.exception)
+execute_begun s w (Begin.Refused sense) = moves_nothing w refused_unit
+execute_begun s w Begin.NotYet = record { stores = None; state = UnitState.Active w.program; ending = None }
 
 abbrev pub execute_fetched : DeviceView → Storage → Program → Fetched → Execution
-execute_fetched d s p (Broken last) = after_check p last meets_program_check
-execute_fetched d s p (Whole at c) = execute_begun s (word_at_hand d p at c) (d.begin (command_with p.progress c))
+execute_fetched d s p (Fetched.Broken last) = after_check p last meets_program_check
+execute_fetched d s p (Fetched.Whole at c) = execute_begun s (word_at_hand d p at c) (d.begin (command_with p.progress c))
 
 -- one channel event of a unit that executes a program
 unfoldable pub channel_execution : DeviceView → Storage → Program → Execution

@@ -1,34 +1,18 @@
--- The input/output instructions (GA22-6821, "Input/Output Operations", START I/O, TEST I/O, HALT I/O and TEST
--- CHANNEL): the condition code, what is stored of the channel status word, and which unit becomes what. Of each
--- instruction the first case that holds; their order is the own profile.
+-- The input/output instructions (GA22-6821, "Input/Output Operations", START I/O, TEST I/O, HALT I/O and TEST CHANNEL): the condition code, what is stored of
+-- the channel status word, and which unit becomes what. Of each instruction the first case that holds; their order is the own profile.
 use Rattle.std.specs.Prelude.{ℕ, Bool, true, false, not, ◌&&◌, ◌||◌, nat_eq, if◌then◌else◌, unwrap_or, Option, Some, None}
 use Rattle.std.specs.Option.{option_map_or}
 use Rattle.s360_model.specs.Storage.{Storage, word_at}
-use Rattle.s360_channel.specs.declared.caw.Caw.{Caw}
-use Rattle.s360_channel.specs.declared.ccw.Ccw.{Ccw}
-use Rattle.s360_channel.specs.declared.csw.Csw.{Csw}
-use Rattle.s360_channel.specs.declared.csw.UnitStatus.{UnitStatus}
-use Rattle.s360_channel.specs.declared.csw.ChannelStatus.{ChannelStatus}
-use Rattle.s360_channel.specs.declared.fetching.Fetched.{Fetched}
-use Rattle.s360_channel.specs.declared.fetching.Fetched.TheVariants.{Broken, Whole}
 use Rattle.s360_word.specs.declared.unit.Unit.{Unit as UnitAddress}
-use Rattle.s360_channel.specs.declared.configured_unit.ChannelKind.{ChannelKind}
-use Rattle.s360_channel.specs.declared.configured_unit.ChannelKind.TheVariants.{Multiplexer, Selector}
-use Rattle.s360_channel.specs.declared.configured_unit.ConfiguredUnit.{ConfiguredUnit}
-use Rattle.s360_channel.specs.declared.configured_unit.ConfiguredUnit.TheVariants.{Tape0, Tape1}
+use Rattle.s360_channel.specs.declared.{caw.Caw.Caw, ccw.Ccw.Ccw, fetching.Fetched.Fetched, configured_unit.ChannelKind.ChannelKind}
+use Rattle.s360_channel.specs.declared.csw.{Csw.Csw, UnitStatus.UnitStatus, ChannelStatus.ChannelStatus}
+use Rattle.s360_channel.specs.declared.{configured_unit.ConfiguredUnit.ConfiguredUnit, program.Program.Program, unit_state.UnitState.UnitState}
 use Rattle.s360_channel.specs.declared.io_instructions.CswStore.TheVariants.{Nothing, Status, Csw as whole}
-use Rattle.s360_channel.specs.declared.io_instructions.IoResult.{IoResult}
-use Rattle.s360_channel.specs.declared.io_instructions.UnitAfter.{UnitAfter}
-use Rattle.s360_channel.specs.declared.program.Program.{Program}
-use Rattle.s360_channel.specs.declared.unit_control.Condition.{Condition}
-use Rattle.s360_channel.specs.declared.unit_control.UnitControl.{UnitControl}
-use Rattle.s360_channel.specs.declared.unit_state.UnitState.{UnitState}
-use Rattle.s360_channel.specs.declared.unit_state.UnitState.TheVariants.{Active, Waiting}
+use Rattle.s360_channel.specs.declared.io_instructions.{IoResult.IoResult, UnitAfter.UnitAfter}
+use Rattle.s360_channel.specs.declared.unit_control.{Condition.Condition, UnitControl.UnitControl}
 use Rattle.s360_channel.specs.ConfiguredUnits.{Units, active_beside, control_of, is_occupied, kind_of, unit_at, with_control_of}
-use Rattle.s360_channel.specs.Programs.{next_ccw, program_at}
-use Rattle.s360_channel.specs.Units.{condition_of, idle_unit, is_active, is_waiting}
-use Rattle.s360_channel.specs.Words.{asks_attention, caw_of, device_has_ended, is_whole_caw}
-use Rattle.s360_channel.specs.Words.{meets_program_check, no_channel_status, no_unit_status}
+use Rattle.s360_channel.specs.{Programs.next_ccw, Programs.program_at, Units.condition_of, Units.idle_unit, Units.is_active, Units.is_waiting, Units.program_of}
+use Rattle.s360_channel.specs.Words.{asks_attention, caw_of, device_has_ended, is_whole_caw, meets_program_check, no_channel_status, no_unit_status}
 
 abbrev pub caw_location : ℕ
 caw_location = 72
@@ -62,61 +46,49 @@ is_immediate c = nat_eq c.command 0x03 && (not c.flags.chain_data && not c.flags
 
 -- START I/O of a unit that is available: the program is checked as far as its first word
 abbrev pub started : ConfiguredUnit → Program → Fetched → IoResult
-started u p (Broken last) = with_status no_unit_status meets_program_check None
-started u p (Whole last c) =
+started u p (Fetched.Broken last) = with_status no_unit_status meets_program_check None
+started u p (Fetched.Whole last c) =
     if is_immediate c then with_status device_has_ended no_channel_status None
-    else record { condition = 0; stores = Nothing; unit = becomes u (record { state = Active p; attention = false }) }
+    else record { condition = 0; stores = Nothing; unit = becomes u (record { state = UnitState.Active p; attention = false }) }
 
--- the program at the channel address word
+-- START I/O of it with the program that this channel address word leads to
 abbrev pub start_with : Storage → ConfiguredUnit → Caw → IoResult
 start_with s u caw =
     if is_whole_caw caw then started u (program_at caw.key caw.address) (next_ccw s (program_at caw.key caw.address))
     else with_status no_unit_status meets_program_check None
 
-abbrev pub start_program : Storage → ConfiguredUnit → IoResult
-start_program s u = start_with s u (caw_of (word_at s.bytes caw_location))
-
--- START I/O of an idle unit: attention comes first
-abbrev pub start_idle : Storage → ConfiguredUnit → Bool → IoResult
-start_idle s u true = with_status (record asks_attention { busy = true }) no_channel_status (becomes u idle_unit)
-start_idle s u false = start_program s u
-
--- START I/O of a unit, where another program of its channel may be executed that runs one at a time
+-- START I/O of a unit, where another program of its channel may be executed that runs one at a time: of an idle one attention comes before the program
 abbrev pub start_unit : Storage → Bool → ConfiguredUnit → UnitControl → IoResult
 start_unit s occupied u control =
     if is_active control.state || (is_waiting control.state || occupied) then with_code 2
-    else start_idle s u control.attention
+    else if control.attention then with_status (record asks_attention { busy = true }) no_channel_status (becomes u idle_unit)
+    else start_with s u (caw_of (word_at s.bytes caw_location))
 
 abbrev pub start_io : Storage → Units → UnitAddress → IoResult
 start_io s us = at_unit (λ u. start_unit s (is_occupied us u) u (control_of us u))
 
--- TEST I/O of it: its condition is taken, and its status word stored whole
-abbrev pub take_condition : ConfiguredUnit → Option Condition → IoResult
-take_condition u None = with_code 0
-take_condition u (Some c) = record { condition = 1; stores = whole c.csw; unit = becomes u c.unit }
-
+-- TEST I/O of it: its condition is taken, if it has one, and its status word stored whole
 abbrev pub test_unit : Bool → ConfiguredUnit → UnitControl → IoResult
-test_unit occupied u control = if is_active control.state || occupied then with_code 2 else take_condition u (condition_of control)
+test_unit occupied u control =
+    let taken : Condition → IoResult = λ c. record { condition = 1; stores = whole c.csw; unit = becomes u c.unit }
+    in if is_active control.state || occupied then with_code 2 else option_map_or taken (condition_of control) (with_code 0)
 
 abbrev pub test_io : Units → UnitAddress → IoResult
 test_io us = at_unit (λ u. test_unit (is_occupied us u) u (control_of us u))
 
--- a program that is halted: its status word waits, with the address of the word that would have come next, and
--- device and media as they are (own profile)
+-- a program that is halted: its status word waits, with the address of the word that would have come next, and device and media as they are (own profile)
 abbrev pub csw_of_halted : Program → Csw
 csw_of_halted p = record { key = p.key; address = p.address; unit = device_has_ended; channel = no_channel_status; count = 0 }
 
--- HALT I/O of the unit whose program occupies the channel, if there is one: the multiplexer channel stores a status
--- of zeros and ends with condition code 1, the selector channel with 2
+-- HALT I/O of the unit whose program occupies the channel: the multiplexer channel stores a status of zeros with condition code 1, the selector ends with 2
 abbrev pub result_of_halt : ChannelKind → Option UnitAfter → IoResult
-result_of_halt Multiplexer next = with_status no_unit_status no_channel_status next
-result_of_halt Selector next = record { condition = 2; stores = Nothing; unit = next }
+result_of_halt ChannelKind.Multiplexer next = with_status no_unit_status no_channel_status next
+result_of_halt ChannelKind.Selector next = record { condition = 2; stores = Nothing; unit = next }
 
 abbrev pub halt_unit : ConfiguredUnit → UnitControl → IoResult
-halt_unit u control = of_state control.state where
-  of_state : UnitState → IoResult
-  of_state (Active p) = result_of_halt (kind_of u) (becomes u (record control { state = Waiting (csw_of_halted p) }))
-  of_state other = with_code 0
+halt_unit u control =
+    let halted = λ (p : Program). result_of_halt (kind_of u) (becomes u (record control { state = UnitState.Waiting (csw_of_halted p) }))
+    in option_map_or halted (program_of control.state) (with_code 0)
 
 -- the unit whose program HALT I/O ends: itself where it is active, or else the other tape where that one is
 abbrev pub halted_unit : Units → ConfiguredUnit → ConfiguredUnit
@@ -125,10 +97,10 @@ halted_unit us u = if is_active (control_of us u).state then u else unwrap_or (a
 abbrev pub halt_io : Units → UnitAddress → IoResult
 halt_io us = at_unit (λ u. halt_unit (halted_unit us u) (control_of us (halted_unit us u)))
 
--- TEST CHANNEL by the number of the channel: the multiplexer channel 0 is available; the selector channel 1 is
--- occupied by a program, or a status word of one of its units waits, or it is available; others are not there
+-- TEST CHANNEL by the number of the channel: the multiplexer channel 0 is available; the selector channel 1 is occupied by a program, or a status word of one
+-- of its units waits, or it is available; others are not there
 abbrev pub has_tape : (UnitState → Bool) → Units → Bool
-has_tape test us = test (control_of us Tape0).state || test (control_of us Tape1).state
+has_tape test us = test (control_of us ConfiguredUnit.Tape0).state || test (control_of us ConfiguredUnit.Tape1).state
 
 abbrev pub test_channel : Units → ℕ → IoResult
 test_channel us channel =

@@ -5,6 +5,6 @@ pub mod IoInstructions
 pub mod Gathered
 pub mod Execution
 pub mod Steps
-pub mod Differences
 pub mod ConfiguredUnits
+pub mod Differences
 pub mod UnitChanges

@@ -1,25 +1,12 @@
 -- What the code answers of a channel event: a step, and what is stored; and how they are those of the event's execution (kept).
 use Rattle.std.specs.Prelude.{◌≡◌, ◌<◌, ◌≤◌, ◌+◌, ℕ, IfSome, Option, Some, None, List, [], ◌++◌, length, option_copied, take, unwrap_or}
-use Rattle.s360_model.specs.Core.{Core}
-use Rattle.s360_model.specs.Storage.{Storage}
-use Rattle.s360_store.specs.declared.place.Cell.{Cell}
-use Rattle.s360_store.specs.Plans.{IsPlanOf}
-use Rattle.s360_device.specs.declared.device.Device.{Ghosts}
-use Rattle.s360_device.specs.Transfers.{MovesBytes}
-use Rattle.s360_channel.specs.declared.command_word.CommandWord.{CommandWord}
-use Rattle.s360_channel.specs.declared.csw.ChannelStatus.{ChannelStatus}
-use Rattle.s360_channel.specs.declared.engine.ChannelStep.{ChannelStep}
-use Rattle.s360_channel.specs.declared.engine.ChannelStep.TheVariants.{NotYet, GoesOn, Ends}
-use Rattle.s360_channel.specs.declared.engine.Executed.{Executed}
-use Rattle.s360_channel.specs.declared.fetching.Fetched.{Fetched}
-use Rattle.s360_channel.specs.declared.fetching.Fetched.TheVariants.{Broken, Whole}
-use Rattle.s360_channel.specs.declared.gathering.OutputBytes.{OutputBytes}
-use Rattle.s360_channel.specs.declared.program.Program.{Program}
-use Rattle.s360_channel.specs.declared.unit_state.UnitState.{UnitState}
-use Rattle.s360_channel.specs.declared.unit_state.UnitState.TheVariants.{Active, Waiting}
-use Rattle.s360_channel.specs.Execution.{DeviceView, Ending, Execution, Run, WordAtHand}
-use Rattle.s360_channel.specs.Execution.{after_check, channel_execution, command_with, core_with_run, word_with}
-use Rattle.s360_channel.specs.Programs.{next_ccw}
+use Rattle.s360_model.specs.{Core.Core, Storage.Storage}
+use Rattle.s360_store.specs.{declared.place.Cell.Cell, Plans.IsPlanOf}
+use Rattle.s360_device.specs.{declared.device.Device.Ghosts, Transfers.MovesBytes}
+use Rattle.s360_channel.specs.{declared.command_word.CommandWord.CommandWord, Programs.next_ccw}
+use Rattle.s360_channel.specs.declared.{csw.ChannelStatus.ChannelStatus, fetching.Fetched.Fetched, program.Program.Program, unit_state.UnitState.UnitState}
+use Rattle.s360_channel.specs.declared.{engine.ChannelStep.ChannelStep, engine.Executed.Executed, gathering.OutputBytes.OutputBytes}
+use Rattle.s360_channel.specs.Execution.{DeviceView, Ending, Execution, Run, WordAtHand, after_check, channel_execution, command_with, core_with_run, word_with}
 
 -- a device as its channel sees it, and the word at hand that the code has, by the device's contract
 abbrev pub device_view : {D C : Type 0} → Ghosts D C → D → DeviceView
@@ -42,17 +29,17 @@ LiesIn s r = (0 < length r.bytes) × (length r.bytes ≤ 65535) × (r.at + lengt
 
 -- the state of the unit after a step of a program, and the change of the device
 abbrev pub state_after_step : {C : Type 0} → Program → ChannelStep C → UnitState
-state_after_step p NotYet = Active p
-state_after_step p (GoesOn program change) = Active program
-state_after_step p (Ends csw change) = Waiting csw
+state_after_step p ChannelStep.NotYet = UnitState.Active p
+state_after_step p (ChannelStep.GoesOn program change) = UnitState.Active program
+state_after_step p (ChannelStep.Ends csw change) = UnitState.Waiting csw
 
 abbrev pub change_of_step : {C : Type 0} → ChannelStep C → Option C
-change_of_step NotYet = None
-change_of_step (GoesOn program change) = change
-change_of_step (Ends csw change) = change
+change_of_step ChannelStep.NotYet = None
+change_of_step (ChannelStep.GoesOn program change) = change
+change_of_step (ChannelStep.Ends csw change) = change
 
--- the change makes of the device what a command that ends makes of it: it can be exchanged with the device bare of room,
--- which then is as after the command, and needs no room to be taken back. The device was not so before
+-- the change makes of the device what a command that ends makes of it: it can be exchanged with the device bare of room, which then is as after the command,
+-- and needs no room to be taken back. The device was not so before
 pub record IsChangeBy {D C : Type 0} (g : Ghosts D C) (d : D) (e : Ending) (x : C) : Type 0 where
   pub can : g.can_swap (g.bare d) x
   pub row : g.is_after d e.command e.output (g.after_swap (g.bare d) x)
@@ -91,18 +78,16 @@ ExecutesEvent g d s p x = Executes g d s p (channel_execution (device_view g d) 
 abbrev pub StoresRun : Storage → List Cell → Option Run → Type 0
 StoresRun s plan run = (m : Core) → m.storage ≡ s → IsPlanOf m plan (core_with_run run m)
 
--- the plan puts what the channel event stores into any such core, in no more cells than a count has bytes, and the step
--- is the event's
+-- the plan puts what the channel event stores into any such core, in no more cells than a count has bytes, and the step is the event's
 pub record PlansEvent {D C : Type 0} (g : Ghosts D C) (d : D) (s : Storage) (p : Program) (plan : List Cell) (x : ChannelStep C) : Type 0 where
   pub stores : StoresRun s plan (channel_execution (device_view g d) s p).stores
   pub few : length plan ≤ 65535
   pub step : IsStepOf g d p (channel_execution (device_view g d) s p) x
 
--- the word with which a program goes on moves bytes, by how its device begins the command; one that meets a program
--- check moves none
+-- the word with which a program goes on moves bytes, by how its device begins the command; one that meets a program check moves none
 abbrev pub FetchedMovesBytes : DeviceView → Program → Fetched → Type 0
-FetchedMovesBytes d p (Broken last) = ⊥
-FetchedMovesBytes d p (Whole at c) = MovesBytes (d.begin (command_with p.progress c))
+FetchedMovesBytes d p (Fetched.Broken last) = ⊥
+FetchedMovesBytes d p (Fetched.Whole at c) = MovesBytes (d.begin (command_with p.progress c))
 
 abbrev pub EventMovesBytes : DeviceView → Storage → Program → Type 0
 EventMovesBytes d s p = FetchedMovesBytes d p (next_ccw s p)

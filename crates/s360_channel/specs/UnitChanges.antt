@@ -3,34 +3,32 @@
 use Rattle.std.specs.Prelude.{◌≡◌, Option, Some, None, List, [], ◌∷◌, map}
 use Rattle.s360_model.specs.Exchanges.{CanIfAny, after_if_any}
 use Rattle.s360_store.specs.declared.place.Place.{Place}
-use Rattle.s360_channel.specs.declared.configured_unit.ConfiguredUnit.{ConfiguredUnit}
-use Rattle.s360_channel.specs.declared.unit_change.UnitChange.{UnitChange}
-use Rattle.s360_channel.specs.declared.unit_change.UnitChange.TheVariants.{One, Attention, Several}
+use Rattle.s360_channel.specs.declared.{configured_unit.ConfiguredUnit.ConfiguredUnit, unit_change.UnitChange.UnitChange}
 use Rattle.s360_channel.specs.ConfiguredUnits.{Units, HasEachUnit, control_of, with_control_of}
 use Rattle.s360_channel.specs.Differences.{state_place, unit_differences}
 
 -- it can be exchanged with the units
 abbrev pub CanSwapUnits : Units → UnitChange → Type 0
-CanSwapUnits us (One u v) = HasEachUnit us
-CanSwapUnits us (Attention u asks) = HasEachUnit us
-CanSwapUnits us (Several x) = HasEachUnit us × HasEachUnit x.units
+CanSwapUnits us (UnitChange.One u v) = HasEachUnit us
+CanSwapUnits us (UnitChange.Attention u asks) = HasEachUnit us
+CanSwapUnits us (UnitChange.Several x) = HasEachUnit us × HasEachUnit x.units
 
 -- the units after the exchange, and the change
 abbrev pub units_after_swap : Units → UnitChange → Units
-units_after_swap us (One u v) = with_control_of us u v
-units_after_swap us (Attention u asks) = with_control_of us u (record (control_of us u) { attention = asks })
-units_after_swap us (Several x) = x.units
+units_after_swap us (UnitChange.One u v) = with_control_of us u v
+units_after_swap us (UnitChange.Attention u asks) = with_control_of us u (record (control_of us u) { attention = asks })
+units_after_swap us (UnitChange.Several x) = x.units
 
 abbrev pub unit_change_after_swap : Units → UnitChange → UnitChange
-unit_change_after_swap us (One u v) = One u (control_of us u)
-unit_change_after_swap us (Attention u asks) = Attention u (control_of us u).attention
-unit_change_after_swap us (Several x) = Several (record x { units = us })
+unit_change_after_swap us (UnitChange.One u v) = UnitChange.One u (control_of us u)
+unit_change_after_swap us (UnitChange.Attention u asks) = UnitChange.Attention u (control_of us u).attention
+unit_change_after_swap us (UnitChange.Several x) = UnitChange.Several (record x { units = us })
 
 -- the units that it alters, and their places
 abbrev pub altered_by : UnitChange → List ConfiguredUnit
-altered_by (One u v) = u ∷ []
-altered_by (Attention u asks) = u ∷ []
-altered_by (Several x) = x.altered
+altered_by (UnitChange.One u v) = u ∷ []
+altered_by (UnitChange.Attention u asks) = u ∷ []
+altered_by (UnitChange.Several x) = x.altered
 
 abbrev pub places_of_units : Option UnitChange → List Place
 places_of_units None = []

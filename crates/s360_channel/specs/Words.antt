@@ -1,12 +1,7 @@
--- The three words of a channel (GA22-6821, "Input/Output Operations", channel address word, channel command word
--- and channel status word). Bits are numbered from 0 at the left.
+-- The channel address word, command word and status word (GA22-6821, "Input/Output Operations"). Bits are numbered from 0 at the left.
 use Rattle.std.specs.Prelude.{ℕ, ◌+◌, ◌*◌, ◌/◌, ◌%◌, ◌^◌, Bool, true, ◌&&◌, nat_eq, if◌then◌else◌}
-use Rattle.s360_channel.specs.declared.caw.Caw.{Caw}
-use Rattle.s360_channel.specs.declared.ccw.Ccw.{Ccw}
-use Rattle.s360_channel.specs.declared.ccw.CcwFlags.{CcwFlags}
-use Rattle.s360_channel.specs.declared.csw.Csw.{Csw}
-use Rattle.s360_channel.specs.declared.csw.UnitStatus.{UnitStatus}
-use Rattle.s360_channel.specs.declared.csw.ChannelStatus.{ChannelStatus}
+use Rattle.s360_channel.specs.declared.{caw.Caw.Caw, ccw.Ccw.Ccw, ccw.CcwFlags.CcwFlags}
+use Rattle.s360_channel.specs.declared.csw.{Csw.Csw, UnitStatus.UnitStatus, ChannelStatus.ChannelStatus}
 
 -- what a bit counts that is one or zero
 abbrev pub weight_of : Bool → ℕ → ℕ
@@ -27,8 +22,7 @@ is_doubleword_address address = nat_eq (address % 8) 0
 abbrev pub is_whole_caw : Caw → Bool
 is_whole_caw c = nat_eq c.reserved 0 && is_doubleword_address c.address
 
--- the channel command word: command in bits 0 to 7, data address in 8 to 31, flags in 32 to 36, zeros in 37 to 39,
--- count in 48 to 63; bits 40 to 47 are ignored
+-- the channel command word: command in bits 0 to 7, data address in 8 to 31, flags in 32 to 36, zeros in 37 to 39, count in 48 to 63; bits 40 to 47 are ignored
 abbrev pub ccw_flags_of : ℕ → CcwFlags
 ccw_flags_of doubleword = record {
   chain_data = nat_eq (doubleword / 2 ^ 31 % 2) 1;
@@ -63,8 +57,8 @@ is_transfer c = nat_eq (c.command % 16) 0x8
 abbrev pub reads_backward : ℕ → Bool
 reads_backward command = nat_eq (command % 16) 0xC
 
--- the channel status word: key in bits 0 to 3, address in 8 to 31, unit status in 32 to 39, channel status in 40
--- to 47, residual count in 48 to 63; bits 4 to 7 are zero, and so are bits 44 to 47, of which this channel has none
+-- the channel status word: key in bits 0 to 3, address in 8 to 31, unit status in 32 to 39, channel status in 40 to 47, residual count in 48 to 63; bits 4 to 7
+-- are zero, and so are bits 44 to 47, of which this channel has none
 abbrev pub unit_status_byte : UnitStatus → ℕ
 unit_status_byte s =
     weight_of s.attention 0x80 + weight_of s.status_modifier 0x40 + weight_of s.control_unit_end 0x20 + weight_of s.busy 0x10

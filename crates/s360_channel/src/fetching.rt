@@ -39,14 +39,13 @@ fn is_executable(same_record: bool, ccw: &Ccw) -> bool
 }
 
 /// The word that is to be executed at an address.
-fn executed_at(same_record: bool, address: u32, ccw: Option<Ccw>) -> Fetched
+fn executed_at(same_record: bool, address: u32, ccw: Ccw) -> Fetched
     ensures { result ≡ executed_at same_record address ccw }
 {
-    match ccw {
-        Some(ccw) if !ccw.is_transfer() && is_executable(same_record, &ccw) => {
-            Fetched::Whole(address, ccw)
-        }
-        _ => Fetched::Broken(address),
+    if !ccw.is_transfer() && is_executable(same_record, &ccw) {
+        Fetched::Whole(address, ccw)
+    } else {
+        Fetched::Broken(address)
     }
 }
 
@@ -55,8 +54,8 @@ fn transferred_to(storage: &Storage, same_record: bool, address: u32, transfer: 
     ensures { result ≡ transferred_to storage.now same_record address transfer.now }
 {
     match ccw_at(storage, transfer.address) {
+        Some(ccw) => executed_at(same_record, transfer.address, ccw),
         None => Fetched::Broken(address),
-        found => executed_at(same_record, transfer.address, found),
     }
 }
 
@@ -72,6 +71,7 @@ pub fn next_ccw(storage: &Storage, program: &Program) -> Fetched
         Some(ccw) if ccw.is_transfer() && !program.progress.is_first() => {
             transferred_to(storage, same_record, program.address, &ccw)
         }
-        found => executed_at(same_record, program.address, found),
+        Some(ccw) => executed_at(same_record, program.address, ccw),
+        None => Fetched::Broken(program.address),
     }
 }

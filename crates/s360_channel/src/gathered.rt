@@ -1,9 +1,8 @@
 //! The bytes that the words of an output gather under chain data. Source: GA22-6821, "Input/Output
 //! Operations", chaining of data.
-ghost use Rattle.std.specs.Prelude.{◌≡◌, ◌<◌, ◌+◌, ◌^◌, ◌++◌, IfOk, length, reverse};
-ghost use Rattle.std.specs.Option.{option_copied};
-ghost use Rattle.s360_channel.specs.Gathered.{bytes_before, bytes_of, left_of, part_of};
-ghost use Rattle.s360_channel.specs.Gathered.{words_before, word_count};
+ghost use Rattle.std.specs.Prelude.{◌≡◌, ◌<◌, ◌+◌, ◌^◌, [], ◌++◌, IfOk, length, reverse};
+ghost use Rattle.std.specs.Option.{option_copied, option_map_or};
+ghost use Rattle.s360_channel.specs.Gathered.{bytes_of, left_of, part_of, word_count};
 
 use std::alloc::{AllocError, Global};
 use std::marker::Model;
@@ -61,8 +60,8 @@ impl Parts {
 
     /// What the words before it have gathered, if there are any.
     fn before(&self) -> Option<&Parts>
-        ensures bytes { bytes_before (option_copied result) ++ part_of self.now ≡ bytes_of self.now }
-        ensures fewer { words_before (option_copied result) < word_count self.now }
+        ensures bytes { option_map_or bytes_of (option_copied result) [] ++ part_of self.now ≡ bytes_of self.now }
+        ensures fewer { option_map_or word_count (option_copied result) 0 < word_count self.now }
     {
         match self {
             Parts::First(_) => None,
@@ -81,7 +80,7 @@ struct Backward<'a> {
 impl<'a> Backward<'a> {
     fn of(parts: &'a Parts) -> Backward<'a>
         ensures left { left_of result ≡ reverse (bytes_of parts.now) }
-        ensures fewer { words_before (option_copied result.before) < word_count parts.now }
+        ensures fewer { option_map_or word_count (option_copied result.before) 0 < word_count parts.now }
     {
         Backward {
             before: parts.before(),

@@ -2,10 +2,10 @@
 //! word, and which unit becomes what; none takes memory. Source: GA22-6821, "Input/Output
 //! Operations", START I/O, TEST I/O, HALT I/O and TEST CHANNEL.
 ghost use Rattle.std.specs.Prelude.{◌≡◌};
-ghost use Rattle.s360_channel.specs.IoInstructions.{becomes, with_code, halt_io, halt_unit, halted_unit};
-ghost use Rattle.s360_channel.specs.IoInstructions.{is_immediate, not_operational, result_of_halt, start_io};
-ghost use Rattle.s360_channel.specs.IoInstructions.{start_program, start_unit, test_channel, test_io, test_unit};
-ghost use Rattle.s360_channel.specs.IoInstructions.{with_status};
+ghost use Rattle.s360_model.specs.Storage.{word_at};
+ghost use Rattle.s360_channel.specs.IoInstructions.{becomes, caw_location, halt_io, halt_unit, halted_unit, is_immediate, not_operational};
+ghost use Rattle.s360_channel.specs.IoInstructions.{result_of_halt, start_io, start_unit, start_with, test_channel, test_io, test_unit, with_code, with_status};
+ghost use Rattle.s360_channel.specs.Words.{caw_of};
 
 use crate::caw::Caw;
 use crate::ccw::Ccw;
@@ -101,7 +101,7 @@ fn becomes(unit: ConfiguredUnit, control: UnitControl) -> Option<UnitAfter>
 
 /// START I/O of a unit that is available, with the program at the channel address word.
 fn start_program(storage: &Storage, unit: ConfiguredUnit) -> IoResult
-    ensures { result ≡ start_program storage.now unit }
+    ensures { result ≡ start_with storage.now unit (caw_of (word_at storage.now.bytes caw_location)) }
 {
     // So the permanent locations are inside storage.
     prove!(storage.size() >= LEAST_SIZE);

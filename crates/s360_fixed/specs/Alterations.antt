@@ -1,13 +1,8 @@
--- What an instruction alters that is completed: general registers, the condition code and the instruction address
--- (GA22-6821, "System Structure", program status word, and "Fixed-Point Arithmetic", condition code and program
--- interruptions).
+-- What an instruction alters that is completed: general registers, the condition code and the instruction address (GA22-6821, "System Structure", program
+-- status word, and "Fixed-Point Arithmetic", condition code and program interruptions).
 use Rattle.std.specs.Prelude.{ℕ, ◌+◌, false, ◌&&◌, nat_eq, if◌then◌else◌, Option, None, Some, List, [], ◌∷◌, slice_set}
-use Rattle.s360_model.specs.Core.{Core}
-use Rattle.s360_model.specs.Psw.{fixed_point_overflow_mask_of, with_condition_code, with_instruction_address}
-use Rattle.s360_fixed.specs.declared.ended.Ended.{Ended}
-use Rattle.s360_fixed.specs.declared.ended.Ended.TheVariants.{Done, Program}
-use Rattle.s360_fixed.specs.declared.program_code.ProgramCode.TheVariants.{FixedPointOverflow}
-use Rattle.s360_fixed.specs.declared.setting.CodeSetting.{CodeSetting}
+use Rattle.s360_model.specs.{Core.Core, Psw.fixed_point_overflow_mask_of, Psw.with_condition_code, Psw.with_instruction_address}
+use Rattle.s360_fixed.specs.declared.{ended.Ended.Ended, program_code.ProgramCode.TheVariants.FixedPointOverflow, setting.CodeSetting.CodeSetting}
 use Rattle.s360_fixed.specs.View.{Outcome}
 
 -- the condition code stays, is set, or is set by a signed result, of which code 3 is an overflow
@@ -61,7 +56,7 @@ core_with_alteration a m = record m {
 
 -- an overflow interrupts with code 8, where its mask is one, after the instruction is completed
 abbrev pub ended_by : CodeSetting → ℕ → Ended
-ended_by setting psw = if setting.overflow && fixed_point_overflow_mask_of psw then Program FixedPointOverflow else Done
+ended_by setting psw = if setting.overflow && fixed_point_overflow_mask_of psw then Ended.Program FixedPointOverflow else Ended.Done
 
 abbrev pub after_alteration : Core → Alteration → Outcome
 after_alteration m a = record { ended = ended_by a.setting m.psw; core = core_with_alteration a m }

@@ -1,17 +1,10 @@
--- The rows that branch (GA22-6821, "Branching"). The branch address is taken before the link, the count or
--- the sum is stored.
+-- The rows that branch (GA22-6821, "Branching"). The branch address is taken before the link, the count or the sum is stored.
 use Rattle.std.specs.Prelude.{ℕ, ◌+◌, ◌-◌, ◌/◌, ◌%◌, ◌^◌, Bool, true, not, nat_eq, if◌then◌else◌, Option, Some, None, unwrap_or}
 use Rattle.s360_model.specs.Arithmetic.{signed_sum, word_of}
-use Rattle.s360_model.specs.Numbers.{low32, signed}
-use Rattle.s360_model.specs.Psw.{condition_code_of, stored_psw, with_instruction_address}
+use Rattle.s360_model.specs.{Numbers.low32, Numbers.signed, Psw.condition_code_of, Psw.stored_psw, Psw.with_instruction_address}
 use Rattle.s360_psw.specs.InstructionLength.{length_code_of}
-use Rattle.s360_fixed.specs.declared.row.Branch.{Branch}
-use Rattle.s360_fixed.specs.declared.row.Branch.TheVariants.{OnCondition, AndLink, OnCount}
-use Rattle.s360_fixed.specs.declared.row.IndexBranch.{IndexBranch}
-use Rattle.s360_fixed.specs.Alterations.{after_alteration, no_register, one_register, unchanged}
-use Rattle.s360_fixed.specs.Rows.{is_taken}
-use Rattle.s360_fixed.specs.Outcomes.{is_odd}
-use Rattle.s360_fixed.specs.View.{View, Outcome, register_of}
+use Rattle.s360_fixed.specs.{declared.row.Branch.Branch, declared.row.IndexBranch.IndexBranch, Outcomes.is_odd, View.View, View.Outcome, View.register_of}
+use Rattle.s360_fixed.specs.{Alterations.after_alteration, Alterations.no_register, Alterations.one_register, Alterations.unchanged, Rows.is_taken}
 
 -- the branch address in a register: none in register 0
 abbrev pub register_target : View → ℕ → Option ℕ
@@ -32,14 +25,13 @@ link_of v = low32 (stored_psw (with_instruction_address v.core.psw v.next_addres
 abbrev pub count_less_one : ℕ → ℕ
 count_less_one count = low32 (count + (2 ^ 32 - 1))
 
--- on condition: the mask selects the condition code, and no register is altered. And link: R1 becomes the link. On count:
--- R1 becomes the count less one, and the branch is taken where that is not zero
+-- on condition: taken where the mask selects the code. And link: R1 becomes the link. On count: R1 becomes the count less one; taken where it is not zero
 abbrev pub branch_outcome : Branch → View → ℕ → Option ℕ → Outcome
-branch_outcome OnCondition v mask target =
+branch_outcome Branch.OnCondition v mask target =
     let taken = is_selected mask (condition_code_of v.core.psw)
     in after_alteration v.core (no_register unchanged (address_after_branch v taken target))
-branch_outcome AndLink v r1 target = after_alteration v.core (one_register r1 (link_of v) unchanged (address_after_branch v true target))
-branch_outcome OnCount v r1 target =
+branch_outcome Branch.AndLink v r1 target = after_alteration v.core (one_register r1 (link_of v) unchanged (address_after_branch v true target))
+branch_outcome Branch.OnCount v r1 target =
     let count = count_less_one (register_of v r1)
     in after_alteration v.core (one_register r1 count unchanged (address_after_branch v (not (nat_eq count 0)) target))
 

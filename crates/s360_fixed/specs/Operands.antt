@@ -1,24 +1,9 @@
--- The addresses of operands, their conditions and their values (GA22-6821, "System Structure",
--- information positioning and address generation).
-use Rattle.std.specs.Prelude.{ℕ, ◌+◌, ◌%◌, ◌^◌, Bool, true, false, not, nat_eq, nat_lt, if◌then◌else◌, slice_index, List, Option, Some}
-use Rattle.std.specs.Prelude.{None, Result, Ok, Err}
-use Rattle.s360_model.specs.Core.{Core}
-use Rattle.s360_model.specs.Psw.{protection_key_of}
-use Rattle.s360_model.specs.Storage.{halfword_at, word_at}
-use Rattle.s360_store.specs.declared.protection.Access.{Access}
-use Rattle.s360_store.specs.declared.protection.Access.TheVariants.{Fetch}
-use Rattle.s360_store.specs.declared.protection.Checked.{Checked}
-use Rattle.s360_store.specs.declared.protection.Checked.TheVariants.{Clear, Addressing, Protection}
-use Rattle.s360_store.specs.Protection.{access}
-use Rattle.s360_fixed.specs.declared.second_operand.SecondOperand.{SecondOperand}
-use Rattle.s360_fixed.specs.declared.second_operand.SecondOperand.TheVariants.{InStorage, Address}
-use Rattle.s360_fixed.specs.declared.second_operand.Width.{Width}
-use Rattle.s360_fixed.specs.declared.second_operand.Width.TheVariants.{Byte, Halfword, Word}
-use Rattle.s360_fixed.specs.ProgramCodes.{Conditions, no_conditions, program_code}
-use Rattle.s360_fixed.specs.Table.{displacement_at, high_digit, low_digit}
-use Rattle.s360_fixed.specs.View.{View}
-use Rattle.s360_fixed.specs.declared.program_code.ProgramCode.{ProgramCode}
-use Rattle.s360_fixed.specs.declared.program_code.ProgramCode.TheVariants.{Addressing as addressing_code, Protection as protection_code}
+-- The addresses of operands, their conditions and their values (GA22-6821, "System Structure", information positioning and address generation).
+use Rattle.std.specs.Prelude.{ℕ, ◌+◌, ◌%◌, ◌^◌, Bool, true, false, not, nat_eq, nat_lt, if◌then◌else◌, slice_index, List}
+use Rattle.s360_model.specs.{Core.Core, Psw.protection_key_of, Storage.halfword_at, Storage.word_at}
+use Rattle.s360_store.specs.{declared.protection.Access.Access, declared.protection.Checked.Checked, Protection.access}
+use Rattle.s360_fixed.specs.declared.second_operand.{SecondOperand.SecondOperand, Width.Width}
+use Rattle.s360_fixed.specs.ProgramCodes.{Conditions, no_conditions}
 
 -- what a base or an index register adds: nothing where it is register 0
 abbrev pub address_part : List ℕ → ℕ → ℕ
@@ -28,34 +13,23 @@ address_part registers r = if nat_eq r 0 then 0 else slice_index registers r
 abbrev pub operand_address : List ℕ → ℕ → ℕ → ℕ → ℕ
 operand_address registers index base displacement = (address_part registers index + address_part registers base + displacement) % 2 ^ 24
 
--- the address of the format RX, and the one that a base and a displacement make from a byte of an instruction on
-abbrev pub indexed_address : View → List ℕ → ℕ
-indexed_address v bytes = operand_address v.core.registers (low_digit bytes 1) (high_digit bytes 2) (displacement_at bytes 2)
-
-abbrev pub based_address : View → List ℕ → ℕ → ℕ
-based_address v bytes i = operand_address v.core.registers 0 (high_digit bytes i) (displacement_at bytes i)
-
 abbrev pub is_outside : Checked → Bool
-is_outside Addressing = true
+is_outside Checked.Addressing = true
 is_outside c = false
 
 abbrev pub is_guarded : Checked → Bool
-is_guarded Protection = true
+is_guarded Checked.Protection = true
 is_guarded c = false
 
--- the program code of what an access meets
-abbrev pub code_of_access : Checked → Option ProgramCode
-code_of_access Clear = None
-code_of_access Addressing = Some addressing_code
-code_of_access Protection = Some protection_code
+-- the conditions of what an access meets
+abbrev pub conditions_of : Checked → Conditions
+conditions_of met = record no_conditions { addressing = is_outside met; protection = is_guarded met }
 
 -- the conditions of an access to so many bytes of storage, which lie on a boundary
 abbrev pub access_conditions : Core → ℕ → ℕ → ℕ → Access → Conditions
-access_conditions m address boundary count kind = record no_conditions {
-  specification = not (nat_eq (address % boundary) 0);
-  addressing = is_outside (access m.storage address count kind (protection_key_of m.psw));
-  protection = is_guarded (access m.storage address count kind (protection_key_of m.psw));
-}
+access_conditions m address boundary count kind =
+    let met = access m.storage address count kind (protection_key_of m.psw)
+    in record (conditions_of met) { specification = not (nat_eq (address % boundary) 0) }
 
 -- an operand: what keeps it from being used, and its value
 pub record Operand : Type 0 where
@@ -72,27 +46,20 @@ word_operand word = record { conditions = no_conditions; value = word }
 
 -- the bytes of an operand in storage
 abbrev pub bytes_of_width : Width → ℕ
-bytes_of_width Byte = 1
-bytes_of_width Halfword = 2
-bytes_of_width Word = 4
+bytes_of_width Width.Byte = 1
+bytes_of_width Width.Halfword = 2
+bytes_of_width Width.Word = 4
 
 -- the word that they are
 abbrev pub word_in : Width → List ℕ → ℕ → ℕ
-word_in Byte bytes address = slice_index bytes address
-word_in Halfword bytes address = extended_halfword (halfword_at bytes address)
-word_in Word bytes address = word_at bytes address
+word_in Width.Byte bytes address = slice_index bytes address
+word_in Width.Halfword bytes address = extended_halfword (halfword_at bytes address)
+word_in Width.Word bytes address = word_at bytes address
 
 -- a second operand in storage, on the boundary of its width, or an address
 abbrev pub storage_operand : Core → SecondOperand → ℕ → Operand
-storage_operand m (InStorage width) address = record {
-  conditions = access_conditions m address (bytes_of_width width) (bytes_of_width width) Fetch;
+storage_operand m (SecondOperand.InStorage width) address = record {
+  conditions = access_conditions m address (bytes_of_width width) (bytes_of_width width) Access.Fetch;
   value = word_in width m.storage.bytes address;
 }
-storage_operand m Address address = word_operand address
-
--- the value of an operand, or what keeps it from being used
-abbrev pub fetched : Operand → Result ℕ ProgramCode
-fetched s = unless_refused (program_code s.conditions) where
-  unless_refused : Option ProgramCode → Result ℕ ProgramCode
-  unless_refused None = Ok s.value
-  unless_refused (Some code) = Err code
+storage_operand m SecondOperand.Address address = word_operand address

@@ -1,49 +1,28 @@
 -- What the puts of an instruction, and its plan, say of its outcome (kept).
-use Rattle.std.specs.Prelude.{◌≡◌, ◌≤◌, ℕ, ◌+◌, ◌*◌, nat_lt, if◌then◌else◌}
-use Rattle.std.specs.Prelude.{Option, None, Some, List, [], ◌∷◌, ◌++◌, length}
-use Rattle.s360_model.specs.Core.{Core, core_with_word}
-use Rattle.s360_model.specs.Storage.{word_at}
-use Rattle.s360_store.specs.declared.place.Cell.{Cell}
-use Rattle.s360_store.specs.declared.place.Place.TheVariants.{Byte}
-use Rattle.s360_store.specs.declared.puts.Puts.{Ghosts}
-use Rattle.s360_store.specs.Plans.{HasBytes, IsPlanOf}
-use Rattle.s360_store.specs.Puts.{HasNoPuts}
-use Rattle.s360_fixed.specs.declared.effect.Effect.{Effect}
-use Rattle.s360_fixed.specs.declared.ended.Ended.{Ended}
-use Rattle.s360_fixed.specs.declared.ended.Ended.TheVariants.{Done, Io, Program, Svc}
-use Rattle.s360_fixed.specs.declared.register_words.RegisterWords.{RegisterWords}
-use Rattle.s360_fixed.specs.Alterations.{Alteration}
-use Rattle.s360_fixed.specs.Outcomes.{word_for}
+use Rattle.std.specs.Prelude.{◌≡◌, ◌≤◌, ℕ, ◌+◌, ◌*◌, nat_lt, if◌then◌else◌, Option, None, Some, List, [], ◌∷◌, ◌++◌, length}
+use Rattle.s360_model.specs.{Core.Core, Core.core_with_word, Storage.word_at}
+use Rattle.s360_store.specs.{declared.place.Cell.Cell, declared.place.Place.TheVariants.Byte, declared.puts.Puts.Ghosts, Plans.IsPlanOf, Puts.HasNoPuts}
+use Rattle.s360_fixed.specs.declared.{effect.Effect.Effect, ended.Ended.Ended, register_words.RegisterWords.RegisterWords}
+use Rattle.s360_fixed.specs.{Alterations.Alteration, Outcomes.word_for, View.Outcome, View.View}
 use Rattle.s360_fixed.specs.Storing.{register_distance, with_registers_loaded, with_registers_stored}
-use Rattle.s360_fixed.specs.View.{Outcome, View}
 
 -- what takes puts has none yet of an instruction that works on this view
 abbrev pub PutsNothing : {S : Type 0} → Ghosts S → S → View → Type 0
 PutsNothing p puts v = HasNoPuts v.core (p.made puts) (p.may puts) (p.past puts) (p.count puts)
 
--- what may be put behind an instruction that ends so: all behind one that the channels do, which has put nothing; and
--- the PSW, and bytes of storage, which stands as it was, behind one that an interruption follows
+-- what may be put behind an instruction: all behind one that the channels do; the PSW, and bytes of storage as it was, behind one that an interruption follows
 abbrev pub MayFollow : {S : Type 0} → Ghosts S → S → Core → Ended → Type 0
-MayFollow p puts m Done = Unit {0}
-MayFollow p puts m (Program code) = ((p.made puts m).storage ≡ m.storage) × ((a : ℕ) → p.past puts (Byte a))
-MayFollow p puts m (Svc code) = ((p.made puts m).storage ≡ m.storage) × ((a : ℕ) → p.past puts (Byte a))
-MayFollow p puts m (Io operation unit) = HasNoPuts m (p.made puts) (p.may puts) (p.past puts) (p.count puts)
+MayFollow p puts m Ended.Done = Unit {0}
+MayFollow p puts m (Ended.Io operation unit) = HasNoPuts m (p.made puts) (p.may puts) (p.past puts) (p.count puts)
+MayFollow p puts m other = ((p.made puts m).storage ≡ m.storage) × ((a : ℕ) → p.past puts (Byte a))
 
--- an instruction ends as its outcome does, and its puts make the outcome's core and may be made. They are of few
--- places: the PSW, two registers, and the 256 bytes of the longest operand, or fewer
+-- an instruction ends as its outcome does, and its puts make the outcome's core and may be made: of the PSW, two registers and 256 bytes, or fewer places
 pub record PutsOutcome {S : Type 0} (p : Ghosts S) (puts : S) (v : View) (outcome : Outcome) (ended : Ended) : Type 0 where
   pub ends : ended ≡ outcome.ended
   pub makes : p.made puts v.core ≡ outcome.core
   pub allowed : p.may puts v.core
   pub few : p.count puts ≤ 259
   pub follow : MayFollow p puts v.core ended
-
--- puts make a core, and may be made. They are of at most three places, and bytes may be put behind them
-pub record PutsCore {S : Type 0} (p : Ghosts S) (puts : S) (v : View) (m : Core) : Type 0 where
-  pub makes : p.made puts v.core ≡ m
-  pub allowed : p.may puts v.core
-  pub few : p.count puts ≤ 3
-  pub bytes : (a : ℕ) → p.past puts (Byte a)
 
 -- an instruction ends as its outcome does, and its plan makes the outcome's core. It lists few places
 pub record PlansOutcome (m : Core) (plan : List Cell) (outcome : Outcome) (ended : Ended) : Type 0 where
@@ -58,10 +37,6 @@ words_for r1 first (Some second) = word_for r1 first ++ ((r1 + 1, second) ∷ []
 
 abbrev pub alteration_of : ℕ → Effect → ℕ → Alteration
 alteration_of r1 e address = record { registers = words_for r1 e.first e.second; setting = e.setting; address = address }
-
--- the core has the words of so many registers, which are at most all
-abbrev pub HasWords : Core → RegisterWords → Type 0
-HasWords m w = HasBytes w.address (4 * w.count) m × (w.count ≤ 16)
 
 -- the core with such registers stored at their words, or loaded with them; and with one of them loaded, if it is among them
 abbrev pub words_stored : View → RegisterWords → Core → Core

@@ -1,18 +1,10 @@
--- The rows that store registers and load several of them (GA22-6821, "Fixed-Point Arithmetic" and "Logical
--- Operations").
+-- The rows that store registers and load several of them (GA22-6821, "Fixed-Point Arithmetic" and "Logical Operations").
 use Rattle.std.specs.Prelude.{ℕ, zero, suc, ◌+◌, ◌-◌, ◌*◌, ◌%◌, List, length, slice_index}
 use Rattle.std.specs.Int.{bytes_high_first}
-use Rattle.s360_model.specs.Core.{Core, core_with_bytes, core_with_psw, core_with_word}
-use Rattle.s360_model.specs.Psw.{with_instruction_address}
-use Rattle.s360_model.specs.Storage.{word_at}
+use Rattle.s360_model.specs.{Core.Core, Core.core_with_bytes, Core.core_with_psw, Core.core_with_word, Psw.with_instruction_address, Storage.word_at}
 use Rattle.s360_store.specs.declared.protection.Access.{Access}
-use Rattle.s360_store.specs.declared.protection.Access.TheVariants.{Fetch, Store}
-use Rattle.s360_fixed.specs.declared.ended.Ended.TheVariants.{Done}
-use Rattle.s360_fixed.specs.declared.second_operand.Width.{Width}
-use Rattle.s360_fixed.specs.Operands.{access_conditions, bytes_of_width}
-use Rattle.s360_fixed.specs.Outcomes.{unless_met}
-use Rattle.s360_fixed.specs.ProgramCodes.{Conditions}
-use Rattle.s360_fixed.specs.View.{View, Outcome, register_of}
+use Rattle.s360_fixed.specs.{declared.ended.Ended.TheVariants.Done, Outcomes.unless_met, ProgramCodes.Conditions, View.View, View.Outcome, View.register_of}
+use Rattle.s360_fixed.specs.{declared.second_operand.Width.Width, Operands.access_conditions, Operands.bytes_of_width}
 
 -- the PSW after an instruction that sets no condition code and does not branch
 abbrev pub next_psw : View → ℕ
@@ -25,7 +17,7 @@ completed v m = record { ended = Done; core = core_with_psw (next_psw v) m }
 -- bytes are stored, on the boundary of their number
 abbrev pub bytes_outcome : List ℕ → View → ℕ → Outcome
 bytes_outcome bytes v address =
-    unless_met (access_conditions v.core address (length bytes) (length bytes) Store) v.core (completed v (core_with_bytes address bytes v.core))
+    unless_met (access_conditions v.core address (length bytes) (length bytes) Access.Store) v.core (completed v (core_with_bytes address bytes v.core))
 
 -- so many low bytes of R1 are stored
 abbrev pub store_outcome : Width → View → ℕ → ℕ → Outcome
@@ -58,10 +50,10 @@ words_conditions v r1 r3 address kind = access_conditions v.core address 4 (4 * 
 
 abbrev pub store_multiple_outcome : View → ℕ → ℕ → ℕ → Outcome
 store_multiple_outcome v r1 r3 address =
-    unless_met (words_conditions v r1 r3 address Store) v.core
+    unless_met (words_conditions v r1 r3 address Access.Store) v.core
     (completed v (with_registers_stored v.core.registers r1 address (register_count r1 r3) v.core))
 
 abbrev pub load_multiple_outcome : View → ℕ → ℕ → ℕ → Outcome
 load_multiple_outcome v r1 r3 address =
-    unless_met (words_conditions v r1 r3 address Fetch) v.core
+    unless_met (words_conditions v r1 r3 address Access.Fetch) v.core
     (completed v (with_registers_loaded v.core.storage.bytes r1 address (register_count r1 r3) v.core))

@@ -1,5 +1,4 @@
--- What an instruction that was fetched works on: the core as it finds it, the address of the next
--- instruction, and its own length.
+-- What an instruction that was fetched works on: the core as it finds it, the address of the next instruction, and its own length.
 use Rattle.std.specs.Prelude.{ℕ, slice_index}
 use Rattle.s360_model.specs.Core.{Core}
 use Rattle.s360_psw.specs.declared.instruction_length.InstructionLength.{InstructionLength}

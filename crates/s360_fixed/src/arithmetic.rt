@@ -2,11 +2,11 @@
 //! Source: GA22-6821, "Fixed-Point Arithmetic" and "Logical Operations".
 ghost use Rattle.std.specs.Prelude.{◌≡◌, IfOk, None, Some};
 ghost use Rattle.s360_fixed.specs.Plans.{PutsNothing, PutsOutcome};
-ghost use Rattle.s360_fixed.specs.Outcomes.{combination_outcome, pair_outcome, result_of};
+ghost use Rattle.s360_fixed.specs.Outcomes.{combination_outcome, pair_outcome};
 ghost use Rattle.s360_fixed.specs.Alterations.{set_by_signed, set_to};
 ghost use Rattle.s360_fixed.specs.Operands.{word_operand};
 ghost use Rattle.s360_model.specs.ConditionCodes.{bits_code};
-ghost use Rattle.s360_fixed.specs.Rows.{meaning_of};
+ghost use Rattle.s360_fixed.specs.Rows.{result_of};
 ghost use Rattle.s360_fixed.specs.declared.row.PairCombination.TheVariants.{Product, Quotient};
 
 use crate::effect::Effect;
@@ -47,7 +47,7 @@ fn bits(word: Word) -> Effect
 /// What is made of the word in R1 and the second operand.
 #[inline(always)]
 fn effect_on(combination: Combination, first: Word, second: Word) -> Effect
-    ensures made { (result.first, result.setting) ≡ result_of (meaning_of combination) first second }
+    ensures made { (result.first, result.setting) ≡ result_of combination first second }
     ensures single { result.second ≡ None }
 {
     match combination {

@@ -19,9 +19,10 @@ pub struct Effect {
 }
 
 impl Effect {
-    ghost use Rattle.std.specs.Prelude.{◌≡◌, ◌<◌, ◌+◌, IfOk, None, OnOk, OnSome, Some};
+    ghost use Rattle.std.specs.Prelude.{ℕ, ◌≡◌, ◌<◌, ◌≤◌, ◌+◌, IfOk, None, OnOk, OnSome, Some};
+    ghost use Rattle.s360_store.specs.declared.place.Place.TheVariants.{Byte};
     ghost use Rattle.s360_fixed.specs.Alterations.{after_alteration, core_with_alteration, set_to, unchanged};
-    ghost use Rattle.s360_fixed.specs.Plans.{PutsCore, PutsNothing, PutsOutcome, alteration_of};
+    ghost use Rattle.s360_fixed.specs.Plans.{PutsNothing, PutsOutcome, alteration_of};
 
     /// Nothing changes.
     pub fn none() -> Effect
@@ -79,7 +80,10 @@ impl Effect {
     ) -> Result<(), AllocError>
         requires pair { OnSome self.second (r1 + 1 < 16) }
         requires none { PutsNothing P.Puts puts.old view.now }
-        ensures { OnOk result (PutsCore P.Puts puts.new view.now (core_with_alteration (alteration_of r1 self address) view.now.core)) }
+        ensures makes { OnOk result (P.made puts.new view.now.core ≡ core_with_alteration (alteration_of r1 self address) view.now.core) }
+        ensures may { OnOk result (P.may puts.new view.now.core) }
+        ensures few { OnOk result (P.count puts.new ≤ 3) }
+        ensures bytes { OnOk result ((a : ℕ) → P.past puts.new (Byte a)) }
     {
         let psw = psw_with(self.setting.code, view.psw());
         let core = view.core();

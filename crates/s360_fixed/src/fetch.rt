@@ -3,7 +3,7 @@
 ghost use Rattle.std.specs.Prelude.{◌≡◌, ◌<◌, ◌≤◌, ◌+◌, IfErr, IfOk, IfNone, None, OnOk, Some, length, slice_index};
 ghost use Rattle.s360_store.specs.declared.protection.Access.TheVariants.{Fetch};
 ghost use Rattle.s360_store.specs.Protection.{access};
-ghost use Rattle.s360_fixed.specs.Operands.{code_of_access};
+ghost use Rattle.s360_fixed.specs.Operands.{conditions_of};
 ghost use Rattle.s360_fixed.specs.Fetching.{fetch_conditions, instruction_bytes, length_at};
 ghost use Rattle.s360_fixed.specs.Table.{instruction_length};
 ghost use Rattle.s360_fixed.specs.ProgramCodes.{program_code};
@@ -15,7 +15,7 @@ use s360_word::ProtectionKey;
 
 /// What keeps so many bytes from being fetched.
 fn refusal(storage: &Storage, address: u32, count: u32, key: ProtectionKey) -> Option<ProgramCode>
-    ensures code { result ≡ code_of_access (access storage.now address count Fetch key) }
+    ensures code { result ≡ program_code (conditions_of (access storage.now address count Fetch key)) }
     ensures inside { IfNone result (address + count ≤ length storage.now.bytes) }
 {
     ProgramCode::of_access(storage.check(address, count, Access::Fetch, key))

@@ -1,10 +1,10 @@
 //! Operands in storage: fetching one, and storing and loading registers. Source: GA22-6821,
 //! "Fixed-Point Arithmetic" and "Logical Operations".
-ghost use Rattle.std.specs.Prelude.{◌≡◌, ◌≤◌, ◌<◌, ◌+◌, ◌*◌, IfOk, IsOk, Err, MatchOption, length};
+ghost use Rattle.std.specs.Prelude.{◌≡◌, ◌≤◌, ◌<◌, ◌+◌, ◌*◌, IfErr, IfOk, IsOk, OnOk, Err, None, Some, MatchOption, length};
 ghost use Rattle.s360_store.specs.declared.protection.Access.{Access};
-ghost use Rattle.s360_fixed.specs.Operands.{bytes_of_width, extended_halfword};
-ghost use Rattle.s360_fixed.specs.Operands.{fetched, storage_operand, word_in};
-ghost use Rattle.s360_fixed.specs.Plans.{HasWords, PutsNothing, PutsOutcome};
+ghost use Rattle.s360_store.specs.Plans.{HasBytes};
+ghost use Rattle.s360_fixed.specs.Operands.{bytes_of_width, extended_halfword, storage_operand, word_in};
+ghost use Rattle.s360_fixed.specs.Plans.{PutsNothing, PutsOutcome};
 ghost use Rattle.s360_fixed.specs.ProgramCodes.{program_code};
 ghost use Rattle.s360_fixed.specs.Storing.{bytes_outcome, load_multiple_outcome, register_count};
 ghost use Rattle.s360_fixed.specs.Storing.{store_multiple_outcome, store_outcome, words_conditions};
@@ -43,7 +43,9 @@ fn word_in(view: &View, width: Width, address: u32) -> Word
 /// The second operand at an address, or what keeps it from being used.
 #[inline(always)]
 pub(crate) fn fetch(view: &View, operand: SecondOperand, address: u32) -> Result<Word, ProgramCode>
-    ensures { result ≡ fetched (storage_operand view.now.core operand address) }
+    ensures none { OnOk result (program_code (storage_operand view.now.core operand address).conditions ≡ None) }
+    ensures value { IfOk result (λ word. word ≡ (storage_operand view.now.core operand address).value) }
+    ensures code { IfErr result (λ code. program_code (storage_operand view.now.core operand address).conditions ≡ Some code) }
 {
     match operand {
         SecondOperand::Address => Ok(address),
@@ -117,7 +119,8 @@ fn register_words(
 ) -> Result<RegisterWords, ProgramCode>
     ensures code { MatchOption (program_code (words_conditions view.now r1 r3 address kind)) (IsOk result) (λ code. result ≡ Err code) }
     ensures words { IfOk result (λ words. words ≡ record { r1 = r1; count = register_count r1 r3; address = address }) }
-    ensures within { IfOk result (λ words. HasWords view.now.core words) }
+    ensures within { IfOk result (λ words. HasBytes words.address (4 * words.count) view.now.core) }
+    ensures few { IfOk result (λ words. words.count ≤ 16) }
 {
     let count = register_count(r1, r3);
     match operand_exception(view, address, 4, 4 * u32::from(count), kind) {

@@ -1,7 +1,10 @@
 //! What a fixed-point, branch or shift instruction makes, its puts, and its plan. Source: GA22-6821,
 //! "Fixed-Point Arithmetic", "Logical Operations" and "Branching".
 ghost use Rattle.std.specs.Prelude.{◌≡◌, [], IfOk, IfSome, IsSome, is_some};
-ghost use Rattle.s360_fixed.specs.Fixed.{combination_rx, fixed_outcome, pair_rx, rr_outcome, rs_outcome, rx_outcome};
+ghost use Rattle.s360_fixed.specs.declared.second_operand.SecondOperand.TheVariants.{InStorage};
+ghost use Rattle.s360_fixed.specs.declared.second_operand.Width.TheVariants.{Word};
+ghost use Rattle.s360_fixed.specs.Fixed.{fixed_outcome, rr_outcome, rs_outcome, rx_outcome, with_operand};
+ghost use Rattle.s360_fixed.specs.Outcomes.{combination_outcome, pair_outcome};
 ghost use Rattle.s360_fixed.specs.Plans.{PlansOutcome, PutsNothing, PutsOutcome};
 
 use crate::address::operand_address;
@@ -31,7 +34,7 @@ pub fn put_combined_at<P: Puts>(
     puts: &mut P,
 ) -> Result<Ended, AllocError>
     requires none { PutsNothing P.Puts puts.old view.now }
-    ensures { IfOk result (PutsOutcome P.Puts puts.new view.now (combination_rx second combination view.now r1 address)) }
+    ensures { IfOk result (PutsOutcome P.Puts puts.new view.now (with_operand second (combination_outcome combination) view.now r1 address)) }
 {
     match fetch(view, second, address) {
         Ok(second) => put_combined(view, combination, r1, second, puts),
@@ -49,7 +52,7 @@ pub fn put_pair_at<P: Puts>(
     puts: &mut P,
 ) -> Result<Ended, AllocError>
     requires none { PutsNothing P.Puts puts.old view.now }
-    ensures { IfOk result (PutsOutcome P.Puts puts.new view.now (pair_rx pair view.now r1 address)) }
+    ensures { IfOk result (PutsOutcome P.Puts puts.new view.now (with_operand (InStorage Word) (pair_outcome pair) view.now r1 address)) }
 {
     if odd_partner(r1).is_none() {
         return Ok(Ended::Program(ProgramCode::Specification));
@@ -118,12 +121,11 @@ fn put_rs<P: Puts>(
     requires none { PutsNothing P.Puts puts.old view.now }
     ensures { IfSome (rs_outcome row) (λ outcome. IfOk result (PutsOutcome P.Puts puts.new view.now (outcome view.now r1 r3 address))) }
 {
-    let count = (address % 64) as u8;
     match row {
         Row::StoreRegisters => put_stores(view, r1, r3, address, puts),
         Row::LoadRegisters => put_loads(view, r1, r3, address, puts),
-        Row::Shift(shift) => put_shift(view, shift, r1, count, puts),
-        Row::ShiftPair(shift) => put_pair_shift(view, shift, r1, count, puts),
+        Row::Shift(shift) => put_shift(view, shift, r1, address, puts),
+        Row::ShiftPair(shift) => put_pair_shift(view, shift, r1, address, puts),
         Row::BranchOnIndex(branch) => put_branch_on_index(view, branch, r1, r3, address, puts),
         _ => unreachable!(),
     }

@@ -1,7 +1,7 @@
 //! The program interruption codes. Source: GA22-6821, "Interruptions", program interruption.
 ghost use Rattle.std.specs.Prelude.{◌≡◌};
-ghost use Rattle.s360_fixed.specs.Operands.{code_of_access};
-ghost use Rattle.s360_fixed.specs.ProgramCodes.{number_of_code};
+ghost use Rattle.s360_fixed.specs.Operands.{conditions_of};
+ghost use Rattle.s360_fixed.specs.ProgramCodes.{number_of_code, program_code};
 
 use s360_store::Checked;
 
@@ -31,7 +31,7 @@ pub enum ProgramCode {
 impl ProgramCode {
     /// The code of what an access to storage meets, if it meets anything.
     pub fn of_access(checked: Checked) -> Option<ProgramCode>
-        ensures { result ≡ code_of_access checked }
+        ensures { result ≡ program_code (conditions_of checked) }
     {
         match checked {
             Checked::Clear => None,

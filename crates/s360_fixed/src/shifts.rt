@@ -47,19 +47,19 @@ fn shifted(shift: Shift, word: Word, count: u8) -> Effect
     }
 }
 
-/// Puts a shift of R1 by a count of 0 to 63.
+/// Puts a shift of R1 by the low six bits of the address.
 #[inline(always)]
 pub fn put_shift<P: Puts>(
     view: &View,
     shift: Shift,
     r1: RegisterNumber,
-    count: u8,
+    address: u32,
     puts: &mut P,
 ) -> Result<Ended, AllocError>
-    requires count { count < 64 }
     requires none { PutsNothing P.Puts puts.old view.now }
-    ensures { IfOk result (PutsOutcome P.Puts puts.new view.now (shift_outcome shift view.now r1 count)) }
+    ensures { IfOk result (PutsOutcome P.Puts puts.new view.now (shift_outcome shift view.now r1 address)) }
 {
+    let count = (address % 64) as u8;
     shifted(shift, view.register(r1), count).put_next(view, r1, puts)
 }
 
@@ -94,20 +94,20 @@ fn pair_shifted(shift: Shift, high: Word, low: Word, count: u8) -> Effect
     }
 }
 
-/// Puts a shift of the pair R1, R1 + 1 by a count of 0 to 63.
+/// Puts a shift of the pair R1, R1 + 1 by the low six bits of the address.
 pub fn put_pair_shift<P: Puts>(
     view: &View,
     shift: Shift,
     r1: RegisterNumber,
-    count: u8,
+    address: u32,
     puts: &mut P,
 ) -> Result<Ended, AllocError>
-    requires count { count < 64 }
     requires none { PutsNothing P.Puts puts.old view.now }
-    ensures { IfOk result (PutsOutcome P.Puts puts.new view.now (pair_shift_outcome shift view.now r1 count)) }
+    ensures { IfOk result (PutsOutcome P.Puts puts.new view.now (pair_shift_outcome shift view.now r1 address)) }
 {
     let Some(next) = odd_partner(r1) else {
         return Ok(Ended::Program(ProgramCode::Specification));
     };
+    let count = (address % 64) as u8;
     pair_shifted(shift, view.register(r1), view.register(next), count).put_next(view, r1, puts)
 }

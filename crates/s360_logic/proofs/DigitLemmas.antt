@@ -5,7 +5,7 @@ use Rattle.std.proofs.lemmas.Bool.{cases_Bool, eqb-true, eqb-false, ltb-true}
 use Rattle.s360_model.specs.Storage.{Storage}
 use Rattle.s360_logic.specs.declared.field.Field.{Field}
 use Rattle.s360_logic.specs.Bytes.{byte_at, with_byte}
-use Rattle.s360_logic.specs.DigitLaws.{DigitsOfApartOperands, ShareNoByte}
+use Rattle.s360_logic.specs.RightToLeft.{DigitsOfApartOperands, ShareNoByte}
 use Rattle.s360_logic.specs.RightToLeft.{DigitMove, address_from_right, byte_from_right, first_user, made_byte, source_byte, result_byte, storage_after, storage_before}
 use Rattle.s360_logic.proofs.RightToLeftLemmas.{storage_before-first}
 

@@ -10,7 +10,7 @@ use Rattle.s360_store.specs.Differing.{IsFirstOther}
 use Rattle.s360_fixed.specs.Alterations.{psw_with}
 use Rattle.s360_fixed.specs.View.{View}
 use Rattle.s360_logic.specs.Bytes.{completed_with, byte_at, operand_bytes, with_byte}
-use Rattle.s360_logic.specs.Operands.{FirstOperand, IsApart, IsBeside, first_operand, stored_in}
+use Rattle.s360_logic.specs.Operands.{FirstOperand, stored_in}
 use Rattle.s360_logic.specs.LeftToRight.{comparison_code, function_address, left_to_right}
 
 nat_eq-same : (n : ℕ) → nat_eq n n ≡ true
@@ -22,6 +22,10 @@ with_run-set xs run a i b h l =
     in let front : a + i < length (take a xs ++ run) = omega (arith, length-append (take a xs) run)
     in let back : a + i - a ≡ i = omega arith
     in rw (length-set run i b, set-append_left (take a xs ++ run) (drop (a + length run) xs) (a + i) b front, set-append_right (take a xs) run a (a + i) b na (omega arith), back) refl
+
+-- an operand of which nothing is stored yet
+abbrev pub first_operand : Storage → ℕ → ℕ → FirstOperand
+first_operand s address count = record { storage = s; address = address; bytes = operand_bytes s address count }
 
 -- the bytes of an operand, and the storage of which nothing is altered
 pub length-operand_bytes : (s : Storage) (a n : ℕ) → a + n ≤ length s.bytes → length (operand_bytes s a n) ≡ n
@@ -98,7 +102,7 @@ pub stored_in-other : (o : FirstOperand) (i b x : ℕ) → i < length o.bytes �
 stored_in-other o i b x h l n = ap (λ (s : Storage). byte_at s x) (stored_in-set o i b h l) ∙ get_or-set_other (stored_in o).bytes (o.address + i) x b 0 n
 
 -- a byte apart is one that is stored later, or none of the operand's
-pub apart-at : (o : FirstOperand) (a i : ℕ) → i < length o.bytes → IsApart o a → (a + i < o.address) ⊎ (o.address + i ≤ a + i)
+pub apart-at : (o : FirstOperand) (a i : ℕ) → i < length o.bytes → (o.address ≤ a) ⊎ (a + length o.bytes ≤ o.address) → (a + i < o.address) ⊎ (o.address + i ≤ a + i)
 apart-at o a i l (inl h) = inr (omega (arith, h))
 apart-at o a i l (inr h) = inl (omega (arith, h, l))
 
@@ -112,8 +116,8 @@ still-later a i x (inl l) = inl l
 still-later a i x (inr l) = inr (omega (arith, l))
 
 -- a byte of a table beside the operand
-pub beside-at : (o : FirstOperand) (table i v : ℕ) → i < length o.bytes → v < 256 → IsBeside o table 256 → (table + v < o.address) ⊎ (o.address + i ≤ table + v)
-beside-at o table i v l m h = elim h.1 [ inl a ↦ inl (omega (arith, a, m)) | inr a ↦ inr (omega (arith, a, l)) ]
+pub beside-at : (o : FirstOperand) (table i v : ℕ) → i < length o.bytes → v < 256 → (table + 256 ≤ o.address) ⊎ (o.address + length o.bytes ≤ table) → (table + v < o.address) ⊎ (o.address + i ≤ table + v)
+beside-at o table i v l m h = elim h [ inl a ↦ inl (omega (arith, a, m)) | inr a ↦ inr (omega (arith, a, l)) ]
 
 pub function_address-low : (table v : ℕ) → table + v < 2 ^ 24 → function_address table v ≡ table + v
 function_address-low table v l = omega (arith, l)

@@ -18,31 +18,9 @@ use Rattle.s360_fixed.specs.Table.{form_of}
 use Rattle.s360_fixed.specs.View.{Outcome, View}
 use Rattle.s360_logic.specs.Instruction.{FetchedInstruction, IsFetched, PutsInstruction, conditions_at, fetched_outcome, instruction, instruction_at, instruction_of, view_at}
 
--- a code that no instruction has is found where nothing keeps the instruction from being fetched
-operation-met : (odd outside_first protected_first outside_rest protected_rest : Bool)
-    → program_code (record no_conditions { odd_address = odd; outside_first = outside_first; protected_first = protected_first; outside_rest = outside_rest; protected_rest = protected_rest }) ≡ None
-    → program_code (record no_conditions { odd_address = odd; outside_first = outside_first; protected_first = protected_first; outside_rest = outside_rest; protected_rest = protected_rest; operation = true }) ≡ Some Operation
-operation-met true f p r q h = cc
-operation-met false true p r q h = cc
-operation-met false false true r q h = cc
-operation-met false false false true q h = cc
-operation-met false false false false true h = cc
-operation-met false false false false false h = refl
-
-abbrev unknown_outcome : Core → Outcome
-unknown_outcome m = record { ended = Program Operation; core = m }
-
-instruction_of-unknown : (m : Core) (a : ℕ) → program_code (conditions_at m a) ≡ None → instruction_of m a None ≡ unknown_outcome m
-instruction_of-unknown m a h =
-    let c : Conditions = conditions_at m a
-    in rw (operation-met c.odd_address c.outside_first c.protected_first c.outside_rest c.protected_rest h) refl
-
 -- the outcome of an instruction that was fetched
 pub outcome-of-form : (m : Core) (a : ℕ) (form : Option Form) → program_code (conditions_at m a) ≡ None → instruction_of m a form ≡ fetched_outcome (view_at m a) form
-outcome-of-form m a None h =
-    let late : unknown_outcome m ≡ fetched_outcome (view_at m a) None = rw h refl
-    in instruction_of-unknown m a h ∙ late
-outcome-of-form m a (Some form) h = rw h refl
+outcome-of-form m a form h = rw h refl
 
 pub outcome-fetched : (f : FetchedInstruction) → IsFetched f → (instruction_at f.view.core (instruction_address_of f.view.core.psw)).outcome ≡ fetched_outcome f.view f.form
 outcome-fetched f h =
@@ -64,24 +42,12 @@ PutsInstruction-fetched q puts f ended h p =
       length = ap (λ (v : View). v.instruction_length) h.view;
     }
 
--- what keeps an instruction from being fetched comes before its code
-refused-met : (odd outside_first protected_first outside_rest protected_rest operation : Bool) (code : ProgramCode)
-    → program_code (record no_conditions { odd_address = odd; outside_first = outside_first; protected_first = protected_first; outside_rest = outside_rest; protected_rest = protected_rest }) ≡ Some code
-    → program_code (record no_conditions { odd_address = odd; outside_first = outside_first; protected_first = protected_first; outside_rest = outside_rest; protected_rest = protected_rest; operation = operation }) ≡ Some code
-refused-met true f p r q o code h = h
-refused-met false true p r q o code h = h
-refused-met false false true r q o code h = h
-refused-met false false false true q o code h = h
-refused-met false false false false true o code h = h
-refused-met false false false false false o code h = absurd (cc)
-
+-- one that cannot be fetched
 abbrev pub refused_outcome : Core → ProgramCode → Outcome
 refused_outcome m code = record { ended = Program code; core = m }
 
 pub instruction_of-refused : (m : Core) (a : ℕ) (form : Option Form) (code : ProgramCode) → program_code (conditions_at m a) ≡ Some code → instruction_of m a form ≡ refused_outcome m code
-instruction_of-refused m a form code h =
-    let c : Conditions = conditions_at m a
-    in rw (refused-met c.odd_address c.outside_first c.protected_first c.outside_rest c.protected_rest (is_none form) code h) refl
+instruction_of-refused m a form code h = rw h refl
 
 -- one that could not be fetched puts nothing, and has no length
 pub PutsInstruction-refused : {S : Type 0} (q : Ghosts S) (puts : S) (m : Core) (code : ProgramCode) → HasNoPuts m (q.made puts) (q.may puts) (q.past puts) (q.count puts)

@@ -7,16 +7,16 @@ use Rattle.std.proofs.lemmas.List.{places}
 use Rattle.s360_model.specs.Storage.{Storage, is_inside}
 use Rattle.s360_store.specs.Protection.{access, block_allows, is_allowed, met_of_both}
 use Rattle.s360_fixed.specs.declared.program_code.ProgramCode.{ProgramCode}
-use Rattle.s360_fixed.specs.Operands.{code_of_access}
+use Rattle.s360_fixed.specs.Operands.{conditions_of}
 use Rattle.s360_fixed.specs.ProgramCodes.{program_code}
 use Rattle.s360_store.specs.declared.protection.Access.{Access}
 use Rattle.s360_store.specs.declared.protection.Access.TheVariants.{Fetch}
 use Rattle.s360_store.specs.declared.protection.Checked.{Checked}
 use Rattle.s360_store.specs.declared.protection.Checked.TheVariants.{Addressing, Clear, Protection}
 use Rattle.s360_logic.specs.Bytes.{byte_at, operand_bytes, with_byte}
-use Rattle.s360_logic.specs.LeftToRight.{conditions_of, found_at, function_access, function_address, function_byte, search_access, translate_access, translated_byte}
-use Rattle.s360_logic.specs.Operands.{FirstOperand, first_operand, stored_in}
-use Rattle.s360_logic.proofs.FieldLemmas.{length-operand_bytes, stored_in-first, stored_in-set}
+use Rattle.s360_logic.specs.LeftToRight.{found_at, function_access, function_address, function_byte, search_access, translate_access, translated_byte}
+use Rattle.s360_logic.specs.Operands.{FirstOperand, stored_in}
+use Rattle.s360_logic.proofs.FieldLemmas.{first_operand, length-operand_bytes, stored_in-first, stored_in-set}
 
 pub length-stored_in : (o : FirstOperand) → o.address + length o.bytes ≤ length o.storage.bytes → length (stored_in o).bytes ≡ length o.storage.bytes
 length-stored_in o h = search (rules, places)
@@ -46,13 +46,8 @@ pub met-more : (before one one_more rest all now : Checked) → now ≡ met_of_b
 met-more before one one_more rest all now e f h =
     ap (λ x. met_of_both x rest) (e ∙ ap (met_of_both before) f) ∙ met_of_both-assoc before one_more rest ∙ ap (met_of_both before) h
 
--- the program code of what accesses meet, and where there is none
-pub code-of-met : (c : Checked) → code_of_access c ≡ program_code (conditions_of c)
-code-of-met Clear = refl
-code-of-met Addressing = refl
-code-of-met Protection = refl
-
-both-clear : (c d : Checked) → code_of_access (met_of_both c d) ≡ None → d ≡ Clear
+-- where accesses have no program code
+both-clear : (c d : Checked) → program_code (conditions_of (met_of_both c d)) ≡ None → d ≡ Clear
 both-clear Addressing d h = absurd (cc)
 both-clear Protection Addressing h = absurd (cc)
 both-clear Protection Protection h = absurd (cc)
@@ -61,7 +56,7 @@ both-clear Clear Addressing h = absurd (cc)
 both-clear Clear Protection h = absurd (cc)
 both-clear Clear Clear h = refl
 
-pub none-clear : (r : Option ProgramCode) (c d : Checked) → r ≡ code_of_access (met_of_both c d) → IfNone r (d ≡ Clear)
+pub none-clear : (r : Option ProgramCode) (c d : Checked) → r ≡ program_code (conditions_of (met_of_both c d)) → IfNone r (d ≡ Clear)
 none-clear None c d e = both-clear c d (sym e)
 none-clear (Some code) c d e = tt
 

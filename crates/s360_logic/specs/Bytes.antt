@@ -1,21 +1,12 @@
--- What the rows on bytes share: storage with another byte, what a byte becomes, the conditions of two
--- operands, and the instruction that is completed with another storage (GA22-6821, "Logical Operations").
-use Rattle.std.specs.Prelude.{ℕ, ◌+◌, ◌*◌, ◌/◌, ◌%◌, ◌||◌, nat_eq, if◌then◌else◌, Option, None, Some, List, slice_index, slice_set}
-use Rattle.std.specs.Prelude.{bit_and, bit_or, bit_xor}
+-- What the rows on bytes share: what a byte becomes, the conditions of two operands, and storage with other bytes (GA22-6821, "Logical Operations").
+use Rattle.std.specs.Prelude.{ℕ, ◌+◌, ◌*◌, ◌/◌, ◌%◌, nat_eq, if◌then◌else◌, Option, None, Some, List, slice_index, slice_set, bit_and, bit_or, bit_xor}
 use Rattle.std.specs.List.{list_all, slice_range}
-use Rattle.s360_model.specs.Psw.{with_instruction_address}
-use Rattle.s360_model.specs.Storage.{Storage}
-use Rattle.s360_store.specs.declared.protection.Access.{Access}
-use Rattle.s360_store.specs.declared.protection.Access.TheVariants.{Fetch}
-use Rattle.s360_fixed.specs.declared.ended.Ended.TheVariants.{Done}
-use Rattle.s360_fixed.specs.Alterations.{psw_with}
-use Rattle.s360_fixed.specs.Operands.{access_conditions}
-use Rattle.s360_fixed.specs.ProgramCodes.{Conditions}
+use Rattle.s360_model.specs.{Psw.protection_key_of, Psw.with_instruction_address, Storage.Storage}
+use Rattle.s360_store.specs.{declared.protection.Access.Access, declared.protection.Checked.Checked, Protection.access, Protection.met_of_both}
+use Rattle.s360_fixed.specs.{declared.ended.Ended.TheVariants.Done, Alterations.psw_with, Operands.conditions_of, ProgramCodes.Conditions}
 use Rattle.s360_fixed.specs.View.{Outcome, View}
-use Rattle.s360_logic.specs.declared.field.Field.{Field}
-use Rattle.s360_logic.specs.declared.row.ByteCombination.{ByteCombination}
-use Rattle.s360_logic.specs.declared.row.ByteCombination.TheVariants.{Second, LowHalf, HighHalf}
-use Rattle.s360_logic.specs.declared.row.ByteCombination.TheVariants.{BitwiseAnd, BitwiseOr, BitwiseExclusiveOr}
+use Rattle.s360_logic.specs.declared.{field.Field.Field, row.ByteCombination.ByteCombination}
+use Rattle.s360_logic.specs.declared.row.ByteCombination.TheVariants.{Second, LowHalf, HighHalf, BitwiseAnd, BitwiseOr, BitwiseExclusiveOr}
 
 -- the byte at an address, and the storage with another one there
 abbrev pub byte_at : Storage → ℕ → ℕ
@@ -48,22 +39,13 @@ combination_code BitwiseOr results = code_of_bytes results
 combination_code BitwiseExclusiveOr results = code_of_bytes results
 combination_code other results = None
 
--- the conditions of two operands in storage. Only these three can arise from an operand: it is looked at once the instruction
--- was fetched and decoded and was found not to be privileged, and none is divided. So the eight others hold of neither, and
--- are those of the first
-abbrev pub either : Conditions → Conditions → Conditions
-either c d = record c {
-  specification = c.specification || d.specification;
-  addressing = c.addressing || d.addressing;
-  protection = c.protection || d.protection;
-}
+-- what an access to an operand on any boundary meets with the key of the PSW
+abbrev pub field_access : View → Access → Field → Checked
+field_access v kind field = access v.core.storage field.address field.count kind (protection_key_of v.core.psw)
 
--- an operand on any boundary; and two, of which the second is fetched
-abbrev pub field_conditions : View → Access → Field → Conditions
-field_conditions v kind field = access_conditions v.core field.address 1 field.count kind
-
+-- the conditions of two operands, of which the second is fetched: one outside storage comes before a protected one
 abbrev pub fields_conditions : View → Access → Field → Field → Conditions
-fields_conditions v kind first second = either (field_conditions v kind first) (field_conditions v Fetch second)
+fields_conditions v kind first second = conditions_of (met_of_both (field_access v kind first) (field_access v Access.Fetch second))
 
 -- the instruction is completed with a condition code, if one is set, and this storage, and the program goes on with the next
 abbrev pub completed_with : View → Option ℕ → Storage → Outcome

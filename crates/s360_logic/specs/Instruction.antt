@@ -1,54 +1,37 @@
--- One instruction: it is fetched, decoded and done by its row (GA22-6821, "System Structure", program
--- execution, and "Interruptions").
-use Rattle.std.specs.Prelude.{◌≡◌, ◌<◌, ℕ, ◌+◌, nat_eq, if◌then◌else◌, Option, Some, None, is_none, List, length, slice_index}
-use Rattle.s360_model.specs.Core.{Core}
-use Rattle.s360_model.specs.Psw.{instruction_address_of, protection_key_of}
+-- One instruction: it is fetched, decoded and done by its row (GA22-6821, "System Structure", program execution, and "Interruptions").
+use Rattle.std.specs.Prelude.{◌≡◌, ◌<◌, ℕ, ◌+◌, nat_eq, if◌then◌else◌, Option, None, is_none, List, length, slice_index}
+use Rattle.std.specs.Option.{option_map_or}
+use Rattle.s360_model.specs.{Core.Core, Psw.instruction_address_of, Psw.protection_key_of}
 use Rattle.s360_psw.specs.declared.instruction_length.InstructionLength.{InstructionLength}
 use Rattle.s360_psw.specs.declared.instruction_length.InstructionLength.TheVariants.{NotAvailable, OneHalfword, TwoHalfwords, ThreeHalfwords}
-use Rattle.s360_store.specs.declared.place.Cell.{Cell}
-use Rattle.s360_store.specs.declared.puts.Puts.{Ghosts}
-use Rattle.s360_fixed.specs.declared.ended.Ended.TheVariants.{Program}
-use Rattle.s360_fixed.specs.declared.form.Form.{Form}
-use Rattle.s360_fixed.specs.declared.program_code.ProgramCode.TheVariants.{Operation}
-use Rattle.s360_fixed.specs.Fetching.{fetch_conditions, instruction_bytes, length_at}
-use Rattle.s360_fixed.specs.Outcomes.{unless_met}
-use Rattle.s360_fixed.specs.Plans.{PlansOutcome, PutsOutcome}
-use Rattle.s360_fixed.specs.ProgramCodes.{Conditions, program_code}
-use Rattle.s360_fixed.specs.Table.{form_of, instruction_length}
-use Rattle.s360_fixed.specs.View.{Outcome, View}
-use Rattle.s360_logic.specs.declared.cpu.PlannedInstruction.{PlannedInstruction}
-use Rattle.s360_logic.specs.Logic.{outcome_of}
+use Rattle.s360_store.specs.declared.{place.Cell.Cell, puts.Puts.Ghosts}
+use Rattle.s360_fixed.specs.declared.{ended.Ended.TheVariants.Program, form.Form.Form, program_code.ProgramCode.TheVariants.Operation}
+use Rattle.s360_fixed.specs.{Fetching.fetch_conditions, Fetching.instruction_bytes, Fetching.length_at, Outcomes.unless_met, View.Outcome, View.View}
+use Rattle.s360_fixed.specs.{Plans.PlansOutcome, Plans.PutsOutcome, ProgramCodes.Conditions, ProgramCodes.program_code, Table.form_of, Table.instruction_length}
+use Rattle.s360_logic.specs.{declared.cpu.PlannedInstruction.PlannedInstruction, Logic.outcome_of}
 
 -- a length of 2, 4 or 6 bytes as an instruction length
 abbrev pub length_of_bytes : ℕ → InstructionLength
 length_of_bytes bytes = if nat_eq bytes 2 then OneHalfword else (if nat_eq bytes 4 then TwoHalfwords else ThreeHalfwords)
 
--- what keeps the instruction at an address from being fetched with the key of the PSW, and decoded
+-- what keeps the instruction at an address from being fetched with the key of the PSW
 abbrev pub conditions_at : Core → ℕ → Conditions
 conditions_at m address = fetch_conditions m.storage address (protection_key_of m.psw)
 
-abbrev pub decoding_conditions : Core → ℕ → Option Form → Conditions
-decoding_conditions m address form = record (conditions_at m address) { operation = is_none form }
-
--- what the instruction at an address works on: where it could not be fetched its length is not available,
--- and the address stays (own profile)
+-- what the instruction at an address works on: where it could not be fetched its length is not available, and the address stays (own profile)
 abbrev pub view_at : Core → ℕ → View
 view_at m address =
-    if is_none (program_code (conditions_at m address))
-    then record {
-      core = m;
-      next_address = address + length_at m.storage address;
-      instruction_length = length_of_bytes (length_at m.storage address);
-    }
+    let length = length_at m.storage address
+    in if is_none (program_code (conditions_at m address))
+    then record { core = m; next_address = address + length; instruction_length = length_of_bytes length }
     else record { core = m; next_address = address; instruction_length = NotAvailable }
 
 -- what it does that was fetched: a code that no instruction has is an operation exception
 abbrev pub fetched_outcome : View → Option Form → Outcome
-fetched_outcome v None = record { ended = Program Operation; core = v.core }
-fetched_outcome v (Some form) = outcome_of v form
+fetched_outcome v form = option_map_or (outcome_of v) form (record { ended = Program Operation; core = v.core })
 
 abbrev pub instruction_of : Core → ℕ → Option Form → Outcome
-instruction_of m address form = unless_met (decoding_conditions m address form) m (fetched_outcome (view_at m address) form)
+instruction_of m address form = unless_met (conditions_at m address) m (fetched_outcome (view_at m address) form)
 
 -- what an instruction does, and what an interruption that follows stores of it
 pub record Instruction : Type 0 where
@@ -83,8 +66,7 @@ abbrev pub AreFetched : List ℕ → View → Type 0
 AreFetched bytes v =
     (0 < length bytes) × (length bytes ≡ instruction_length (slice_index bytes 0)) × IsFetched (record { view = v; form = form_of bytes })
 
--- an instruction ends as the definition's does, with its next address and its length, and its puts make the
--- definition's core
+-- an instruction ends as the definition's does, with its next address and its length, and its puts make the definition's core
 pub record PutsInstruction {S : Type 0} (p : Ghosts S) (taken : S) (m : Core) (i : Instruction) (planned : PlannedInstruction) : Type 0 where
   pub puts : PutsOutcome p taken (record { core = m; next_address = i.next_address; instruction_length = i.instruction_length }) i.outcome planned.ended
   pub next : planned.next_address ≡ i.next_address

@@ -1,25 +1,14 @@
--- Rows of two operands in storage of one length, a byte after another from left to right: a byte that was
--- stored is seen by later fetches (GA22-6821, "Logical Operations").
+-- Rows of two operands of one length, byte by byte from left to right: what was stored is seen by later fetches (GA22-6821, "Logical Operations").
 use Rattle.std.specs.Prelude.{ℕ, zero, suc, ◌+◌, ◌*◌, ◌/◌, ◌%◌, ◌^◌, nat_eq, if◌then◌else◌, Option, Some, None, [], ◌∷◌, pos}
-use Rattle.s360_model.specs.ConditionCodes.{order_code}
-use Rattle.s360_model.specs.Psw.{protection_key_of}
-use Rattle.s360_model.specs.Storage.{Storage}
+use Rattle.s360_model.specs.{ConditionCodes.order_code, Psw.protection_key_of, Storage.Storage}
+use Rattle.s360_store.specs.declared.protection.{Access.TheVariants.Fetch, Access.TheVariants.Store, Checked.Checked}
 use Rattle.s360_store.specs.Protection.{access, met_of_both}
-use Rattle.s360_store.specs.declared.protection.Access.TheVariants.{Fetch, Store}
-use Rattle.s360_store.specs.declared.protection.Checked.{Checked}
-use Rattle.s360_store.specs.declared.protection.Checked.TheVariants.{Clear}
-use Rattle.s360_fixed.specs.Operands.{is_guarded, is_outside}
+use Rattle.s360_fixed.specs.{Operands.conditions_of, Outcomes.unless_met, ProgramCodes.Conditions, View.Outcome, View.View, View.register_of}
 use Rattle.s360_fixed.specs.Alterations.{after_alteration, set_to}
-use Rattle.s360_fixed.specs.Outcomes.{unless_met}
-use Rattle.s360_fixed.specs.ProgramCodes.{Conditions, no_conditions}
-use Rattle.s360_fixed.specs.View.{Outcome, View, register_of}
-use Rattle.s360_logic.specs.declared.field.Field.{Field}
-use Rattle.s360_logic.specs.declared.row.ByteCombination.{ByteCombination}
-use Rattle.s360_logic.specs.Immediate.{code_alone}
-use Rattle.s360_logic.specs.Bytes.{byte_at, byte_result, combination_code, completed_with, fields_conditions, operand_bytes, with_byte}
+use Rattle.s360_logic.specs.{declared.field.Field.Field, declared.row.ByteCombination.ByteCombination, Immediate.code_alone}
+use Rattle.s360_logic.specs.Bytes.{byte_at, byte_result, combination_code, completed_with, field_access, fields_conditions, operand_bytes, with_byte}
 
--- the storage after the bytes from number i on, so many of them, were made and stored, each of the storage as
--- those before it left it
+-- the storage after the bytes from number i on, so many of them, were made and stored, each of the storage as those before it left it
 abbrev pub left_to_right : (ℕ → Storage → ℕ) → ℕ → ℕ → ℕ → Storage → Storage
 left_to_right byte first i zero s = s
 left_to_right byte first i (suc n) s = left_to_right byte first (i + 1) n (with_byte (first + i) (byte i s) s)
@@ -69,10 +58,9 @@ function_access table key address s = access s (function_address table (byte_at 
 abbrev pub translated_byte : ℕ → ℕ → ℕ → Storage → ℕ
 translated_byte table first i s = function_byte table (first + i) s
 
--- what the fetches of the function bytes meet, each byte being translated before the next selects its own: a
--- function byte decides what follows though it is protected
+-- what the fetches of the function bytes meet, each byte being translated before the next: a function byte decides what follows though it is protected
 abbrev pub translate_access : ℕ → ℕ → ℕ → ℕ → ℕ → Storage → Checked
-translate_access table key first i zero s = Clear
+translate_access table key first i zero s = Checked.Clear
 translate_access table key first i (suc n) s =
     met_of_both (function_access table key (first + i) s)
     (translate_access table key first (i + 1) n (with_byte (first + i) (translated_byte table first i s) s))
@@ -80,23 +68,18 @@ translate_access table key first i (suc n) s =
 abbrev pub translated : ℕ → ℕ → ℕ → Storage → Storage
 translated table first count s = left_to_right (translated_byte table first) first 0 count s
 
--- the conditions of what accesses meet
-abbrev pub conditions_of : Checked → Conditions
-conditions_of met = record no_conditions { addressing = is_outside met; protection = is_guarded met }
-
 -- the operand with the function bytes that it selects
 abbrev pub translate_conditions : View → ℕ → ℕ → ℕ → Conditions
 translate_conditions v first table count =
-    let key = protection_key_of v.core.psw
-    in conditions_of (met_of_both (access v.core.storage first count Store key) (translate_access table key first 0 count v.core.storage))
+    let functions = translate_access table (protection_key_of v.core.psw) first 0 count v.core.storage
+    in conditions_of (met_of_both (field_access v Store (field_at first count)) functions)
 
 abbrev pub translate_outcome : View → ℕ → ℕ → ℕ → Outcome
 translate_outcome v first table count =
     unless_met (translate_conditions v first table count) v.core
     (completed_with v None (translated table first count v.core.storage))
 
--- translate and test: the bytes select function bytes until one is not zero. The number of such a byte, where
--- there is one
+-- translate and test: the bytes select function bytes until one is not zero. The number of such a byte, where there is one
 abbrev pub found_at : ℕ → ℕ → ℕ → ℕ → Storage → Option ℕ
 found_at table first i zero s = None
 found_at table first i (suc n) s =
@@ -104,15 +87,15 @@ found_at table first i (suc n) s =
 
 -- what the fetches of the function bytes up to there meet
 abbrev pub search_access : ℕ → ℕ → ℕ → ℕ → ℕ → Storage → Checked
-search_access table key first i zero s = Clear
+search_access table key first i zero s = Checked.Clear
 search_access table key first i (suc n) s =
     met_of_both (function_access table key (first + i) s)
-    (if nat_eq (function_byte table (first + i) s) 0 then search_access table key first (i + 1) n s else Clear)
+    (if nat_eq (function_byte table (first + i) s) 0 then search_access table key first (i + 1) n s else Checked.Clear)
 
 abbrev pub search_conditions : View → ℕ → ℕ → ℕ → Conditions
 search_conditions v first table count =
-    let key = protection_key_of v.core.psw
-    in conditions_of (met_of_both (access v.core.storage first count Fetch key) (search_access table key first 0 count v.core.storage))
+    let functions = search_access table (protection_key_of v.core.psw) first 0 count v.core.storage
+    in conditions_of (met_of_both (field_access v Fetch (field_at first count)) functions)
 
 -- a register with another address in bits 8 to 31, and one with another byte in bits 24 to 31
 abbrev pub with_address : ℕ → ℕ → ℕ
@@ -121,8 +104,7 @@ with_address word address = word / 2 ^ 24 * 2 ^ 24 + address
 abbrev pub with_low_byte : ℕ → ℕ → ℕ
 with_low_byte word byte = word / 256 * 256 + byte
 
--- the address of the argument byte is in register 1 and the function byte in register 2; the condition code is
--- 1 before the last byte, and 2 at it
+-- the address of the argument byte is in register 1 and the function byte in register 2; the condition code is 1 before the last byte, and 2 at it
 abbrev pub found_outcome : ℕ → ℕ → View → ℕ → ℕ → Outcome
 found_outcome i byte v first count =
     after_alteration v.core (record {

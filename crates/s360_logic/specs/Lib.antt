@@ -4,10 +4,7 @@ pub mod Operands
 pub mod Immediate
 pub mod LeftToRight
 pub mod RightToLeft
-pub mod DigitLaws
-pub mod Held
 pub mod Converting
 pub mod Status
 pub mod Logic
-pub mod Formats
 pub mod Instruction

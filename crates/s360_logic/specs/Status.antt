@@ -1,25 +1,15 @@
--- Status switching: the PSW and its masks, the storage keys and the supervisor call (GA22-6821, "Status
--- Switching", and "System Structure", protection feature). All but SPM and SVC are privileged: in the problem
--- state they are refused before anything else is looked at.
+-- Status switching: the PSW and its masks, the storage keys and the supervisor call (GA22-6821, "Status Switching", and "System Structure", protection
+-- feature). All but SPM and SVC are privileged: in the problem state they are refused before anything else is looked at.
 use Rattle.std.specs.Prelude.{ℕ, ◌+◌, ◌*◌, ◌/◌, ◌%◌, ◌^◌, Bool, not, ◌&&◌, nat_eq, nat_le, if◌then◌else◌, length, slice_index}
 use Rattle.s360_model.specs.Core.{core_with_key, core_with_psw, core_with_word}
 use Rattle.s360_model.specs.Psw.{current_psw, problem_state_of, with_program_mask, with_system_mask}
 use Rattle.s360_model.specs.Storage.{block_size, doubleword_at, fetch_bit_of_block, key_of_block, with_fetch_bit}
-use Rattle.s360_store.specs.declared.protection.Access.TheVariants.{Fetch}
 use Rattle.s360_word.specs.declared.unit.Unit.{Unit}
+use Rattle.s360_store.specs.declared.protection.Access.TheVariants.{Fetch}
 use Rattle.s360_fixed.specs.declared.ended.Ended.TheVariants.{Done, Svc, Io}
-use Rattle.s360_fixed.specs.Operands.{access_conditions}
-use Rattle.s360_fixed.specs.Outcomes.{unless_met}
+use Rattle.s360_fixed.specs.{Operands.access_conditions, Outcomes.unless_met, Storing.completed, Storing.next_psw, View.Outcome, View.View, View.register_of}
 use Rattle.s360_fixed.specs.ProgramCodes.{Conditions, no_conditions}
-use Rattle.s360_fixed.specs.Storing.{completed, next_psw}
-use Rattle.s360_fixed.specs.View.{Outcome, View, register_of}
-use Rattle.s360_logic.specs.declared.row.KeyRow.{KeyRow}
-use Rattle.s360_logic.specs.declared.row.KeyRow.TheVariants.{Set, Insert}
-use Rattle.s360_logic.specs.declared.row.RegisterStatus.{RegisterStatus}
-use Rattle.s360_logic.specs.declared.row.RegisterStatus.TheVariants.{SetProgramMask, SupervisorCall, StorageKey}
-use Rattle.s360_logic.specs.declared.row.StorageStatus.{StorageStatus}
-use Rattle.s360_logic.specs.declared.row.StorageStatus.TheVariants.{SetSystemMask, LoadPsw, InputOutput}
-use Rattle.s360_logic.specs.Bytes.{byte_at}
+use Rattle.s360_logic.specs.{declared.row.KeyRow.KeyRow, declared.row.RegisterStatus.RegisterStatus, declared.row.StorageStatus.StorageStatus, Bytes.byte_at}
 
 -- what a privileged instruction meets beside its other conditions
 abbrev pub privileged : View → Conditions → Conditions
@@ -50,14 +40,14 @@ with_key_in word key = word / 256 * 256 + key_of_block key * 16 + (if fetch_bit_
 
 -- the key of the block that R2 names becomes that in R1, or is put into R1, with the fetch bit
 abbrev pub key_outcome : KeyRow → View → ℕ → ℕ → Outcome
-key_outcome Set v r1 block = completed v (core_with_key block (key_in v.core.storage.fetch_protection (register_of v r1)) v.core)
-key_outcome Insert v r1 block = completed v (core_with_word r1 (with_key_in (register_of v r1) (slice_index v.core.storage.keys block)) v.core)
+key_outcome KeyRow.Set v r1 block = completed v (core_with_key block (key_in v.core.storage.fetch_protection (register_of v r1)) v.core)
+key_outcome KeyRow.Insert v r1 block = completed v (core_with_word r1 (with_key_in (register_of v r1) (slice_index v.core.storage.keys block)) v.core)
 
 -- the rows of the format RR; the code of a supervisor call is the second byte of the instruction
 abbrev pub register_status_outcome : RegisterStatus → View → ℕ → ℕ → Outcome
-register_status_outcome SetProgramMask v r1 r2 = with_psw v (with_program_mask (next_psw v) (register_of v r1))
-register_status_outcome SupervisorCall v r1 r2 = record { ended = Svc (r1 * 16 + r2); core = v.core }
-register_status_outcome (StorageKey row) v r1 r2 =
+register_status_outcome RegisterStatus.SetProgramMask v r1 r2 = with_psw v (with_program_mask (next_psw v) (register_of v r1))
+register_status_outcome RegisterStatus.SupervisorCall v r1 r2 = record { ended = Svc (r1 * 16 + r2); core = v.core }
+register_status_outcome (RegisterStatus.StorageKey row) v r1 r2 =
     unless_met (key_conditions v (register_of v r2)) v.core (key_outcome row v r1 (block_of (register_of v r2)))
 
 -- an operand of so many bytes, on the boundary of their number, that a privileged instruction fetches
@@ -68,12 +58,11 @@ privileged_fetch v address count = privileged v (access_conditions v.core addres
 abbrev pub unit_of : ℕ → Unit
 unit_of address = record { 0 = address % 2 ^ 11 }
 
--- the rows of the format SI: the system mask becomes a byte, the PSW becomes a doubleword; the unit that
--- bits 21 to 31 of the address name is handed to the channels
+-- the rows of the format SI: the system mask becomes a byte, the PSW a doubleword; the unit that bits 21 to 31 of the address name is handed to the channels
 abbrev pub storage_status_outcome : StorageStatus → View → ℕ → Outcome
-storage_status_outcome SetSystemMask v address =
+storage_status_outcome StorageStatus.SetSystemMask v address =
     unless_met (privileged_fetch v address 1) v.core (with_psw v (with_system_mask (next_psw v) (byte_at v.core.storage address)))
-storage_status_outcome LoadPsw v address =
+storage_status_outcome StorageStatus.LoadPsw v address =
     unless_met (privileged_fetch v address 8) v.core (with_psw v (current_psw (doubleword_at v.core.storage.bytes address)))
-storage_status_outcome (InputOutput operation) v address =
+storage_status_outcome (StorageStatus.InputOutput operation) v address =
     unless_met (privileged v no_conditions) v.core (record { ended = Io operation (unit_of address); core = v.core })

@@ -1,8 +1,12 @@
 //! The dispatch of instructions: one `match` on the operation code, whose arms name the row and the operands that its
 //! format has. Source: GA22-6821, "Operation Codes", and "System Structure", program execution.
-ghost use Rattle.std.specs.Prelude.{◌≡◌, ◌<◌, ◌≤◌, IfOk, length, slice_index};
-ghost use Rattle.s360_fixed.specs.Branching.{index_outcome};
-ghost use Rattle.s360_fixed.specs.Fixed.{branch_rr, branch_rx, combination_rr, combination_rx, pair_rr, pair_rx, pair_shift_rs, shift_rs};
+ghost use Rattle.std.specs.Prelude.{◌≡◌, ◌<◌, ◌≤◌, IfOk, Some, length, slice_index};
+ghost use Rattle.s360_fixed.specs.Branching.{branch_outcome, index_outcome, register_target};
+ghost use Rattle.s360_fixed.specs.declared.second_operand.SecondOperand.TheVariants.{InStorage};
+ghost use Rattle.s360_fixed.specs.declared.second_operand.Width.TheVariants.{Word};
+ghost use Rattle.s360_fixed.specs.Fixed.{with_operand, with_register};
+ghost use Rattle.s360_fixed.specs.Outcomes.{combination_outcome, pair_outcome};
+ghost use Rattle.s360_fixed.specs.Shifting.{pair_shift_outcome, shift_outcome};
 ghost use Rattle.s360_fixed.specs.Plans.{PutsNothing, PutsOutcome};
 ghost use Rattle.s360_fixed.specs.Storing.{store_outcome};
 ghost use Rattle.s360_fixed.specs.Table.{form_of, instruction_length};
@@ -11,7 +15,7 @@ ghost use Rattle.s360_logic.specs.declared.row.RegisterStatus.TheVariants.{Stora
 ghost use Rattle.s360_logic.specs.declared.row.StorageRow.TheVariants.{Combine as CombineBytes, Digits};
 ghost use Rattle.s360_logic.specs.declared.row.StorageStatus.TheVariants.{InputOutput};
 ghost use Rattle.s360_logic.specs.Converting.{conversion_outcome};
-ghost use Rattle.s360_logic.specs.Formats.{in_rr, in_rs, in_rx, in_s, in_si, in_ss};
+ghost use Rattle.s360_logic.specs.Logic.{in_rr, in_rs, in_rx, in_si, in_ss};
 ghost use Rattle.s360_logic.specs.Immediate.{immediate_outcome};
 ghost use Rattle.s360_logic.specs.Instruction.{fetched_outcome};
 ghost use Rattle.s360_logic.specs.Logic.{storage_outcome};
@@ -51,7 +55,7 @@ fn put_rr<P: Puts>(
 ) -> Result<Ended, AllocError>
     requires whole { 2 ≤ length bytes.now }
     requires none { PutsNothing P.Puts puts.old view.now }
-    ensures { IfOk result (PutsOutcome P.Puts puts.new view.now (in_rr (combination_rr combination) bytes.now view.now)) }
+    ensures { IfOk result (PutsOutcome P.Puts puts.new view.now (in_rr (with_register (combination_outcome combination)) bytes.now view.now)) }
 {
     let second = view.register(low_register(bytes, 1));
     put_combined(view, combination, high_register(bytes, 1), second, puts)
@@ -68,7 +72,7 @@ fn put_rx<P: Puts>(
 ) -> Result<Ended, AllocError>
     requires whole { 4 ≤ length bytes.now }
     requires none { PutsNothing P.Puts puts.old view.now }
-    ensures { IfOk result (PutsOutcome P.Puts puts.new view.now (in_rx (combination_rx second combination) bytes.now view.now)) }
+    ensures { IfOk result (PutsOutcome P.Puts puts.new view.now (in_rx (with_operand second (combination_outcome combination)) bytes.now view.now)) }
 {
     let address = indexed_address(bytes, view);
     put_combined_at(
@@ -91,7 +95,7 @@ fn put_pair_rr<P: Puts>(
 ) -> Result<Ended, AllocError>
     requires whole { 2 ≤ length bytes.now }
     requires none { PutsNothing P.Puts puts.old view.now }
-    ensures { IfOk result (PutsOutcome P.Puts puts.new view.now (in_rr (pair_rr pair) bytes.now view.now)) }
+    ensures { IfOk result (PutsOutcome P.Puts puts.new view.now (in_rr (with_register (pair_outcome pair)) bytes.now view.now)) }
 {
     put_pair(
         view,
@@ -112,7 +116,7 @@ fn put_pair_rx<P: Puts>(
 ) -> Result<Ended, AllocError>
     requires whole { 4 ≤ length bytes.now }
     requires none { PutsNothing P.Puts puts.old view.now }
-    ensures { IfOk result (PutsOutcome P.Puts puts.new view.now (in_rx (pair_rx pair) bytes.now view.now)) }
+    ensures { IfOk result (PutsOutcome P.Puts puts.new view.now (in_rx (with_operand (InStorage Word) (pair_outcome pair)) bytes.now view.now)) }
 {
     put_pair_at(
         view,
@@ -133,7 +137,7 @@ fn put_branch_rr<P: Puts>(
 ) -> Result<Ended, AllocError>
     requires whole { 2 ≤ length bytes.now }
     requires none { PutsNothing P.Puts puts.old view.now }
-    ensures { IfOk result (PutsOutcome P.Puts puts.new view.now (in_rr (branch_rr branch) bytes.now view.now)) }
+    ensures { IfOk result (PutsOutcome P.Puts puts.new view.now (in_rr (λ v r1 r2. branch_outcome branch v r1 (register_target v r2)) bytes.now view.now)) }
 {
     let target = register_target(view, low_register(bytes, 1));
     put_branch(view, branch, high_register(bytes, 1), target, puts)
@@ -149,7 +153,7 @@ fn put_branch_rx<P: Puts>(
 ) -> Result<Ended, AllocError>
     requires whole { 4 ≤ length bytes.now }
     requires none { PutsNothing P.Puts puts.old view.now }
-    ensures { IfOk result (PutsOutcome P.Puts puts.new view.now (in_rx (branch_rx branch) bytes.now view.now)) }
+    ensures { IfOk result (PutsOutcome P.Puts puts.new view.now (in_rx (λ v r1 address. branch_outcome branch v r1 (Some address)) bytes.now view.now)) }
 {
     let target = Some(indexed_address(bytes, view));
     put_branch(view, branch, high_register(bytes, 1), target, puts)
@@ -207,10 +211,10 @@ fn put_shift_rs<P: Puts>(
 ) -> Result<Ended, AllocError>
     requires whole { 4 ≤ length bytes.now }
     requires none { PutsNothing P.Puts puts.old view.now }
-    ensures { IfOk result (PutsOutcome P.Puts puts.new view.now (in_rs (shift_rs shift) bytes.now view.now)) }
+    ensures { IfOk result (PutsOutcome P.Puts puts.new view.now (in_rs (λ v r1 r3. shift_outcome shift v r1) bytes.now view.now)) }
 {
-    let count = (based_address(bytes, 2, view) % 64) as u8;
-    put_shift(view, shift, high_register(bytes, 1), count, puts)
+    let address = based_address(bytes, 2, view);
+    put_shift(view, shift, high_register(bytes, 1), address, puts)
 }
 
 /// Puts a shift of the pair by the low six bits of the address.
@@ -223,10 +227,10 @@ fn put_pair_shift_rs<P: Puts>(
 ) -> Result<Ended, AllocError>
     requires whole { 4 ≤ length bytes.now }
     requires none { PutsNothing P.Puts puts.old view.now }
-    ensures { IfOk result (PutsOutcome P.Puts puts.new view.now (in_rs (pair_shift_rs shift) bytes.now view.now)) }
+    ensures { IfOk result (PutsOutcome P.Puts puts.new view.now (in_rs (λ v r1 r3. pair_shift_outcome shift v r1) bytes.now view.now)) }
 {
-    let count = (based_address(bytes, 2, view) % 64) as u8;
-    put_pair_shift(view, shift, high_register(bytes, 1), count, puts)
+    let address = based_address(bytes, 2, view);
+    put_pair_shift(view, shift, high_register(bytes, 1), address, puts)
 }
 
 /// Puts a branch on the sum of R1 and R3.
@@ -277,7 +281,7 @@ fn put_status_si<P: Puts>(
 ) -> Result<Ended, AllocError>
     requires whole { 4 ≤ length bytes.now }
     requires none { PutsNothing P.Puts puts.old view.now }
-    ensures { IfOk result (PutsOutcome P.Puts puts.new view.now (in_s (storage_status_outcome row) bytes.now view.now)) }
+    ensures { IfOk result (PutsOutcome P.Puts puts.new view.now (in_si (λ v i2. storage_status_outcome row v) bytes.now view.now)) }
 {
     put_storage_status(view, row, based_address(bytes, 2, view), puts)
 }
@@ -344,7 +348,7 @@ fn put_io_si<P: Puts>(
 ) -> Result<Ended, AllocError>
     requires whole { 4 ≤ length bytes.now }
     requires none { PutsNothing P.Puts puts.old view.now }
-    ensures { IfOk result (PutsOutcome P.Puts puts.new view.now (in_s (storage_status_outcome (InputOutput operation)) bytes.now view.now)) }
+    ensures { IfOk result (PutsOutcome P.Puts puts.new view.now (in_si (λ v i2. storage_status_outcome (InputOutput operation) v) bytes.now view.now)) }
 {
     put_status_si(StorageStatus::InputOutput(operation), bytes, view, puts)
 }

@@ -1,11 +1,9 @@
 //! Operands in storage, and what keeps them from being used. Source: GA22-6821, "System Structure",
 //! protection feature, and "Interruptions", program interruption.
 ghost use Rattle.std.specs.Prelude.{◌≡◌, IfNone};
-ghost use Rattle.s360_model.specs.Psw.{protection_key_of};
 ghost use Rattle.s360_store.specs.Plans.{HasBytes};
-ghost use Rattle.s360_store.specs.Protection.{access};
 ghost use Rattle.s360_fixed.specs.ProgramCodes.{program_code};
-ghost use Rattle.s360_logic.specs.Bytes.{fields_conditions};
+ghost use Rattle.s360_logic.specs.Bytes.{field_access, fields_conditions};
 
 use s360_fixed::{ProgramCode, View};
 use s360_store::{Access, Checked};
@@ -21,7 +19,7 @@ pub(crate) struct Field {
 
 /// What an access to an operand meets with the key of the PSW.
 pub(crate) fn check(view: &View, kind: Access, field: Field) -> Checked
-    ensures { result ≡ access view.now.core.storage field.address field.count kind (protection_key_of view.now.core.psw) }
+    ensures { result ≡ field_access view.now kind field }
 {
     let key = view.psw().protection_key();
     view.storage().check(field.address, field.count, kind, key)

@@ -1,8 +1,8 @@
 //! Storage as an instruction has it so far, which stores into its first operand alone.
-ghost use Rattle.std.specs.Prelude.{◌≡◌, ◌<◌, ◌≤◌, ◌+◌, ◌^◌, IfOk, IfSome, OnSome, length, slice_set};
+ghost use Rattle.std.specs.Prelude.{◌≡◌, ◌<◌, ◌≤◌, ◌+◌, ◌^◌, ◌⊎◌, IfOk, IfSome, OnSome, length, slice_set};
 ghost use Rattle.s360_fixed.specs.Plans.{PutsNothing, PutsOutcome};
 ghost use Rattle.s360_logic.specs.Bytes.{byte_at, completed_with, operand_bytes};
-ghost use Rattle.s360_logic.specs.Operands.{IsApart, IsBeside, first_operand, stored_in};
+ghost use Rattle.s360_logic.specs.Operands.{stored_in};
 
 use crate::field::Field;
 use arrayvec::ArrayVec;
@@ -40,7 +40,7 @@ impl<'a> FirstOperand<'a> {
     pub(crate) fn new(storage: &'a Storage, field: Field) -> FirstOperand<'a>
         requires inside { field.address + field.count ≤ length storage.now.bytes }
         requires few { field.count ≤ 256 }
-        ensures is { result ≡ first_operand storage.now field.address field.count }
+        ensures is { result ≡ record { storage = storage.now; address = field.address; bytes = operand_bytes storage.now field.address field.count } }
         ensures unaltered { stored_in result ≡ storage.now }
         ensures count { length result.bytes ≡ field.count }
     {
@@ -102,7 +102,7 @@ impl<'a> FirstOperand<'a> {
     /// from left to right fetches each of them before it stores it.
     pub(crate) fn bytes_apart(&self, address: u32) -> Option<&'a [u8]>
         requires inside { address + length self.now.bytes ≤ length self.now.storage.bytes }
-        ensures apart { OnSome result (IsApart self.now address) }
+        ensures apart { OnSome result ((self.now.address ≤ address) ⊎ (address + length self.now.bytes ≤ self.now.address)) }
         ensures bytes { IfSome result (λ other. other.now ≡ operand_bytes self.now.storage address (length self.now.bytes)) }
     {
         let count = self.len();
@@ -116,7 +116,8 @@ impl<'a> FirstOperand<'a> {
     pub(crate) fn bytes_beside(&self, address: u32, count: u32) -> Option<&'a [u8]>
         requires few { count ≤ 256 }
         requires low { address < 2 ^ 24 }
-        ensures beside { OnSome result (IsBeside self.now address count) }
+        ensures inside { OnSome result (address + count ≤ length self.now.storage.bytes) }
+        ensures beside { OnSome result ((address + count ≤ self.now.address) ⊎ (self.now.address + length self.now.bytes ≤ address)) }
         ensures bytes { IfSome result (λ other. other.now ≡ operand_bytes self.now.storage address count) }
     {
         let (end, past) = (self.address + self.len(), address + count);

@@ -1,20 +1,16 @@
 //! Rows of two operands in storage of one length, a byte after another from left to right. Source:
 //! GA22-6821, "Logical Operations".
 ghost use Rattle.std.specs.Option.{option_map};
-ghost use Rattle.std.specs.Prelude.{◌≡◌, ◌≤◌, ◌<◌, ◌+◌, ◌^◌, ◌≢◌, IfNone, IfOk, IfSome, IsTrue, length};
+ghost use Rattle.std.specs.Prelude.{◌≡◌, ◌≤◌, ◌<◌, ◌+◌, ◌^◌, ◌≢◌, ◌⊎◌, IfNone, IfOk, IfSome, IsTrue, length};
 ghost use Rattle.s360_fixed.specs.Plans.{PutsNothing, PutsOutcome};
 ghost use Rattle.s360_fixed.specs.ProgramCodes.{program_code};
-ghost use Rattle.s360_logic.specs.LeftToRight.{combine_outcome, combined, compare_outcome};
-ghost use Rattle.s360_logic.specs.LeftToRight.{conditions_of};
-ghost use Rattle.s360_logic.specs.LeftToRight.{comparison_code, found_at, function_address};
-ghost use Rattle.s360_logic.specs.LeftToRight.{found_outcome, function_byte};
-ghost use Rattle.s360_logic.specs.LeftToRight.{search_access, translate_outcome};
-ghost use Rattle.s360_logic.specs.LeftToRight.{translate_and_test_outcome};
-ghost use Rattle.s360_logic.specs.LeftToRight.{translate_access, translated};
+ghost use Rattle.s360_fixed.specs.Operands.{conditions_of};
+ghost use Rattle.s360_logic.specs.LeftToRight.{combine_outcome, combined, compare_outcome, comparison_code, found_at, found_outcome, function_address};
+ghost use Rattle.s360_logic.specs.LeftToRight.{function_byte, search_access, translate_access, translate_and_test_outcome, translate_outcome, translated};
 ghost use Rattle.s360_logic.specs.LeftToRight.{with_address, with_low_byte};
 ghost use Rattle.s360_logic.specs.declared.left_to_right.Found.{Found};
 ghost use Rattle.s360_logic.specs.Bytes.{operand_bytes};
-ghost use Rattle.s360_logic.specs.Operands.{IsApart, IsBeside, stored_in};
+ghost use Rattle.s360_logic.specs.Operands.{stored_in};
 ghost use Rattle.s360_store.specs.Protection.{access, met_of_both};
 ghost use Rattle.s360_store.specs.declared.protection.Access.TheVariants.{Fetch};
 ghost use Rattle.s360_store.specs.declared.protection.Checked.TheVariants.{Addressing, Clear};
@@ -56,7 +52,7 @@ fn combine_apart(
     other: &[u8],
 )
     requires inside { second + length operand.old.bytes ≤ length operand.old.storage.bytes }
-    requires apart { IsApart operand.old second }
+    requires apart { (operand.old.address ≤ second) ⊎ (second + length operand.old.bytes ≤ operand.old.address) }
     requires other { other.now ≡ operand_bytes operand.old.storage second (length operand.old.bytes) }
     requires unaltered { stored_in operand.old ≡ operand.old.storage }
     ensures stored { stored_in operand.new ≡ combined combination operand.old.address second (length operand.old.bytes) (stored_in operand.old) }
@@ -182,7 +178,8 @@ fn function_address(table: u32, argument: u8) -> u32
 /// Makes each byte of the operand the one that it selects of the 256 bytes of a table, which has none of the operand
 /// and is not protected from fetches with the key.
 fn translate_apart(operand: &mut FirstOperand, table: u32, key: ProtectionKey, functions: &[u8])
-    requires beside { IsBeside operand.old table 256 }
+    requires inside { table + 256 ≤ length operand.old.storage.bytes }
+    requires beside { (table + 256 ≤ operand.old.address) ⊎ (operand.old.address + length operand.old.bytes ≤ table) }
     requires functions { functions.now ≡ operand_bytes operand.old.storage table 256 }
     requires unaltered { stored_in operand.old ≡ operand.old.storage }
     requires clear { access operand.old.storage table 256 Fetch key ≡ Clear }

@@ -2,9 +2,9 @@
 //! right to left. Source: GA22-6821, "Decimal Arithmetic", MOVE WITH OFFSET, PACK and UNPACK.
 ghost use Rattle.std.specs.Prelude.{◌≡◌, ◌≤◌, ◌<◌, ◌+◌, IfOk, length};
 ghost use Rattle.s360_fixed.specs.Plans.{PutsNothing, PutsOutcome};
-ghost use Rattle.s360_logic.specs.Operands.{field_of, stored_in};
-ghost use Rattle.s360_logic.specs.Held.{next_byte};
-ghost use Rattle.s360_logic.specs.RightToLeft.{byte_from_right, digit_move, digits, digits_outcome, digits_stored, exchanged, zone_of};
+ghost use Rattle.s360_logic.specs.Operands.{stored_in};
+ghost use Rattle.s360_logic.specs.Operands.{next_byte};
+ghost use Rattle.s360_logic.specs.RightToLeft.{byte_from_right, digits, digits_outcome, digits_stored, exchanged, zone_of};
 
 use crate::field::{Field, fields_exception};
 use crate::first_operand::FirstOperand;
@@ -103,18 +103,16 @@ fn next_byte(
     }
 }
 
-/// Makes the bytes of the operand of the digits of the second.
-fn make_digits(row: DigitRow, zone: u8, operand: &mut FirstOperand, second: Field)
+/// Makes the bytes of the operand, which is the first, of the digits of the second.
+fn make_digits(row: DigitRow, zone: u8, operand: &mut FirstOperand, first: Field, second: Field)
     requires inside { second.address + second.count ≤ length operand.old.storage.bytes }
-    requires some { 0 < length operand.old.bytes }
-    ensures stored { stored_in operand.new ≡ digits_stored (digit_move row zone (field_of operand.old) second) (stored_in operand.old) }
+    requires some { 0 < first.count }
+    requires address { operand.old.address ≡ first.address }
+    requires count { length operand.old.bytes ≡ first.count }
+    ensures stored { stored_in operand.new ≡ digits_stored (record { row = row; zone = zone; first = first; second = second }) (stored_in operand.old) }
     ensures storage { operand.new.storage ≡ operand.old.storage }
 {
     let count = operand.len();
-    let first = Field {
-        address: operand.address(),
-        count,
-    };
     let mut held = digits(byte_from_right(operand, first, 0), 0);
     for i in 0..count {
         let next = next_byte(row, zone, operand, second, i, held);
@@ -140,6 +138,6 @@ pub(crate) fn put_digits<P: Puts>(
         return Ok(Ended::Program(code));
     }
     let mut operand = FirstOperand::new(view.storage(), first);
-    make_digits(row, zone_of(view.psw()), &mut operand, second);
+    make_digits(row, zone_of(view.psw()), &mut operand, first, second);
     operand.put(view, None, puts)
 }

@@ -13,7 +13,7 @@ use Rattle.s360_fixed.specs.declared.program_code.ProgramCode.{ProgramCode}
 use Rattle.s360_fixed.specs.declared.program_code.ProgramCode.TheVariants.{Data, FixedPointDivide, Specification}
 use Rattle.s360_fixed.specs.Operands.{access_conditions}
 use Rattle.s360_fixed.specs.Alterations.{ended_by, set_by_signed}
-use Rattle.s360_fixed.specs.Outcomes.{division_alteration, is_odd, unless_met}
+use Rattle.s360_fixed.specs.Outcomes.{is_odd, pair_alteration, unless_met}
 use Rattle.s360_fixed.specs.ProgramCodes.{Conditions, program_code}
 use Rattle.s360_fixed.specs.View.{Outcome, View}
 use Rattle.s360_logic.specs.Converting.{converted_outcome}
@@ -92,7 +92,7 @@ overflow-same m n r1 s t used others psw h same = by (fixed_point_overflow_mask_
       ∙ sym (overflows-not (nat_eq t 3) n.psw t refl (sym (ap fixed_point_overflow_mask_of psw) ∙ e))
 
 -- a division that is completed ends so, whatever its words
-pub division-ends : (psw r1 address : ℕ) (q : Option (ℕ × ℕ)) → ended_by (division_alteration r1 q address).setting psw ≡ Done
+pub division-ends : (psw r1 address : ℕ) (q : Option (ℕ × ℕ)) → ended_by (pair_alteration r1 q address).setting psw ≡ Done
 division-ends psw r1 address None = refl
 division-ends psw r1 address (Some words) = refl
 

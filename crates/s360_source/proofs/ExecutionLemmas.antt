@@ -31,22 +31,21 @@ Broken R p = (at : ℕ) → R (after_check p at meets_program_check) (after_chec
 
 executed-some : (R : Execution → Execution → Type 0) (d : DeviceView) (s t : Storage) (p : Program) (same : Bool) (at : ℕ) (c : Ccw) (b : Bool)
     → (not (is_transfer c) && is_executable same c) ≡ b → Broken R p → Begun R d s t p (if_executable same (Some c))
-    → R (execute_fetched d s p (executed_at same at (Some c))) (execute_fetched d t p (executed_at same at (Some c)))
+    → R (execute_fetched d s p (executed_at same at c)) (execute_fetched d t p (executed_at same at c))
 executed-some R d s t p same at c true e broken begun = rw e (begun at c (rw e refl))
 executed-some R d s t p same at c false e broken begun = rw e (broken at)
 
-executed-any : (R : Execution → Execution → Type 0) (d : DeviceView) (s t : Storage) (p : Program) (same : Bool) (at : ℕ) (o : Option Ccw)
-    → Broken R p → Begun R d s t p (if_executable same o)
-    → R (execute_fetched d s p (executed_at same at o)) (execute_fetched d t p (executed_at same at o))
-executed-any R d s t p same at None broken begun = broken at
-executed-any R d s t p same at (Some c) broken begun = executed-some R d s t p same at c (not (is_transfer c) && is_executable same c) refl broken begun
+executed-any : (R : Execution → Execution → Type 0) (d : DeviceView) (s t : Storage) (p : Program) (same : Bool) (at : ℕ) (c : Ccw)
+    → Broken R p → Begun R d s t p (if_executable same (Some c))
+    → R (execute_fetched d s p (executed_at same at c)) (execute_fetched d t p (executed_at same at c))
+executed-any R d s t p same at c broken begun = executed-some R d s t p same at c (not (is_transfer c) && is_executable same c) refl broken begun
 
 -- where a transfer in channel leads to
 transferred : (R : Execution → Execution → Type 0) (d : DeviceView) (s t : Storage) (p : Program) (same : Bool) (at : ℕ) (c : Ccw) (o : Option Ccw)
     → ccw_at s c.address ≡ o → ccw_at t c.address ≡ o → Broken R p → Begun R d s t p (if_executable same o)
     → R (execute_fetched d s p (transferred_to s same at c)) (execute_fetched d t p (transferred_to t same at c))
 transferred R d s t p same at c None e f broken begun = rw (e, f) (broken at)
-transferred R d s t p same at c (Some x) e f broken begun = rw (e, f) (executed-any R d s t p same c.address (Some x) broken begun)
+transferred R d s t p same at c (Some x) e f broken begun = rw (e, f) (executed-any R d s t p same c.address x broken begun)
 
 pub both-true : (a b : Bool) → (a && b) ≡ true → a ≡ true
 both-true true b e = refl
@@ -71,7 +70,7 @@ next-some R d s t p c true e led broken begun =
     = taken-true p.progress c (led_to s (Some c)) e ∙ ap (if_executable (goes_on_with_record p.progress)) (led-true s c is)
     in rw e (transferred R d s t p (goes_on_with_record p.progress) p.address c (ccw_at s c.address) refl there broken (λ at x f. begun at x (taken ∙ f)))
 next-some R d s t p c false e led broken begun =
-    rw e (executed-any R d s t p (goes_on_with_record p.progress) p.address (Some c) broken (λ at x f. begun at x (taken-false p.progress c (led_to s (Some c)) e ∙ f)))
+    rw e (executed-any R d s t p (goes_on_with_record p.progress) p.address c broken (λ at x f. begun at x (taken-false p.progress c (led_to s (Some c)) e ∙ f)))
 
 next-with : (R : Execution → Execution → Type 0) (d : DeviceView) (s t : Storage) (p : Program) (o : Option Ccw)
     → led_to s o ≡ led_to t o → Broken R p → Begun R d s t p (word_taken p.progress o (led_to s o))

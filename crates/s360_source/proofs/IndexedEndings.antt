@@ -4,7 +4,8 @@ use Rattle.s360_model.specs.Arithmetic.{absolute_value, signed_complement, signe
 use Rattle.s360_model.specs.ConditionCodes.{signed_code}
 use Rattle.s360_model.specs.Core.{Core}
 use Rattle.s360_model.specs.Packed.{packed_value}
-use Rattle.s360_model.specs.Products.{division}
+use Rattle.s360_fixed.specs.declared.row.PairCombination.TheVariants.{Quotient}
+use Rattle.s360_fixed.specs.Outcomes.{pair_result}
 use Rattle.s360_model.specs.Psw.{protection_key_of}
 use Rattle.s360_model.specs.Storage.{doubleword_at, word_at}
 use Rattle.s360_store.specs.declared.place.Place.{Place}
@@ -80,14 +81,14 @@ rx-ends Multiply r1 x b d m n next il alike psw a h k =
     unless-same (pair_met r1 (access_conditions m (at m x b d) 4 4 Fetch) false) (pair_met r1 (access_conditions n (at n x b d) 4 4 Fetch) false) m n _ _
     (ap (λ c. pair_met r1 c false) (met m n x b d alike psw a k)) refl
 rx-ends Divide r1 x b d m n next il alike psw a h k =
-    let q : Option (ℕ × ℕ) = division (slice_index m.registers r1) (slice_index m.registers (r1 + 1)) (word_at m.storage.bytes (at m x b d))
-    in let r : Option (ℕ × ℕ) = division (slice_index n.registers r1) (slice_index n.registers (r1 + 1)) (word_at n.storage.bytes (at n x b d))
+    let q : Option (ℕ × ℕ) = pair_result Quotient (slice_index m.registers r1) (slice_index m.registers (r1 + 1)) (word_at m.storage.bytes (at m x b d))
+    in let r : Option (ℕ × ℕ) = pair_result Quotient (slice_index n.registers r1) (slice_index n.registers (r1 + 1)) (word_at n.storage.bytes (at n x b d))
     in let used : List Place = Register r1 ∷ (Register (r1 + 1) ∷ byte_places (at m x b d) 4)
     in let c : Conditions = pair_met r1 (access_conditions m (at m x b d) 4 4 Fetch) (is_none q)
     in let f : Conditions = pair_met r1 (access_conditions n (at n x b d) 4 4 Fetch) (is_none r)
     in let same : is_odd r1 ≡ false → HaveAllSame m n used = λ e. same-if (nat_eq r1 r1) m n used _ (unless-refused m n r1 true _ e h) (is-one r1 r1 refl)
     in let words : is_odd r1 ≡ false → q ≡ r
-    = λ e. all-alike division _ _ _ _ _ _ (same e).0 (same e).1.0 (word-same m n (at m x b d) (at n x b d) (address-same m n x b d a) (same e).1.1)
+    = λ e. all-alike (pair_result Quotient) _ _ _ _ _ _ (same e).0 (same e).1.0 (word-same m n (at m x b d) (at n x b d) (address-same m n x b d a) (same e).1.1)
     in pair-ends r1 c f m n _ _ (λ e. (rw e refl, rw e refl)) (λ e. unless-same c f m n _ _
     (ap (λ c. pair_met r1 c (is_none q)) (met m n x b d alike psw a k) ∙ ap (λ z. pair_met r1 (access_conditions n (at n x b d) 4 4 Fetch) (is_none z)) (words e))
     (division-ends m.psw r1 next q ∙ sym (division-ends n.psw r1 next r)))

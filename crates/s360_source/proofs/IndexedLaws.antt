@@ -6,7 +6,9 @@ use Rattle.s360_model.specs.ConditionCodes.{carry_code, order_code}
 use Rattle.s360_model.specs.Core.{Core}
 use Rattle.s360_model.specs.Numbers.{low32, signed}
 use Rattle.s360_model.specs.Packed.{packed}
-use Rattle.s360_model.specs.Products.{division, product_words, signed_product}
+use Rattle.s360_model.specs.Products.{product_words, signed_product}
+use Rattle.s360_fixed.specs.declared.row.PairCombination.TheVariants.{Quotient}
+use Rattle.s360_fixed.specs.Outcomes.{pair_result}
 use Rattle.s360_model.specs.Psw.{ascii_mode_of}
 use Rattle.s360_model.specs.Storage.{word_at}
 use Rattle.s360_psw.specs.declared.instruction_length.InstructionLength.{InstructionLength}
@@ -107,12 +109,12 @@ rx-law Multiply m n next length r1 x b d p alike e =
 rx-law Divide m n next length r1 x b d p alike e =
     let one : ℕ = word_at m.storage.bytes (operand_address m.registers x b d)
     in let other : ℕ = word_at n.storage.bytes (operand_address n.registers x b d)
-    in let q : Option (ℕ × ℕ) = division (slice_index m.registers r1) (slice_index m.registers (r1 + 1)) one
-    in let r : Option (ℕ × ℕ) = division (slice_index n.registers r1) (slice_index n.registers (r1 + 1)) other
+    in let q : Option (ℕ × ℕ) = pair_result Quotient (slice_index m.registers r1) (slice_index m.registers (r1 + 1)) one
+    in let r : Option (ℕ × ℕ) = pair_result Quotient (slice_index n.registers r1) (slice_index n.registers (r1 + 1)) other
     in quotient-row Divide (record (met m x b d 4) { specification = is_odd r1 || (met m x b d 4).specification; divide = is_none q }) (record (met n x b d 4) { specification = is_odd r1 || (met n x b d 4).specification; divide = is_none r }) m n r1 next q r
     (Register r1 ∷ (Register (r1 + 1) ∷ second m x b d 4)) p refl alike refl refl
-    (λ h. ap (λ a. division a (slice_index m.registers (r1 + 1)) one) h.0 ∙ ap (λ a. division (slice_index n.registers r1) a one) h.1.0
-    ∙ ap (division (slice_index n.registers r1) (slice_index n.registers (r1 + 1))) (words m n x b d e h.1.1))
+    (λ h. ap (λ a. pair_result Quotient a (slice_index m.registers (r1 + 1)) one) h.0 ∙ ap (λ a. pair_result Quotient (slice_index n.registers r1) a one) h.1.0
+    ∙ ap (pair_result Quotient (slice_index n.registers r1) (slice_index n.registers (r1 + 1))) (words m n x b d e h.1.1))
 rx-law BranchOnCondition m n next length r1 x b d p alike e =
     condition-row BranchOnCondition m n next r1 length (Some (operand_address m.registers x b d)) (Some (operand_address n.registers x b d)) [] p refl alike (λ h. ap (λ a. Some a) e)
 rx-law BranchAndLink m n next length r1 x b d p alike e =

@@ -19,10 +19,10 @@ use Rattle.s360_channel.specs.declared.io_instructions.IoResult.{IoResult}
 use Rattle.s360_channel.specs.declared.program.Progress.TheVariants.{First}
 use Rattle.s360_channel.specs.declared.unit_control.UnitControl.{UnitControl}
 use Rattle.s360_channel.specs.ConfiguredUnits.{active_beside, control_of, is_occupied, unit_at}
-use Rattle.s360_channel.specs.IoInstructions.{caw_location, with_code, halt_unit, halted_unit, not_operational, start_idle, start_program, start_unit, start_with, started, test_unit, with_status}
+use Rattle.s360_channel.specs.IoInstructions.{becomes, caw_location, with_code, halt_unit, halted_unit, not_operational, start_unit, start_with, started, test_unit, with_status}
 use Rattle.s360_channel.specs.Programs.{ccw_at, executed_at, next_ccw, next_ccw_with, program_at, transferred_to}
-use Rattle.s360_channel.specs.Units.{is_active, is_waiting}
-use Rattle.s360_channel.specs.Words.{caw_of, is_transfer, is_whole_caw, meets_program_check, no_unit_status}
+use Rattle.s360_channel.specs.Units.{idle_unit, is_active, is_waiting}
+use Rattle.s360_channel.specs.Words.{asks_attention, caw_of, is_transfer, is_whole_caw, meets_program_check, no_channel_status, no_unit_status}
 use Rattle.s360_machine.specs.InputOutput.{io_result}
 use Rattle.s360_machine.specs.Machine.{Machine}
 use Rattle.s360_source.specs.Agreement.{AreAlike, HaveAllSame}
@@ -57,7 +57,7 @@ never-led false x y z = refl
 
 next-first : (s t : Storage) (a : ℕ) (o : Option Ccw) → next_ccw_with s First a o ≡ next_ccw_with t First a o
 next-first s t a None = refl
-next-first s t a (Some c) = never-led (is_transfer c) (transferred_to s false a c) (transferred_to t false a c) (executed_at false a (Some c))
+next-first s t a (Some c) = never-led (is_transfer c) (transferred_to s false a c) (transferred_to t false a c) (executed_at false a c)
 
 first-same : (m n : Core) (key a : ℕ) → AreAlike m n → HaveAllSame m n (bytes_of_word (standing_at m.storage a)) → next_ccw m.storage (program_at key a) ≡ next_ccw n.storage (program_at key a)
 first-same m n key a alike h = next-first m.storage n.storage a (ccw_at m.storage a) ∙ ap (next_ccw_with n.storage First a) (ccw-same m n a alike h)
@@ -71,15 +71,23 @@ caw-by false m n u key a alike h = refl
 caw-law : (m n : Core) (u : ConfiguredUnit) (caw : Caw) → AreAlike m n → HaveAllSame m n (first_word_deciders m.storage caw) → start_with m.storage u caw ≡ start_with n.storage u caw
 caw-law m n u caw alike h = caw-by (is_whole_caw caw) m n u caw.key caw.address alike h
 
-program-law : (m n : Core) (u : ConfiguredUnit) → AreAlike m n → HaveAllSame m n (first_program_deciders m.storage) → start_program m.storage u ≡ start_program n.storage u
+program-law : (m n : Core) (u : ConfiguredUnit) → AreAlike m n → HaveAllSame m n (first_program_deciders m.storage)
+    → start_with m.storage u (caw_of (word_at m.storage.bytes caw_location)) ≡ start_with n.storage u (caw_of (word_at n.storage.bytes caw_location))
 program-law m n u alike h =
     let first : List Place = first_word_deciders m.storage (caw_of (word_at m.storage.bytes caw_location))
     in caw-law m n u (caw_of (word_at m.storage.bytes caw_location)) alike (same-second m n (byte_places caw_location 4) first h)
     ∙ ap (λ (word : ℕ). start_with n.storage u (caw_of word)) (number_at-same m n 4 caw_location (same-first m n (byte_places caw_location 4) first h))
 
+-- START I/O of a unit that stands so
+abbrev start_by : Storage → ConfiguredUnit → Bool → Bool → Bool → Bool → IoResult
+start_by s u active waits occupied attention =
+    if active || (waits || occupied) then with_code 2
+    else if attention then with_status (record asks_attention { busy = true }) no_channel_status (becomes u idle_unit)
+    else start_with s u (caw_of (word_at s.bytes caw_location))
+
 start-by : (active waits occupied attention : Bool) (m n : Core) (u : ConfiguredUnit) → AreAlike m n
     → HaveAllSame m n (if active || (waits || (occupied || attention)) then [] else first_program_deciders m.storage)
-    → (if active || (waits || occupied) then with_code 2 else start_idle m.storage u attention) ≡ (if active || (waits || occupied) then with_code 2 else start_idle n.storage u attention)
+    → start_by m.storage u active waits occupied attention ≡ start_by n.storage u active waits occupied attention
 start-by false false false false m n u alike h = program-law m n u alike h
 start-by active waits occupied attention m n u alike h = refl
 

@@ -5,7 +5,8 @@ use Rattle.s360_model.specs.ConditionCodes.{signed_code}
 use Rattle.s360_model.specs.Core.{Core}
 use Rattle.s360_model.specs.Numbers.{signed}
 use Rattle.s360_model.specs.Pairs.{signed_pair, signed_pair_code}
-use Rattle.s360_model.specs.Products.{division}
+use Rattle.s360_fixed.specs.declared.row.PairCombination.TheVariants.{Quotient}
+use Rattle.s360_fixed.specs.Outcomes.{pair_result}
 use Rattle.s360_model.specs.Psw.{fixed_point_overflow_mask_of}
 use Rattle.s360_model.specs.Shifts.{times_power}
 use Rattle.s360_psw.specs.declared.instruction_length.InstructionLength.{InstructionLength}
@@ -50,14 +51,14 @@ rr-ends SubtractHalfword r1 r2 m n next il alike psw a h k =
     overflow-same m n r1 _ _ (Register r1 ∷ (Register r2 ∷ [])) (Register r1 ∷ []) psw h (λ g. both-alike (λ x y. signed_code (signed_difference x y)) _ _ _ _ g.0 g.1.0)
 rr-ends Multiply r1 r2 m n next il alike psw a h k = unless-same (odd_pair r1) (odd_pair r1) m n _ _ refl refl
 rr-ends Divide r1 r2 m n next il alike psw a h k =
-    let q : Option (ℕ × ℕ) = division (slice_index m.registers r1) (slice_index m.registers (r1 + 1)) (slice_index m.registers r2)
-    in let r : Option (ℕ × ℕ) = division (slice_index n.registers r1) (slice_index n.registers (r1 + 1)) (slice_index n.registers r2)
+    let q : Option (ℕ × ℕ) = pair_result Quotient (slice_index m.registers r1) (slice_index m.registers (r1 + 1)) (slice_index m.registers r2)
+    in let r : Option (ℕ × ℕ) = pair_result Quotient (slice_index n.registers r1) (slice_index n.registers (r1 + 1)) (slice_index n.registers r2)
     in let used : List Place = Register r1 ∷ (Register (r1 + 1) ∷ (Register r2 ∷ []))
     in let c : Conditions = record (odd_pair r1) { divide = is_none q }
     in let d : Conditions = record (odd_pair r1) { divide = is_none r }
     in let same : is_odd r1 ≡ false → HaveAllSame m n used = λ e. same-if (nat_eq r1 r1) m n used _ (unless-refused m n r1 true _ e h) (is-one r1 r1 refl)
     in pair-ends r1 c d m n _ _ (λ e. (rw e refl, rw e refl)) (λ e. unless-same c d m n _ _
-    (ap (λ x. record (odd_pair r1) { divide = is_none x }) (all-alike division _ _ _ _ _ _ (same e).0 (same e).1.0 (same e).1.1.0)) (division-ends m.psw r1 next q ∙ sym (division-ends n.psw r1 next r)))
+    (ap (λ x. record (odd_pair r1) { divide = is_none x }) (all-alike (pair_result Quotient) _ _ _ _ _ _ (same e).0 (same e).1.0 (same e).1.1.0)) (division-ends m.psw r1 next q ∙ sym (division-ends n.psw r1 next r)))
 rr-ends SetStorageKey r1 r2 m n next il alike psw a h k =
     unless-same (key_conditions (seen m next il) (slice_index m.registers r2)) (key_conditions (seen n next il) (slice_index n.registers r2)) m n _ _ (key-conditions-same m n next il r2 alike psw a.0) refl
 rr-ends InsertStorageKey r1 r2 m n next il alike psw a h k =

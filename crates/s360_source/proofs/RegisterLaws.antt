@@ -4,7 +4,9 @@ use Rattle.s360_model.specs.Arithmetic.{absolute_value, logical_difference, logi
 use Rattle.s360_model.specs.ConditionCodes.{carry_code, order_code}
 use Rattle.s360_model.specs.Core.{Core}
 use Rattle.s360_model.specs.Numbers.{low32, signed}
-use Rattle.s360_model.specs.Products.{division, product_words, signed_product}
+use Rattle.s360_model.specs.Products.{product_words, signed_product}
+use Rattle.s360_fixed.specs.declared.row.PairCombination.TheVariants.{Quotient}
+use Rattle.s360_fixed.specs.Outcomes.{pair_result}
 use Rattle.s360_psw.specs.declared.instruction_length.InstructionLength.{InstructionLength}
 use Rattle.s360_store.specs.declared.place.Place.{Place}
 use Rattle.s360_store.specs.declared.place.Place.TheVariants.{Psw, Register, Key}
@@ -85,8 +87,8 @@ rr-law Multiply m n next length r1 r2 p alike e =
     (product_words (slice_index m.registers (r1 + 1)) (slice_index m.registers r2)) (product_words (slice_index n.registers (r1 + 1)) (slice_index n.registers r2))
     unchanged unchanged next next [] (Register (r1 + 1) ∷ (Register r2 ∷ [])) p refl alike (λ h. (refl, refl)) (λ h. rw (h.0, h.1.0) refl)
 rr-law Divide m n next length r1 r2 p alike e =
-    let q = division (slice_index m.registers r1) (slice_index m.registers (r1 + 1)) (slice_index m.registers r2)
-    in let r = division (slice_index n.registers r1) (slice_index n.registers (r1 + 1)) (slice_index n.registers r2)
+    let q = pair_result Quotient (slice_index m.registers r1) (slice_index m.registers (r1 + 1)) (slice_index m.registers r2)
+    in let r = pair_result Quotient (slice_index n.registers r1) (slice_index n.registers (r1 + 1)) (slice_index n.registers r2)
     in quotient-row Divide (record no_conditions { specification = is_odd r1 || false; divide = is_none q }) (record no_conditions { specification = is_odd r1 || false; divide = is_none r }) m n r1 next q r
     (Register r1 ∷ (Register (r1 + 1) ∷ (Register r2 ∷ []))) p refl alike refl refl (λ h. rw (h.0, h.1.0, h.1.1.0) refl)
 rr-law BranchOnCondition m n next length r1 r2 p alike e =

@@ -11,18 +11,19 @@ use Rattle.s360_store.specs.Spans.{byte_places}
 use Rattle.s360_fixed.specs.declared.ended.Ended.TheVariants.{Done}
 use Rattle.s360_fixed.specs.declared.form.Form.TheVariants.{Ss}
 use Rattle.s360_fixed.specs.declared.operation.Operation.{Operation}
-use Rattle.s360_fixed.specs.declared.operation.Operation.TheVariants.{Move, MoveNumerics, MoveZones, And, Or, ExclusiveOr, CompareLogical, Translate, TranslateAndTest, MoveWithOffset, Pack, Unpack}
-use Rattle.s360_fixed.specs.Operands.{access_conditions, operand_address}
+use Rattle.s360_fixed.specs.declared.operation.Operation.TheVariants.{Move, MoveNumerics, MoveZones, And, Or, ExclusiveOr, CompareLogical}
+use Rattle.s360_fixed.specs.declared.operation.Operation.TheVariants.{Translate, TranslateAndTest, MoveWithOffset, Pack, Unpack}
+use Rattle.s360_fixed.specs.Operands.{conditions_of, operand_address}
 use Rattle.s360_fixed.specs.Outcomes.{unless_met}
 use Rattle.s360_fixed.specs.ProgramCodes.{Conditions}
 use Rattle.s360_fixed.specs.View.{Outcome, View}
-use Rattle.s360_logic.specs.Bytes.{either, fields_conditions}
-use Rattle.s360_logic.specs.LeftToRight.{conditions_of, found_at, search_access, search_conditions, search_outcome, translate_access, translate_conditions}
+use Rattle.s360_logic.specs.Bytes.{fields_conditions}
+use Rattle.s360_logic.specs.LeftToRight.{found_at, search_access, search_conditions, search_outcome, translate_access, translate_conditions}
 use Rattle.s360_source.specs.Agreement.{AreAlike, HaveAllSame}
 use Rattle.s360_source.specs.Deciders.{access_keys, searched_keys, translated_keys}
 use Rattle.s360_source.specs.Sources.{register_part}
 use Rattle.s360_source.specs.StorageSources.{searched_places}
-use Rattle.s360_source.proofs.AccessLemmas.{access-same, conditions-same}
+use Rattle.s360_source.proofs.AccessLemmas.{access-same}
 use Rattle.s360_source.proofs.AgreementLemmas.{same-first, same-second}
 use Rattle.s360_source.proofs.BranchLemmas.{seen}
 use Rattle.s360_source.proofs.EndingLemmas.{EndsAlike, unless-same}
@@ -42,25 +43,7 @@ first-same m n b1 d1 b2 a = base-same m n b1 d1 (same-first m n (register_part b
 second-same : (m n : Core) (b1 b2 d2 : ℕ) → HaveAllSame m n (register_part b1 ++ register_part b2) → at m b2 d2 ≡ at n b2 d2
 second-same m n b1 b2 d2 a = base-same m n b2 d2 (same-second m n (register_part b1) (register_part b2) a)
 
--- the conditions of both
-either-same : (c d e f : Conditions) → c ≡ e → d ≡ f → either c d ≡ either e f
-either-same c d e f p q = rw (p, q) refl
-
-fields-end : (m n : Core) (next : ℕ) (il : InstructionLength) (b1 d1 k1 b2 d2 k2 : ℕ) (kind : Access) (y z : Outcome) → AreAlike m n → m.psw ≡ n.psw
-    → HaveAllSame m n (register_part b1 ++ register_part b2)
-    → HaveAllSame m n (access_keys m.storage kind (protection_key_of m.psw) (at m b1 d1) k1 ++ access_keys m.storage Fetch (protection_key_of m.psw) (at m b2 d2) k2)
-    → y.ended ≡ z.ended
-    → (unless_met (both_met m next il kind b1 d1 k1 b2 d2 k2) m y).ended ≡ (unless_met (both_met n next il kind b1 d1 k1 b2 d2 k2) n z).ended
-fields-end m n next il b1 d1 k1 b2 d2 k2 kind y z alike psw a k e =
-    unless-same (both_met m next il kind b1 d1 k1 b2 d2 k2) (both_met n next il kind b1 d1 k1 b2 d2 k2) m n y z
-    (either-same (access_conditions m (at m b1 d1) 1 k1 kind) (access_conditions m (at m b2 d2) 1 k2 Fetch) (access_conditions n (at n b1 d1) 1 k1 kind) (access_conditions n (at n b2 d2) 1 k2 Fetch)
-    (conditions-same m n (at m b1 d1) (at n b1 d1) 1 k1 kind alike psw (first-same m n b1 d1 b2 a)
-    (same-first m n (access_keys m.storage kind (protection_key_of m.psw) (at m b1 d1) k1) (access_keys m.storage Fetch (protection_key_of m.psw) (at m b2 d2) k2) k))
-    (conditions-same m n (at m b2 d2) (at n b2 d2) 1 k2 Fetch alike psw (second-same m n b1 b2 d2 a)
-    (same-second m n (access_keys m.storage kind (protection_key_of m.psw) (at m b1 d1) k1) (access_keys m.storage Fetch (protection_key_of m.psw) (at m b2 d2) k2) k)))
-    e
-
--- those of an operand with the function bytes that it selects
+-- the conditions of what both accesses meet
 met-same : (x y z w : Checked) → x ≡ z → y ≡ w → conditions_of (met_of_both x y) ≡ conditions_of (met_of_both z w)
 met-same x y z w e f = rw (e, f) refl
 
@@ -70,6 +53,22 @@ operand-same m n a b count kind alike psw e h =
     access-same m n kind (protection_key_of m.psw) a count alike h ∙ ap (λ x. access n.storage x count kind (protection_key_of m.psw)) e
     ∙ ap (λ x. access n.storage b count kind (protection_key_of x)) psw
 
+fields-end : (m n : Core) (next : ℕ) (il : InstructionLength) (b1 d1 k1 b2 d2 k2 : ℕ) (kind : Access) (y z : Outcome) → AreAlike m n → m.psw ≡ n.psw
+    → HaveAllSame m n (register_part b1 ++ register_part b2)
+    → HaveAllSame m n (access_keys m.storage kind (protection_key_of m.psw) (at m b1 d1) k1 ++ access_keys m.storage Fetch (protection_key_of m.psw) (at m b2 d2) k2)
+    → y.ended ≡ z.ended
+    → (unless_met (both_met m next il kind b1 d1 k1 b2 d2 k2) m y).ended ≡ (unless_met (both_met n next il kind b1 d1 k1 b2 d2 k2) n z).ended
+fields-end m n next il b1 d1 k1 b2 d2 k2 kind y z alike psw a k e =
+    unless-same (both_met m next il kind b1 d1 k1 b2 d2 k2) (both_met n next il kind b1 d1 k1 b2 d2 k2) m n y z
+    (met-same (access m.storage (at m b1 d1) k1 kind (protection_key_of m.psw)) (access m.storage (at m b2 d2) k2 Fetch (protection_key_of m.psw))
+    (access n.storage (at n b1 d1) k1 kind (protection_key_of n.psw)) (access n.storage (at n b2 d2) k2 Fetch (protection_key_of n.psw))
+    (operand-same m n (at m b1 d1) (at n b1 d1) k1 kind alike psw (first-same m n b1 d1 b2 a)
+    (same-first m n (access_keys m.storage kind (protection_key_of m.psw) (at m b1 d1) k1) (access_keys m.storage Fetch (protection_key_of m.psw) (at m b2 d2) k2) k))
+    (operand-same m n (at m b2 d2) (at n b2 d2) k2 Fetch alike psw (second-same m n b1 b2 d2 a)
+    (same-second m n (access_keys m.storage kind (protection_key_of m.psw) (at m b1 d1) k1) (access_keys m.storage Fetch (protection_key_of m.psw) (at m b2 d2) k2) k)))
+    e
+
+-- those of an operand with the function bytes that it selects
 translate-same : (m n : Core) (next : ℕ) (il : InstructionLength) (a1 a2 b1 b2 count : ℕ) → AreAlike m n → m.psw ≡ n.psw → a1 ≡ b1 → a2 ≡ b2 → HaveAllSame m n (byte_places a1 count)
     → HaveAllSame m n (access_keys m.storage Store (protection_key_of m.psw) a1 count ++ translated_keys m.storage (protection_key_of m.psw) a2 a1 0 count)
     → translate_conditions (seen m next il) a1 a2 count ≡ translate_conditions (seen n next il) b1 b2 count

@@ -21,7 +21,7 @@ use Rattle.s360_logic.specs.LeftToRight.{comparison_code, function_address, left
 use Rattle.s360_logic.specs.Logic.{address_of, row_outcome}
 use Rattle.s360_logic.specs.declared.row.DigitRow.{DigitRow}
 use Rattle.s360_logic.specs.declared.row.DigitRow.TheVariants.{MoveWithOffset as move_with_offset, Pack as pack, Unpack as unpack}
-use Rattle.s360_logic.specs.RightToLeft.{DigitMove, byte_from_right, digit_move, digits, digits_stored, exchanged, zone_of}
+use Rattle.s360_logic.specs.RightToLeft.{DigitMove, byte_from_right, digits, digits_stored, exchanged, zone_of}
 use Rattle.s360_source.specs.Agreement.{AreAlike, HaveAllSame, HaveSame, KeepsSizes}
 use Rattle.s360_source.specs.declared.digits.DigitRow.TheVariants.{MoveWithOffset as with_offset, Pack as packed, Unpack as unpacked}
 use Rattle.s360_source.specs.declared.digits.Digits.{Digits}
@@ -214,7 +214,7 @@ at m next length b d = address_of (seen m next length) b d
 -- a row of digits and its operands
 abbrev moved : DigitRow → Core → ℕ → InstructionLength → ℕ → ℕ → ℕ → ℕ → ℕ → DigitMove
 moved row m next length l b1 d1 b2 d2 =
-    digit_move row (zone_of m.psw) (record { address = at m next length b1 d1; count = l / 16 + 1 }) (record { address = at m next length b2 d2; count = l % 16 + 1 })
+    record { row = row; zone = zone_of m.psw; first = record { address = at m next length b1 d1; count = l / 16 + 1 }; second = record { address = at m next length b2 d2; count = l % 16 + 1 } }
 
 pub ss-law : (operation : Operation) → StorageFollows operation
 ss-law Move m n next length l b1 d1 b2 d2 p alike d e =

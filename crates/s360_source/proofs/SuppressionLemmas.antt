@@ -22,15 +22,14 @@ use Rattle.s360_source.proofs.AgreementLemmas.{same-sizes}
 abbrev pub Suppresses : Operation → Option ProgramCode → Type 0
 Suppresses operation code = IfSome code (λ c. suppresses operation c ≡ true)
 
-codes-suppress : (operation : Operation) (a b c d e f g h i j k : Bool) → converts_to_binary operation ≡ false
-    → Suppresses operation (program_code (record { odd_address = a; outside_first = b; protected_first = c; outside_rest = d; protected_rest = e; operation = f; privileged = g; specification = h; addressing = i; protection = j; divide = k }))
-codes-suppress o false false false false false false false false false false true n = rw n refl
-codes-suppress o false false false false false false false false false false false n = tt
-codes-suppress o a b c d e f g h i j k n = refl
+codes-suppress : (operation : Operation) (a b c d e : Bool) → converts_to_binary operation ≡ false
+    → Suppresses operation (program_code (record { privileged = a; specification = b; addressing = c; protection = d; divide = e }))
+codes-suppress o false false false false true n = rw n refl
+codes-suppress o false false false false false n = tt
+codes-suppress o a b c d e n = refl
 
 pub condition-suppresses : (operation : Operation) (c : Conditions) → converts_to_binary operation ≡ false → Suppresses operation (program_code c)
-condition-suppresses operation c n =
-    codes-suppress operation c.odd_address c.outside_first c.protected_first c.outside_rest c.protected_rest c.operation c.privileged c.specification c.addressing c.protection c.divide n
+condition-suppresses operation c n = codes-suppress operation c.privileged c.specification c.addressing c.protection c.divide n
 
 -- the outcome where this code is met
 abbrev pub refused : Option ProgramCode → Core → Outcome → Outcome

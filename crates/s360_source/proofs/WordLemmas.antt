@@ -21,13 +21,12 @@ by-test : (b : Bool) (at : ℕ) (c : Ccw) → word_in (if b then Whole at c else
 by-test true at c = refl
 by-test false at c = refl
 
-executed-if : (same : Bool) (at : ℕ) (o : Option Ccw) → word_in (executed_at same at o) ≡ if_executable same o
-executed-if same at None = refl
-executed-if same at (Some c) = by-test (not (is_transfer c) && is_executable same c) at c
+executed-if : (same : Bool) (at : ℕ) (c : Ccw) → word_in (executed_at same at c) ≡ if_executable same (Some c)
+executed-if same at c = by-test (not (is_transfer c) && is_executable same c) at c
 
 transferred-if : (s : Storage) (same : Bool) (at : ℕ) (c : Ccw) (o : Option Ccw) → ccw_at s c.address ≡ o → word_in (transferred_to s same at c) ≡ if_executable same o
 transferred-if s same at c None e = rw e refl
-transferred-if s same at c (Some x) e = rw e (executed-if same c.address (Some x))
+transferred-if s same at c (Some x) e = rw e (executed-if same c.address x)
 
 with-some : (s : Storage) (p : Program) (c : Ccw) (b : Bool) → (is_transfer c && not (is_first p.progress)) ≡ b
     → word_in (next_ccw_with s p.progress p.address (Some c)) ≡ word_taken p.progress (Some c) (led_to s (Some c))
@@ -37,7 +36,7 @@ with-some s p c true e =
     = taken-true p.progress c (led_to s (Some c)) e ∙ ap (if_executable (goes_on_with_record p.progress)) (led-true s c is)
     in rw (taken, e) (transferred-if s (goes_on_with_record p.progress) p.address c (ccw_at s c.address) refl)
 with-some s p c false e =
-    rw (taken-false p.progress c (led_to s (Some c)) e, e) (executed-if (goes_on_with_record p.progress) p.address (Some c))
+    rw (taken-false p.progress c (led_to s (Some c)) e, e) (executed-if (goes_on_with_record p.progress) p.address c)
 
 with-any : (s : Storage) (p : Program) (o : Option Ccw) → word_in (next_ccw_with s p.progress p.address o) ≡ word_taken p.progress o (led_to s o)
 with-any s p None = refl

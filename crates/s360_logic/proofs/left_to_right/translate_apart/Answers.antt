@@ -31,7 +31,7 @@ loop-i-preserved c =
     in let inside : now.address + length now.bytes ≤ length now.storage.bytes = rw (v.address, v.count, v.storage) (omega (arith, c.len-i-end.ensures.inside, c.len-i-end.ensures.len))
     in let own : c.own_byte.result ≡ byte_at (stored_in now) (old.address + i) = c.own_byte.ensures ∙ ap (λ a. byte_at (stored_in now) (a + i)) v.address
     in let small : c.own_byte.result < 256 = c.own_byte.type_inv
-    in let low : function_address table c.own_byte.result ≡ table + c.own_byte.result = function_address-low table c.own_byte.result (omega (arith, c.requires.beside.0, c.len-i-end.ensures.small, small))
+    in let low : function_address table c.own_byte.result ≡ table + c.own_byte.result = function_address-low table c.own_byte.result (omega (arith, c.requires.inside, c.len-i-end.ensures.small, small))
     in let selected : function_address table (byte_at (stored_in now) (old.address + i)) ≡ table + c.own_byte.result = ap (function_address table) (sym own) ∙ low
     in let there : get_or c.args.functions.now c.own_byte.result 0 ≡ byte_at (stored_in now) (table + c.own_byte.result)
     = ap (λ xs. get_or xs c.own_byte.result 0) c.requires.functions ∙ operand_bytes-at old.storage table 256 c.own_byte.result small
