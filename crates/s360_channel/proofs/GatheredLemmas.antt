@@ -1,10 +1,8 @@
 -- Gathered bytes compared from the last to the first.
-use Rattle.std.proofs.Common.{◌≡◌, ◌∙◌, ℕ, List, reverse, sym, ap}
-use Rattle.std.specs.Str.{bytes_eq}
+use Rattle.std.proofs.Common.{◌≡◌, ◌∙◌, ℕ, List, reverse, sym, ap, bytes_eq, Decides}
 use Rattle.std.proofs.lemmas.Bool.Decides.{Decides-like, same_from_decides}
 use Rattle.std.proofs.lemmas.List.{reverse-reverse}
 use Rattle.std.proofs.lemmas.Slice.Eq.{bytes_eq-Decides}
-use Rattle.std.specs.Bool.{Decides}
 
 -- lists are the same just where they are backwards
 backward-Decides : (xs ys : List ℕ) → Decides (bytes_eq (reverse xs) (reverse ys)) (xs ≡ ys)

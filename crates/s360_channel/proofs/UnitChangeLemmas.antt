@@ -1,11 +1,9 @@
 -- What an event alters of the units: done twice, the exchange restores both; and what is planned makes the units of it.
-use Rattle.std.proofs.Common.{◌≡◌, ◌≢◌, ◌<◌, ◌+◌, ◌++◌, ℕ, zero, suc, Bool, true, false, cond, not, nat_eq, ◌==◌, filter, List, [], ◌∷◌, length, map, take, get_or, refl, sym, ap, subst, ◌∙◌, arith, get_or-set_same, get_or-set_other, set-set, length-set, ext_get_or, if◌then◌else◌}
+use Rattle.std.proofs.Common.{◌≡◌, ◌≢◌, ◌<◌, ◌+◌, ◌++◌, ℕ, zero, suc, Bool, true, false, cond, not, nat_eq, ◌==◌, filter, List, [], ◌∷◌, length, map, take, get_or, refl, sym, ap, subst, ◌∙◌, arith, get_or-set_same, get_or-set_other, set-set, length-set, ext_get_or, if◌then◌else◌, append-nil, Option, Some, None}
 use Rattle.std.proofs.lemmas.Bool.Decides.{Decides-eqb}
-use Rattle.std.proofs.lemmas.List.{append-nil}
 use Rattle.std.proofs.lemmas.List.Elements.{filter_more}
 use Rattle.std.proofs.Math.Seq.{set-get_or}
 use Rattle.std.proofs.SliceLists.{any-default}
-use Rattle.std.specs.Prelude.{Option, Some, None}
 use Rattle.s360_model.specs.Exchanges.{back_if_any}
 use Rattle.s360_channel.specs.declared.configured_unit.ConfiguredUnit.{ConfiguredUnit}
 use Rattle.s360_channel.specs.declared.configured_unit.ConfiguredUnit.TheVariants.{Reader, Punch, Printer, Console, Tape0, Tape1}

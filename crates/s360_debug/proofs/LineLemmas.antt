@@ -1,7 +1,6 @@
 -- The first line of a text, found by a look for a line feed.
-use Rattle.std.proofs.Common.{◌≡◌, ◌<◌, ◌≤◌, ◌+◌, ◌++◌, ℕ, zero, suc, Some, None, List, [], ◌∷◌, true, false, refl, ap, ◌∙◌, take, drop, get_or, length, nat_eq, arith, append_assoc}
+use Rattle.std.proofs.Common.{◌≡◌, ◌<◌, ◌≤◌, ◌+◌, ◌++◌, ℕ, zero, suc, Some, None, List, [], ◌∷◌, true, false, refl, ap, ◌∙◌, take, drop, get_or, length, nat_eq, arith, append_assoc, position}
 use Rattle.std.proofs.lemmas.List.{append-nil, take_all, drop_all, drop_more}
-use Rattle.std.specs.List.{position}
 use Rattle.s360_language.proofs.WordLemmas.{IsFirst, IsFirst-position, NonePasses-position}
 use Rattle.s360_debug.specs.Lines.{without_return, lines_from, lines_of}
 

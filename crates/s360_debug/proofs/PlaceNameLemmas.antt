@@ -1,6 +1,5 @@
 -- The names of places, one more at the end.
-use Rattle.std.proofs.Common.{◌≡◌, ◌++◌, List, [], ◌∷◌, ap, sym, ◌∙◌, append_assoc, codes}
-use Rattle.std.proofs.lemmas.List.{append-nil}
+use Rattle.std.proofs.Common.{◌≡◌, ◌++◌, List, [], ◌∷◌, ap, sym, ◌∙◌, append_assoc, codes, append-nil}
 use Rattle.s360_store.specs.declared.place.Place.{Place}
 use Rattle.s360_language.specs.Names.{place_name}
 use Rattle.s360_debug.specs.Answers.{place_names}

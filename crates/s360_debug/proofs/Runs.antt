@@ -1,6 +1,5 @@
 -- The lines of a script that are answered so far.
-use Rattle.std.proofs.Common.{◌≡◌, ◌≤◌, ◌+◌, ◌++◌, ◌∷◌, [], ℕ, List, refl, sym, ap, ◌∙◌, Option, Some, None, Bool, true, false, nat_eq, length, append_assoc, add_assoc, arith, if◌then◌else◌, IfSome}
-use Rattle.std.proofs.lemmas.List.{append-nil, length-append}
+use Rattle.std.proofs.Common.{◌≡◌, ◌≤◌, ◌+◌, ◌++◌, ◌∷◌, [], ℕ, List, refl, sym, ap, ◌∙◌, Option, Some, None, Bool, true, false, nat_eq, length, append_assoc, add_assoc, arith, if◌then◌else◌, IfSome, append-nil, length-append}
 use Rattle.std.specs.Io.KnownBytes.{Appends}
 use Rattle.s360_journal.specs.Recorded.{Recorded}
 use Rattle.s360_language.specs.Reading.{reading_of}

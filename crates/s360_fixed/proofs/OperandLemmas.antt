@@ -1,6 +1,5 @@
 -- Operands that can be used.
-use Rattle.std.proofs.Common.{◌≡◌, ℕ, ◌%◌, Bool, true, false, not, nat_eq, Option, None, Some, refl, sym}
-use Rattle.std.specs.Prelude.{if◌then◌else◌, is_none}
+use Rattle.std.proofs.Common.{◌≡◌, ℕ, ◌%◌, Bool, true, false, not, nat_eq, Option, None, Some, refl, sym, if◌then◌else◌, is_none}
 use Rattle.s360_model.specs.Psw.{protection_key_of}
 use Rattle.s360_model.specs.Storage.{word_at}
 use Rattle.s360_store.specs.Protection.{access}

@@ -1,9 +1,8 @@
 -- What registers that are stored and loaded leave, one after another.
-use Rattle.std.proofs.Common.{◌≡◌, ◌≤◌, ◌<◌, ◌+◌, ◌*◌, ◌%◌, ◌++◌, ◌∙◌, [], zero, suc, ap, append-nil, drop, inl, inr, length, refl, sym, take, slice_index, ℕ, List, Bool, true, false, cond, Option, None, Some, arith}
+use Rattle.std.proofs.Common.{◌≡◌, ◌≤◌, ◌<◌, ◌+◌, ◌*◌, ◌%◌, ◌++◌, ◌∙◌, [], zero, suc, ap, append-nil, drop, inl, inr, length, refl, sym, take, slice_index, ℕ, List, Bool, true, false, cond, Option, None, Some, arith, ◌&&◌}
 use Rattle.std.proofs.Math.Seq.{drop-append-add}
 use Rattle.std.proofs.lemmas.Bool.{cases_lt}
 use Rattle.std.proofs.lemmas.List.{append_assoc, drop-drop, drop_all, length-append, length-take-le, take-append-drop, take_all, take_at}
-use Rattle.std.specs.Prelude.{◌&&◌}
 use Rattle.std.specs.Int.{bytes_high_first}
 use Rattle.s360_model.specs.Core.{Core, core_with_bytes, core_with_psw, core_with_word}
 use Rattle.s360_model.specs.Psw.{fixed_point_overflow_mask_of}

@@ -1,7 +1,6 @@
 -- Registers that are loaded in the order of their numbers, not from R1 on.
-use Rattle.std.proofs.Common.{◌≡◌, ◌≢◌, ◌<◌, ◌≤◌, ◌+◌, ◌-◌, ◌*◌, ◌%◌, ◌∙◌, ℕ, zero, suc, List, true, false, nat_lt, refl, ap, sym, get_or, set, length, arith, inl, inr, get_or-set_other, get_or-set_same, length-set}
+use Rattle.std.proofs.Common.{◌≡◌, ◌≢◌, ◌<◌, ◌≤◌, ◌+◌, ◌-◌, ◌*◌, ◌%◌, ◌∙◌, ℕ, zero, suc, List, true, false, nat_lt, refl, ap, sym, get_or, set, length, arith, inl, inr, get_or-set_other, get_or-set_same, length-set, ext_get_or}
 use Rattle.std.proofs.lemmas.Bool.{cases_lt, le-ltb, lt-ltb}
-use Rattle.std.proofs.lemmas.List.{ext_get_or}
 use Rattle.s360_model.specs.Core.{Core, core_with_word}
 use Rattle.s360_model.specs.Storage.{word_at}
 use Rattle.s360_store.specs.Plans.{HasRegisters}

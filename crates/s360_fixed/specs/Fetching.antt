@@ -1,6 +1,5 @@
 -- Fetching the instruction at an address (GA22-6821, "System Structure", program execution).
-use Rattle.std.specs.Prelude.{ℕ, ◌+◌, List, slice_index}
-use Rattle.std.specs.List.{slice_range}
+use Rattle.std.specs.Prelude.{ℕ, ◌+◌, List, slice_index, slice_range}
 use Rattle.s360_model.specs.Storage.{Storage}
 use Rattle.s360_store.specs.{declared.protection.Access.TheVariants.Fetch, declared.protection.Checked.Checked, Protection.access}
 use Rattle.s360_fixed.specs.{Operands.conditions_of, Outcomes.is_odd, ProgramCodes.Conditions, Table.instruction_length}

@@ -1,6 +1,5 @@
 -- A fixed-point, branch or shift instruction: its row in its format (GA22-6821, "Fixed-Point Arithmetic", "Logical Operations" and "Branching").
-use Rattle.std.specs.Prelude.{ℕ, Option, None, Some}
-use Rattle.std.specs.Option.{option_and_then, option_map}
+use Rattle.std.specs.Prelude.{ℕ, Option, None, Some, option_and_then, option_map}
 use Rattle.s360_fixed.specs.declared.{form.Form.Form, row.Row.Row, second_operand.SecondOperand.SecondOperand, second_operand.Width.TheVariants.Word}
 use Rattle.s360_fixed.specs.Branching.{branch_outcome, index_outcome, register_target}
 use Rattle.s360_fixed.specs.Operands.{Operand, operand_address, storage_operand, word_operand}

@@ -1,6 +1,5 @@
 -- The operation codes with their formats and operations (GA22-6821, "Operation Codes"), and the fields of formats ("System Structure", program execution).
-use Rattle.std.specs.Prelude.{ℕ, ◌+◌, ◌*◌, ◌/◌, ◌%◌, nat_lt, if◌then◌else◌, Option, List, [], ◌∷◌, slice_index}
-use Rattle.std.specs.Option.{option_map}
+use Rattle.std.specs.Prelude.{ℕ, ◌+◌, ◌*◌, ◌/◌, ◌%◌, nat_lt, if◌then◌else◌, Option, List, [], ◌∷◌, slice_index, option_map}
 use Rattle.s360_model.specs.Tables.{entry_in}
 use Rattle.s360_fixed.specs.declared.{operation.Operation.Operation, form.Format.Format, form.Entry.Entry, form.Form.Form}
 use Rattle.s360_fixed.specs.declared.form.Format.TheVariants.{Rr, Rx, Rs, Si, Ss}

@@ -1,8 +1,7 @@
 -- The chain of causes of a value (own profile): the change that made it, the places that its event was decided by, those that it
 -- made the value of, with the values that they had, and so on with each of these.
 use Rattle.std.specs.Prelude.{◌≡◌, ℕ, zero, suc, ◌+◌, nat_lt, if◌then◌else◌, Option, Some, None, List, [], ◌∷◌, ◌++◌, codes, length, map, min, take}
-use Rattle.std.specs.List.{flat_map}
-use Rattle.std.specs.Option.{unwrap_or}
+use Rattle.std.specs.Prelude.{flat_map, unwrap_or}
 use Rattle.indexmap.specs.IndexSet.{insert_all}
 use Rattle.s360_model.specs.Text.{decimal}
 use Rattle.s360_store.specs.declared.place.Place.{Place}

@@ -1,9 +1,7 @@
 -- What an event is, told of the machine that it meets (own profile): of one of the CPU the instruction address and the
 -- instruction, of one of a channel the channel command word (GA22-6821, "System Structure", program execution;
 -- "Input/Output Operations", channel command word).
-use Rattle.std.specs.Prelude.{ℕ, ◌+◌, nat_lt, if◌then◌else◌, Option, Some, None, List, [], ◌++◌, codes, length, min}
-use Rattle.std.specs.List.{slice_range}
-use Rattle.std.specs.Option.{option_map}
+use Rattle.std.specs.Prelude.{ℕ, ◌+◌, nat_lt, if◌then◌else◌, Option, Some, None, List, [], ◌++◌, codes, length, min, slice_range, option_map}
 use Rattle.s360_model.specs.Psw.{instruction_address_of}
 use Rattle.s360_model.specs.Storage.{Storage, doubleword_at}
 use Rattle.s360_model.specs.Text.{hex_bytes, hex_text}

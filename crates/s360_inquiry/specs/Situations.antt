@@ -1,6 +1,5 @@
 -- How the machine stands (own profile): its units, and what it does next.
-use Rattle.std.specs.Prelude.{ℕ, if◌then◌else◌, List, [], ◌++◌, codes}
-use Rattle.std.specs.List.{flat_map}
+use Rattle.std.specs.Prelude.{ℕ, if◌then◌else◌, List, [], ◌++◌, codes, flat_map}
 use Rattle.s360_model.specs.Text.{hex_text}
 use Rattle.s360_store.specs.declared.place.Place.TheVariants.{UnitState as unit_state, UnitMedia}
 use Rattle.s360_channel.specs.declared.configured_unit.ConfiguredUnit.{ConfiguredUnit}

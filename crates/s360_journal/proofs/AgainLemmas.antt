@@ -1,10 +1,5 @@
 -- What was taken back is run again.
-use Rattle.std.proofs.Common.{◌≡◌, ◌<◌, ◌≤◌, ◌+◌, ◌++◌, ◌∙◌, ℕ, zero, suc, List, [], ◌∷◌, Option, Some, None, refl, ap, sym, subst, arith, length, take, drop, true}
-use Rattle.std.proofs.lemmas.Bool.{lt-ltb}
-use Rattle.std.proofs.lemmas.List.{append-nil, length-take-le}
-use Rattle.std.specs.List.{slice_get}
-use Rattle.std.specs.Option.{unwrap_or}
-use Rattle.std.specs.Prelude.{nat_lt}
+use Rattle.std.proofs.Common.{◌≡◌, ◌<◌, ◌≤◌, ◌+◌, ◌++◌, ◌∙◌, ℕ, zero, suc, List, [], ◌∷◌, Option, Some, None, refl, ap, sym, subst, arith, length, take, drop, true, lt-ltb, append-nil, length-take-le, slice_get, unwrap_or, nat_lt}
 use Rattle.s360_machine.specs.Machine.{seen}
 use Rattle.s360_machine.specs.declared.event.Event.{Event}
 use Rattle.s360_machine.specs.Step.{after}

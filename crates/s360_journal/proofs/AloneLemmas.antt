@@ -1,8 +1,6 @@
 -- A record of which all stands, as changes are taken back and run again.
-use Rattle.std.proofs.Common.{rules, tests, ◌≡◌, ◌≤◌, ◌<◌, ◌+◌, ◌-◌, ◌++◌, ◌∙◌, ℕ, zero, suc, List, [], ◌∷◌, true, refl, ap, sym, subst, arith, drop, length, length-append, take}
+use Rattle.std.proofs.Common.{rules, tests, ◌≡◌, ◌≤◌, ◌<◌, ◌+◌, ◌-◌, ◌++◌, ◌∙◌, ℕ, zero, suc, List, [], ◌∷◌, true, refl, ap, sym, subst, arith, drop, length, length-append, take, append-nil, length-take-le, Err, Ok, OnErr, OnOk, Result}
 use Rattle.std.proofs.Math.Seq.{drop-append_seam, take-length}
-use Rattle.std.proofs.lemmas.List.{append-nil, length-take-le}
-use Rattle.std.specs.Prelude.{Err, Ok, OnErr, OnOk, Result}
 use Rattle.s360_machine.specs.declared.event.Event.{Event}
 use Rattle.s360_journal.specs.Recorded.{IsAlone, Recorded, StaysAlone, after_event, cut_to, rest_of, session_of, standing_events, with_standing, without_change, without_last}
 use Rattle.s360_journal.specs.Standing.{Standing}

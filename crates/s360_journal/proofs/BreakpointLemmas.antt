@@ -1,6 +1,5 @@
 -- The breakpoints are a set of at most 64 addresses.
-use Rattle.std.proofs.Common.{◌≡◌, ◌≢◌, ◌<◌, ◌⊎◌, ◌↔◌, inl, inr, ℕ, Bool, true, false, not, ◌&&◌, ◌||◌, cond, Result, Ok, Err, IsOk, OnOk, OnErr, subst, List, [], ◌∷◌, ◌++◌, refl, ap, sym, ◌∙◌, length, get_or, arith, length-append, nat_eq}
-use Rattle.std.specs.List.{Contains}
+use Rattle.std.proofs.Common.{◌≡◌, ◌≢◌, ◌<◌, ◌⊎◌, ◌↔◌, inl, inr, ℕ, Bool, true, false, not, ◌&&◌, ◌||◌, cond, Result, Ok, Err, IsOk, OnOk, OnErr, subst, List, [], ◌∷◌, ◌++◌, refl, ap, sym, ◌∙◌, length, get_or, arith, length-append, nat_eq, Contains}
 use Rattle.std.proofs.lemmas.Bool.{eqb-true, eq-eqb, eqb-false, leb-true, leb-false, le-leb, and_parts, and_from, or_cases, or_parts, or_left, or_right, or_from, not-true, true≢false, false_from_ne_true}
 use Rattle.std.proofs.lemmas.List.Sums.{length-filter, count_by-le-length}
 use Rattle.std.proofs.lemmas.List.Folds.{list_any_at, list_any-append}

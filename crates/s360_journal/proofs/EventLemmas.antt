@@ -1,6 +1,5 @@
 -- The last event of a list.
-use Rattle.std.proofs.Common.{◌≡◌, ◌-◌, ◌++◌, ◌∙◌, List, [], ◌∷◌, Some, ap, sym, reverse, length, arith}
-use Rattle.std.specs.List.{slice_get}
+use Rattle.std.proofs.Common.{◌≡◌, ◌-◌, ◌++◌, ◌∙◌, List, [], ◌∷◌, Some, ap, sym, reverse, length, arith, slice_get}
 use Rattle.std.proofs.lemmas.List.{length-append, reverse-append}
 use Rattle.s360_machine.specs.declared.event.Event.{Event}
 use Rattle.s360_journal.specs.Standing.{last_of}

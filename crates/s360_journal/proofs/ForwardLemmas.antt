@@ -1,7 +1,5 @@
 -- What an accepted event adds to the journal.
-use Rattle.std.proofs.Common.{◌≡◌, ◌<◌, ◌++◌, ℕ, List, [], ◌∷◌, refl, ap, sym, ◌∙◌, reverse, subst, Bool, true, false, Option, Some, None, Result, Ok, Err, nat_lt, cond}
-use Rattle.std.specs.Result.{IsErrAnd, IsOkUnless}
-use Rattle.std.proofs.lemmas.Bool.{ltb-true}
+use Rattle.std.proofs.Common.{◌≡◌, ◌<◌, ◌++◌, ℕ, List, [], ◌∷◌, refl, ap, sym, ◌∙◌, reverse, subst, Bool, true, false, Option, Some, None, Result, Ok, Err, nat_lt, cond, IsErrAnd, IsOkUnless, ltb-true}
 use Rattle.std.proofs.lemmas.List.{reverse-append}
 use Rattle.s360_machine.specs.declared.event.Event.{Event}
 use Rattle.s360_machine.specs.declared.refusal.Refusal.{Refusal}

@@ -1,7 +1,5 @@
 -- The session that stands, as the record goes on and back.
-use Rattle.std.proofs.Common.{◌≡◌, ◌≢◌, ◌≤◌, ◌+◌, ◌-◌, ◌∙◌, ℕ, zero, suc, nat_eq, Bool, List, [], ◌∷◌, Option, Some, None, true, false, refl, ap, sym, arith, length, take}
-use Rattle.std.proofs.lemmas.Bool.{eqb-true, true≢false}
-use Rattle.std.proofs.lemmas.List.{length-take-le}
+use Rattle.std.proofs.Common.{◌≡◌, ◌≢◌, ◌≤◌, ◌+◌, ◌-◌, ◌∙◌, ℕ, zero, suc, nat_eq, Bool, List, [], ◌∷◌, Option, Some, None, true, false, refl, ap, sym, arith, length, take, eqb-true, true≢false, length-take-le}
 use Rattle.std.specs.Bool.{then_some}
 use Rattle.std.specs.Cmp.{both_ways}
 use Rattle.s360_machine.specs.declared.event.Event.{Event}

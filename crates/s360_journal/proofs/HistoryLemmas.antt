@@ -1,7 +1,6 @@
 -- A session's machine is its start with the standing events run again.
-use Rattle.std.proofs.Common.{arith, ◌+◌, ◌≡◌, ◌-◌, ◌++◌, ℕ, zero, suc, length, List, [], ◌∷◌, refl, ap, sym, ◌∙◌, map, reverse, subst, Option, Some, None, Ok}
+use Rattle.std.proofs.Common.{arith, ◌+◌, ◌≡◌, ◌-◌, ◌++◌, ℕ, zero, suc, length, List, [], ◌∷◌, refl, ap, sym, ◌∙◌, map, reverse, subst, Option, Some, None, Ok, slice_get}
 use Rattle.std.proofs.lemmas.List.{reverse-append, reverse-reverse, map_push, length-append}
-use Rattle.std.specs.List.{slice_get}
 use Rattle.s360_machine.specs.declared.event.Event.{Event}
 use Rattle.s360_machine.specs.declared.refusal.Refusal.{Refusal}
 use Rattle.s360_machine.specs.Machine.{Machine, Whole, storage_size, seen}

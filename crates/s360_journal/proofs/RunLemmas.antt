@@ -1,8 +1,7 @@
 -- A run of calls leaves the start and the limit, and the events that stand by its calls and answers.
-use Rattle.std.proofs.Common.{◌≡◌, ◌-◌, ◌++◌, ℕ, List, [], ◌∷◌, refl, ap, sym, ◌∙◌, length, take, arith, Ok, Err, Option, Some, None, Result}
+use Rattle.std.proofs.Common.{◌≡◌, ◌-◌, ◌++◌, ℕ, List, [], ◌∷◌, refl, ap, sym, ◌∙◌, length, take, arith, Ok, Err, Option, Some, None, Result, slice_get}
 use Rattle.std.proofs.Math.Seq.{take-length}
 use Rattle.std.proofs.lemmas.List.{length-append, length-take, take_min}
-use Rattle.std.specs.List.{slice_get}
 use Rattle.std.specs.declared.alloc.AllocError.{AllocError}
 use Rattle.s360_machine.specs.declared.event.Event.{Event}
 use Rattle.s360_journal.specs.declared.calls.Call.{Call}

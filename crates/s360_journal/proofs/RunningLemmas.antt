@@ -1,11 +1,7 @@
 -- A run, turn by turn.
-use Rattle.std.proofs.Common.{◌≡◌, ◌≢◌, ◌≤◌, ◌<◌, ◌+◌, ◌-◌, ◌++◌, ◌∷◌, ◌∙◌, [], ℕ, zero, suc, List, Option, Some, None, is_some, Bool, true, false, not, nat_eq, refl, sym, ap, subst, append_assoc, arith, drop, length, length-append, take, Ok, Err, IsOkUnless}
-use Rattle.std.specs.Prelude.{◌↔◌, IsTrue, MatchOption, OnErr, Result}
+use Rattle.std.proofs.Common.{◌≡◌, ◌≢◌, ◌≤◌, ◌<◌, ◌+◌, ◌-◌, ◌++◌, ◌∷◌, ◌∙◌, [], ℕ, zero, suc, List, Option, Some, None, is_some, Bool, true, false, not, nat_eq, refl, sym, ap, subst, append_assoc, arith, drop, length, length-append, take, Ok, Err, IsOkUnless, ◌↔◌, IsTrue, MatchOption, OnErr, Result, slice_get, eq-eqb, eqb-true, true≢false, append-nil, length-take}
 use Rattle.std.specs.Cmp.{both_ways}
-use Rattle.std.specs.List.{slice_get}
 use Rattle.std.specs.Option.{option_map, option_map_or, unwrap_or}
-use Rattle.std.proofs.lemmas.Bool.{eq-eqb, eqb-true, true≢false}
-use Rattle.std.proofs.lemmas.List.{append-nil, length-take}
 use Rattle.std.proofs.Math.Seq.{take-append_seam}
 use Rattle.s360_store.specs.declared.place.Place.{Place}
 use Rattle.s360_machine.specs.EventKinds.{kind_of_event}

@@ -1,8 +1,6 @@
 -- The tests of whether events are the same decide whether they are equal.
-use Rattle.std.proofs.Common.{◌≡◌, Bool, List, Some, refl, ap}
-use Rattle.std.specs.List.{slice_get}
+use Rattle.std.proofs.Common.{◌≡◌, Bool, List, Some, refl, ap, slice_get, ◌↔◌, IsTrue}
 use Rattle.std.specs.Cmp.{booleans_Decides, both_ways}
-use Rattle.std.specs.Prelude.{◌↔◌, IsTrue}
 use Rattle.std.proofs.lemmas.Bool.Decides.{Decides-eqb, Decides-like}
 use Rattle.std.proofs.lemmas.Slice.Eq.{bytes_eq-Decides}
 use Rattle.s360_device.specs.Differences.{DecidesEquality}

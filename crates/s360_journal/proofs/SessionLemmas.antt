@@ -1,7 +1,5 @@
 -- Events and changes of a session, side by side as entries.
-use Rattle.std.proofs.Common.{◌≡◌, ◌<◌, ◌+◌, ◌-◌, ◌++◌, ◌∙◌, ℕ, zero, suc, List, [], ◌∷◌, Some, None, Ok, refl, ap, sym, subst, map, reverse, length, take, set, arith}
-use Rattle.std.specs.List.{slice_get}
-use Rattle.std.specs.Prelude.{IfSome}
+use Rattle.std.proofs.Common.{◌≡◌, ◌<◌, ◌+◌, ◌-◌, ◌++◌, ◌∙◌, ℕ, zero, suc, List, [], ◌∷◌, Some, None, Ok, refl, ap, sym, subst, map, reverse, length, take, set, arith, slice_get, IfSome}
 use Rattle.std.proofs.lemmas.List.{length-append, length-map, reverse-append}
 use Rattle.std.proofs.lemmas.Option.{slice_get-get_or}
 use Rattle.s360_machine.specs.declared.event.Event.{Event}

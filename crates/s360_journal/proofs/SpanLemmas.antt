@@ -1,6 +1,5 @@
 -- Places as spans.
-use Rattle.std.proofs.Common.{◌≡◌, ◌<◌, ◌≤◌, ◌+◌, ◌-◌, ◌++◌, ◌∙◌, ℕ, zero, suc, Some, List, [], ◌∷◌, refl, ap, sym, drop, get_or, length, arith}
-use Rattle.std.specs.List.{slice_get}
+use Rattle.std.proofs.Common.{◌≡◌, ◌<◌, ◌≤◌, ◌+◌, ◌-◌, ◌++◌, ◌∙◌, ℕ, zero, suc, Some, List, [], ◌∷◌, refl, ap, sym, drop, get_or, length, arith, slice_get}
 use Rattle.std.proofs.lemmas.List.{drop_more}
 use Rattle.s360_store.specs.declared.place.Place.{Place}
 use Rattle.s360_store.specs.declared.span.Span.{Span}

@@ -1,9 +1,6 @@
 -- The last stop at a breakpoint, looked for from the last event back.
-use Rattle.std.proofs.Common.{◌≡◌, ◌≤◌, ◌<◌, ◌+◌, ◌-◌, ◌++◌, ℕ, zero, suc, nat_eq, List, [], ◌∷◌, refl, ap, sym, ◌∙◌, length, take, arith, Bool, true, false, cond, Option, Some, None}
-use Rattle.std.specs.Option.{unwrap_or}
+use Rattle.std.proofs.Common.{◌≡◌, ◌≤◌, ◌<◌, ◌+◌, ◌-◌, ◌++◌, ℕ, zero, suc, nat_eq, List, [], ◌∷◌, refl, ap, sym, ◌∙◌, length, take, arith, Bool, true, false, cond, Option, Some, None, unwrap_or, length-take-le, eq-eqb, eqb-true, true≢false}
 use Rattle.std.proofs.Math.Nat.{pos_of_ne-zero}
-use Rattle.std.proofs.lemmas.List.{length-take-le}
-use Rattle.std.proofs.lemmas.Bool.{eq-eqb, eqb-true, true≢false}
 use Rattle.s360_machine.specs.declared.event.Event.{Event}
 use Rattle.s360_machine.specs.Machine.{Machine, seen}
 use Rattle.s360_machine.specs.Step.{after}

@@ -1,6 +1,5 @@
 -- Events, each in a byte with what it carries in lists apart.
-use Rattle.std.proofs.Common.{◌≡◌, ◌-◌, ◌++◌, ◌∙◌, List, [], ◌∷◌, Some, None, refl, ap, arith, length, reverse}
-use Rattle.std.specs.List.{slice_get}
+use Rattle.std.proofs.Common.{◌≡◌, ◌-◌, ◌++◌, ◌∙◌, List, [], ◌∷◌, Some, None, refl, ap, arith, length, reverse, slice_get}
 use Rattle.std.proofs.lemmas.List.{length-append, reverse-append}
 use Rattle.s360_word.specs.declared.unit.Unit.{Unit as UnitAddress}
 use Rattle.s360_machine.specs.declared.event.Event.{Event}

@@ -1,6 +1,5 @@
 -- The changes that alter a place, by their numbers (kept).
-use Rattle.std.specs.Bool.{MatchBool}
-use Rattle.std.specs.Prelude.{◌≡◌, ◌+◌, ℕ, if◌then◌else◌, List, [], ◌∷◌, length}
+use Rattle.std.specs.Prelude.{◌≡◌, ◌+◌, ℕ, if◌then◌else◌, List, [], ◌∷◌, length, MatchBool}
 use Rattle.s360_store.specs.declared.place.Place.{Place}
 use Rattle.s360_index.specs.Histories.{Histories, numbers}
 use Rattle.s360_index.specs.Numbers.{MayGain}

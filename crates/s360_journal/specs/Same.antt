@@ -1,7 +1,6 @@
 -- Whether events are the same, with all that they carry (kept).
-use Rattle.std.specs.Prelude.{Bool, true, false, ◌&&◌, nat_eq}
+use Rattle.std.specs.Prelude.{Bool, true, false, ◌&&◌, nat_eq, bytes_eq}
 use Rattle.std.specs.Bool.{beq}
-use Rattle.std.specs.Str.{bytes_eq}
 use Rattle.s360_word.specs.declared.unit.Unit.{Unit}
 use Rattle.s360_machine.specs.declared.event.Event.{Event}
 use Rattle.s360_machine.specs.declared.event.Event.TheVariants.{Cpu, Channel, Tick, Key as key, Patch as patch}

@@ -1,6 +1,5 @@
 -- The first word of a line, found by a look for a byte that is no blank, and then for a blank.
-use Rattle.std.proofs.Common.{◌≡◌, ◌≢◌, ◌<◌, ◌≤◌, ◌+◌, ◌-◌, ◌++◌, ℕ, zero, suc, Some, None, List, [], ◌∷◌, Bool, true, false, not, cond, refl, ap, sym, ◌∙◌, take, drop, get_or, length, nat_lt, nat_eq, arith, append_assoc}
-use Rattle.std.proofs.lemmas.Bool.{ltb-false}
+use Rattle.std.proofs.Common.{◌≡◌, ◌≢◌, ◌<◌, ◌≤◌, ◌+◌, ◌-◌, ◌++◌, ℕ, zero, suc, Some, None, List, [], ◌∷◌, Bool, true, false, not, cond, refl, ap, sym, ◌∙◌, take, drop, get_or, length, nat_lt, nat_eq, arith, append_assoc, ltb-false}
 use Rattle.std.proofs.lemmas.Grind.{common_steps}
 use Rattle.std.proofs.lemmas.List.{append-nil, take_all, drop_all, get_or-drop, length-drop}
 use Rattle.std.proofs.lemmas.List.Quantifiers.{position-Some}

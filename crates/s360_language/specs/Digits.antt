@@ -1,6 +1,5 @@
 -- Numbers as an argument writes them (own profile).
-use Rattle.std.specs.Prelude.{ℕ, ◌&&◌, nat_eq, nat_le, if◌then◌else◌, Option, Some, None, List, length}
-use Rattle.std.specs.Option.{option_and_then}
+use Rattle.std.specs.Prelude.{ℕ, ◌&&◌, nat_eq, nat_le, if◌then◌else◌, Option, Some, None, List, length, option_and_then}
 use Rattle.s360_text.specs.Digits.{number_of_digits}
 
 -- a number of 1 to so many hexadecimal digits

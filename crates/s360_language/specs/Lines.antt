@@ -1,9 +1,8 @@
 -- The form in which a language of lines is written down, and the judge of a line (own profile). Words are judged from left to
 -- right, and the first that is wrong, missing or too many is named by its number, the first word of a line being 0.
-use Rattle.std.specs.Prelude.{◌-◌, ◌+◌, ℕ, Bool, nat_eq, nat_lt, if◌then◌else◌, Option, None, Some, Result, Ok, Err, List, [], ◌∷◌, drop, length}
+use Rattle.std.specs.Prelude.{◌-◌, ◌+◌, ℕ, Bool, nat_eq, nat_lt, if◌then◌else◌, Option, None, Some, Result, Ok, Err, List, [], ◌∷◌, drop, length, ok_or}
 use Rattle.std.specs.Cmp.Lexicographic.{pointwise}
 use Rattle.std.specs.Map.{lookup}
-use Rattle.std.specs.Option.{ok_or}
 use Rattle.s360_language.specs.declared.command.LineFault.{LineFault}
 use Rattle.s360_language.specs.declared.command.LineFault.TheVariants.{LineTooLong, Unknown, Argument}
 use Rattle.s360_language.specs.Words.{words_of}

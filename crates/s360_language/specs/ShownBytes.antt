@@ -1,8 +1,7 @@
 -- Bytes in digits and in the signs that they have in EBCDIC, and rows of them (own profile).
-use Rattle.std.specs.Prelude.{ℕ, ◌+◌, ◌-◌, ◌*◌, ◌%◌, Bool, nat_eq, if◌then◌else◌, List, [], ◌∷◌, ◌++◌, codes, length, map, min, slice_index, take}
+use Rattle.std.specs.Prelude.{ℕ, ◌+◌, ◌-◌, ◌*◌, ◌%◌, Bool, nat_eq, if◌then◌else◌, List, [], ◌∷◌, ◌++◌, codes, length, map, min, slice_index, take, unwrap_or}
 use Rattle.std.specs.Int.{div_ceil}
 use Rattle.std.specs.List.{flat_map, range_with_len, slice_range, suffix_len}
-use Rattle.std.specs.Option.{unwrap_or}
 use Rattle.s360_model.specs.Storage.{Storage, is_inside}
 use Rattle.s360_model.specs.Text.{hex_bytes, hex_text}
 use Rattle.s360_print.specs.Signs.{ascii_of}

@@ -5,8 +5,7 @@ use Rattle.std.proofs.lemmas.Bool.{cases_Bool, eqb-true, eqb-false, ltb-true}
 use Rattle.s360_model.specs.Storage.{Storage}
 use Rattle.s360_logic.specs.declared.field.Field.{Field}
 use Rattle.s360_logic.specs.Bytes.{byte_at, with_byte}
-use Rattle.s360_logic.specs.RightToLeft.{DigitsOfApartOperands, ShareNoByte}
-use Rattle.s360_logic.specs.RightToLeft.{DigitMove, address_from_right, byte_from_right, first_user, made_byte, source_byte, result_byte, storage_after, storage_before}
+use Rattle.s360_logic.specs.RightToLeft.{DigitsOfApartOperands, ShareNoByte, DigitMove, address_from_right, byte_from_right, first_user, made_byte, source_byte, result_byte, storage_after, storage_before}
 use Rattle.s360_logic.proofs.RightToLeftLemmas.{storage_before-first}
 
 byte_at-other : (s : Storage) (a b byte : ℕ) → b ≢ a → byte_at (with_byte a byte s) b ≡ byte_at s b

@@ -1,7 +1,6 @@
 -- Storage while bytes of an operand are stored, and what is planned of it.
-use Rattle.std.proofs.Common.{◌^◌, ◌≡◌, ◌≢◌, ◌⊎◌, inl, inr, get_or, ◌<◌, ◌≤◌, ◌+◌, ◌-◌, ◌++◌, ℕ, zero, suc, List, Option, length, take, drop, set, arith, refl, ap, sym, slice_set, nat_eq, ◌∙◌, pos, true, rules}
+use Rattle.std.proofs.Common.{◌^◌, ◌≡◌, ◌≢◌, ◌⊎◌, inl, inr, get_or, ◌<◌, ◌≤◌, ◌+◌, ◌-◌, ◌++◌, ℕ, zero, suc, List, Option, length, take, drop, set, arith, refl, ap, sym, slice_set, nat_eq, ◌∙◌, pos, true, rules, ne_eqb}
 use Rattle.std.proofs.lemmas.List.{get_or-drop, get_or-set_other, get_or-take, places, same_lists, length-append, length-set, length-take-le, set-append_left, set-append_right}
-use Rattle.std.proofs.lemmas.Bool.{ne_eqb}
 use Rattle.s360_model.specs.ConditionCodes.{order_code}
 use Rattle.s360_model.specs.Storage.{Storage, with_run}
 use Rattle.s360_model.specs.Core.{Core, core_with_bytes, core_with_psw}

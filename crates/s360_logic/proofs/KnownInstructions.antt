@@ -4,8 +4,7 @@ use Rattle.std.specs.Prelude.{◌≡◌, ℕ, List, [], ◌∷◌, false, refl, 
 use Rattle.s360_model.specs.Core.{Core}
 use Rattle.s360_fixed.specs.declared.ended.Ended.TheVariants.{Done, Program, Io}
 use Rattle.s360_fixed.specs.declared.ended.IoOperation.TheVariants.{Start}
-use Rattle.s360_fixed.specs.declared.program_code.ProgramCode.TheVariants.{Operation, Addressing, Specification}
-use Rattle.s360_fixed.specs.declared.program_code.ProgramCode.TheVariants.{FixedPointOverflow, FixedPointDivide}
+use Rattle.s360_fixed.specs.declared.program_code.ProgramCode.TheVariants.{Operation, Addressing, Specification, FixedPointOverflow, FixedPointDivide}
 use Rattle.s360_psw.specs.declared.instruction_length.InstructionLength.TheVariants.{NotAvailable, TwoHalfwords}
 use Rattle.s360_logic.specs.Instruction.{instruction}
 

@@ -7,8 +7,7 @@ use Rattle.s360_logic.specs.declared.right_to_left.NextByte.{NextByte}
 use Rattle.s360_logic.specs.declared.row.DigitRow.{DigitRow}
 use Rattle.s360_logic.specs.declared.row.DigitRow.TheVariants.{MoveWithOffset, Pack, Unpack}
 use Rattle.s360_logic.specs.Bytes.{with_byte}
-use Rattle.s360_logic.specs.Operands.{next_byte}
-use Rattle.s360_logic.specs.Operands.{FirstOperand, stored_in}
+use Rattle.s360_logic.specs.Operands.{next_byte, FirstOperand, stored_in}
 use Rattle.s360_logic.specs.RightToLeft.{DigitMove, address_from_right, byte_from_right, digits, exchanged, first_user, made_byte, result_byte, source_byte, storage_after, storage_before}
 use Rattle.s360_logic.proofs.StepLemmas.{stored_in-next}
 

@@ -1,8 +1,6 @@
 -- One step of each of the recursions on the bytes that remain.
-use Rattle.std.proofs.Common.{◌≡◌, ◌≢◌, ◌<◌, ◌≤◌, ◌+◌, ◌-◌, ◌∙◌, ◌/◌, ℕ, zero, suc, Bool, ◌&&◌, ◌||◌, not, List, Option, None, Some, IfNone, length, map, arith, rules, refl, add-zero, ap, sym, slice_set, nat_eq, true, false}
+use Rattle.std.proofs.Common.{◌≡◌, ◌≢◌, ◌<◌, ◌≤◌, ◌+◌, ◌-◌, ◌∙◌, ◌/◌, ℕ, zero, suc, Bool, ◌&&◌, ◌||◌, not, List, Option, None, Some, IfNone, length, map, arith, rules, refl, add-zero, ap, sym, slice_set, nat_eq, true, false, if◌then◌else◌, slice_index, le-leb, leb-true}
 use Rattle.std.specs.List.{list_all, range_with_len}
-use Rattle.std.specs.Prelude.{if◌then◌else◌, slice_index}
-use Rattle.std.proofs.lemmas.Bool.{le-leb, leb-true}
 use Rattle.std.proofs.lemmas.List.{places}
 use Rattle.s360_model.specs.Storage.{Storage, is_inside}
 use Rattle.s360_store.specs.Protection.{access, block_allows, is_allowed, met_of_both}

@@ -2,8 +2,7 @@
 -- Arithmetic", CONVERT TO BINARY and CONVERT TO DECIMAL): a doubleword of fifteen decimal digits of four
 -- bits, the high one first, with the sign in its low four bits.
 use Rattle.std.specs.Prelude.{ℕ, zero, suc, ◌+◌, ◌*◌, ◌/◌, ◌%◌, Bool, ◌||◌, nat_eq, nat_lt, if◌then◌else◌, Option, Some, None}
-use Rattle.std.specs.Prelude.{ℤ, pos, ◌-ℤ◌, int_lt, unsigned_abs}
-use Rattle.std.specs.Option.{option_and_then, option_map}
+use Rattle.std.specs.Prelude.{ℤ, pos, ◌-ℤ◌, int_lt, unsigned_abs, option_and_then, option_map}
 
 -- so many low decimal digits of a number, the high one first
 unfoldable pub packed_digits : ℕ → ℕ → ℕ

@@ -1,9 +1,8 @@
 -- The fields of requests, as they are written, are read.
-use Rattle.std.proofs.Common.{◌≡◌, ◌≢◌, ◌<◌, ◌≤◌, ◌+◌, ◌*◌, ◌/◌, ◌%◌, ◌^◌, ◌++◌, ℕ, zero, suc, Ok, Err, List, [], ◌∷◌, Bool, true, false, cond, not, refl, ap, ◌∙◌, length, nat_lt, nat_le, nat_eq, take, drop, codes, arith, rules, eq-eqb}
+use Rattle.std.proofs.Common.{◌≡◌, ◌≢◌, ◌<◌, ◌≤◌, ◌+◌, ◌*◌, ◌/◌, ◌%◌, ◌^◌, ◌++◌, ℕ, zero, suc, Ok, Err, List, [], ◌∷◌, Bool, true, false, cond, not, refl, ap, ◌∙◌, length, nat_lt, nat_le, nat_eq, take, drop, codes, arith, rules, eq-eqb, length-append}
 use native.Mathlib.Numerals.{unary_clauses}
 use Rattle.std.proofs.lemmas.Bool.{and_parts, eqb-true, eqb-false, lt-ltb, le-leb, le-ltb}
 use Rattle.std.proofs.lemmas.Bool.Decides.{nat_tests}
-use Rattle.std.proofs.lemmas.List.{length-append}
 use Rattle.std.proofs.lemmas.Str.{digit_value-digit_char}
 use Rattle.std.specs.Char.{digit_char, is_digit}
 use Rattle.std.specs.Fmt.{digits, digits_onto}

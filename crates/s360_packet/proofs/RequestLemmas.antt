@@ -1,6 +1,5 @@
 -- A request that is written is read.
-use Rattle.std.proofs.Common.{◌≡◌, ◌*◌, ◌++◌, ◌∷◌, ℕ, List, Ok, true, false, refl, length, nat_eq, eq-eqb, arith}
-use Rattle.std.proofs.lemmas.Bool.{ne_eqb}
+use Rattle.std.proofs.Common.{◌≡◌, ◌*◌, ◌++◌, ◌∷◌, ℕ, List, Ok, true, false, refl, length, nat_eq, eq-eqb, arith, ne_eqb}
 use Rattle.s360_packet.specs.Hexadecimal.{bytes_text, number_text, word_text}
 use Rattle.s360_packet.specs.Requests.{reading_of, write_reading, breakpoint_reading, thread_in, bytes_in}
 use Rattle.s360_packet.specs.RequestTexts.{request_text, binary_write_text, write_text, two_texts, thread_text, IsRequest, IsThread, IsWord, IsData}

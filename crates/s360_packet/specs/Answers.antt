@@ -1,6 +1,5 @@
 -- The answers (gdb manual, "Remote Serial Protocol", "Packets", "Stop Reply Packets", "General Query Packets").
-use Rattle.std.specs.Prelude.{ℕ, if◌then◌else◌, List, [], ◌++◌, codes, replicate}
-use Rattle.std.specs.List.{flat_map}
+use Rattle.std.specs.Prelude.{ℕ, if◌then◌else◌, List, [], ◌++◌, codes, replicate, flat_map}
 use Rattle.s360_packet.specs.Framing.{two_digits}
 use Rattle.s360_packet.specs.Hexadecimal.{bytes_text, word_text, number_text}
 use Rattle.s360_packet.specs.Target.{description, memory_map, part_of, register_text}

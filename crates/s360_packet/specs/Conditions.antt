@@ -1,6 +1,5 @@
 -- The conditions of a breakpoint (gdb manual, "Packets", `Z0`): a list of expressions, one behind another.
-use Rattle.std.specs.Prelude.{◌≡◌, ◌⊎◌, ℕ, ◌*◌, nat_lt, if◌then◌else◌, Err, IsOk, Ok, List, codes, take, drop, length}
-use Rattle.std.specs.Option.{ok_or}
+use Rattle.std.specs.Prelude.{◌≡◌, ◌⊎◌, ℕ, ◌*◌, nat_lt, if◌then◌else◌, Err, IsOk, Ok, List, codes, take, drop, length, ok_or}
 use Rattle.s360_packet.specs.Requests.{Part, and_then, behind, bytes_in, number_in, parted}
 use Rattle.s360_packet.specs.declared.request.RequestFault.{RequestFault}
 use Rattle.s360_packet.specs.declared.request.RequestFault.TheVariants.{Malformed, Memory}

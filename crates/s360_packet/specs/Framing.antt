@@ -1,7 +1,6 @@
 -- A packet as it is sent (gdb manual, "Remote Serial Protocol", "Overview"): `$`, the data with some of its
 -- bytes escaped, `#`, and the sum modulo 256 of all bytes between, in two hexadecimal digits.
-use Rattle.std.specs.Prelude.{ℕ, ◌/◌, ◌%◌, nat_eq, ◌||◌, Bool, if◌then◌else◌, List, [], ◌∷◌, ◌++◌, bit_xor, sum}
-use Rattle.std.specs.List.{flat_map}
+use Rattle.std.specs.Prelude.{ℕ, ◌/◌, ◌%◌, nat_eq, ◌||◌, Bool, if◌then◌else◌, List, [], ◌∷◌, ◌++◌, bit_xor, sum, flat_map}
 use Rattle.std.specs.Char.{digit_char}
 
 -- a number below 256 in two hexadecimal digits, in lower case

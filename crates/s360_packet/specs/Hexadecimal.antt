@@ -1,7 +1,6 @@
 -- Numbers and bytes in hexadecimal, in lower case (gdb manual, "Remote Serial Protocol", "Overview").
-use Rattle.std.specs.Prelude.{ℕ, false, List}
+use Rattle.std.specs.Prelude.{ℕ, false, List, flat_map}
 use Rattle.std.specs.Int.{to_be_bytes, w32}
-use Rattle.std.specs.List.{flat_map}
 use Rattle.std.specs.Fmt.{digits}
 use Rattle.s360_packet.specs.Framing.{two_digits}
 

@@ -1,9 +1,8 @@
 -- The reading of a packet's data as a request (gdb manual, "Remote Serial Protocol", "Packets" and "General Query
 -- Packets"). Fields are hexadecimal numbers without a sign, parted by `,` `:` `;` or `=`.
 use Rattle.std.specs.Prelude.{◌≡◌, ◌⊎◌, ℕ, ◌+◌, ◌*◌, nat_eq, Bool, if◌then◌else◌, Option, None, Some, Result, Ok, Err, List, codes, take, drop, length, ⊤}
+use Rattle.std.specs.Prelude.{position, option_map, ok_or}
 use Rattle.std.specs.Cmp.Lexicographic.{pointwise}
-use Rattle.std.specs.List.{position}
-use Rattle.std.specs.Option.{option_map, ok_or}
 use Rattle.std.specs.Result.{result_ok}
 use Rattle.hex.specs.Hex.{decode_of}
 use Rattle.s360_text.specs.Digits.{number_of_digits}

@@ -1,6 +1,5 @@
 -- Lines of gdb's user: one that saves, and any other.
-use Rattle.std.proofs.Common.{◌≡◌, ◌++◌, ℕ, List, Option, Some, None, Result, sym, subst}
-use Rattle.std.specs.Prelude.{IfOk, OnErr}
+use Rattle.std.proofs.Common.{◌≡◌, ◌++◌, ℕ, List, Option, Some, None, Result, sym, subst, IfOk, OnErr}
 use Rattle.s360_language.specs.declared.command.LineFault.{LineFault}
 use Rattle.s360_saving.specs.Reading.{Asked}
 use Rattle.s360_remote.specs.Driven.{Driven}

@@ -1,7 +1,5 @@
 -- A list of conditions, read one after another.
-use Rattle.std.proofs.Common.{◌≡◌, ◌<◌, ◌≤◌, ◌+◌, ◌-◌, ◌++◌, ◌∙◌, ℕ, suc, Result, Ok, Err, List, [], ◌∷◌, refl, ap, sym, subst, inl, inr, arith, length, append_assoc, append-nil}
-use Rattle.std.proofs.Common.{length-append}
-use Rattle.std.specs.Prelude.{◌⊎◌, IsOk, MatchResult}
+use Rattle.std.proofs.Common.{◌≡◌, ◌<◌, ◌≤◌, ◌+◌, ◌-◌, ◌++◌, ◌∙◌, ℕ, suc, Result, Ok, Err, List, [], ◌∷◌, refl, ap, sym, subst, inl, inr, arith, length, append_assoc, append-nil, length-append, ◌⊎◌, IsOk, MatchResult}
 use Rattle.s360_condition.specs.Reading.{reading_of}
 use Rattle.s360_condition.specs.declared.instruction.Placed.{Placed}
 use Rattle.s360_packet.specs.Conditions.{condition_in}

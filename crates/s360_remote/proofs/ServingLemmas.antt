@@ -1,7 +1,5 @@
 -- Requests that change nothing, and what is answered to a byte.
-use Rattle.std.proofs.Common.{◌≡◌, ◌++◌, ◌∙◌, inl, inr, ℕ, Bool, true, false, List, Some, Result, Ok, Err, refl, ap, sym, subst, append_assoc}
-use Rattle.std.specs.Option.{option_to_list}
-use Rattle.std.specs.Prelude.{IfOk, OnErr, ◌&&◌}
+use Rattle.std.proofs.Common.{◌≡◌, ◌++◌, ◌∙◌, inl, inr, ℕ, Bool, true, false, List, Some, Result, Ok, Err, refl, ap, sym, subst, append_assoc, option_to_list, IfOk, OnErr, ◌&&◌}
 use Rattle.s360_packet.specs.Framing.{framed}
 use Rattle.s360_packet.specs.Receiving.{acknowledgement_of, after_byte, received_at}
 use Rattle.s360_packet.specs.Requests.{Reading, Reads, TakesMemory}

@@ -1,7 +1,6 @@
 -- What a byte that comes from gdb makes of a connection and its target, and what is answered (gdb manual, "Remote Serial
 -- Protocol", "Packet Acknowledgment").
-use Rattle.std.specs.Prelude.{◌≡◌, ◌⊎◌, ℕ, Bool, true, false, not, ◌&&◌, List, [], ◌++◌, Option, Some, None, Ok, Err}
-use Rattle.std.specs.Option.{option_to_list}
+use Rattle.std.specs.Prelude.{◌≡◌, ◌⊎◌, ℕ, Bool, true, false, not, ◌&&◌, List, [], ◌++◌, Option, Some, None, Ok, Err, option_to_list}
 use Rattle.s360_packet.specs.Receiving.{Receiving, acknowledgement_of, after_byte, between_packets, received_at}
 use Rattle.s360_packet.specs.Requests.{Reading, reading_of}
 use Rattle.s360_packet.specs.declared.answer.Answer.{Answer}

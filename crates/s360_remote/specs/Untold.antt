@@ -1,7 +1,5 @@
 -- The stop that gdb is told before the machine goes on or back, if it is still to be told one (gdb manual, "Stop Reply Packets") (kept).
-use Rattle.std.specs.Prelude.{ℕ, false, if◌then◌else◌, List, slice_get, drop, Option, Some}
-use Rattle.std.specs.List.{filter}
-use Rattle.std.specs.Option.{option_map}
+use Rattle.std.specs.Prelude.{ℕ, false, if◌then◌else◌, List, slice_get, drop, Option, Some, filter, option_map}
 use Rattle.s360_packet.specs.declared.answer.Stop.{Stop}
 use Rattle.s360_packet.specs.declared.answer.Stop.TheVariants.{Trap, Watch as watch}
 use Rattle.s360_remote.specs.Driven.{Untold}

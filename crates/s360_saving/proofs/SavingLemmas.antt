@@ -1,8 +1,7 @@
 -- Lists that are saved item by item.
-use Rattle.std.proofs.Common.{◌≡◌, ◌<◌, ◌+◌, ◌++◌, ◌∙◌, ℕ, suc, List, [], ◌∷◌, Option, Some, None, ap, sym, subst, refl, arith, length, get_or, take, drop, append_assoc}
+use Rattle.std.proofs.Common.{◌≡◌, ◌<◌, ◌+◌, ◌++◌, ◌∙◌, ℕ, suc, List, [], ◌∷◌, Option, Some, None, ap, sym, subst, refl, arith, length, get_or, take, drop, append_assoc, flat_map, slice_get}
 use Rattle.std.proofs.Math.Seq.{drop-cons}
 use Rattle.std.proofs.lemmas.Option.{get_or_from_slice_get, slice_get-get_or, slice_get_within}
-use Rattle.std.specs.List.{flat_map, slice_get}
 use Rattle.s360_language.proofs.ShownLemmas.{told-more}
 use Rattle.s360_device.specs.Items.{item_in}
 use Rattle.s360_print.specs.declared.paper.Record.{Record}

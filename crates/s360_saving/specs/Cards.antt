@@ -1,6 +1,5 @@
 -- Cards that were punched, as a file: their columns, card by card (own profile).
-use Rattle.std.specs.Prelude.{ℕ, if◌then◌else◌, Option, Some, None, List, []}
-use Rattle.std.specs.List.{flat_map}
+use Rattle.std.specs.Prelude.{ℕ, if◌then◌else◌, Option, Some, None, List, [], flat_map}
 use Rattle.s360_device.specs.declared.card.PunchStacker.{PunchStacker}
 use Rattle.s360_device.specs.declared.card.PunchedCard.{PunchedCard}
 use Rattle.s360_device.specs.Differences.{same_punch_stacker}

@@ -1,7 +1,6 @@
 -- What the 1052 typed, and the lines that were entered, as a file (own profile). The console keeps them apart. So the file has
 -- first what was typed, in the lines of `show m`, and then the lines that were entered, as a script enters them.
-use Rattle.std.specs.Prelude.{ℕ, List, ◌++◌, codes, length, map, nat_eq}
-use Rattle.std.specs.List.{filter, flat_map}
+use Rattle.std.specs.Prelude.{ℕ, List, ◌++◌, codes, length, map, nat_eq, filter, flat_map}
 use Rattle.s360_language.specs.ShownBytes.{sign_of}
 use Rattle.s360_language.specs.ShownItems.{typed_line}
 use Rattle.s360_print.specs.Console.{ConsoleMedia}

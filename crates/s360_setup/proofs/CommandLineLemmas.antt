@@ -1,8 +1,5 @@
 -- What the parser of command lines says of those of the programs.
-use Rattle.std.proofs.Common.{◌≡◌, ◌∙◌, ap, refl, sym, subst, true, false, Option, Some, None, codes}
-use Rattle.std.specs.List.{find}
-use Rattle.std.specs.Prelude.{option_and_then, option_map, List, [], Result, Ok, Err, IfErr}
-use Rattle.std.specs.Str.{bytes_eq}
+use Rattle.std.proofs.Common.{◌≡◌, ◌∙◌, ap, refl, sym, subst, true, false, Option, Some, None, codes, find, option_and_then, option_map, List, [], Result, Ok, Err, IfErr, bytes_eq, IsErrAnd}
 use Rattle.clap.specs.Built.{AddsArg}
 use Rattle.clap.specs.Facts.{Entry}
 use Rattle.clap.specs.declared.parser.matches.Found.{Found}
@@ -19,7 +16,6 @@ use Rattle.clap.specs.Faults.{fault_of, is_simple_and_free}
 use Rattle.clap.specs.Values.{kind_of}
 use Rattle.clap.specs.declared.error.Error.{Error}
 use Rattle.clap.specs.declared.error.kind.ErrorKind.TheVariants.{OutOfMemory}
-use Rattle.std.specs.Result.{IsErrAnd}
 use Rattle.s360_setup.specs.CommandLine.{command_line, given, has_flag, is_by_words, source_of}
 use Rattle.s360_setup.specs.declared.program.Program.{Program}
 use Rattle.s360_setup.specs.declared.program.Program.TheVariants.{Debugger, Server}

@@ -1,6 +1,5 @@
 -- Texts that are written one after another.
-use Rattle.std.proofs.Common.{◌≡◌, ◌∙◌, ◌<◌, ℕ, zero, suc, map, List, [], ◌∷◌, ◌++◌, take, drop, length, get_or, Option, ap, sym, subst, refl, arith, ◌+◌, add-one, append_assoc}
-use Rattle.std.proofs.lemmas.List.{append-nil, take-append-drop}
+use Rattle.std.proofs.Common.{◌≡◌, ◌∙◌, ◌<◌, ℕ, zero, suc, map, List, [], ◌∷◌, ◌++◌, take, drop, length, get_or, Option, ap, sym, subst, refl, arith, ◌+◌, add-one, append_assoc, append-nil, take-append-drop}
 use Rattle.std.specs.List.{concat}
 use Rattle.std.specs.Io.KnownBytes.{Appends}
 use Rattle.s360_text.proofs.Writes.{Appends-join}

@@ -1,6 +1,5 @@
 -- The command line (own profile): its options and its operand, a row each, as the parser of command lines sees them.
-use Rattle.std.specs.Prelude.{◌≡◌, ℕ, ◌<◌, ◌^◌, Bool, true, false, Option, Some, None, option_map, option_and_then, List, [], ◌∷◌, find, codes, ⊤}
-use Rattle.std.specs.Str.{bytes_eq}
+use Rattle.std.specs.Prelude.{◌≡◌, ℕ, ◌<◌, ◌^◌, Bool, true, false, Option, Some, None, option_map, option_and_then, List, [], ◌∷◌, find, codes, ⊤, bytes_eq}
 use Rattle.std.specs.Str.Parse.{IsNumeral, digits_value}
 use Rattle.clap.specs.Walk.{Row, Rule, Text, first_of}
 use Rattle.clap.specs.Simple.{App, new_rule, new_shape, matches_of}

@@ -5,7 +5,7 @@ use Rattle.s360_model.specs.ConditionCodes.{signed_code}
 use Rattle.s360_model.specs.Core.{Core}
 use Rattle.s360_model.specs.Packed.{packed_value}
 use Rattle.s360_fixed.specs.declared.row.PairCombination.TheVariants.{Quotient}
-use Rattle.s360_fixed.specs.Outcomes.{pair_result}
+use Rattle.s360_fixed.specs.Outcomes.{pair_result, is_odd, unless_met}
 use Rattle.s360_model.specs.Psw.{protection_key_of}
 use Rattle.s360_model.specs.Storage.{doubleword_at, word_at}
 use Rattle.s360_store.specs.declared.place.Place.{Place}
@@ -17,7 +17,6 @@ use Rattle.s360_fixed.specs.declared.form.Form.TheVariants.{Rx}
 use Rattle.s360_fixed.specs.declared.operation.Operation.{Operation}
 use Rattle.s360_fixed.specs.declared.operation.Operation.TheVariants.{Load, LoadHalfword, InsertCharacter, MultiplyHalfword, LoadAndTest, LoadNegative, LoadComplement, LoadPositive, Add, AddHalfword, Subtract, SubtractHalfword, AddLogical, SubtractLogical, And, Or, ExclusiveOr, Compare, CompareHalfword, CompareLogical, Multiply, Divide, Store, StoreHalfword, StoreCharacter, ConvertToBinary, ConvertToDecimal}
 use Rattle.s360_fixed.specs.Operands.{access_conditions, operand_address}
-use Rattle.s360_fixed.specs.Outcomes.{is_odd, unless_met}
 use Rattle.s360_fixed.specs.ProgramCodes.{Conditions}
 use Rattle.s360_fixed.specs.View.{Outcome}
 use Rattle.s360_source.specs.Agreement.{AreAlike, HaveAllSame}

@@ -8,7 +8,7 @@ use Rattle.s360_model.specs.Numbers.{low32, signed}
 use Rattle.s360_model.specs.Packed.{packed}
 use Rattle.s360_model.specs.Products.{product_words, signed_product}
 use Rattle.s360_fixed.specs.declared.row.PairCombination.TheVariants.{Quotient}
-use Rattle.s360_fixed.specs.Outcomes.{pair_result}
+use Rattle.s360_fixed.specs.Outcomes.{pair_result, is_odd}
 use Rattle.s360_model.specs.Psw.{ascii_mode_of}
 use Rattle.s360_model.specs.Storage.{word_at}
 use Rattle.s360_psw.specs.declared.instruction_length.InstructionLength.{InstructionLength}
@@ -20,7 +20,6 @@ use Rattle.s360_fixed.specs.declared.form.Form.TheVariants.{Rx}
 use Rattle.s360_fixed.specs.declared.operation.Operation.{Operation}
 use Rattle.s360_fixed.specs.declared.operation.Operation.TheVariants.{Load, LoadHalfword, LoadAddress, InsertCharacter, LoadAndTest, LoadComplement, LoadPositive, LoadNegative, Add, AddHalfword, Subtract, SubtractHalfword, AddLogical, SubtractLogical, Compare, CompareHalfword, CompareLogical, And, Or, ExclusiveOr, MultiplyHalfword, Multiply, Divide, BranchOnCondition, BranchAndLink, BranchOnCount, Store, StoreHalfword, StoreCharacter, ConvertToBinary, ConvertToDecimal}
 use Rattle.s360_fixed.specs.Operands.{access_conditions, operand_address}
-use Rattle.s360_fixed.specs.Outcomes.{is_odd}
 use Rattle.s360_fixed.specs.ProgramCodes.{Conditions, no_conditions}
 use Rattle.s360_fixed.specs.Rows.{by_bits, by_sign, by_sign_or_overflow}
 use Rattle.s360_fixed.specs.Alterations.{set_to, unchanged}

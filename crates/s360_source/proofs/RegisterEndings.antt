@@ -6,7 +6,7 @@ use Rattle.s360_model.specs.Core.{Core}
 use Rattle.s360_model.specs.Numbers.{signed}
 use Rattle.s360_model.specs.Pairs.{signed_pair, signed_pair_code}
 use Rattle.s360_fixed.specs.declared.row.PairCombination.TheVariants.{Quotient}
-use Rattle.s360_fixed.specs.Outcomes.{pair_result}
+use Rattle.s360_fixed.specs.Outcomes.{pair_result, is_odd}
 use Rattle.s360_model.specs.Psw.{fixed_point_overflow_mask_of}
 use Rattle.s360_model.specs.Shifts.{times_power}
 use Rattle.s360_psw.specs.declared.instruction_length.InstructionLength.{InstructionLength}
@@ -17,7 +17,6 @@ use Rattle.s360_fixed.specs.declared.form.Form.TheVariants.{Rr, Rs}
 use Rattle.s360_fixed.specs.declared.operation.Operation.{Operation}
 use Rattle.s360_fixed.specs.declared.operation.Operation.TheVariants.{LoadComplement, LoadPositive, Add, AddHalfword, Subtract, SubtractHalfword, Multiply, Divide, SetStorageKey, InsertStorageKey, StoreMultiple, LoadMultiple, ShiftLeftSingle, ShiftLeftDouble, ShiftRightDouble, ShiftLeftDoubleLogical, ShiftRightDoubleLogical}
 use Rattle.s360_fixed.specs.Operands.{operand_address}
-use Rattle.s360_fixed.specs.Outcomes.{is_odd}
 use Rattle.s360_fixed.specs.ProgramCodes.{Conditions, no_conditions}
 use Rattle.s360_fixed.specs.Shifting.{register_pair_conditions}
 use Rattle.s360_fixed.specs.Storing.{register_count}

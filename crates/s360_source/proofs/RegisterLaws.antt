@@ -6,7 +6,7 @@ use Rattle.s360_model.specs.Core.{Core}
 use Rattle.s360_model.specs.Numbers.{low32, signed}
 use Rattle.s360_model.specs.Products.{product_words, signed_product}
 use Rattle.s360_fixed.specs.declared.row.PairCombination.TheVariants.{Quotient}
-use Rattle.s360_fixed.specs.Outcomes.{pair_result}
+use Rattle.s360_fixed.specs.Outcomes.{pair_result, is_odd}
 use Rattle.s360_psw.specs.declared.instruction_length.InstructionLength.{InstructionLength}
 use Rattle.s360_store.specs.declared.place.Place.{Place}
 use Rattle.s360_store.specs.declared.place.Place.TheVariants.{Psw, Register, Key}
@@ -14,7 +14,6 @@ use Rattle.s360_fixed.specs.declared.form.Form.TheVariants.{Rr}
 use Rattle.s360_fixed.specs.declared.operation.Operation.{Operation}
 use Rattle.s360_fixed.specs.declared.operation.Operation.TheVariants.{Load, LoadHalfword, LoadAddress, InsertCharacter, LoadAndTest, LoadComplement, LoadPositive, LoadNegative, Add, AddHalfword, Subtract, SubtractHalfword, AddLogical, SubtractLogical, Compare, CompareHalfword, CompareLogical, And, Or, ExclusiveOr, SetProgramMask, SetStorageKey, InsertStorageKey, MultiplyHalfword, Multiply, Divide, BranchOnCondition, BranchAndLink, BranchOnCount}
 use Rattle.s360_fixed.specs.Branching.{register_target}
-use Rattle.s360_fixed.specs.Outcomes.{is_odd}
 use Rattle.s360_fixed.specs.ProgramCodes.{no_conditions}
 use Rattle.s360_fixed.specs.Rows.{by_bits, by_sign, by_sign_or_overflow}
 use Rattle.s360_fixed.specs.Alterations.{set_to, unchanged}

@@ -11,8 +11,7 @@ use Rattle.s360_store.specs.Spans.{byte_places}
 use Rattle.s360_fixed.specs.declared.ended.Ended.TheVariants.{Done}
 use Rattle.s360_fixed.specs.declared.form.Form.TheVariants.{Ss}
 use Rattle.s360_fixed.specs.declared.operation.Operation.{Operation}
-use Rattle.s360_fixed.specs.declared.operation.Operation.TheVariants.{Move, MoveNumerics, MoveZones, And, Or, ExclusiveOr, CompareLogical}
-use Rattle.s360_fixed.specs.declared.operation.Operation.TheVariants.{Translate, TranslateAndTest, MoveWithOffset, Pack, Unpack}
+use Rattle.s360_fixed.specs.declared.operation.Operation.TheVariants.{Move, MoveNumerics, MoveZones, And, Or, ExclusiveOr, CompareLogical, Translate, TranslateAndTest, MoveWithOffset, Pack, Unpack}
 use Rattle.s360_fixed.specs.Operands.{conditions_of, operand_address}
 use Rattle.s360_fixed.specs.Outcomes.{unless_met}
 use Rattle.s360_fixed.specs.ProgramCodes.{Conditions}

@@ -1,6 +1,5 @@
 -- What the program ends with is what one of its parts does.
-use Rattle.std.proofs.Common.{◌≡◌, inl, inr, subst, sym, Result, Ok, Err}
-use Rattle.std.specs.Prelude.{IfErr}
+use Rattle.std.proofs.Common.{◌≡◌, inl, inr, subst, sym, Result, Ok, Err, IfErr}
 use Rattle.s360_setup.specs.declared.failure.Failure.{Failure}
 use Rattle.s360gdb.specs.Failures.{IsRunFailure, IsServingAfterFailure, IsServingFailure}
 

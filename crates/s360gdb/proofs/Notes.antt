@@ -1,6 +1,5 @@
 -- What is told of dropped changes.
-use Rattle.std.proofs.Common.{◌≡◌, ◌≢◌, refl, ℕ, zero, suc, ◌++◌}
-use Rattle.std.specs.Prelude.{codes, decimal}
+use Rattle.std.proofs.Common.{◌≡◌, ◌≢◌, refl, ℕ, zero, suc, ◌++◌, codes, decimal}
 use Rattle.s360_setup.specs.Programs.{told_by}
 use Rattle.s360_setup.specs.declared.program.Program.TheVariants.{Server}
 use Rattle.s360gdb.specs.Notes.{note_of_dropped}

@@ -1,5 +1,4 @@
-use Rattle.std.proofs.Common.{◌≡◌, ◌%◌, ◌+◌, ◌++◌, ap, length, slice_index, refl, arith}
-use Rattle.std.proofs.lemmas.List.{length-append}
+use Rattle.std.proofs.Common.{◌≡◌, ◌%◌, ◌+◌, ◌++◌, ap, length, slice_index, refl, arith, length-append}
 use Rattle.arrayvec.specs.ArrayVec.{array_vec_len}
 use Rattle.std.specs.Int.{bytes_high_first}
 use Rattle.s360_fixed.proofs.PutLemmas.{with_registers_stored-more}

@@ -1,5 +1,4 @@
-use Rattle.std.proofs.Common.{◌≡◌, take}
-use Rattle.std.specs.List.{flat_map}
+use Rattle.std.proofs.Common.{◌≡◌, take, flat_map}
 use Rattle.s360_journal.specs.Recorded.{with_standing}
 use Rattle.s360_inquiry.specs.Changes.{change_text}
 use Rattle.s360_inquiry.proofs.change.tell_changes.Given as goal

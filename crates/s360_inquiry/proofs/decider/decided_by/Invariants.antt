@@ -1,5 +1,4 @@
-use Rattle.std.proofs.Common.{◌≡◌, take}
-use Rattle.std.specs.List.{flat_map}
+use Rattle.std.proofs.Common.{◌≡◌, take, flat_map}
 use Rattle.s360_inquiry.specs.Causes.{named_decider}
 use Rattle.s360_inquiry.proofs.decider.decided_by.Given as goal
 

@@ -1,5 +1,4 @@
-use Rattle.std.proofs.Common.{◌≡◌, [], take}
-use Rattle.std.specs.List.{flat_map}
+use Rattle.std.proofs.Common.{◌≡◌, [], take, flat_map}
 use Rattle.indexmap.specs.IndexSet.{insert_all}
 use Rattle.s360_store.specs.Places.{same_place}
 use Rattle.s360_machine.specs.Machine.{seen}

@@ -1,5 +1,4 @@
-use Rattle.std.proofs.Common.{◌≡◌, take}
-use Rattle.std.specs.List.{flat_map}
+use Rattle.std.proofs.Common.{◌≡◌, take, flat_map}
 use Rattle.s360_channel.specs.ConfiguredUnits.{configured_units}
 use Rattle.s360_machine.specs.Machine.{seen}
 use Rattle.s360_inquiry.specs.Situations.{unit_and_device}

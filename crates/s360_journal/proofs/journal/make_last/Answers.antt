@@ -1,5 +1,4 @@
-use Rattle.std.proofs.Common.{◌∙◌, ◌-◌, ap, sym, length, arith}
-use Rattle.std.specs.List.{slice_get}
+use Rattle.std.proofs.Common.{◌∙◌, ◌-◌, ap, sym, length, arith, slice_get}
 use Rattle.std.proofs.lemmas.Option.{IfSome_then}
 use Rattle.s360_model.specs.Storage.{Storage}
 use Rattle.s360_journal.proofs.IndexLemmas.{index-swapped, ok-there}

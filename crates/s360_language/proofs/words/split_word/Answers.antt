@@ -1,5 +1,4 @@
-use Rattle.std.proofs.Common.{◌≡◌, ◌-◌, sym, drop, take, length, arith}
-use Rattle.std.proofs.lemmas.List.{take_all, length-drop}
+use Rattle.std.proofs.Common.{◌≡◌, ◌-◌, sym, drop, take, length, arith, take_all, length-drop}
 use Rattle.s360_language.proofs.WordLemmas.{words_of-none, words_of-word, words_of-last}
 use Rattle.s360_language.proofs.words.split_word.Goals as goal
 

@@ -1,5 +1,4 @@
-use Rattle.std.proofs.Common.{◌≡◌, ◌∙◌, arith, length, refl}
-use Rattle.std.proofs.lemmas.List.{length-set}
+use Rattle.std.proofs.Common.{◌≡◌, ◌∙◌, arith, length, refl, length-set}
 use Rattle.s360_logic.specs.LeftToRight.{combined_byte}
 use Rattle.s360_logic.specs.Operands.{stored_in}
 use Rattle.s360_logic.proofs.FieldLemmas.{left_to_right-set}

@@ -1,5 +1,4 @@
-use Rattle.std.proofs.Common.{◌≡◌, ◌≤◌, ◌∙◌, ◌+◌, sym, arith, length, refl, rules}
-use Rattle.std.proofs.lemmas.List.{length-set}
+use Rattle.std.proofs.Common.{◌≡◌, ◌≤◌, ◌∙◌, ◌+◌, sym, arith, length, refl, rules, length-set}
 use Rattle.s360_store.specs.declared.protection.Checked.TheVariants.{Addressing}
 use Rattle.s360_logic.specs.Bytes.{byte_at}
 use Rattle.s360_logic.specs.LeftToRight.{function_access, function_address, translated_byte}

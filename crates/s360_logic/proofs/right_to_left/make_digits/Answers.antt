@@ -1,5 +1,4 @@
-use Rattle.std.proofs.Common.{◌≡◌, ◌≤◌, ◌∙◌, ◌+◌, ap, arith, length, refl}
-use Rattle.std.proofs.lemmas.List.{length-set}
+use Rattle.std.proofs.Common.{◌≡◌, ◌≤◌, ◌∙◌, ◌+◌, ap, arith, length, refl, length-set}
 use Rattle.s360_logic.specs.Operands.{stored_in}
 use Rattle.s360_logic.specs.RightToLeft.{DigitMove, storage_before}
 use Rattle.s360_logic.proofs.RightToLeftLemmas.{HasMade-first, HasMade-next}

@@ -1,5 +1,4 @@
-use Rattle.std.proofs.Common.{◌≡◌, ◌++◌, take}
-use Rattle.std.specs.List.{flat_map}
+use Rattle.std.proofs.Common.{◌≡◌, ◌++◌, take, flat_map}
 use Rattle.s360_packet.specs.Hexadecimal.{word_text}
 use Rattle.s360_packet.proofs.answer.push_registers.Given as goal
 

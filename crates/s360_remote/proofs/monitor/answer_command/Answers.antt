@@ -1,5 +1,4 @@
-use Rattle.std.proofs.Common.{◌≡◌, ◌≢◌, ◌∙◌, ap, codes, sym, true}
-use Rattle.std.proofs.lemmas.Bool.{true≢false}
+use Rattle.std.proofs.Common.{◌≡◌, ◌≢◌, ◌∙◌, ap, codes, sym, true, true≢false}
 use Rattle.s360_journal.specs.Recorded.{Recorded}
 use Rattle.s360_debug.specs.Lines.{is_skipped}
 use Rattle.s360_remote.specs.Driven.{Driven, fresh}

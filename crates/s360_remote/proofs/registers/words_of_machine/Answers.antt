@@ -1,5 +1,4 @@
-use Rattle.std.proofs.Common.{◌≡◌, ◌+◌, ◌∙◌, ℕ, arith, ap}
-use Rattle.std.specs.Prelude.{slice_index, slice_set}
+use Rattle.std.proofs.Common.{◌≡◌, ◌+◌, ◌∙◌, ℕ, arith, ap, slice_index, slice_set}
 use Rattle.s360_remote.proofs.RegisterLemmas.{words-one_more, words_so_far}
 use Rattle.s360_remote.specs.Registers.{address_word_of, mask_word_of}
 use Rattle.s360_remote.proofs.registers.words_of_machine.Goals as goal

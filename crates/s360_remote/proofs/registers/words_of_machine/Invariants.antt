@@ -1,5 +1,4 @@
-use Rattle.std.proofs.Common.{◌≡◌}
-use Rattle.std.specs.Prelude.{slice_index}
+use Rattle.std.proofs.Common.{◌≡◌, slice_index}
 use Rattle.s360_remote.proofs.RegisterLemmas.{words_so_far}
 use Rattle.s360_remote.specs.Registers.{address_word_of, mask_word_of}
 use Rattle.s360_remote.proofs.registers.words_of_machine.Given as goal

@@ -1,5 +1,4 @@
-use Rattle.std.proofs.Common.{◌≡◌, take}
-use Rattle.std.specs.List.{flat_map}
+use Rattle.std.proofs.Common.{◌≡◌, take, flat_map}
 use Rattle.s360_saving.specs.Cards.{columns_if_wanted}
 use Rattle.s360_saving.proofs.cards.cards_of.Given as goal
 

@@ -1,5 +1,4 @@
-use Rattle.std.proofs.Common.{◌≡◌, ◌++◌, take}
-use Rattle.std.specs.List.{flat_map}
+use Rattle.std.proofs.Common.{◌≡◌, ◌++◌, take, flat_map}
 use Rattle.s360_language.specs.ShownItems.{typed_line}
 use Rattle.s360_saving.proofs.console_lines.push_all_typed.Given as goal
 

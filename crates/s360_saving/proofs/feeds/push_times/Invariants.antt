@@ -1,5 +1,4 @@
-use Rattle.std.proofs.Common.{◌≡◌, ◌++◌}
-use Rattle.std.specs.Prelude.{replicate}
+use Rattle.std.proofs.Common.{◌≡◌, ◌++◌, replicate}
 use Rattle.s360_saving.proofs.feeds.push_times.Given as goal
 
 abbrev pub invariant-loop-time : goal.invariant-loop-time

@@ -1,6 +1,4 @@
-use Rattle.std.proofs.Common.{◌≡◌, ◌+◌, ◌-◌, ◌∙◌, sym, ap, drop, take, length, arith}
-use Rattle.std.proofs.lemmas.List.{take_all, length-drop}
-use Rattle.std.specs.Option.{option_copied}
+use Rattle.std.proofs.Common.{◌≡◌, ◌+◌, ◌-◌, ◌∙◌, sym, ap, drop, take, length, arith, take_all, length-drop, option_copied}
 use Rattle.s360_debug.specs.LinesLeft.{lines_left}
 use Rattle.s360_debug.proofs.LineLemmas.{lines_of-line, lines_of-last}
 use Rattle.s360_debug.proofs.lines.Lines.next_line.Goals as goal

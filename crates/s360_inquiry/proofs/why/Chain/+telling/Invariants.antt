@@ -1,5 +1,4 @@
-use Rattle.std.proofs.Common.{◌≡◌, ◌*◌, ◌+◌, ◌-◌, ◌++◌, ℕ, List, take}
-use Rattle.std.specs.List.{flat_map}
+use Rattle.std.proofs.Common.{◌≡◌, ◌*◌, ◌+◌, ◌-◌, ◌++◌, ℕ, List, take, flat_map}
 use Rattle.s360_journal.specs.Recorded.{with_standing}
 use Rattle.s360_inquiry.specs.declared.cause.Cause.{Cause}
 use Rattle.s360_inquiry.specs.Causes.{IsTold, cause_lines}

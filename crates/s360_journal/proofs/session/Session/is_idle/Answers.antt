@@ -1,7 +1,5 @@
-use Rattle.std.proofs.Common.{◌≡◌, ◌∙◌, ◌-◌, [], ap, arith, length, List, Some, subst, sym}
+use Rattle.std.proofs.Common.{◌≡◌, ◌∙◌, ◌-◌, [], ap, arith, length, List, Some, subst, sym, slice_get, IsTrue, ◌↔◌}
 use Rattle.std.proofs.lemmas.List.{nil_from_length}
-use Rattle.std.specs.List.{slice_get}
-use Rattle.std.specs.Prelude.{IsTrue, ◌↔◌}
 use Rattle.s360_store.specs.declared.place.Place.{Place}
 use Rattle.s360_machine.specs.Change.{Change}
 use Rattle.s360_journal.proofs.RecordedLemmas.{inside-of, session-of, standing-of}

@@ -1,5 +1,4 @@
-use Rattle.std.proofs.Common.{◌∙◌, ap, sym, length, ◌-◌}
-use Rattle.std.specs.List.{slice_get}
+use Rattle.std.proofs.Common.{◌∙◌, ap, sym, length, ◌-◌, slice_get}
 use Rattle.s360_machine.specs.Machine.{seen}
 use Rattle.s360_journal.specs.Recorded.{standing_events}
 use Rattle.s360_journal.proofs.IndexLemmas.{last_change_of-last}

@@ -1,5 +1,4 @@
-use Rattle.std.proofs.Common.{◌+◌, ◌∙◌, ap, sym}
-use Rattle.std.specs.List.{slice_get}
+use Rattle.std.proofs.Common.{◌+◌, ◌∙◌, ap, sym, slice_get}
 use Rattle.s360_journal.specs.Recorded.{with_standing}
 use Rattle.s360_journal.proofs.AgainLemmas.{runs-that}
 use Rattle.s360_journal.proofs.RecordedLemmas.{Inside, accepted-of, few-of, first-allowed, inside-of, inside-on, rest-of}

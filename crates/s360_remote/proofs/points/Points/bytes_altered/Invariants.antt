@@ -1,5 +1,4 @@
-use Rattle.std.proofs.Common.{◌≡◌, ◌≤◌, drop, length}
-use Rattle.std.specs.List.{fold}
+use Rattle.std.proofs.Common.{◌≡◌, ◌≤◌, drop, length, fold}
 use Rattle.s360_journal.specs.Recorded.{session_of}
 use Rattle.s360_remote.specs.Points.{bytes_altered, with_altered}
 use Rattle.s360_remote.proofs.points.Points.bytes_altered.Given as goal

@@ -1,5 +1,4 @@
-use Rattle.std.proofs.Common.{arith, sym}
-use Rattle.std.proofs.lemmas.List.{length-take-le}
+use Rattle.std.proofs.Common.{arith, sym, length-take-le}
 use Rattle.s360_remote.proofs.target.Target.write_all_registers.Goals as goal
 
 pub slice_bounds-read_u32_into-end : goal.slice_bounds-read_u32_into-end
