@@ -145,7 +145,7 @@ impl Connection {
         ensures { OnOk result ((packets : List ℕ) × IsInterrupted self.old self.new packets × (replies.new ≡ replies.old ++ packets)) }
     {
         let mut answered = Text::new(self.alloc);
-        match answered.push(Answer::Stopped(Stop::Interrupt)) {
+        match push_packet(&mut answered, Answer::Stopped(Stop::Interrupt)) {
             Ok(()) => {
                 replies.push_bytes(answered.as_bytes())?;
                 self.interrupted = false;
