@@ -60,8 +60,10 @@ pair-set m n r i b c d e sources a h first second =
 pub psw-law : (m n : Core) (x y : ℕ) (of_psw : List Place) (p : Place) → HaveAllSame m n (made_of Psw of_psw itself p)
     → (HaveAllSame m n of_psw → x ≡ y) → HaveSame (record m { psw = x }) (record n { psw = y }) p
 psw-law m n x y of_psw Psw h same = same h
+psw-law m n x y of_psw (Register i) h same = h.0
+psw-law m n x y of_psw (Byte a) h same = h.0
+psw-law m n x y of_psw (Key b) h same = h.0
 psw-law m n x y of_psw p h same = refl
-psw-law m n x y of_psw p h same = h.0
 
 -- the PSW and a register
 pub register-law : (m n : Core) (r1 v w x y : ℕ) (of_psw of_register : List Place) (p : Place) → AreAlike m n

@@ -54,6 +54,11 @@ io-ends io m n next il b d y z psw a e f =
     (e ∙ ap (λ x. Io io (unit_of x)) (base-same m n b d a) ∙ sym f)
 
 pub si-ends : (operation : Operation) (i2 b1 d1 : ℕ) → EndsAlike (Si operation i2 b1 d1)
+si-ends Move i2 b d m n next il alike psw a h k = accessed m n b d Store _ _ alike psw a k refl
+si-ends And i2 b d m n next il alike psw a h k = accessed m n b d Store _ _ alike psw a k refl
+si-ends Or i2 b d m n next il alike psw a h k = accessed m n b d Store _ _ alike psw a k refl
+si-ends ExclusiveOr i2 b d m n next il alike psw a h k = accessed m n b d Store _ _ alike psw a k refl
+si-ends TestAndSet i2 b d m n next il alike psw a h k = accessed m n b d Store _ _ alike psw a k refl
 si-ends CompareLogical i2 b d m n next il alike psw a h k = accessed m n b d Fetch _ _ alike psw a k refl
 si-ends TestUnderMask i2 b d m n next il alike psw a h k = accessed m n b d Fetch _ _ alike psw a k refl
 si-ends SetSystemMask i2 b d m n next il alike psw a h k =
@@ -65,4 +70,3 @@ si-ends TestIo i2 b d m n next il alike psw a h k = io-ends Test m n next il b d
 si-ends HaltIo i2 b d m n next il alike psw a h k = io-ends Halt m n next il b d _ _ psw a refl refl
 si-ends TestChannel i2 b d m n next il alike psw a h k = io-ends test_channel m n next il b d _ _ psw a refl refl
 si-ends other i2 b d m n next il alike psw a h k = refl
-si-ends other i2 b d m n next il alike psw a h k = accessed m n b d Store _ _ alike psw a k refl

@@ -50,6 +50,16 @@ met : (m n : Core) (x b d : ℕ) → AreAlike m n → m.psw ≡ n.psw → HaveAl
 met m n x b d alike psw a k = conditions-same m n (at m x b d) (at n x b d) 4 4 Fetch alike psw (address-same m n x b d a) k
 
 pub rx-ends : (operation : Operation) (r1 x2 b2 d2 : ℕ) → EndsAlike (Rx operation r1 x2 b2 d2)
+rx-ends Load r1 x b d m n next il alike psw a h k = accessed m n x b d 4 Fetch _ _ alike psw a k refl
+rx-ends LoadAndTest r1 x b d m n next il alike psw a h k = accessed m n x b d 4 Fetch _ _ alike psw a k refl
+rx-ends LoadNegative r1 x b d m n next il alike psw a h k = accessed m n x b d 4 Fetch _ _ alike psw a k refl
+rx-ends AddLogical r1 x b d m n next il alike psw a h k = accessed m n x b d 4 Fetch _ _ alike psw a k refl
+rx-ends SubtractLogical r1 x b d m n next il alike psw a h k = accessed m n x b d 4 Fetch _ _ alike psw a k refl
+rx-ends And r1 x b d m n next il alike psw a h k = accessed m n x b d 4 Fetch _ _ alike psw a k refl
+rx-ends Or r1 x b d m n next il alike psw a h k = accessed m n x b d 4 Fetch _ _ alike psw a k refl
+rx-ends ExclusiveOr r1 x b d m n next il alike psw a h k = accessed m n x b d 4 Fetch _ _ alike psw a k refl
+rx-ends Compare r1 x b d m n next il alike psw a h k = accessed m n x b d 4 Fetch _ _ alike psw a k refl
+rx-ends CompareLogical r1 x b d m n next il alike psw a h k = accessed m n x b d 4 Fetch _ _ alike psw a k refl
 rx-ends LoadHalfword r1 x b d m n next il alike psw a h k = accessed m n x b d 2 Fetch _ _ alike psw a k refl
 rx-ends InsertCharacter r1 x b d m n next il alike psw a h k = accessed m n x b d 1 Fetch _ _ alike psw a k refl
 rx-ends MultiplyHalfword r1 x b d m n next il alike psw a h k = accessed m n x b d 2 Fetch _ _ alike psw a k refl
@@ -101,4 +111,3 @@ rx-ends ConvertToBinary r1 x b d m n next il alike psw a h k =
     (converted-same _ _ (seen m next il) (seen n next il) r1
     (ap packed_value (number_at-same m n 8 (at m x b d) g ∙ ap (λ z. doubleword_at n.storage.bytes z) (address-same m n x b d a))))
 rx-ends other r1 x b d m n next il alike psw a h k = refl
-rx-ends other r1 x b d m n next il alike psw a h k = accessed m n x b d 4 Fetch _ _ alike psw a k refl

@@ -66,6 +66,9 @@ rr-ends other r1 r2 m n next il alike psw a h k = refl
 
 -- a pair that is shifted begins with an even register
 pub rs-ends : (operation : Operation) (r1 r3 b2 d2 : ℕ) → EndsAlike (Rs operation r1 r3 b2 d2)
+rs-ends ShiftRightDouble r1 r3 b d m n next il alike psw a h k = unless-same (register_pair_conditions r1) (register_pair_conditions r1) m n _ _ refl refl
+rs-ends ShiftLeftDoubleLogical r1 r3 b d m n next il alike psw a h k = unless-same (register_pair_conditions r1) (register_pair_conditions r1) m n _ _ refl refl
+rs-ends ShiftRightDoubleLogical r1 r3 b d m n next il alike psw a h k = unless-same (register_pair_conditions r1) (register_pair_conditions r1) m n _ _ refl refl
 rs-ends StoreMultiple r1 r3 b d m n next il alike psw a h k =
     accessed-same m n (operand_address m.registers 0 b d) (operand_address n.registers 0 b d) 4 (4 * register_count r1 r3) Store _ _ alike psw (base-same m n b d a) k refl
 rs-ends LoadMultiple r1 r3 b d m n next il alike psw a h k =
@@ -79,4 +82,3 @@ rs-ends ShiftLeftDouble r1 r3 b d m n next il alike psw a h k =
     (unless-refused m n r1 (fixed_point_overflow_mask_of m.psw) _ e h)
     (λ g. all-alike (λ x y i. signed_pair_code (times_power (signed_pair x y) (i % 64))) _ _ _ _ (operand_address m.registers 0 b d) (operand_address n.registers 0 b d) g.0 g.1.0 (base-same m n b d a))))
 rs-ends other r1 r3 b d m n next il alike psw a h k = refl
-rs-ends other r1 r3 b d m n next il alike psw a h k = unless-same (register_pair_conditions r1) (register_pair_conditions r1) m n _ _ refl refl

@@ -99,6 +99,12 @@ search-ends None v first table count = refl
 search-ends (Some i) v first table count = refl
 
 pub ss-ends : (operation : Operation) (l b1 d1 b2 d2 : ℕ) → EndsAlike (Ss operation l b1 d1 b2 d2)
+ss-ends Move l b1 d1 b2 d2 m n next il alike psw a h k = fields-end m n next il b1 d1 (l + 1) b2 d2 (l + 1) Store _ _ alike psw a k refl
+ss-ends MoveNumerics l b1 d1 b2 d2 m n next il alike psw a h k = fields-end m n next il b1 d1 (l + 1) b2 d2 (l + 1) Store _ _ alike psw a k refl
+ss-ends MoveZones l b1 d1 b2 d2 m n next il alike psw a h k = fields-end m n next il b1 d1 (l + 1) b2 d2 (l + 1) Store _ _ alike psw a k refl
+ss-ends And l b1 d1 b2 d2 m n next il alike psw a h k = fields-end m n next il b1 d1 (l + 1) b2 d2 (l + 1) Store _ _ alike psw a k refl
+ss-ends Or l b1 d1 b2 d2 m n next il alike psw a h k = fields-end m n next il b1 d1 (l + 1) b2 d2 (l + 1) Store _ _ alike psw a k refl
+ss-ends ExclusiveOr l b1 d1 b2 d2 m n next il alike psw a h k = fields-end m n next il b1 d1 (l + 1) b2 d2 (l + 1) Store _ _ alike psw a k refl
 ss-ends CompareLogical l b1 d1 b2 d2 m n next il alike psw a h k = fields-end m n next il b1 d1 (l + 1) b2 d2 (l + 1) Fetch _ _ alike psw a k refl
 ss-ends MoveWithOffset l b1 d1 b2 d2 m n next il alike psw a h k = fields-end m n next il b1 d1 (l / 16 + 1) b2 d2 (l % 16 + 1) Store _ _ alike psw a k refl
 ss-ends Pack l b1 d1 b2 d2 m n next il alike psw a h k = fields-end m n next il b1 d1 (l / 16 + 1) b2 d2 (l % 16 + 1) Store _ _ alike psw a k refl
@@ -114,4 +120,3 @@ ss-ends TranslateAndTest l b1 d1 b2 d2 m n next il alike psw a h k =
     (search-ends (found_at (at m b2 d2) (at m b1 d1) 0 (l + 1) m.storage) v (at m b1 d1) (at m b2 d2) (l + 1)
     ∙ sym (search-ends (found_at (at n b2 d2) (at n b1 d1) 0 (l + 1) n.storage) w (at n b1 d1) (at n b2 d2) (l + 1)))
 ss-ends other l b1 d1 b2 d2 m n next il alike psw a h k = refl
-ss-ends other l b1 d1 b2 d2 m n next il alike psw a h k = fields-end m n next il b1 d1 (l + 1) b2 d2 (l + 1) Store _ _ alike psw a k refl
