@@ -1,5 +1,5 @@
 use Rattle.std.proofs.Common.{◌≡◌, ◌∙◌, ap}
-use Rattle.s360_remote.specs.Registers.{words_of_machine_machine}
+use Rattle.s360_remote.specs.Registers.{words_of_machine}
 use Rattle.s360_remote.specs.Serving.{machine_now}
 use Rattle.s360_remote.proofs.target.Target.tell_registers.Goals as goal
 
