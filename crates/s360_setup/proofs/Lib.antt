@@ -1,5 +1,3 @@
 pub mod CommandLineLemmas
-mod FlagRows
-mod FlagLemmas
 pub mod KnownCommandLines
 pub mod Texts
