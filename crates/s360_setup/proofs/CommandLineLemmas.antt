@@ -1,5 +1,5 @@
 -- What the parser of command lines says of those of the programs.
-use Rattle.std.proofs.Common.{◌≡◌, ◌∙◌, ap, refl, sym, subst, true, Option, Some, None, codes}
+use Rattle.std.proofs.Common.{false, ◌≡◌, ◌∙◌, ap, refl, sym, subst, true, Option, Some, None, codes}
 use Rattle.std.specs.List.{find}
 use Rattle.std.specs.Prelude.{option_and_then, option_map}
 use Rattle.std.specs.Str.{bytes_eq}
