@@ -51,6 +51,13 @@ impl Text {
         self.bytes.as_slice()
     }
 
+    /// Drops all, and keeps the memory. It takes none.
+    pub fn clear(&mut self)
+        ensures { self.new ≡ [] }
+    {
+        self.bytes.clear();
+    }
+
     /// Adds a text.
     pub fn push_text(&mut self, text: &str) -> Result<(), AllocError>
         ensures { OnOk result (self.new ≡ self.old ++ text.now) }

@@ -99,6 +99,7 @@ fn serve<F: Opening, N: Write, R: Read, W: Write>(
     ensures failure { IfErr result IsServingFailure }
 {
     let mut connection = Connection::new(host.alloc)?;
+    let mut replies = Text::new(host.alloc);
     let mut chunk = [0; CHUNK];
     // Each read but the last gives a byte at least.
     for _read in 0..u64::MAX {
@@ -111,7 +112,6 @@ fn serve<F: Opening, N: Write, R: Read, W: Write>(
         if len == 0 {
             break;
         }
-        let mut replies = Text::new(host.alloc);
         let taken = take_all(host, &mut connection, target, &mut replies, &chunk[..len]);
         // What was answered before memory was wanted is written too.
         let written = write_whole(writer, replies.as_bytes());
@@ -119,6 +119,7 @@ fn serve<F: Opening, N: Write, R: Read, W: Write>(
         let Ok(()) = written else {
             return Err(Failure::Part(Part::Connection, Fault::WriteFailed));
         };
+        replies.clear();
     }
     Ok(())
 }
