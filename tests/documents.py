@@ -12,7 +12,8 @@
   docs/develop/layers.md each crate stands on what crates.txt says.
 - The helps and the tables of docs/reference tell the lines that their definitions have (lines.py).
 - README.md has at most 100 lines, and all pages but the one of definitions, which is made, have no
-  more words than they may.
+  more words than they may. Files of code and of definitions are as short and as narrow as
+  docs/develop/style.md says.
 - What README.md, docs/guide.md and docs/reference/media.md let a reader type prints what they print, as typed.py says.
 - Each example says its command line in its first comment, which gives its answers.
 
@@ -40,6 +41,7 @@ PROGRAMS = [TOP / "crates" / name / "out" / name for name in ("s360dbg", "s360gd
 EXAMPLES = sorted((TOP / "examples").rglob("*.s360"))
 MOST_LINES_OF_README = 100
 MOST_WORDS, MOST_USER_WORDS = 23_250, 15_550
+MOST_LINES, MOST_COLUMNS = 449, 160
 # The folders in which a name of the code may stand.
 SOURCES = ("crates/*/src", "crates/*/specs", "crates/*/proofs", "tests", "tools")
 NOT_FOUND_IN = {"__pycache__", "documents.py"}
@@ -162,6 +164,16 @@ def faults_of_lengths():
         yield f"{sum(counts.values())} words"
 
 
+def faults_of_sources():
+    files = itertools.chain(TOP.glob("crates/*/src/**/*.rt"), TOP.glob("crates/*/specs/**/*.antt"))
+    for file in sorted(files):
+        lines = file.read_text().splitlines()
+        if len(lines) > MOST_LINES:
+            yield f"{named(file)} has {len(lines)} lines"
+        if any(len(line) > MOST_COLUMNS for line in lines):
+            yield f"{named(file)} has a line of more than {MOST_COLUMNS} columns"
+
+
 def faults_of_example(script, programs):
     first = script.read_text().partition("\n")[0]
     found = re.fullmatch(r"\* (\./run .*)", first)
@@ -187,6 +199,7 @@ def main():
         ("definitions", definitions.faults()),
         ("layers", faults_of_layers(TOP / "docs/develop/layers.md")),
         ("lengths", faults_of_lengths()),
+        ("sources", faults_of_sources()),
         ("lines", lines.faults()),
     ]
     if not options.unproved:

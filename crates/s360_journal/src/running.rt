@@ -1,10 +1,13 @@
 //! Runs: events one after another, until the machine is to pause; and the way back.
-ghost use Rattle.std.specs.Prelude.{◌≡◌, ◌≤◌, ◌&&◌, ℕ, IfOk, OnOk, OnErr, false, length, nat_eq, take};
+ghost use Rattle.std.specs.Prelude.{◌≡◌, ◌↔◌, ◌<◌, ◌≤◌, ◌+◌, ◌&&◌, ℕ, IfOk, IsTrue, OnOk, OnErr, false, length, max, min, nat_eq, take};
 ghost use Rattle.s360_machine.specs.Machine.{seen};
-ghost use Rattle.s360_journal.specs.Recorded.{AreRun, session_of, standing_events, with_standing};
+ghost use Rattle.s360_journal.specs.Recorded.{AreRun, IsRunAgain, session_of, standing_events, with_standing};
 ghost use Rattle.s360_journal.specs.Returning.{IsTakenBack, back_of, is_cpu_last};
+ghost use Rattle.s360_journal.specs.Stops.{stop_of};
+ghost use Rattle.s360_machine.specs.declared.event.Event.{Event as AnEvent};
 ghost use Rattle.s360_journal.specs.Running.{IsTurn, TellsPause, TellsReached, WhereToStop, next_event, pause_with, run_in};
 
+use crate::breaks::Breaks;
 use crate::session::Session;
 use s360_machine::{Event, EventKind, Machine, Refusal};
 use std::alloc::AllocError;
@@ -181,6 +184,66 @@ impl Session {
                 stops.is_at_stop(self.machine()).then_some(Pause::Break)
             }
         }
+    }
+
+    /// Goes back to a change: takes back all changes after the one of this number, or none if no more stand. Their events stay in
+    /// the record. It answers how many stand then. It takes no memory.
+    pub fn back_to(&mut self, number: u32) -> u32
+        ensures stand { result ≡ min number self.old.standing }
+        ensures kept { self.new ≡ with_standing self.old result }
+    {
+        while self.standing() > number {
+            let _taken = self.step_back();
+        }
+        self.standing()
+    }
+
+    /// Goes back to the last stop: to the greatest number of changes, below that which stand, after
+    /// which the CPU operates at a breakpoint, else to 0. Their events stay in the record. It answers that number. It takes no
+    /// memory.
+    pub fn back_until(&mut self, breaks: &Breaks) -> u32
+        ensures stop { result ≡ stop_of (seen self.old.start) (standing_events self.old) breaks.now }
+        ensures kept { self.new ≡ with_standing self.old result }
+        ensures stands { session_of self.new ≡ record (session_of self.old) { events = take result (standing_events self.old) } }
+        ensures within { result ≤ self.old.standing }
+    {
+        let _pause = self.run_back(breaks, Reach::Stop, self.standing());
+        self.standing()
+    }
+
+    /// Runs the next event of the record again, and answers whether there was one. Want of memory changes nothing.
+    pub fn again(&mut self) -> Result<bool, AllocError>
+        ensures some { IfOk result (λ ran. IsTrue ran ↔ (self.old.standing < length self.old.events)) }
+        ensures event { IfOk result (λ ran. IsTrue ran → (e : AnEvent) × IsRunAgain self.old self.new e) }
+        ensures state { OnOk result (self.new ≡ with_standing self.old (min (self.old.standing + 1) (length self.old.events))) }
+        ensures err { OnErr result (self.new ≡ self.old) }
+    {
+        if self.standing() == self.recorded() {
+            return Ok(false);
+        }
+        self.run_next()?;
+        Ok(true)
+    }
+
+    /// Goes on to a change: runs the recorded events again up to the one of this number, or all if no more are recorded, or
+    /// none if as many stand. It answers how many stand then. Want of memory changes nothing.
+    pub fn again_to(&mut self, number: u32) -> Result<u32, AllocError>
+        ensures stand { IfOk result (λ n. n ≡ max self.old.standing (min number (length self.old.events))) }
+        ensures state { IfOk result (λ n. self.new ≡ with_standing self.old n) }
+        ensures err { OnErr result (self.new ≡ self.old) }
+    {
+        let before = self.standing();
+        for _at in before..number {
+            match self.again() {
+                Ok(true) => {}
+                Ok(false) => return Ok(self.standing()),
+                Err(fault) => {
+                    let _stand = self.back_to(before);
+                    return Err(fault);
+                }
+            }
+        }
+        Ok(self.standing())
     }
 
     /// Whether the last event that stands is one of the CPU.

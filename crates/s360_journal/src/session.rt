@@ -1,6 +1,6 @@
 //! The session: the machine, and the journal of the changes that stand.
-ghost use Rattle.std.specs.Prelude.{◌≡◌, ◌↔◌, ◌-◌, ◌+◌, ◌<◌, ◌++◌, ◌∷◌, ◌≤◌, [], Some, length, take, OnOk, OnErr, IfOk, IsTrue, Err};
-ghost use Rattle.std.specs.Prelude.{IsOkUnless, MatchOption, max, min};
+ghost use Rattle.std.specs.Prelude.{◌≡◌, ◌↔◌, ◌+◌, ◌<◌, ◌++◌, ◌∷◌, ◌≤◌, [], Some, length, OnOk, OnErr, IfOk, IsTrue, Err};
+ghost use Rattle.std.specs.Prelude.{IsOkUnless, MatchOption};
 ghost use Rattle.std.specs.Option.{unwrap_or};
 ghost use Rattle.s360_machine.specs.Machine.{seen, storage_size};
 ghost use Rattle.s360_machine.specs.declared.refusal.Refusal.TheVariants.{Memory};
@@ -10,17 +10,15 @@ ghost use Rattle.s360_journal.specs.Reports.{IsReport};
 ghost use Rattle.s360_journal.specs.Rerun.{rerun, AreAccepted, changes_of, last_change_of};
 ghost use Rattle.s360_journal.specs.Returning.{one_back};
 ghost use Rattle.s360_journal.specs.Running.{next_event};
-ghost use Rattle.s360_journal.specs.Stops.{stop_of};
 ghost use Rattle.s360_journal.specs.Standing.{IsAfter, Standing, before_last, machine_of, refusal_in, alteration, last_kind_of};
 ghost use Rattle.s360_journal.specs.Timelines.{HasRoomFor, IsNoted, dropped_with};
 ghost use Rattle.s360_journal.specs.Withdrawals.{AreAllowed, is_standing};
 ghost use Rattle.s360_machine.specs.declared.event.Event.{Event as AnEvent};
 ghost use Rattle.s360_machine.specs.declared.event.Event.TheVariants.{Cpu};
 
-use crate::breaks::Breaks;
 use crate::journal::Journal;
 use crate::report::Report;
-use crate::running::{Reach, next_event};
+use crate::running::next_event;
 use crate::timeline::Timeline;
 use s360_machine::{Event, EventKind, Machine, Refusal};
 use s360_store::Place;
@@ -329,7 +327,7 @@ impl Session {
 
     /// Takes the last change that stands back. Its event stays in the record, and comes next. It takes no memory.
     pub fn step_back(&mut self) -> Result<(), NothingStands>
-        ensures ok { self.new ≡ one_back self.old }
+        ensures state { self.new ≡ one_back self.old }
         ensures stands { OnOk result (session_of self.new ≡ before_last (session_of self.old)) }
         ensures some { OnOk result (0 < self.old.standing) }
         ensures err { OnErr result (self.new ≡ self.old) }
@@ -341,45 +339,6 @@ impl Session {
         self.journal.unmake();
         self.timeline.back();
         Ok(())
-    }
-
-    /// Goes back to a change: takes back all changes after the one of this number, or none if no more stand. Their events stay in
-    /// the record. It answers how many stand then. It takes no memory.
-    pub fn back_to(&mut self, number: u32) -> u32
-        ensures stand { result ≡ min number self.old.standing }
-        ensures kept { self.new ≡ with_standing self.old result }
-    {
-        while self.standing() > number {
-            let _taken = self.step_back();
-        }
-        self.standing()
-    }
-
-    /// Goes back to the last stop: to the greatest number of changes, below that which stand, after
-    /// which the CPU operates at a breakpoint, else to 0. Their events stay in the record. It answers that number. It takes no
-    /// memory.
-    pub fn back_until(&mut self, breaks: &Breaks) -> u32
-        ensures stop { result ≡ stop_of (seen self.old.start) (standing_events self.old) breaks.now }
-        ensures kept { self.new ≡ with_standing self.old result }
-        ensures stands { session_of self.new ≡ record (session_of self.old) { events = take result (standing_events self.old) } }
-        ensures within { result ≤ self.old.standing }
-    {
-        let _pause = self.run_back(breaks, Reach::Stop, self.standing());
-        self.standing()
-    }
-
-    /// Runs the next event of the record again, and answers whether there was one. Want of memory changes nothing.
-    pub fn again(&mut self) -> Result<bool, AllocError>
-        ensures some { IfOk result (λ ran. IsTrue ran ↔ (self.old.standing < length self.old.events)) }
-        ensures event { IfOk result (λ ran. IsTrue ran → (e : AnEvent) × IsRunAgain self.old self.new e) }
-        ensures state { OnOk result (self.new ≡ with_standing self.old (min (self.old.standing + 1) (length self.old.events))) }
-        ensures err { OnErr result (self.new ≡ self.old) }
-    {
-        if self.standing() == self.recorded() {
-            return Ok(false);
-        }
-        self.run_next()?;
-        Ok(true)
     }
 
     /// Runs the next event of the record again, where there is one. Want of memory changes nothing.
@@ -410,27 +369,6 @@ impl Session {
         self.journal.make(&event)?;
         self.timeline.on();
         Ok(())
-    }
-
-    /// Goes on to a change: runs the recorded events again up to the one of this number, or all if no more are recorded, or
-    /// none if as many stand. It answers how many stand then. Want of memory changes nothing.
-    pub fn again_to(&mut self, number: u32) -> Result<u32, AllocError>
-        ensures stand { IfOk result (λ n. n ≡ max self.old.standing (min number (length self.old.events))) }
-        ensures state { IfOk result (λ n. self.new ≡ with_standing self.old n) }
-        ensures err { OnErr result (self.new ≡ self.old) }
-    {
-        let before = self.standing();
-        for _at in before..number {
-            match self.again() {
-                Ok(true) => {}
-                Ok(false) => return Ok(self.standing()),
-                Err(fault) => {
-                    let _stand = self.back_to(before);
-                    return Err(fault);
-                }
-            }
-        }
-        Ok(self.standing())
     }
 }
 

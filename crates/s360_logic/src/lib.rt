@@ -12,6 +12,7 @@ mod cpu;
 mod dispatch;
 mod field;
 mod first_operand;
+mod formats;
 mod immediate;
 mod laws;
 mod left_to_right;

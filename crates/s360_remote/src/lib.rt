@@ -5,14 +5,17 @@ mod condition;
 mod connection;
 mod errand;
 mod error_number;
+mod inserting;
 mod laws;
 mod monitor;
+mod pausing;
 mod points;
 mod readout;
 mod registers;
 mod saving;
 mod serving;
 mod target;
+mod telling;
 mod untold;
 mod writing;
 

@@ -15,8 +15,8 @@ back c =
 pub invariant_of-self : goal.invariant_of-self
 invariant_of-self c = let after = back (goal.at.invariant_of-self c).After-back in (after.led, after.accepted, after.few, after.limited)
 
-pub returns-clause-ok : goal.returns-clause-ok
-returns-clause-ok c = (back (goal.at.returns-clause-ok c).After-back).view
+pub returns-clause-state : goal.returns-clause-state
+returns-clause-state c = (back (goal.at.returns-clause-state c).After-back).view
 
 pub returns-clause-stands : goal.returns-clause-stands
 returns-clause-stands c =

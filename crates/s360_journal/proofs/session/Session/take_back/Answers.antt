@@ -18,13 +18,13 @@ pub returns-in-Step : goal.returns-in-Step
 returns-in-Step g c =
     let r : Recorded = c.args.self.now
     in rw c.in-Step.is (taken-one _ Step r c.step_back-taken.new.self c.is_cpu_last-is_cpu.result c.then_some.result (λ none. c.if-standing-eq0.false (c.standing.ensures.standing ∙ none))
-    (sym c.is_altered-is_altered.ensures ∙ c.if-is_altered.false) (sym c.is_cpu_last-is_cpu.ensures) c.then_some.ensures c.step_back-taken.ensures.ok)
+    (sym c.is_altered-is_altered.ensures ∙ c.if-is_altered.false) (sym c.is_cpu_last-is_cpu.ensures) c.then_some.ensures c.step_back-taken.ensures.state)
 
 pub returns-in-Stop : goal.returns-in-Stop
 returns-in-Stop g c =
     let r : Recorded = c.args.self.now
     in let stops = g.S.Stops.stops_of c.args.stops.now
     in let at : is_reached_back stops Stop r ≡ c.is_at_stop.result
-    = ap (λ (k : Recorded). stops.at (machine_of (session_of k))) (sym c.step_back-taken-in-Stop.ensures.ok) ∙ ap (λ (m : Machine). stops.at m) (sym c.machine.ensures.rerun) ∙ sym c.is_at_stop.ensures
+    = ap (λ (k : Recorded). stops.at (machine_of (session_of k))) (sym c.step_back-taken-in-Stop.ensures.state) ∙ ap (λ (m : Machine). stops.at m) (sym c.machine.ensures.rerun) ∙ sym c.is_at_stop.ensures
     in rw c.in-Stop.is (taken-one _ Stop r c.step_back-taken-in-Stop.new.self c.is_at_stop.result c.then_some-in-Stop.result (λ none. c.if-standing-eq0.false (c.standing.ensures.standing ∙ none))
-    (sym c.is_altered-is_altered.ensures ∙ c.if-is_altered.false) at c.then_some-in-Stop.ensures c.step_back-taken-in-Stop.ensures.ok)
+    (sym c.is_altered-is_altered.ensures ∙ c.if-is_altered.false) at c.then_some-in-Stop.ensures c.step_back-taken-in-Stop.ensures.state)
