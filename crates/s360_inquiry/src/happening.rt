@@ -85,7 +85,7 @@ fn push_instruction(text: &mut Text, storage: &Storage, at: u32) -> Result<(), A
 
 /// Adds a mnemonic after a blank, if there is one.
 fn push_mnemonic(text: &mut Text, mnemonic: Option<&str>) -> Result<(), AllocError>
-    ensures { OnOk result (text.new ≡ text.old ++ mnemonic_words (option_copied mnemonic)) }
+    ensures { OnOk result (text.new ≡ text.old ++ mnemonic_words (option_copied mnemonic.entry)) }
 {
     let Some(mnemonic) = mnemonic else {
         return Ok(());
