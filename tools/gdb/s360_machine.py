@@ -8,9 +8,12 @@ import gdb
 import listing
 import listing_symbols
 
-# In an answer: a byte or successive bytes; what an event met, and where.
+# In an answer: a byte or successive bytes; where a jump or a call leads to; what an event met, and where.
 BYTES = re.compile(r"\bs([0-9A-F]{6})(-[0-9A-F]{6})?")
-MET = re.compile(r"\b(cpu|channel \w+) at ([0-9A-F]{6})(?: ([0-9A-F]+)\b)?")
+LED_TO = re.compile(r"\bto ([0-9A-F]{6})\b(?! [0-9A-F]{16})")
+MET = re.compile(
+    r"\b(?P<who>cpu|channel \w+) at (?P<address>[0-9A-F]{6})(?: (?P<happening>(?:[A-Z]+ )?(?P<digits>[0-9A-F]{4,})\b))?"
+)
 REFUSALS = ("refused", "no such change", "not saved")
 SECTION_TABLE, SECTION_COUNT = 32, 46
 PROGBITS, ALLOC = 1, 2
@@ -91,22 +94,24 @@ def source_at(address: int) -> tuple[str | None, str | None]:
 
 
 def labelled(text: str) -> str:
-    """An answer of the machine with labels, and with statements in place of the digits of instructions."""
+    """An answer of the machine with labels, and with statements in place of instructions."""
 
     def met(found: re.Match[str]) -> str:
-        who, where, digits = found.groups()
+        who, where, happening, digits = found.group("who", "address", "happening", "digits")
         address = int(where, 16)
         statement, line = source_at(address)
         # A line of GNU as reaches over the data behind it.
         if who != "cpu" and not statement:
             line = None
         if digits and statement and was_assembled(address, bytes.fromhex(digits)):
-            digits = statement
+            happening = statement
         told_so = f"{who} at {where}{label_at(address)}"
-        return " ".join(filter(None, [told_so, digits])) + (f"  {line}" if line else "")
+        return " ".join(filter(None, [told_so, happening])) + (f"  {line}" if line else "")
 
-    text = MET.sub(met, text)
-    return BYTES.sub(lambda found: found[0] + label_at(int(found[1], 16)), text)
+    def with_label(found: re.Match[str]) -> str:
+        return found[0] + label_at(int(found[1], 16))
+
+    return BYTES.sub(with_label, LED_TO.sub(with_label, MET.sub(met, text)))
 
 
 def standing() -> int:
