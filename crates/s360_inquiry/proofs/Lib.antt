@@ -1,2 +1,3 @@
 pub mod InquiryLemmas
+pub mod SearchLemmas
 pub mod WhyLemmas

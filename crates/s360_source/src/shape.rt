@@ -168,7 +168,7 @@ fn fetched_shape(
 }
 
 /// The shape of the instruction at the instruction address.
-pub(crate) fn instruction_shape(
+pub fn instruction_shape(
     alloc: Global,
     machine: &Machine,
 ) -> Result<InstructionShape, AllocError>
@@ -186,7 +186,7 @@ pub(crate) fn instruction_shape(
 }
 
 /// The operation of an instruction.
-pub(crate) fn operation_of(form: &Form) -> Operation
+pub fn operation_of(form: &Form) -> Operation
     ensures { result ≡ operation_of form.now }
 {
     match *form {
