@@ -125,10 +125,10 @@ class Jumps:
         calls = []
         for number, change, words in self.events():
             call = call_of(self.machine) if change.event[0] == "cpu" else None
-            at = self.address_after(number)
+            before, at = address(self.machine), self.address_after(number)
             if call and at != call.following:
                 calls.insert(0, (call, words, link_value(self.machine, call.link)))
-            else:
+            elif at != before:
                 returned = [depth for depth, (other, *_) in enumerate(calls) if other.following == at]
                 del calls[: returned[0] + 1 if returned else 0]
         return calls

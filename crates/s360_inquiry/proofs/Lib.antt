@@ -1,3 +1,4 @@
 pub mod InquiryLemmas
+pub mod CallLemmas
 pub mod SearchLemmas
 pub mod WhyLemmas

@@ -1,9 +1,9 @@
 -- The last of some numbers that something holds of, which are found from the last one on.
-use Rattle.std.proofs.Common.{◌≡◌, ◌<◌, ◌≤◌, ◌+◌, ◌-◌, ◌++◌, ℕ, zero, suc, Bool, true, false, List, [], ◌∷◌, ap, sym, ◌∙◌, refl, arith, append_assoc, drop, length, length-append, reverse, if◌then◌else◌}
+use Rattle.std.proofs.Common.{◌≡◌, ◌≤◌, Option, Some, ◌+◌, ◌-◌, ◌++◌, ℕ, zero, suc, Bool, true, false, List, [], ◌∷◌, ap, sym, ◌∙◌, refl, arith, append_assoc, drop, length, length-append, reverse, if◌then◌else◌}
 use Rattle.std.proofs.lemmas.List.{append-nil, reverse-append}
 use Rattle.std.proofs.Math.Seq.{drop-append_seam}
 use Rattle.s360_inquiry.specs.Changes.{last_of}
-use Rattle.s360_inquiry.specs.Searches.{numbers_up_to}
+use Rattle.s360_inquiry.specs.Searches.{last_up_to, numbers_up_to}
 
 -- as many are found as there may be
 pub last-found : (most : ℕ) (others found : List ℕ) → length found ≡ most → last_of most (others ++ found) ≡ found
@@ -40,3 +40,18 @@ sought-not holds n all found is told =
     ∙ ap (λ (k : ℕ). (numbers_up_to holds n ++ (if holds k then k ∷ [] else [])) ++ reverse found) (sym one)
     ∙ ap (λ (b : Bool). (numbers_up_to holds n ++ (if b then n + 1 ∷ [] else [])) ++ reverse found) is
     ∙ ap (λ (ns : List ℕ). ns ++ reverse found) (append-nil (numbers_up_to holds n))
+
+-- the same for the last alone
+pub last-there : (holds : ℕ → Bool) (n : ℕ) → holds (n + 1) ≡ true → last_up_to holds (n + 1) ≡ Some (n + 1)
+last-there holds n is =
+    let one : n + 1 ≡ suc n = omega arith
+    in ap (λ (k : ℕ). last_up_to holds k) one
+    ∙ ap (λ (k : ℕ). if holds k then Some k else last_up_to holds n) (sym one)
+    ∙ ap (λ (b : Bool). if b then Some (n + 1) else last_up_to holds n) is
+
+pub last-not : (holds : ℕ → Bool) (n : ℕ) → holds (n + 1) ≡ false → last_up_to holds (n + 1) ≡ last_up_to holds n
+last-not holds n is =
+    let one : n + 1 ≡ suc n = omega arith
+    in ap (λ (k : ℕ). last_up_to holds k) one
+    ∙ ap (λ (k : ℕ). if holds k then Some k else last_up_to holds n) (sym one)
+    ∙ ap (λ (b : Bool). if b then Some (n + 1) else last_up_to holds n) is

@@ -1,7 +1,6 @@
 -- The calls that have not returned (own profile): branches and links, and supervisor calls, after which another instruction comes than the next
--- one. A call has returned once an event
--- after it leaves the instruction address that of the instruction behind the call; the calls within it have then ended with it. If several
--- calls that have not returned would go on there, the innermost has returned (GA22-6821, "Branching", branch and link; "Interruptions",
+-- one. A call has returned once a later event led to that next one, from another address; with it the calls within it have ended. Of several
+-- calls that have not returned and would go on there, the innermost has returned (GA22-6821, "Branching", branch and link; "Interruptions",
 -- supervisor-call interruption).
 use Rattle.std.specs.Prelude.{ℕ, zero, suc, ◌-◌, nat_eq, if◌then◌else◌, Option, Some, None, List, [], ◌∷◌, ◌++◌, codes, map, slice_index, unwrap_or}
 use Rattle.std.specs.Option.{option_map, option_and_then}
@@ -94,13 +93,21 @@ abbrev pub outside_of : ℕ → List Call → Option (List Call)
 outside_of at [] = None
 outside_of at (c ∷ cs) = if nat_eq c.next at then Some cs else outside_of at cs
 
--- an event calls, or leaves the instruction address so
-abbrev pub calls_after : Option Call → ℕ → List Call → List Call
-calls_after (Some call) at calls = call ∷ calls
-calls_after None at calls = unwrap_or (outside_of at calls) calls
+-- an event calls, or leads to an address, or does neither
+abbrev pub calls_after : Option Call → Option ℕ → List Call → List Call
+calls_after (Some call) led calls = call ∷ calls
+calls_after None None calls = calls
+calls_after None (Some at) calls = unwrap_or (outside_of at calls) calls
+
+-- the instruction address after an event, if it was another before it
+abbrev pub led_to : ℕ → ℕ → Option ℕ
+led_to before after = if nat_eq before after then None else Some after
+
+abbrev pub address_in : Recorded → ℕ → ℕ
+address_in r number = instruction_address_of (machine_after r number).core.psw
 
 abbrev pub calls_after_change : Recorded → ℕ → List Call → List Call
-calls_after_change r number calls = calls_after (call_of_change r number) (instruction_address_of (machine_after r number).core.psw) calls
+calls_after_change r number calls = calls_after (call_of_change r number) (led_to (address_in r (number - 1)) (address_in r number)) calls
 
 -- those of the first changes
 abbrev pub open_calls : Recorded → ℕ → List Call

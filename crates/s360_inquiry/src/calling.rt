@@ -49,10 +49,13 @@ fn go_on(
 {
     let kind = next_kind(recording)?;
     let calling = calling_of(alloc, recording.machine(), kind)?;
+    let before = recording.machine().psw().instruction_address();
     let _ran = recording.again()?;
+    let after = recording.machine().psw().instruction_address();
     match call_by(number, recording.machine(), calling) {
         Some(call) => calls.push(call)?,
-        None => return_to(calls, recording.machine().psw().instruction_address()),
+        None if before != after => return_to(calls, after),
+        None => {}
     }
     Ok(())
 }
@@ -98,16 +101,16 @@ fn with_links_now(
     recording: &Session,
     calls: &[Call],
 ) -> Result<Vec<OpenCall>, AllocError>
-    ensures { IfOk result (λ open. open.items ≡ map (open_call recording.now) calls.now) }
+    ensures { IfOk result (λ found. found.items ≡ map (open_call recording.now) calls.now) }
 {
-    let mut open = Vec::new(alloc);
+    let mut found = Vec::new(alloc);
     for call in calls {
-        open.push(OpenCall {
+        found.push(OpenCall {
             call: *call,
             now: link_value(recording.machine(), call.link),
         })?;
     }
-    Ok(open)
+    Ok(found)
 }
 
 /// Adds the line of a call.
@@ -115,16 +118,16 @@ fn push_call(
     alloc: Global,
     recording: &mut Session,
     telling: &mut Telling,
-    open: OpenCall,
+    found: OpenCall,
 ) -> Result<(), AllocError>
-    ensures told { OnOk result ((lines : List (List ℕ)) → IsTold lines telling.old → IsTold (lines ++ line_of_call recording.old open ∷ []) telling.new) }
+    ensures told { OnOk result ((lines : List (List ℕ)) → IsTold lines telling.old → IsTold (lines ++ line_of_call recording.old found ∷ []) telling.new) }
     ensures state { recording.new ≡ with_standing recording.old recording.new.standing }
 {
-    let number = open.call.number;
+    let number = found.call.number;
     let kind = go_before(recording, number)?;
     let mut line = Text::new(alloc);
     push_event_of(&mut line, number, recording.machine(), kind)?;
-    push_returning(&mut line, open.call, open.now)?;
+    push_returning(&mut line, found.call, found.now)?;
     line.push_text("\n")?;
     telling.push(line.as_bytes())
 }

@@ -168,10 +168,7 @@ fn fetched_shape(
 }
 
 /// The shape of the instruction at the instruction address.
-pub fn instruction_shape(
-    alloc: Global,
-    machine: &Machine,
-) -> Result<InstructionShape, AllocError>
+pub fn instruction_shape(alloc: Global, machine: &Machine) -> Result<InstructionShape, AllocError>
     ensures { IfOk result (λ shape. shape ≡ instruction_shape machine.now.whole.core) }
 {
     match machine.fetch() {
