@@ -1,6 +1,6 @@
 //! The last jumps, each with what decided it.
-ghost use Rattle.std.specs.Prelude.{◌≡◌, ◌++◌, IfOk, OnErr, OnOk, length, min};
-ghost use Rattle.s360_journal.specs.Recorded.{with_standing};
+ghost use Rattle.std.specs.Prelude.{◌≡◌, ◌≤◌, ◌++◌, ◌-◌, IfOk, OnErr, OnOk, length, min};
+ghost use Rattle.s360_journal.specs.Recorded.{Recorded, with_standing};
 ghost use Rattle.s360_inquiry.specs.Changes.{just_before, words_of_change};
 ghost use Rattle.s360_inquiry.specs.Jumps.{IsSetter, jump_line, jumps_text, told_jumps};
 
@@ -31,7 +31,21 @@ fn words_of(alloc: Global, recording: &mut Session, number: u32) -> Result<Text,
     Ok(words)
 }
 
-/// The last of the first changes that set the condition code, by what is known of fewer of them.
+/// What is known of no more than so many changes: of more of them it says nothing of these.
+fn known_of(known: Setter, before: u32) -> Setter
+    ensures setter { (r : Recorded) → IsSetter r known → IsSetter r result }
+    ensures within { result.before ≤ before }
+{
+    if before < known.before {
+        return Setter {
+            before: 0,
+            words: None,
+        };
+    }
+    known
+}
+
+/// The last of the first changes that set the condition code, by what is known of some of them.
 fn setter_from(
     alloc: Global,
     recording: &mut Session,
@@ -45,15 +59,7 @@ fn setter_from(
 {
     go_to(recording, before)?;
     let before = recording.standing();
-    // What is known of more changes says nothing of these.
-    let known = if before < known.before {
-        Setter {
-            before: 0,
-            words: None,
-        }
-    } else {
-        known
-    };
+    let known = known_of(known, before);
     match last_number(alloc, recording, Sought::CodeSettings, known.before)? {
         Some(number) => {
             let words = words_of(alloc, recording, number)?;

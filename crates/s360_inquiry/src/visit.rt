@@ -1,12 +1,11 @@
 //! The visits of an address: the events that execute the instruction or the command word there. Source: GA22-6821, "System
 //! Structure", program execution; "Input/Output Operations", transfer in channel.
 ghost use Rattle.std.specs.Prelude.{◌≡◌, ◌++◌, IfOk, OnErr, OnOk};
-ghost use Rattle.std.specs.Option.{option_copied};
 ghost use Rattle.s360_channel.specs.ConfiguredUnits.{state_at};
 ghost use Rattle.s360_machine.specs.Machine.{seen};
 ghost use Rattle.s360_journal.specs.Recorded.{with_standing};
 ghost use Rattle.s360_inquiry.specs.Changes.{just_before};
-ghost use Rattle.s360_inquiry.specs.Visits.{executes_at, goes_on_at, if_event, is_since, leads_to, register_since, since_words};
+ghost use Rattle.s360_inquiry.specs.Visits.{executes_at, goes_on_at, if_event, is_executing, is_since, leads_to, register_since, since_words};
 ghost use Rattle.s360_inquiry.specs.Visits.{state_goes_on_at, told_visits, unit_goes_on_at, visit_line, visit_lines, visits_text};
 
 use crate::change::{go_before, push_event_of};
@@ -19,6 +18,7 @@ use s360_language::{push_place, push_value};
 use s360_machine::{CpuCase, EventKind, Machine};
 use s360_store::{Place, Storage};
 use s360_text::Text;
+use s360_word::Unit;
 use std::alloc::{AllocError, Global};
 
 /// So many general registers has the machine.
@@ -53,13 +53,20 @@ fn state_goes_on_at(storage: &Storage, state: &UnitState, at: u32) -> bool
 }
 
 /// Whether a unit does, if the machine has it.
-fn unit_goes_on_at(storage: &Storage, state: Option<&UnitState>, at: u32) -> bool
-    ensures { result ≡ unit_goes_on_at storage.now (option_copied state) at }
+fn unit_goes_on_at(machine: &Machine, unit: Unit, at: u32) -> bool
+    ensures { result ≡ unit_goes_on_at machine.now.whole.core.storage (state_at machine.now.whole.units unit) at }
 {
-    match state {
-        Some(state) => state_goes_on_at(storage, state, at),
+    match machine.unit(unit) {
+        Some(state) => state_goes_on_at(machine.storage(), state, at),
         None => false,
     }
+}
+
+/// Whether the CPU executes an instruction.
+fn is_executing(case: CpuCase) -> bool
+    ensures { result ≡ is_executing case }
+{
+    matches!(case, CpuCase::Executing)
 }
 
 /// Whether an event of this kind executes what is at an address of the machine that it meets.
@@ -69,9 +76,9 @@ fn executes_at(at: u32, machine: &Machine, kind: EventKind) -> bool
 {
     match kind {
         EventKind::Cpu => {
-            machine.cpu_case() == CpuCase::Executing && machine.psw().instruction_address() == at
+            is_executing(machine.cpu_case()) && machine.psw().instruction_address() == at
         }
-        EventKind::Channel(unit) => unit_goes_on_at(machine.storage(), machine.unit(unit), at),
+        EventKind::Channel(unit) => unit_goes_on_at(machine, unit, at),
         _ => false,
     }
 }
