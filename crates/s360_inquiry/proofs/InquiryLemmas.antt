@@ -71,6 +71,15 @@ last-kind es e =
     in let last : last_of (es ++ e ∷ []) ≡ Some e = ap (λ n. slice_get (es ++ e ∷ []) n) count ∙ last-there es e
     in rw last refl
 
+-- what the next change of a record is
+pub next-kind : (r : Recorded) (e d : Event) → r.standing < length r.events → e ≡ unwrap_or (next_recorded r) d
+    → Some (kind_of_event e) ≡ kind_of_change r (r.standing + 1)
+next-kind r e d less is =
+    sym (
+    ap (λ es. last_kind_of es) (take-next r.standing (r.standing + 1) r.events e refl (next-recorded r e d less is))
+    ∙ last-kind (standing_events r) e
+    )
+
 -- a report tells the places that were altered
 pub reported : (report : Report) (ps : List Place) → IsReport report ps → report_words report ≡ places_words ps
 reported Idle ps h = rw h refl

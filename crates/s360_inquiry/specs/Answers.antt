@@ -6,12 +6,15 @@ use Rattle.s360_language.specs.ShownBytes.{storage_rows}
 use Rattle.s360_journal.specs.Standing.{machine_of}
 use Rattle.s360_journal.specs.Recorded.{Recorded, session_of, with_standing}
 use Rattle.s360_inquiry.specs.declared.inquiry.Inquiry.{Inquiry}
-use Rattle.s360_inquiry.specs.declared.inquiry.Inquiry.TheVariants.{Who, Why, Goto, Changes, History, Dump, Units, Where}
+use Rattle.s360_inquiry.specs.declared.inquiry.Inquiry.TheVariants.{Who, Why, Goto, Changes, History, Visits, Jumps, Calls, Dump, Units, Where}
+use Rattle.s360_inquiry.specs.Calls.{calls_text}
 use Rattle.s360_inquiry.specs.Causes.{why_text}
 use Rattle.s360_inquiry.specs.Changes.{changes_text, last_change_in, stands_after_who, who_text}
 use Rattle.s360_inquiry.specs.Going.{goto_number, goto_text, stands_after_goto}
 use Rattle.s360_inquiry.specs.Histories.{history_text}
+use Rattle.s360_inquiry.specs.Jumps.{jumps_text}
 use Rattle.s360_inquiry.specs.Situations.{units_text, where_text}
+use Rattle.s360_inquiry.specs.Visits.{visits_text}
 
 -- a recording, and where it stood before the last line that went elsewhere, if one did
 pub record Inquired : Type 0 where
@@ -27,6 +30,9 @@ answer_to i (Why place depth) = why_text i.recorded place depth
 answer_to i (Goto mark) = goto_text i.recorded (goto_number i.recorded i.stood mark)
 answer_to i (Changes place most) = changes_text i.recorded place most
 answer_to i (History most) = history_text i.recorded most
+answer_to i (Visits at most) = visits_text i.recorded at most
+answer_to i (Jumps most) = jumps_text i.recorded most
+answer_to i Calls = calls_text i.recorded
 answer_to i (Dump at count) = storage_rows Signs (machine_of (session_of i.recorded)).core.storage at count
 answer_to i Units = units_text (machine_of (session_of i.recorded))
 answer_to i Where = where_text i.recorded

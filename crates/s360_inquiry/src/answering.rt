@@ -5,11 +5,14 @@ ghost use Rattle.s360_language.specs.ShownBytes.{storage_rows};
 ghost use Rattle.s360_language.specs.declared.show_bytes.Row.TheVariants.{Signs};
 ghost use Rattle.s360_inquiry.specs.Answers.{answer_to, inquired, stands_after, state_after};
 
+use crate::calling::answer_calls;
 use crate::change::{answer_changes, answer_who};
 use crate::going::answer_goto;
 use crate::history::answer_history;
 use crate::inquiry::Inquiry;
+use crate::jumping::answer_jumps;
 use crate::situation::{units_of, where_of};
+use crate::visit::answer_visits;
 use crate::why::answer_why;
 use s360_journal::Session;
 use s360_language::{Row, push_storage};
@@ -56,6 +59,9 @@ fn text_of_inquiry(
         Inquiry::Goto(mark) => answer_goto(alloc, recording, stood, mark),
         Inquiry::Changes { place, most } => answer_changes(alloc, recording, place, most),
         Inquiry::History { most } => answer_history(alloc, recording, most),
+        Inquiry::Visits { at, most } => answer_visits(alloc, recording, at, most),
+        Inquiry::Jumps { most } => answer_jumps(alloc, recording, most),
+        Inquiry::Calls => answer_calls(alloc, recording),
         Inquiry::Dump { at, count } => dump_of(alloc, recording.machine().storage(), at, count),
         Inquiry::Units => units_of(alloc, recording.machine()),
         Inquiry::Where => where_of(alloc, recording),

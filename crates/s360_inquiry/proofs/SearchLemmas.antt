@@ -1,0 +1,64 @@
+-- The last of some numbers that something holds of, which are found from the last one on.
+use Rattle.std.proofs.Common.{◌≡◌, ◌<◌, ◌≤◌, ◌+◌, ◌-◌, ◌++◌, ℕ, zero, suc, Bool, true, false, Option, Some, None, List, [], ◌∷◌, ap, sym, ◌∙◌, refl, arith, append_assoc, drop, length, length-append, reverse, if◌then◌else◌}
+use Rattle.std.proofs.lemmas.List.{append-nil, length-reverse, reverse-append}
+use Rattle.std.proofs.Math.Seq.{drop-append_seam}
+use Rattle.s360_journal.specs.Rerun.{or_else}
+use Rattle.s360_inquiry.specs.Changes.{last_of}
+use Rattle.s360_inquiry.specs.Searches.{last_up_to, numbers_up_to}
+
+-- as many are found as there may be
+pub last-found : (most : ℕ) (all others found : List ℕ) → length found ≡ most → all ≡ others ++ reverse found → reverse found ≡ last_of most all
+last-found most all others found count told =
+    let turned : length (reverse found) ≡ length found = length-reverse found
+    in let before : length (others ++ reverse found) - most ≡ length others = omega (arith, count, turned, length-append others (reverse found))
+    in sym (
+    ap (λ (ns : List ℕ). last_of most ns) told
+    ∙ ap (λ (n : ℕ). drop n (others ++ reverse found)) before
+    ∙ drop-append_seam others (reverse found)
+    )
+
+-- all are found, and no more than there may be
+pub last-all : (holds : ℕ → Bool) (most n : ℕ) (all found : List ℕ) → n ≡ 0 → length found ≤ most → all ≡ numbers_up_to holds n ++ reverse found
+    → reverse found ≡ last_of most all
+last-all holds most n all found start few told =
+    let turned : length (reverse found) ≡ length found = length-reverse found
+    in let none : length (reverse found) - most ≡ 0 = omega (arith, few, turned)
+    in let whole : all ≡ reverse found = told ∙ ap (λ (k : ℕ). numbers_up_to holds k ++ reverse found) start
+    in sym (ap (λ (ns : List ℕ). last_of most ns) whole ∙ ap (λ (k : ℕ). drop k (reverse found)) none)
+
+-- one more is looked at, and found or not
+pub sought-found : (holds : ℕ → Bool) (m x : ℕ) (all found : List ℕ) → 0 < m → x ≡ m → holds m ≡ true
+    → all ≡ numbers_up_to holds m ++ reverse found → all ≡ numbers_up_to holds (m - 1) ++ reverse (found ++ x ∷ [])
+sought-found holds zero x all found some same is told = absurd (omega (arith, some))
+sought-found holds (suc n) x all found some same is told =
+    let less : suc n - 1 ≡ n = omega arith
+    in told
+    ∙ ap (λ (b : Bool). (numbers_up_to holds n ++ (if b then suc n ∷ [] else [])) ++ reverse found) is
+    ∙ append_assoc (numbers_up_to holds n) (suc n ∷ []) (reverse found)
+    ∙ ap (λ (k : ℕ). numbers_up_to holds n ++ k ∷ reverse found) (sym same)
+    ∙ ap (λ (ns : List ℕ). numbers_up_to holds n ++ ns) (sym (reverse-append found (x ∷ [])))
+    ∙ ap (λ (k : ℕ). numbers_up_to holds k ++ reverse (found ++ x ∷ [])) (sym less)
+
+pub sought-not : (holds : ℕ → Bool) (m : ℕ) (all found : List ℕ) → 0 < m → holds m ≡ false
+    → all ≡ numbers_up_to holds m ++ reverse found → all ≡ numbers_up_to holds (m - 1) ++ reverse found
+sought-not holds zero all found some is told = absurd (omega (arith, some))
+sought-not holds (suc n) all found some is told =
+    let less : suc n - 1 ≡ n = omega arith
+    in told
+    ∙ ap (λ (b : Bool). (numbers_up_to holds n ++ (if b then suc n ∷ [] else [])) ++ reverse found) is
+    ∙ ap (λ (ns : List ℕ). ns ++ reverse found) (append-nil (numbers_up_to holds n))
+    ∙ ap (λ (k : ℕ). numbers_up_to holds k ++ reverse found) (sym less)
+
+-- the same for the last alone
+pub last-there : (holds : ℕ → Bool) (m x : ℕ) → 0 < m → x ≡ m → holds m ≡ true → Some x ≡ last_up_to holds m
+last-there holds zero x some same is = absurd (omega (arith, some))
+last-there holds (suc n) x some same is =
+    ap (λ (k : ℕ). Some k) same
+    ∙ sym (ap (λ (b : Bool). if b then Some (suc n) else last_up_to holds n) is)
+
+pub last-not : (holds : ℕ → Bool) (m : ℕ) → 0 < m → holds m ≡ false → last_up_to holds (m - 1) ≡ last_up_to holds m
+last-not holds zero some is = absurd (omega (arith, some))
+last-not holds (suc n) some is =
+    let less : suc n - 1 ≡ n = omega arith
+    in ap (λ (k : ℕ). last_up_to holds k) less
+    ∙ sym (ap (λ (b : Bool). if b then Some (suc n) else last_up_to holds n) is)

@@ -1,0 +1,12 @@
+-- Numbers of changes that something holds of (own profile). Changes are numbered from 1.
+use Rattle.std.specs.Prelude.{ℕ, zero, suc, Bool, if◌then◌else◌, Option, Some, None, List, [], ◌∷◌, ◌++◌}
+
+-- the numbers up to one that something holds of, ascending
+abbrev pub numbers_up_to : (ℕ → Bool) → ℕ → List ℕ
+numbers_up_to holds zero = []
+numbers_up_to holds (suc n) = numbers_up_to holds n ++ (if holds (suc n) then suc n ∷ [] else [])
+
+-- the greatest of them
+abbrev pub last_up_to : (ℕ → Bool) → ℕ → Option ℕ
+last_up_to holds zero = None
+last_up_to holds (suc n) = if holds (suc n) then Some (suc n) else last_up_to holds n
