@@ -1,0 +1,9 @@
+pub mod Values
+pub mod Readings
+pub mod Rows
+pub mod Sequences
+pub mod Laws
+pub mod OperandReadings
+pub mod Altering
+pub mod RegisterRows
+pub mod InstructionRows
