@@ -19,17 +19,26 @@ pub happened-bind : {X Ending : Type 0} (r : Reading X) (further : X → Row End
 happened-bind r further m x e = ap (λ made. happened_by made m) (run-bind r further m ∙ ap (λ y. run (further y) m) e)
 
 -- refused, or done
+pub refused-when : (o : Option ProgramCode) (row : Row Ended) (m : Machine) (outcome : Outcome) → (o ≡ None → happened row m ≡ with_outcome m outcome)
+    → happened (unless_refused o row) m ≡ with_outcome m (option_map_or (λ code. record { ended = Ended.Program code; core = m.core }) o outcome)
+refused-when None row m outcome h = h refl
+refused-when (Some code) row m outcome h = refl
+
 pub refused-or : (o : Option ProgramCode) (row : Row Ended) (m : Machine) (outcome : Outcome) → happened row m ≡ with_outcome m outcome
     → happened (unless_refused o row) m ≡ with_outcome m (option_map_or (λ code. record { ended = Ended.Program code; core = m.core }) o outcome)
-refused-or None row m outcome h = h
-refused-or (Some code) row m outcome h = refl
+refused-or o row m outcome h = refused-when o row m outcome (λ e. h)
 
 -- under the conditions that are read
+pub conditioned-when : (conditions : Reading Conditions) (row : Row Ended) (m : Machine) (c : Conditions) (outcome : Outcome) → run conditions m ≡ c
+    → (program_code c ≡ None → happened row m ≡ with_outcome m outcome)
+    → happened (bind conditions (λ x. unless_refused (program_code x) row)) m ≡ with_outcome m (unless_met c m.core outcome)
+conditioned-when conditions row m c outcome e h =
+    happened-bind conditions (λ x. unless_refused (program_code x) row) m c e ∙ refused-when (program_code c) row m outcome h
+
 pub conditioned : (conditions : Reading Conditions) (row : Row Ended) (m : Machine) (c : Conditions) (outcome : Outcome) → run conditions m ≡ c
     → happened row m ≡ with_outcome m outcome
     → happened (bind conditions (λ x. unless_refused (program_code x) row)) m ≡ with_outcome m (unless_met c m.core outcome)
-conditioned conditions row m c outcome e h =
-    happened-bind conditions (λ x. unless_refused (program_code x) row) m c e ∙ refused-or (program_code c) row m outcome h
+conditioned conditions row m c outcome e h = conditioned-when conditions row m c outcome e (λ n. h)
 
 -- the stores of registers, and the PSW
 registers-stored : (before m : Machine) (words : List (ℕ × Reading ℕ))

@@ -1,6 +1,5 @@
 -- One instruction as a row does what its definition says.
-use Rattle.std.proofs.Common.{ℕ, zero, suc, ◌+◌, ◌%◌, ◌≡◌, ◌≤◌, ◌<◌, ◌∙◌, not, Bool, true, false, cond, Option, Some, None, List, [], ◌∷◌, refl, ap, sym, get_or, nat_eq, nat_lt, nat_le, length, take, drop, set, arith, slice_range, slice_index, bit_or}
-use Rattle.std.proofs.lemmas.Bool.{leb-true}
+use Rattle.std.proofs.Common.{ℕ, zero, suc, ◌+◌, ◌-◌, ◌%◌, ◌≡◌, ◌≤◌, ◌<◌, ◌∙◌, not, Bool, true, false, cond, Option, Some, None, List, [], ◌∷◌, refl, ap, sym, get_or, nat_eq, nat_lt, nat_le, length, take, drop, set, arith, slice_range, slice_index, bit_or}
 use Rattle.std.proofs.lemmas.List.{drop_more}
 use Rattle.std.specs.Option.{option_map, option_map_or}
 use Rattle.std.specs.Prelude.{is_none, if◌then◌else◌}
@@ -27,7 +26,7 @@ use Rattle.s360_footprint.specs.OperandReadings.{access_read, address_read, byte
 use Rattle.s360_footprint.specs.Readings.{Reading, bind, done, read, run}
 use Rattle.s360_footprint.specs.Rows.{Made, Row}
 use Rattle.s360_footprint.proofs.AlteringLemmas.{happened-bind, refused-or}
-use Rattle.s360_footprint.proofs.OperandLemmas.{access-is, address-is}
+use Rattle.s360_footprint.proofs.OperandLemmas.{access-is, address-is, clear-inside, met-nothing}
 use Rattle.s360_footprint.proofs.ReadingLemmas.{run-bind}
 
 -- what keeps an instruction from being fetched
@@ -51,24 +50,10 @@ fetch-is address m =
     ∙ whole-is address key m (access m.core.storage address 2 Access.Fetch key))
 
 -- one that can be fetched is inside storage
-met-nothing : (met : Checked) (s : Bool) → program_code (record (conditions_of met) { specification = s }) ≡ None → met ≡ Checked.Clear
-met-nothing Checked.Clear s h = refl
-met-nothing Checked.Addressing true h = absurd (cc)
-met-nothing Checked.Addressing false h = absurd (cc)
-met-nothing Checked.Protection true h = absurd (cc)
-met-nothing Checked.Protection false h = absurd (cc)
-
 second-clear : (first second : Checked) → met_in_turn first second ≡ Checked.Clear → second ≡ Checked.Clear
 second-clear Checked.Clear second h = h
 second-clear Checked.Addressing second h = absurd (cc)
 second-clear Checked.Protection second h = absurd (cc)
-
-not-outside : (inside : Bool) (met : Checked) → cond (not inside) Checked.Addressing met ≡ Checked.Clear → inside ≡ true
-not-outside true met h = refl
-not-outside false met h = absurd (cc)
-
-pub clear-inside : (m : Core) (address count : ℕ) (kind : Access) (key : ℕ) → access m.storage address count kind key ≡ Checked.Clear → address + count ≤ length m.storage.bytes
-clear-inside m address count kind key h = leb-true (address + count) (length m.storage.bytes) (not-outside (nat_le (address + count) (length m.storage.bytes)) _ h)
 
 fetched-inside : (m : Core) (address key : ℕ) → program_code (fetch_conditions m.storage address key) ≡ None → address + length_at m.storage address ≤ length m.storage.bytes
 fetched-inside m address key h =
@@ -77,7 +62,7 @@ fetched-inside m address key h =
     (second-clear (access m.storage address 2 Access.Fetch key) second (met-nothing (met_in_turn (access m.storage address 2 Access.Fetch key) second) (is_odd address) h))
 
 -- its bytes
-bytes-are : (address count : ℕ) (m : Machine) → address + count ≤ length m.core.storage.bytes → run (bytes_read address count) m ≡ take count (drop address m.core.storage.bytes)
+pub bytes-are : (address count : ℕ) (m : Machine) → address + count ≤ length m.core.storage.bytes → run (bytes_read address count) m ≡ take count (drop address m.core.storage.bytes)
 bytes-are address zero m h = refl
 bytes-are address (suc n) m h =
     let b : ℕ = get_or m.core.storage.bytes address 0

@@ -6,3 +6,7 @@ pub mod OperandLemmas
 pub mod AlteringLemmas
 pub mod RegisterRowLemmas
 pub mod InstructionRowLemmas
+pub mod PairRowLemmas
+pub mod StoringRowLemmas
+pub mod LeftToRightLemmas
+pub mod LeftToRightRowLemmas

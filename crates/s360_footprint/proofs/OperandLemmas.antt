@@ -1,13 +1,13 @@
 -- Operands: what is read of them is what their definitions say.
-use Rattle.std.proofs.Common.{ℕ, zero, suc, ◌+◌, ◌-◌, ◌*◌, ◌/◌, ◌%◌, ◌^◌, ◌≡◌, ◌∙◌, ◌&&◌, ◌||◌, not, Bool, true, false, cond, List, [], ◌∷◌, refl, ap, sym, nat_eq, nat_le, get_or, map, length, arith}
-use Rattle.std.proofs.lemmas.Bool.{eqb-true, eqb-false}
+use Rattle.std.proofs.Common.{ℕ, zero, suc, ◌+◌, ◌-◌, ◌*◌, ◌/◌, ◌%◌, ◌^◌, ◌≡◌, ◌≤◌, ◌∙◌, ◌&&◌, ◌||◌, not, Bool, true, false, cond, None, List, [], ◌∷◌, refl, ap, sym, nat_eq, nat_le, get_or, map, length, arith}
+use Rattle.std.proofs.lemmas.Bool.{eqb-true, eqb-false, leb-true}
 use Rattle.std.specs.List.{list_all, range_with_len}
 use Rattle.s360_model.specs.{Core.Core, Psw.protection_key_of, Storage.keys_of_operand, Storage.number_at, Storage.halfword_at}
 use Rattle.s360_store.specs.declared.protection.{Access.Access, Checked.Checked}
 use Rattle.s360_store.specs.Protection.{access, block_allows, is_protected}
 use Rattle.s360_fixed.specs.declared.second_operand.{SecondOperand.SecondOperand, Width.Width}
 use Rattle.s360_fixed.specs.Operands.{access_conditions, address_part, bytes_of_width, conditions_of, extended_halfword, operand_address, storage_operand, word_in, word_operand}
-use Rattle.s360_fixed.specs.ProgramCodes.{Conditions}
+use Rattle.s360_fixed.specs.ProgramCodes.{Conditions, program_code}
 use Rattle.s360_machine.specs.Machine.{Machine}
 use Rattle.s360_footprint.specs.OperandReadings.{Profile, access_read, address_read, conditions_read, guards, keys_read, met_with, number_read, operand_in, operand_keys_read, part_read, profile_of, register_operand, second_operand_read, word_read}
 use Rattle.s360_footprint.specs.Readings.{Reading, bind, done, read, run, value_read}
@@ -124,3 +124,23 @@ pub second-operand-is : (second : SecondOperand) (parts : Reading ℕ) (address 
 second-operand-is (SecondOperand.InStorage width) parts address m e =
     rw (conditions-are address (bytes_of_width width) (bytes_of_width width) Access.Fetch m, word-is width address m) refl
 second-operand-is SecondOperand.Address parts address m e = ap word_operand e
+
+-- an access that meets nothing is inside storage
+pub met-nothing : (met : Checked) (s : Bool) → program_code (record (conditions_of met) { specification = s }) ≡ None → met ≡ Checked.Clear
+met-nothing Checked.Clear s h = refl
+met-nothing Checked.Addressing true h = absurd (cc)
+met-nothing Checked.Addressing false h = absurd (cc)
+met-nothing Checked.Protection true h = absurd (cc)
+met-nothing Checked.Protection false h = absurd (cc)
+
+not-outside : (inside : Bool) (met : Checked) → cond (not inside) Checked.Addressing met ≡ Checked.Clear → inside ≡ true
+not-outside true met h = refl
+not-outside false met h = absurd (cc)
+
+pub clear-inside : (m : Core) (address count : ℕ) (kind : Access) (key : ℕ) → access m.storage address count kind key ≡ Checked.Clear → address + count ≤ length m.storage.bytes
+clear-inside m address count kind key h = leb-true (address + count) (length m.storage.bytes) (not-outside (nat_le (address + count) (length m.storage.bytes)) _ h)
+
+pub conditions-inside : (m : Core) (address boundary count : ℕ) (kind : Access) → program_code (access_conditions m address boundary count kind) ≡ None
+    → address + count ≤ length m.storage.bytes
+conditions-inside m address boundary count kind h =
+    clear-inside m address count kind (protection_key_of m.psw) (met-nothing (access m.storage address count kind (protection_key_of m.psw)) (not (nat_eq (address % boundary) 0)) h)

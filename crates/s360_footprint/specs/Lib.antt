@@ -7,3 +7,5 @@ pub mod OperandReadings
 pub mod Altering
 pub mod RegisterRows
 pub mod InstructionRows
+pub mod StoringRows
+pub mod LeftToRightRows

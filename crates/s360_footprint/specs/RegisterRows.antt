@@ -173,16 +173,22 @@ shifting shift result words next = record {
 abbrev pub shift_read : Shift → ℕ → ℕ → Reading (ℕ × CodeSetting)
 shift_read shift r1 count = read (Register r1) (λ word. done (shifted_word shift word count))
 
+abbrev pub shift_altering : Shift → ℕ → ℕ → ℕ → Altering
+shift_altering shift r1 count next =
+    let result = shift_read shift r1 count
+    in shifting shift result ((r1, bind result (λ shifted. done shifted.0)) ∷ []) next
+
 abbrev pub shift_row : Shift → ℕ → ℕ → ℕ → Row Ended
-shift_row shift r1 address next =
-    let result = shift_read shift r1 (address % 64)
-    in altering_row (shifting shift result ((r1, bind result (λ shifted. done shifted.0)) ∷ []) next)
+shift_row shift r1 address next = altering_row (shift_altering shift r1 (address % 64) next)
 
 abbrev pub pair_shift_read : Shift → ℕ → ℕ → Reading ((ℕ × ℕ) × CodeSetting)
 pair_shift_read shift r1 count = read (Register r1) (λ high. read (Register (r1 + 1)) (λ low. done (shifted_words shift high low count)))
 
+abbrev pub pair_shift_altering : Shift → ℕ → ℕ → ℕ → Altering
+pair_shift_altering shift r1 count next =
+    let result = pair_shift_read shift r1 count
+    in shifting shift result ((r1, bind result (λ shifted. done shifted.0.0)) ∷ ((r1 + 1, bind result (λ shifted. done shifted.0.1)) ∷ [])) next
+
 abbrev pub pair_shift_row : Shift → ℕ → ℕ → ℕ → Row Ended
 pair_shift_row shift r1 address next =
-    let result = pair_shift_read shift r1 (address % 64)
-    in unless_refused (program_code (register_pair_conditions r1))
-    (altering_row (shifting shift result ((r1, bind result (λ shifted. done shifted.0.0)) ∷ ((r1 + 1, bind result (λ shifted. done shifted.0.1)) ∷ [])) next))
+    unless_refused (program_code (register_pair_conditions r1)) (altering_row (pair_shift_altering shift r1 (address % 64) next))
