@@ -37,13 +37,13 @@ with_run-outside bytes xs ys a l =
     in let end : drop (a + length xs + length ys) (bytes ++ xs) ≡ [] = drop_all (a + length xs + length ys) (bytes ++ xs) (omega (arith, l, length-append bytes xs))
     in rw (all, none, past, append-nil, whole, end, append-nil, append-nil) (append_assoc bytes xs ys)
 
-pub with_run-append : (bytes xs ys : List ℕ) (a : ℕ) → with_run (with_run bytes a xs) (a + length xs) ys ≡ with_run bytes a (xs ++ ys)
+with_run-append : (bytes xs ys : List ℕ) (a : ℕ) → with_run (with_run bytes a xs) (a + length xs) ys ≡ with_run bytes a (xs ++ ys)
 with_run-append bytes xs ys a = elim (cases_lt (length bytes) a) [
   | inl less ↦ with_run-outside bytes xs ys a less
   | inr more ↦ with_run-within bytes xs ys a more
 ]
 
-pub with_run-none : (bytes : List ℕ) (a : ℕ) → with_run bytes a [] ≡ bytes
+with_run-none : (bytes : List ℕ) (a : ℕ) → with_run bytes a [] ≡ bytes
 with_run-none bytes a = let here : a + 0 ≡ a = omega arith in rw (append-nil, here) (take-append-drop a bytes)
 
 -- no word, and one word more, of a run of words

@@ -10,3 +10,8 @@ pub mod PairRowLemmas
 pub mod StoringRowLemmas
 pub mod LeftToRightLemmas
 pub mod LeftToRightRowLemmas
+pub mod TranslateRowLemmas
+pub mod StatusRowLemmas
+pub mod DigitRowLemmas
+pub mod FormRowLemmas
+pub mod InstructionLawLemmas

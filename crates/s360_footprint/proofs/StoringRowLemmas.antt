@@ -1,6 +1,6 @@
 -- Rows that store registers and load several of them do what their definitions say.
 use Rattle.std.proofs.Common.{ℕ, zero, suc, ◌+◌, ◌*◌, ◌%◌, ◌≡◌, ◌<◌, ◌≤◌, ◌++◌, ◌∙◌, Option, None, List, [], ◌∷◌, refl, ap, sym, get_or, set, length, take, drop, arith}
-use Rattle.std.proofs.lemmas.List.{append_assoc, drop_more, drop_all, length-set, set_split}
+use Rattle.std.proofs.lemmas.List.{append_assoc, append-nil, drop-set-lt, drop_more, drop_all, length-set, take-append-drop, take_more_set}
 use Rattle.std.specs.Int.{bytes_high_first}
 use Rattle.s360_model.specs.{Core.Core, Core.core_with_bytes, Core.core_with_word, Storage.with_run, Storage.word_at}
 use Rattle.s360_psw.specs.declared.instruction_length.InstructionLength.{InstructionLength}
@@ -11,7 +11,6 @@ use Rattle.s360_fixed.specs.Operands.{access_conditions, bytes_of_width}
 use Rattle.s360_fixed.specs.Outcomes.{unless_met}
 use Rattle.s360_fixed.specs.ProgramCodes.{program_code}
 use Rattle.s360_fixed.specs.Storing.{bytes_outcome, completed, load_multiple_outcome, register_count, store_multiple_outcome, store_outcome, with_registers_loaded, with_registers_stored}
-use Rattle.s360_fixed.proofs.PutLemmas.{with_run-append, with_run-none}
 use Rattle.s360_machine.specs.Machine.{Machine}
 use Rattle.s360_footprint.specs.Altering.{completed_row, happened, view_in, with_outcome}
 use Rattle.s360_footprint.specs.OperandReadings.{conditions_read, number_read, profile_of}
@@ -23,14 +22,18 @@ use Rattle.s360_footprint.proofs.OperandLemmas.{conditions-are, conditions-insid
 use Rattle.s360_footprint.proofs.ReadingLemmas.{run-bind}
 use Rattle.s360_footprint.proofs.SequenceLemmas.{stores-append}
 
--- one byte, and those after it
-one-run : (xs : List ℕ) (a b : ℕ) → a < length xs → set xs a b ≡ with_run xs a (b ∷ [])
-one-run xs a b l =
-    let next : suc a ≡ a + 1 = omega arith
-    in set_split xs a b l ∙ sym (append_assoc (take a xs) (b ∷ []) (drop (suc a) xs)) ∙ ap (λ i. take a xs ++ (b ∷ []) ++ drop i xs) next
+-- no byte, and one byte and those after it
+no-run : (xs : List ℕ) (a : ℕ) → with_run xs a [] ≡ xs
+no-run xs a = let here : a + 0 ≡ a = omega arith in rw (append-nil, here) (take-append-drop a xs)
 
 one-more : (xs ys : List ℕ) (a b : ℕ) → a < length xs → with_run (set xs a b) (a + 1) ys ≡ with_run xs a (b ∷ ys)
-one-more xs ys a b l = ap (λ zs. with_run zs (a + 1) ys) (one-run xs a b l) ∙ with_run-append xs (b ∷ []) ys a
+one-more xs ys a b l =
+    let rest : drop (a + 1 + length ys) (set xs a b) ≡ drop (a + 1 + length ys) xs = drop-set-lt (a + 1 + length ys) xs a b (omega arith)
+    in let there : a + 1 + length ys ≡ a + suc (length ys) = omega arith
+    in ap (λ f. f ++ ys ++ drop (a + 1 + length ys) (set xs a b)) (take_more_set xs a b l)
+    ∙ ap (λ r. take a xs ++ (b ∷ []) ++ ys ++ r) rest
+    ∙ ap (λ f. f ++ drop (a + 1 + length ys) xs) (append_assoc (take a xs) (b ∷ []) ys)
+    ∙ ap (λ n. take a xs ++ (b ∷ ys) ++ drop n xs) there
 
 abbrev bytes_of : Machine → List ℕ
 bytes_of m = m.core.storage.bytes
@@ -42,7 +45,7 @@ pub bytes-stored : (bytes : Reading (List ℕ)) (l : List ℕ) (before m : Machi
     → address + length l ≤ length (bytes_of m) → with_stores before m (byte_stores address bytes i n) ≡ record m { core = core_with_bytes (address + i) (drop i l) m.core }
 bytes-stored bytes l before m address i zero e c h =
     let none : drop i l ≡ [] = drop_all i l (omega (arith, c))
-    in sym (ap (with_bytes m) (ap (with_run (bytes_of m) (address + i)) none ∙ with_run-none (bytes_of m) (address + i)))
+    in sym (ap (with_bytes m) (ap (with_run (bytes_of m) (address + i)) none ∙ no-run (bytes_of m) (address + i)))
 bytes-stored bytes l before m address i (suc n) e c h =
     let b : ℕ = get_or l i 0
     in let v : run (bind bytes (λ bs. done (get_or bs i 0))) before ≡ b = run-bind bytes (λ bs. done (get_or bs i 0)) before ∙ ap (λ bs. get_or bs i 0) e

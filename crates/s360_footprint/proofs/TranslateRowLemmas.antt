@@ -8,7 +8,7 @@ use Rattle.s360_psw.specs.declared.instruction_length.InstructionLength.{Instruc
 use Rattle.s360_store.specs.declared.protection.{Access.Access, Checked.Checked}
 use Rattle.s360_store.specs.Protection.{access, met_of_both}
 use Rattle.s360_fixed.specs.{Operands.conditions_of, ProgramCodes.Conditions, ProgramCodes.program_code}
-use Rattle.s360_fixed.specs.Alterations.{no_register, set_to}
+use Rattle.s360_fixed.specs.Alterations.{Alteration, no_register, set_to}
 use Rattle.s360_fixed.specs.View.{Outcome, View}
 use Rattle.s360_logic.specs.Bytes.{byte_at, completed_with, with_byte}
 use Rattle.s360_logic.specs.LeftToRight.{field_at, found_at, function_access, function_address, function_byte, search_access, search_conditions, search_outcome}
@@ -142,7 +142,12 @@ searched-by search first table count next long m (Some i) e =
     = run-bind search _ m ∙ ap (made_of_found (λ word (f : ℕ × ℕ). with_address word (first + f.0)) (get_or m.core.registers 1 0)) e
     in let function : run (bind search (λ f. done (made_of_found (λ word (f : ℕ × ℕ). with_low_byte word f.1) (get_or m.core.registers 2 0) f))) m ≡ with_low_byte (get_or m.core.registers 2 0) found.1
     = run-bind search _ m ∙ ap (made_of_found (λ word (f : ℕ × ℕ). with_low_byte word f.1) (get_or m.core.registers 2 0)) e
-    in altering-as (found_altering search first count next (Some found)) _ m (rw (code, address, function) refl)
+    in let altered : Alteration = record {
+      registers = (1, with_address (get_or m.core.registers 1 0) (first + i)) ∷ ((2, with_low_byte (get_or m.core.registers 2 0) found.1) ∷ []);
+      setting = set_to (found_code count (Some found));
+      address = next;
+    }
+    in altering-as (found_altering search first count next (Some found)) altered m (rw (code, address, function) refl)
 
 pub translate-and-test-is : (first table count next : ℕ) (long : InstructionLength) (m : Machine)
     → happened (translate_and_test_row (profile_of m.core) first table count next) m ≡ with_outcome m (translate_and_test_outcome (view_in m next long) first table count)

@@ -9,3 +9,7 @@ pub mod RegisterRows
 pub mod InstructionRows
 pub mod StoringRows
 pub mod LeftToRightRows
+pub mod StatusRows
+pub mod DigitRows
+pub mod FormRows
+pub mod InstructionLaws

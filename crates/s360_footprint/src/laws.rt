@@ -1,4 +1,5 @@
 //! The laws of rows, the contracts of calls that do nothing. An ending is what a row says of how its event ends.
+ghost use Rattle.s360_footprint.specs.InstructionLaws.{InstructionDecided, InstructionFollows, InstructionsAreRows};
 ghost use Rattle.s360_footprint.specs.Laws.{Decided, Follows, KeepsOthers, SequencesAreRows};
 
 /// A place that a row does not store keeps its value.
@@ -20,4 +21,22 @@ pub fn values_follow_their_sources<Ending>()
 /// One row after another is a row.
 pub fn sequences_are_rows<First, Ending>()
     ensures { SequencesAreRows First Ending }
+{}
+
+/// The row of an instruction does what the instruction does: it is fetched, decoded and done by the row of its form, or by that of
+/// the subject of an execute.
+pub fn instructions_are_rows()
+    ensures { InstructionsAreRows }
+{}
+
+/// Where two machines of one size and profile have the same at the deciders of an instruction, it does the same in both, and
+/// ends alike.
+pub fn deciders_decide_the_instruction()
+    ensures { InstructionDecided }
+{}
+
+/// Where an instruction does the same in two machines of one size and profile, and they have the same at the sources of a place,
+/// they have the same at that place afterwards, before any interruption that follows.
+pub fn instructions_follow_their_sources()
+    ensures { InstructionFollows }
 {}
