@@ -8,14 +8,16 @@ use Rattle.s360_fixed.specs.Outcomes.{unless_met}
 use Rattle.s360_fixed.specs.ProgramCodes.{Conditions, program_code}
 use Rattle.s360_fixed.specs.View.{Outcome}
 use Rattle.s360_machine.specs.Machine.{Machine}
-use Rattle.s360_footprint.specs.Altering.{Altering, Happened, altered_in, altering_row, completed_row, ended_altering, happened, happened_by, overflow_ending, psw_altered, psw_store, register_stores, unless_refused, with_outcome, word_in}
+use Rattle.s360_footprint.specs.Altering.{Altering, Happened, altered_in, altering_row, completed_row, ended_altering, happened, happened_by, overflow_ending}
+use Rattle.s360_footprint.specs.Altering.{psw_altered, psw_store, register_stores, unless_refused, with_outcome, word_in}
 use Rattle.s360_footprint.specs.Readings.{Reading, bind, done, read, run}
 use Rattle.s360_footprint.specs.Rows.{Made, Row, Store, with_stores}
 use Rattle.s360_footprint.proofs.ReadingLemmas.{run-bind}
 use Rattle.s360_footprint.proofs.SequenceLemmas.{stores-append}
 
 -- what follows a reading, which makes this
-pub happened-bind : {X Ending : Type 0} (r : Reading X) (further : X → Row Ending) (m : Machine) (x : X) → run r m ≡ x → happened (bind r further) m ≡ happened (further x) m
+pub happened-bind : {X Ending : Type 0} (r : Reading X) (further : X → Row Ending) (m : Machine) (x : X) → run r m ≡ x
+    → happened (bind r further) m ≡ happened (further x) m
 happened-bind r further m x e = ap (λ made. happened_by made m) (run-bind r further m ∙ ap (λ y. run (further y) m) e)
 
 -- refused, or done
@@ -53,7 +55,8 @@ psw-is code address m =
     run-bind code (λ c. bind address (λ next. done (with_instruction_address (psw_with c m.core.psw) next))) m
     ∙ run-bind address (λ next. done (with_instruction_address (psw_with (run code m) m.core.psw) next)) m
 
-ending-is : (overflow : Reading Bool) (m : Machine) → run (ended_altering overflow) m ≡ overflow_ending (run overflow m && fixed_point_overflow_mask_of m.core.psw)
+ending-is : (overflow : Reading Bool) (m : Machine)
+    → run (ended_altering overflow) m ≡ overflow_ending (run overflow m && fixed_point_overflow_mask_of m.core.psw)
 ending-is overflow m = by (fixed_point_overflow_mask_of m.core.psw) where
   without : (o : Bool) → Ended.Done ≡ overflow_ending (o && false)
   without true = refl
@@ -67,7 +70,8 @@ ending-is overflow m = by (fixed_point_overflow_mask_of m.core.psw) where
 
 -- any stores, and then the PSW
 pub psw-stored : (ss : List Store) (code : Reading (Option ℕ)) (address : Reading ℕ) (m : Machine) (c : Core) → with_stores m m ss ≡ record m { core = c }
-    → with_stores m m (ss ++ psw_store code address) ≡ record m { core = record c { psw = with_instruction_address (psw_with (run code m) m.core.psw) (run address m) } }
+    → with_stores m m (ss ++ psw_store code address)
+    ≡ record m { core = record c { psw = with_instruction_address (psw_with (run code m) m.core.psw) (run address m) } }
 psw-stored ss code address m c e =
     stores-append m m ss (psw_store code address)
     ∙ ap (λ (x : Machine). record x { core = record x.core { psw = run (psw_altered code address) m } }) e
@@ -79,7 +83,8 @@ altering-is a m =
     in happened-bind (ended_altering a.overflow) (λ ended. done (record { ended = ended; stores = stores })) m
     (ended_by (altered_in a m).setting m.core.psw) (ending-is a.overflow m)
     ∙ ap (λ x. record { ended = ended_by (altered_in a m).setting m.core.psw; machine = x })
-    (psw-stored (register_stores a.registers) a.code a.address m (record m.core { registers = with_words (map (word_in m) a.registers) m.core.registers }) (registers-stored m m a.registers))
+    (psw-stored (register_stores a.registers) a.code a.address m (record m.core { registers = with_words (map (word_in m) a.registers) m.core.registers })
+    (registers-stored m m a.registers))
 
 -- by what is altered
 pub altering-as : (a : Altering) (b : Alteration) (m : Machine) → altered_in a m ≡ b → happened (altering_row a) m ≡ with_outcome m (after_alteration m.core b)

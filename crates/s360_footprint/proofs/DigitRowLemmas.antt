@@ -1,5 +1,6 @@
 -- MOVE WITH OFFSET, PACK and UNPACK do what their definitions say.
-use Rattle.std.proofs.Common.{ℕ, zero, suc, ◌+◌, ◌-◌, ◌*◌, ◌/◌, ◌%◌, ◌≡◌, ◌<◌, ◌≤◌, ◌∙◌, Bool, true, false, cond, nat_eq, nat_lt, None, List, [], ◌∷◌, refl, sym, ap, get_or, set, length, arith}
+use Rattle.std.proofs.Common.{ℕ, zero, suc, ◌+◌, ◌-◌, ◌*◌, ◌/◌, ◌%◌, ◌≡◌, ◌<◌, ◌≤◌, ◌∙◌, Bool, true, false, cond, nat_eq, nat_lt, None, List, [], ◌∷◌, refl}
+use Rattle.std.proofs.Common.{sym, ap, get_or, set, length, arith}
 use Rattle.std.proofs.lemmas.Bool.{eqb-true, eqb-false, lt-ltb}
 use Rattle.std.proofs.lemmas.List.{get_or-set_same, get_or-set_other, length-set}
 use Rattle.s360_model.specs.{Psw.protection_key_of, Storage.Storage}
@@ -7,10 +8,12 @@ use Rattle.s360_psw.specs.declared.instruction_length.InstructionLength.{Instruc
 use Rattle.s360_store.specs.declared.{place.Place.TheVariants.Byte, protection.Access.Access}
 use Rattle.s360_logic.specs.declared.{field.Field.Field, row.DigitRow.DigitRow}
 use Rattle.s360_logic.specs.Bytes.{byte_at, completed_with, with_byte}
-use Rattle.s360_logic.specs.RightToLeft.{DigitMove, address_from_right, byte_from_right, digits, digits_outcome, digits_stored, exchanged, first_user, made_byte, result_byte, source_byte, storage_after, storage_before, zone_of}
+use Rattle.s360_logic.specs.RightToLeft.{DigitMove, address_from_right, byte_from_right, digits, digits_outcome, digits_stored, exchanged, first_user}
+use Rattle.s360_logic.specs.RightToLeft.{made_byte, result_byte, source_byte, storage_after, storage_before, zone_of}
 use Rattle.s360_machine.specs.Machine.{Machine}
 use Rattle.s360_footprint.specs.Altering.{completed_row, happened, view_in, with_outcome}
-use Rattle.s360_footprint.specs.DigitRows.{DigitOperands, byte_before, digit_read, digit_stores, digits_row, exchanged_read, from_right_read, made_digit, pair_of_digits, source_read, upper_read, zoned_read}
+use Rattle.s360_footprint.specs.DigitRows.{DigitOperands, byte_before, digit_read, digit_stores, digits_row, exchanged_read, from_right_read, made_digit}
+use Rattle.s360_footprint.specs.DigitRows.{pair_of_digits, source_read, upper_read, zoned_read}
 use Rattle.s360_footprint.specs.LeftToRightRows.{fields_read}
 use Rattle.s360_footprint.specs.OperandReadings.{profile_of}
 use Rattle.s360_footprint.specs.Readings.{Reading, bind, done, run}
@@ -46,7 +49,8 @@ from-right-is : (field : Field) (bytes : ℕ → Reading ℕ) (s : Storage) (i :
 from-right-is field bytes s i m h = either (nat_lt i field.count) (bytes (address_from_right field i)) (done 0) _ 0 m (h (address_from_right field i)) refl
 
 -- the byte of the result
-digit-is : (row : DigitRow) (rightmost : Reading ℕ) (source : ℕ → Reading ℕ) (r : ℕ) (f : ℕ → ℕ) (i : ℕ) (m : Machine) → run rightmost m ≡ r → ((j : ℕ) → run (source j) m ≡ f j)
+digit-is : (row : DigitRow) (rightmost : Reading ℕ) (source : ℕ → Reading ℕ) (r : ℕ) (f : ℕ → ℕ) (i : ℕ) (m : Machine) → run rightmost m ≡ r
+    → ((j : ℕ) → run (source j) m ≡ f j)
     → run (digit_read row rightmost source i) m ≡ result_byte row (zone_of m.core.psw) r f i
 digit-is DigitRow.MoveWithOffset rightmost source r f i m e h =
     pair-is (source i) (cond (nat_eq i 0) rightmost (upper_read (source (i - 1)))) (f i) _ m (h i)
@@ -58,7 +62,8 @@ digit-is DigitRow.Unpack rightmost source r f i m e h =
     either (nat_eq i 0) (exchanged_read (source 0)) (zoned_read (cond (nat_eq (i % 2) 1) (source ((i + 1) / 2)) (upper_read (source (i / 2))))) _ _ m
     (exchanged-is (source 0) (f 0) m (h 0))
     (zoned-is (cond (nat_eq (i % 2) 1) (source ((i + 1) / 2)) (upper_read (source (i / 2)))) _ m
-    (either (nat_eq (i % 2) 1) (source ((i + 1) / 2)) (upper_read (source (i / 2))) (f ((i + 1) / 2)) (f (i / 2) / 16) m (h ((i + 1) / 2)) (upper-is (source (i / 2)) (f (i / 2)) m (h (i / 2)))))
+    (either (nat_eq (i % 2) 1) (source ((i + 1) / 2)) (upper_read (source (i / 2))) (f ((i + 1) / 2)) (f (i / 2) / 16) m (h ((i + 1) / 2))
+    (upper-is (source (i / 2)) (f (i / 2)) m (h (i / 2)))))
 
 abbrev move_of : DigitOperands → Machine → DigitMove
 move_of d m = record { row = d.row; zone = zone_of m.core.psw; first = d.first; second = d.second }
@@ -83,8 +88,10 @@ before-is : (d : DigitOperands) (n i a : ℕ) (m : Machine) → n ≤ d.first.co
     → run (byte_before d n i a) m ≡ byte_at (storage_before (move_of d m) m.core.storage n i) a
 before-is d zero i a m l h = refl
 before-is d (suc n) i a m l h = by (nat_lt n i) (λ k b. before-is d n k b m (omega (arith, l)) h) where
-  turn : (z : Bool) → nat_eq (address_from_right d.first n) a ≡ z → ((k b : ℕ) → run (byte_before d n k b) m ≡ byte_at (storage_before (move_of d m) m.core.storage n k) b)
-      → run (cond z (made_digit d (byte_before d n) n) (byte_before d n n a)) m ≡ byte_at (storage_after (move_of d m) (storage_before (move_of d m) m.core.storage n) n) a
+  turn : (z : Bool) → nat_eq (address_from_right d.first n) a ≡ z
+      → ((k b : ℕ) → run (byte_before d n k b) m ≡ byte_at (storage_before (move_of d m) m.core.storage n k) b)
+      → run (cond z (made_digit d (byte_before d n) n) (byte_before d n n a)) m
+      ≡ byte_at (storage_after (move_of d m) (storage_before (move_of d m) m.core.storage n) n) a
   turn true e f =
       let s : Storage = storage_before (move_of d m) m.core.storage n n
       in let b : ℕ = made_byte (move_of d m) (storage_before (move_of d m) m.core.storage n) n
@@ -116,7 +123,8 @@ digits-stored d (suc n) m l h =
     in let byte : run (made_digit d (byte_before d n) n) m ≡ made_byte (move_of d m) before n
     = made-is d (byte_before d n) before n m (λ k a. before-is d n k a m (omega (arith, l)) h)
     in stores-append m m (digit_stores d n) _
-    ∙ ap (λ (x : Machine). record x { core = record x.core { storage = with_byte (address_from_right d.first n) (run (made_digit d (byte_before d n) n) m) x.core.storage } })
+    ∙ ap (λ (x : Machine). record x { core
+    = record x.core { storage = with_byte (address_from_right d.first n) (run (made_digit d (byte_before d n) n) m) x.core.storage } })
     (digits-stored d n m (omega (arith, l)) h)
     ∙ ap (λ b. record m { core = record m.core { storage = with_byte (address_from_right d.first n) b (before n) } }) byte
     ∙ ap (λ s. record m { core = record m.core { storage = s } }) (sym (last-before (move_of d m) m.core.storage n))

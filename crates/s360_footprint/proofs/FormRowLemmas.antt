@@ -4,16 +4,21 @@ use Rattle.std.specs.Prelude.{option_and_then}
 use Rattle.std.specs.Option.{option_map}
 use Rattle.s360_psw.specs.declared.instruction_length.InstructionLength.{InstructionLength}
 use Rattle.s360_fixed.specs.declared.program_code.ProgramCode.TheVariants.{Operation as operation_code}
-use Rattle.s360_fixed.specs.declared.{ended.Ended.Ended, form.Form.Form, row.Row.Row as FixedRow, second_operand.SecondOperand.SecondOperand, second_operand.Width.Width}
-use Rattle.s360_fixed.specs.{Branching.branch_outcome, Fixed.fixed_outcome, Fixed.rr_outcome, Fixed.rs_outcome, Fixed.rx_outcome, Operands.operand_address, Rows.row_of}
+use Rattle.s360_fixed.specs.declared.{ended.Ended.Ended, form.Form.Form, row.Row.Row as FixedRow, second_operand.SecondOperand.SecondOperand}
+use Rattle.s360_fixed.specs.declared.{second_operand.Width.Width}
+use Rattle.s360_fixed.specs.{Branching.branch_outcome, Fixed.fixed_outcome, Fixed.rr_outcome, Fixed.rs_outcome, Fixed.rx_outcome, Operands.operand_address}
+use Rattle.s360_fixed.specs.{Rows.row_of}
 use Rattle.s360_fixed.specs.{Outcomes.combination_outcome, Outcomes.pair_outcome, View.Outcome, View.View}
-use Rattle.s360_logic.specs.declared.row.{Conversion.Conversion, ImmediateRow.ImmediateRow, RegisterStatus.RegisterStatus, StorageRow.StorageRow, StorageStatus.StorageStatus}
-use Rattle.s360_logic.specs.{Converting.conversion_outcome, Immediate.immediate_outcome, Logic.by_row, Logic.logic_outcome, Logic.row_outcome, Logic.status_outcome}
+use Rattle.s360_logic.specs.declared.row.{Conversion.Conversion, ImmediateRow.ImmediateRow, RegisterStatus.RegisterStatus, StorageRow.StorageRow}
+use Rattle.s360_logic.specs.declared.row.{StorageStatus.StorageStatus}
+use Rattle.s360_logic.specs.{Converting.conversion_outcome, Immediate.immediate_outcome, Logic.by_row, Logic.logic_outcome, Logic.row_outcome}
+use Rattle.s360_logic.specs.{Logic.status_outcome}
 use Rattle.s360_logic.specs.{Logic.storage_outcome, Status.register_status_outcome, Status.storage_status_outcome}
 use Rattle.s360_logic.specs.Rows.{conversion_of, immediate_row_of, register_status_of, storage_row_of, storage_status_of}
 use Rattle.s360_machine.specs.Machine.{Machine}
 use Rattle.s360_footprint.specs.Altering.{happened, view_in, with_outcome}
-use Rattle.s360_footprint.specs.FormRows.{converting, first_row, fixed_row, form_rows, immediate, in_storage, logic_row, of_registers, of_storage, rr_row, rs_row, rx_row, status_row, storage_row}
+use Rattle.s360_footprint.specs.FormRows.{converting, first_row, fixed_row, form_rows, immediate, in_storage, logic_row, of_registers, of_storage, rr_row}
+use Rattle.s360_footprint.specs.FormRows.{rs_row, rx_row, status_row, storage_row}
 use Rattle.s360_footprint.specs.InstructionRows.{RowsAre}
 use Rattle.s360_footprint.specs.OperandReadings.{address_read, profile_of, register_operand, second_operand_read}
 use Rattle.s360_footprint.specs.Readings.{Reading, bind, done, run}
@@ -38,7 +43,8 @@ Matches m v (Some row) (Some outcome) = happened row m ≡ with_outcome m (outco
 Matches m v row outcome = ⊥
 
 -- with the address of an operand
-addressed : (parts : Reading ℕ) (row : ℕ → Row Ended) (outcome : Outcome) (address : ℕ) (m : Machine) → run parts m ≡ address → happened (row address) m ≡ with_outcome m outcome
+addressed : (parts : Reading ℕ) (row : ℕ → Row Ended) (outcome : Outcome) (address : ℕ) (m : Machine) → run parts m ≡ address
+    → happened (row address) m ≡ with_outcome m outcome
     → happened (bind parts row) m ≡ with_outcome m outcome
 addressed parts row outcome address m e h = happened-bind parts row m address e ∙ h
 
@@ -48,7 +54,8 @@ rr-matches r1 r2 next length None m = tt
 rr-matches r1 r2 next length (Some (FixedRow.Combine second c)) m = combination-is c r1 (register_operand r2) next length m
 rr-matches r1 r2 next length (Some (FixedRow.CombinePair c)) m = pair-row-is c r1 (register_operand r2) next length m
 rr-matches r1 r2 next length (Some (FixedRow.Branch b)) m =
-    branch-is b r1 (target_read r2) next length m ∙ ap (λ t. with_outcome m (branch_outcome b (view_in m next length) r1 t)) (target-is r2 (view_in m next length) m refl)
+    branch-is b r1 (target_read r2) next length m
+    ∙ ap (λ t. with_outcome m (branch_outcome b (view_in m next length) r1 t)) (target-is r2 (view_in m next length) m refl)
 rr-matches r1 r2 next length (Some (FixedRow.StoreBytes width)) m = tt
 rr-matches r1 r2 next length (Some FixedRow.StoreRegisters) m = tt
 rr-matches r1 r2 next length (Some FixedRow.LoadRegisters) m = tt
@@ -69,15 +76,19 @@ rx-matches r1 x2 b2 d2 next length (Some (FixedRow.Combine second c)) m =
 rx-matches r1 x2 b2 d2 next length (Some (FixedRow.CombinePair c)) m =
     let parts : Reading ℕ = address_read x2 b2 d2
     in let address : ℕ = operand_address m.core.registers x2 b2 d2
-    in addressed parts (λ a. pair_row c r1 (second_operand_read (profile_of m.core) (SecondOperand.InStorage Width.Word) parts a) next) _ address m (address-is x2 b2 d2 m)
+    in addressed parts (λ a. pair_row c r1 (second_operand_read (profile_of m.core) (SecondOperand.InStorage Width.Word) parts a) next) _ address m
+    (address-is x2 b2 d2 m)
     (pair-row-is c r1 (second_operand_read (profile_of m.core) (SecondOperand.InStorage Width.Word) parts address) next length m
-    ∙ ap (λ s. with_outcome m (pair_outcome c (view_in m next length) r1 s)) (second-operand-is (SecondOperand.InStorage Width.Word) parts address m (address-is x2 b2 d2 m)))
+    ∙ ap (λ s. with_outcome m (pair_outcome c (view_in m next length) r1 s))
+    (second-operand-is (SecondOperand.InStorage Width.Word) parts address m (address-is x2 b2 d2 m)))
 rx-matches r1 x2 b2 d2 next length (Some (FixedRow.Branch b)) m =
     let address : ℕ = operand_address m.core.registers x2 b2 d2
-    in addressed (address_read x2 b2 d2) (λ a. branch_row b r1 (done (Some a)) next length) _ address m (address-is x2 b2 d2 m) (branch-is b r1 (done (Some address)) next length m)
+    in addressed (address_read x2 b2 d2) (λ a. branch_row b r1 (done (Some a)) next length) _ address m (address-is x2 b2 d2 m)
+    (branch-is b r1 (done (Some address)) next length m)
 rx-matches r1 x2 b2 d2 next length (Some (FixedRow.StoreBytes width)) m =
     let address : ℕ = operand_address m.core.registers x2 b2 d2
-    in addressed (address_read x2 b2 d2) (λ a. store_row (profile_of m.core) width r1 a next) _ address m (address-is x2 b2 d2 m) (store-is width r1 address next length m)
+    in addressed (address_read x2 b2 d2) (λ a. store_row (profile_of m.core) width r1 a next) _ address m (address-is x2 b2 d2 m)
+    (store-is width r1 address next length m)
 rx-matches r1 x2 b2 d2 next length (Some FixedRow.StoreRegisters) m = tt
 rx-matches r1 x2 b2 d2 next length (Some FixedRow.LoadRegisters) m = tt
 rx-matches r1 x2 b2 d2 next length (Some (FixedRow.Shift s)) m = tt
@@ -94,10 +105,12 @@ rs-matches r1 r3 b2 d2 next length (Some (FixedRow.Branch b)) m = tt
 rs-matches r1 r3 b2 d2 next length (Some (FixedRow.StoreBytes width)) m = tt
 rs-matches r1 r3 b2 d2 next length (Some FixedRow.StoreRegisters) m =
     let address : ℕ = operand_address m.core.registers 0 b2 d2
-    in addressed (address_read 0 b2 d2) (λ a. store_multiple_row (profile_of m.core) r1 r3 a next) _ address m (address-is 0 b2 d2 m) (store-multiple-is r1 r3 address next length m)
+    in addressed (address_read 0 b2 d2) (λ a. store_multiple_row (profile_of m.core) r1 r3 a next) _ address m (address-is 0 b2 d2 m)
+    (store-multiple-is r1 r3 address next length m)
 rs-matches r1 r3 b2 d2 next length (Some FixedRow.LoadRegisters) m =
     let address : ℕ = operand_address m.core.registers 0 b2 d2
-    in addressed (address_read 0 b2 d2) (λ a. load_multiple_row (profile_of m.core) r1 r3 a next) _ address m (address-is 0 b2 d2 m) (load-multiple-is r1 r3 address next length m)
+    in addressed (address_read 0 b2 d2) (λ a. load_multiple_row (profile_of m.core) r1 r3 a next) _ address m (address-is 0 b2 d2 m)
+    (load-multiple-is r1 r3 address next length m)
 rs-matches r1 r3 b2 d2 next length (Some (FixedRow.Shift s)) m =
     let address : ℕ = operand_address m.core.registers 0 b2 d2
     in addressed (address_read 0 b2 d2) (λ a. shift_row s r1 a next) _ address m (address-is 0 b2 d2 m) (shift-is s r1 address next length m)
@@ -108,7 +121,8 @@ rs-matches r1 r3 b2 d2 next length (Some (FixedRow.BranchOnIndex b)) m =
     let address : ℕ = operand_address m.core.registers 0 b2 d2
     in addressed (address_read 0 b2 d2) (λ a. index_row b r1 r3 a next) _ address m (address-is 0 b2 d2 m) (index-is b r1 r3 address next length m)
 
-fixed-matches : (form : Form) (next : ℕ) (length : InstructionLength) (m : Machine) → Matches m (view_in m next length) (fixed_row (profile_of m.core) form next length) (fixed_outcome form)
+fixed-matches : (form : Form) (next : ℕ) (length : InstructionLength) (m : Machine)
+    → Matches m (view_in m next length) (fixed_row (profile_of m.core) form next length) (fixed_outcome form)
 fixed-matches (Form.Rr operation r1 r2) next length m = rr-matches r1 r2 next length (row_of operation) m
 fixed-matches (Form.Rx operation r1 x2 b2 d2) next length m = rx-matches r1 x2 b2 d2 next length (row_of operation) m
 fixed-matches (Form.Rs operation r1 r3 b2 d2) next length m = rs-matches r1 r3 b2 d2 next length (row_of operation) m
@@ -131,7 +145,8 @@ converting-matches : (r1 x2 b2 d2 next : ℕ) (length : InstructionLength) (o : 
 converting-matches r1 x2 b2 d2 next length None m = tt
 converting-matches r1 x2 b2 d2 next length (Some row) m =
     let address : ℕ = operand_address m.core.registers x2 b2 d2
-    in addressed (address_read x2 b2 d2) (λ a. conversion_row (profile_of m.core) row r1 a next) _ address m (address-is x2 b2 d2 m) (conversion-is row r1 address next length m)
+    in addressed (address_read x2 b2 d2) (λ a. conversion_row (profile_of m.core) row r1 a next) _ address m (address-is x2 b2 d2 m)
+    (conversion-is row r1 address next length m)
 
 immediate-matches : (i2 b1 d1 next : ℕ) (length : InstructionLength) (o : Option ImmediateRow) (m : Machine)
     → Matches m (view_in m next length) (immediate (profile_of m.core) i2 (address_read 0 b1 d1) next o)
@@ -139,7 +154,8 @@ immediate-matches : (i2 b1 d1 next : ℕ) (length : InstructionLength) (o : Opti
 immediate-matches i2 b1 d1 next length None m = tt
 immediate-matches i2 b1 d1 next length (Some row) m =
     let address : ℕ = operand_address m.core.registers 0 b1 d1
-    in addressed (address_read 0 b1 d1) (λ a. immediate_row (profile_of m.core) row i2 a next) _ address m (address-is 0 b1 d1 m) (immediate-is row i2 address next length m)
+    in addressed (address_read 0 b1 d1) (λ a. immediate_row (profile_of m.core) row i2 a next) _ address m (address-is 0 b1 d1 m)
+    (immediate-is row i2 address next length m)
 
 storage-matches : (l b1 d1 b2 d2 next : ℕ) (length : InstructionLength) (o : Option StorageRow) (m : Machine)
     → Matches m (view_in m next length) (in_storage (profile_of m.core) l (address_read 0 b1 d1) (address_read 0 b2 d2) next o)
@@ -148,10 +164,13 @@ storage-matches l b1 d1 b2 d2 next length None m = tt
 storage-matches l b1 d1 b2 d2 next length (Some row) m =
     let first : ℕ = operand_address m.core.registers 0 b1 d1
     in let second : ℕ = operand_address m.core.registers 0 b2 d2
-    in addressed (address_read 0 b1 d1) (λ a. bind (address_read 0 b2 d2) (λ b. storage_row (profile_of m.core) row l a b next)) _ first m (address-is 0 b1 d1 m)
-    (addressed (address_read 0 b2 d2) (λ b. storage_row (profile_of m.core) row l first b next) _ second m (address-is 0 b2 d2 m) (storage-is row l first second next length m))
+    in addressed (address_read 0 b1 d1) (λ a. bind (address_read 0 b2 d2) (λ b. storage_row (profile_of m.core) row l a b next)) _ first m
+    (address-is 0 b1 d1 m)
+    (addressed (address_read 0 b2 d2) (λ b. storage_row (profile_of m.core) row l first b next) _ second m (address-is 0 b2 d2 m)
+    (storage-is row l first second next length m))
 
-logic-matches : (form : Form) (next : ℕ) (length : InstructionLength) (m : Machine) → Matches m (view_in m next length) (logic_row (profile_of m.core) form next) (logic_outcome form)
+logic-matches : (form : Form) (next : ℕ) (length : InstructionLength) (m : Machine)
+    → Matches m (view_in m next length) (logic_row (profile_of m.core) form next) (logic_outcome form)
 logic-matches (Form.Rr operation r1 r2) next length m = tt
 logic-matches (Form.Rx operation r1 x2 b2 d2) next length m = converting-matches r1 x2 b2 d2 next length (conversion_of operation) m
 logic-matches (Form.Rs operation r1 r3 b2 d2) next length m = tt
@@ -170,9 +189,11 @@ status-by-storage : (b1 d1 next : ℕ) (length : InstructionLength) (o : Option 
 status-by-storage b1 d1 next length None m = tt
 status-by-storage b1 d1 next length (Some row) m =
     let address : ℕ = operand_address m.core.registers 0 b1 d1
-    in addressed (address_read 0 b1 d1) (λ a. storage_status_row (profile_of m.core) row a next) _ address m (address-is 0 b1 d1 m) (storage-status-is row address next length m)
+    in addressed (address_read 0 b1 d1) (λ a. storage_status_row (profile_of m.core) row a next) _ address m (address-is 0 b1 d1 m)
+    (storage-status-is row address next length m)
 
-status-matches : (form : Form) (next : ℕ) (length : InstructionLength) (m : Machine) → Matches m (view_in m next length) (status_row (profile_of m.core) form next) (status_outcome form)
+status-matches : (form : Form) (next : ℕ) (length : InstructionLength) (m : Machine)
+    → Matches m (view_in m next length) (status_row (profile_of m.core) form next) (status_outcome form)
 status-matches (Form.Rr operation r1 r2) next length m = registers-match r1 r2 next length (register_status_of operation) m
 status-matches (Form.Rx operation r1 x2 b2 d2) next length m = tt
 status-matches (Form.Rs operation r1 r3 b2 d2) next length m = tt
@@ -180,7 +201,8 @@ status-matches (Form.Si operation i2 b1 d1) next length m = status-by-storage b1
 status-matches (Form.Ss operation l b1 d1 b2 d2) next length m = tt
 
 -- by whichever is found first
-first-is : (m : Machine) (v : View) (a b c : Option (Row Ended)) (f g h : Option (View → Outcome)) → v.core ≡ m.core → Matches m v a f → Matches m v b g → Matches m v c h
+first-is : (m : Machine) (v : View) (a b c : Option (Row Ended)) (f g h : Option (View → Outcome)) → v.core ≡ m.core → Matches m v a f → Matches m v b g
+    → Matches m v c h
     → happened (first_row a b c) m ≡ with_outcome m (by_row f g h v)
 first-is m v (Some a) b c (Some f) g h k x y z = x
 first-is m v (Some a) b c None g h k x y z = absurd x
@@ -195,4 +217,5 @@ first-is m v None None None None None None k x y z = ap (λ core. record { ended
 
 pub forms-are : (m : Machine) → RowsAre form_rows m
 forms-are m form next length =
-    first-is m (view_in m next length) _ _ _ _ _ _ refl (fixed-matches form next length m) (logic-matches form next length m) (status-matches form next length m)
+    first-is m (view_in m next length) _ _ _ _ _ _ refl (fixed-matches form next length m) (logic-matches form next length m)
+    (status-matches form next length m)

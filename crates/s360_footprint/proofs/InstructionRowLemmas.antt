@@ -1,5 +1,6 @@
 -- One instruction as a row does what its definition says.
-use Rattle.std.proofs.Common.{ℕ, zero, suc, ◌+◌, ◌-◌, ◌%◌, ◌≡◌, ◌≤◌, ◌<◌, ◌∙◌, not, Bool, true, false, cond, Option, Some, None, List, [], ◌∷◌, refl, ap, sym, get_or, nat_eq, nat_lt, nat_le, length, take, drop, set, arith, slice_range, slice_index, bit_or}
+use Rattle.std.proofs.Common.{ℕ, zero, suc, ◌+◌, ◌-◌, ◌%◌, ◌≡◌, ◌≤◌, ◌<◌, ◌∙◌, not, Bool, true, false, cond, Option, Some, None, List, [], ◌∷◌, refl, ap, sym}
+use Rattle.std.proofs.Common.{get_or, nat_eq, nat_lt, nat_le, length, take, drop, set, arith, slice_range, slice_index, bit_or}
 use Rattle.std.proofs.lemmas.List.{drop_more}
 use Rattle.std.specs.Option.{option_map, option_map_or}
 use Rattle.std.specs.Prelude.{is_none, if◌then◌else◌}
@@ -21,7 +22,9 @@ use Rattle.s360_logic.specs.Instruction.{Instruction, conditions_at, fetched_out
 use Rattle.s360_logic.specs.Logic.{execute_outcome, outcome_of, row_outcome, subject_bytes, subject_of, subject_outcome, with_ored_byte}
 use Rattle.s360_machine.specs.Machine.{Machine}
 use Rattle.s360_footprint.specs.Altering.{Happened, happened, happened_by, refused, unless_refused, view_in, with_outcome}
-use Rattle.s360_footprint.specs.InstructionRows.{ExecuteFields, FormRows, InstructionEnd, coded_row, ending_with, execute_of, execute_row, executed_row, fetch_conditions_read, fetch_met, fetched_row, instruction_read, instruction_row, ored_read, row_at, subject_read, subject_row, unless_execute, unless_unfetched, whole_met, with_instruction, RowsAre}
+use Rattle.s360_footprint.specs.InstructionRows.{ExecuteFields, FormRows, InstructionEnd, coded_row, ending_with, execute_of, execute_row, executed_row}
+use Rattle.s360_footprint.specs.InstructionRows.{fetch_conditions_read, fetch_met, fetched_row, instruction_read, instruction_row, ored_read, row_at}
+use Rattle.s360_footprint.specs.InstructionRows.{subject_read, subject_row, unless_execute, unless_unfetched, whole_met, with_instruction, RowsAre}
 use Rattle.s360_footprint.specs.OperandReadings.{access_read, address_read, bytes_read, profile_of}
 use Rattle.s360_footprint.specs.Readings.{Reading, bind, done, read, run}
 use Rattle.s360_footprint.specs.Rows.{Made, Row}
@@ -31,7 +34,8 @@ use Rattle.s360_footprint.proofs.ReadingLemmas.{run-bind}
 
 -- what keeps an instruction from being fetched
 whole-is : (address key : ℕ) (m : Machine) (met : Checked)
-    → run (whole_met (profile_of m.core) address key met) m ≡ met_in_turn met (access m.core.storage address (length_at m.core.storage address) Access.Fetch key)
+    → run (whole_met (profile_of m.core) address key met) m
+    ≡ met_in_turn met (access m.core.storage address (length_at m.core.storage address) Access.Fetch key)
 whole-is address key m Checked.Clear = access-is address (length_at m.core.storage address) Access.Fetch key m
 whole-is address key m Checked.Addressing = refl
 whole-is address key m Checked.Protection = refl
@@ -55,14 +59,17 @@ second-clear Checked.Clear second h = h
 second-clear Checked.Addressing second h = absurd (cc)
 second-clear Checked.Protection second h = absurd (cc)
 
-fetched-inside : (m : Core) (address key : ℕ) → program_code (fetch_conditions m.storage address key) ≡ None → address + length_at m.storage address ≤ length m.storage.bytes
+fetched-inside : (m : Core) (address key : ℕ) → program_code (fetch_conditions m.storage address key) ≡ None
+    → address + length_at m.storage address ≤ length m.storage.bytes
 fetched-inside m address key h =
     let second : Checked = access m.storage address (length_at m.storage address) Access.Fetch key
     in clear-inside m address (length_at m.storage address) Access.Fetch key
-    (second-clear (access m.storage address 2 Access.Fetch key) second (met-nothing (met_in_turn (access m.storage address 2 Access.Fetch key) second) (is_odd address) h))
+    (second-clear (access m.storage address 2 Access.Fetch key) second
+    (met-nothing (met_in_turn (access m.storage address 2 Access.Fetch key) second) (is_odd address) h))
 
 -- its bytes
-pub bytes-are : (address count : ℕ) (m : Machine) → address + count ≤ length m.core.storage.bytes → run (bytes_read address count) m ≡ take count (drop address m.core.storage.bytes)
+pub bytes-are : (address count : ℕ) (m : Machine) → address + count ≤ length m.core.storage.bytes
+    → run (bytes_read address count) m ≡ take count (drop address m.core.storage.bytes)
 bytes-are address zero m h = refl
 bytes-are address (suc n) m h =
     let b : ℕ = get_or m.core.storage.bytes address 0
@@ -96,8 +103,10 @@ ored-is r1 bytes v m e = by (nat_eq r1 0) where
 abbrev size : Machine → ℕ
 size m = length m.core.storage.bytes
 
-subject-done : (o : Option ExecuteFields) (f : ExecuteFields → ℕ × ℕ) (row : Row Ended) (m : Machine) (outcome : Outcome) → happened row m ≡ with_outcome m outcome
-    → happened (unless_execute o row) m ≡ with_outcome m (option_map_or (λ subject. record { ended = Ended.Program execute_code; core = m.core }) (option_map f o) outcome)
+subject-done : (o : Option ExecuteFields) (f : ExecuteFields → ℕ × ℕ) (row : Row Ended) (m : Machine) (outcome : Outcome)
+    → happened row m ≡ with_outcome m outcome
+    → happened (unless_execute o row) m
+    ≡ with_outcome m (option_map_or (λ subject. record { ended = Ended.Program execute_code; core = m.core }) (option_map f o) outcome)
 subject-done None f row m outcome h = h
 subject-done (Some fields) f row m outcome h = refl
 
@@ -106,7 +115,8 @@ subject-is : (rows : FormRows) (next : ℕ) (length : InstructionLength) (o : Op
 subject-is rows next length None m are = refl
 subject-is rows next length (Some form) m are =
     subject-done (execute_of form) _ (rows (profile_of m.core) form next length) m (row_outcome (view_in m next length) form) (are form next length)
-    ∙ ap (λ o. with_outcome m (option_map_or (λ subject. record { ended = Ended.Program execute_code; core = m.core }) o (row_outcome (view_in m next length) form)))
+    ∙ ap (λ o. with_outcome m
+    (option_map_or (λ subject. record { ended = Ended.Program execute_code; core = m.core }) o (row_outcome (view_in m next length) form)))
     (sym (execute-is (view_in m next length) form))
 
 -- an execute
@@ -147,7 +157,8 @@ execute-done rows r1 address next length m are =
 abbrev place_of : Machine → ExecuteFields → ℕ × ℕ
 place_of m e = (e.r1, operand_address m.core.registers e.index e.base e.displacement)
 
-executed-is : (rows : FormRows) (next : ℕ) (length : InstructionLength) (row : Row Ended) (outcome : Outcome) (o : Option ExecuteFields) (m : Machine) → RowsAre rows m
+executed-is : (rows : FormRows) (next : ℕ) (length : InstructionLength) (row : Row Ended) (outcome : Outcome) (o : Option ExecuteFields) (m : Machine)
+    → RowsAre rows m
     → happened row m ≡ with_outcome m outcome
     → happened (executed_row rows (profile_of m.core) next length row o) m
     ≡ with_outcome m (option_map_or (λ (subject : ℕ × ℕ). execute_outcome (view_in m next length) subject.0 subject.1) (option_map (place_of m) o) outcome)
@@ -169,7 +180,8 @@ fetched-is rows next length (Some form) m are =
 abbrev ends_with : ℕ → InstructionLength → Happened Ended → Happened InstructionEnd
 ends_with next length h = record { ended = record { ended = h.ended; next_address = next; instruction_length = length }; machine = h.machine }
 
-ending-with : (row : Row Ended) (next : ℕ) (length : InstructionLength) (m : Machine) → happened (bind row (ending_with next length)) m ≡ ends_with next length (happened row m)
+ending-with : (row : Row Ended) (next : ℕ) (length : InstructionLength) (m : Machine)
+    → happened (bind row (ending_with next length)) m ≡ ends_with next length (happened row m)
 ending-with row next length m = ap (λ made. happened_by made m) (run-bind row (ending_with next length) m)
 
 coded-is : (rows : FormRows) (address : ℕ) (m : Machine) → RowsAre rows m → address + length_at m.core.storage address ≤ size m
@@ -195,7 +207,8 @@ view_with o m address =
 
 abbrev instruction_with : Option ProgramCode → Core → ℕ → Instruction
 instruction_with o m address = record {
-  outcome = option_map_or (λ code. record { ended = Ended.Program code; core = m }) o (fetched_outcome (view_with o m address) (form_of (instruction_bytes m.storage address)));
+  outcome = option_map_or (λ code. record { ended = Ended.Program code; core = m }) o
+      (fetched_outcome (view_with o m address) (form_of (instruction_bytes m.storage address)));
   next_address = (view_with o m address).next_address;
   instruction_length = (view_with o m address).instruction_length;
 }
@@ -205,12 +218,14 @@ met-is : (rows : FormRows) (address : ℕ) (m : Machine) → RowsAre rows m → 
 met-is rows address m are None e = coded-is rows address m are (fetched-inside m.core address (protection_key_of m.core.psw) e)
 met-is rows address m are (Some code) e = refl
 
-row-at-is : (rows : FormRows) (address : ℕ) (m : Machine) → RowsAre rows m → happened (row_at rows (profile_of m.core) address) m ≡ with_instruction m (instruction_at m.core address)
+row-at-is : (rows : FormRows) (address : ℕ) (m : Machine) → RowsAre rows m
+    → happened (row_at rows (profile_of m.core) address) m ≡ with_instruction m (instruction_at m.core address)
 row-at-is rows address m are =
     happened-bind (fetch_conditions_read (profile_of m.core) address) (λ c. unless_unfetched rows (profile_of m.core) address (program_code c)) m
     (conditions_at m.core address) (fetch-is address m)
     ∙ met-is rows address m are (program_code (conditions_at m.core address)) refl
 
-pub instruction-is : (rows : FormRows) (m : Machine) → RowsAre rows m → happened (instruction_row rows (profile_of m.core)) m ≡ with_instruction m (instruction m.core)
+pub instruction-is : (rows : FormRows) (m : Machine) → RowsAre rows m
+    → happened (instruction_row rows (profile_of m.core)) m ≡ with_instruction m (instruction m.core)
 unfolding instruction
 instruction-is rows m are = row-at-is rows (instruction_address_of m.core.psw) m are

@@ -1,5 +1,6 @@
 -- Bytes that are made from left to right: what their readings make, and what their stores leave.
-use Rattle.std.proofs.Common.{ℕ, zero, suc, ◌+◌, ◌≡◌, ◌≢◌, ◌<◌, ◌≤◌, ◌++◌, ◌∙◌, Bool, true, false, cond, nat_eq, Option, Some, None, List, [], ◌∷◌, refl, sym, ap, get_or, set, length, take, drop, arith}
+use Rattle.std.proofs.Common.{ℕ, zero, suc, ◌+◌, ◌≡◌, ◌≢◌, ◌<◌, ◌≤◌, ◌++◌, ◌∙◌, Bool, true, false, cond, nat_eq, Option, Some, None, List, [], ◌∷◌, refl, sym}
+use Rattle.std.proofs.Common.{ap, get_or, set, length, take, drop, arith}
 use Rattle.std.proofs.lemmas.Bool.{eqb-true, eqb-false}
 use Rattle.std.proofs.lemmas.List.{drop_more, get_or-set_same, get_or-set_other, length-set}
 use Rattle.s360_model.specs.{Core.Core, Psw.protection_key_of, Storage.Storage}
@@ -79,7 +80,8 @@ made-stored making byte makes first (suc n) m h =
     ∙ ap (λ b. record m { core = record m.core { storage = with_byte (first + n) b s } }) v
 
 -- the bytes of the result
-pub results-are : (making : Making) (byte : ℕ → Storage → ℕ) → Makes making byte → (first count a n : ℕ) (m : Machine) → first + count ≤ length m.core.storage.bytes
+pub results-are : (making : Making) (byte : ℕ → Storage → ℕ) → Makes making byte → (first count a n : ℕ) (m : Machine)
+    → first + count ≤ length m.core.storage.bytes
     → a + n ≤ length m.core.storage.bytes → run (made_read making first count a n) m ≡ take n (drop a (made byte first count m.core.storage).bytes)
 results-are making byte makes first count a zero m h k = refl
 results-are making byte makes first count a (suc n) m h k =
@@ -112,7 +114,8 @@ translates table first i reads m s h =
     ∙ h (function_address table (byte_at s (first + i)))
 
 -- what the accesses to two operands meet
-pub both-met-is : (first second : Reading Checked) (a b : Checked) (m : Machine) → run first m ≡ a → run second m ≡ b → run (both_met first second) m ≡ conditions_of (met_of_both a b)
+pub both-met-is : (first second : Reading Checked) (a b : Checked) (m : Machine) → run first m ≡ a → run second m ≡ b
+    → run (both_met first second) m ≡ conditions_of (met_of_both a b)
 both-met-is first second a b m e f =
     run-bind first (λ x. bind second (λ y. done (conditions_of (met_of_both x y)))) m
     ∙ run-bind second (λ y. done (conditions_of (met_of_both (run first m) y))) m
@@ -136,9 +139,11 @@ both-clear Checked.Protection Checked.Protection h = absurd (cc)
 pub first-inside : (m : Core) (address count : ℕ) (kind : Access) (key : ℕ) (other : Checked)
     → program_code (conditions_of (met_of_both (access m.storage address count kind key) other)) ≡ None → address + count ≤ length m.storage.bytes
 first-inside m address count kind key other h =
-    clear-inside m address count kind key (both-clear (access m.storage address count kind key) other (met-nothing (met_of_both (access m.storage address count kind key) other) false h)).0
+    clear-inside m address count kind key
+    (both-clear (access m.storage address count kind key) other (met-nothing (met_of_both (access m.storage address count kind key) other) false h)).0
 
 pub second-inside : (m : Core) (address count : ℕ) (kind : Access) (key : ℕ) (other : Checked)
     → program_code (conditions_of (met_of_both other (access m.storage address count kind key))) ≡ None → address + count ≤ length m.storage.bytes
 second-inside m address count kind key other h =
-    clear-inside m address count kind key (both-clear other (access m.storage address count kind key) (met-nothing (met_of_both other (access m.storage address count kind key)) false h)).1
+    clear-inside m address count kind key
+    (both-clear other (access m.storage address count kind key) (met-nothing (met_of_both other (access m.storage address count kind key)) false h)).1

@@ -1,5 +1,6 @@
 -- Rows of two operands in storage from left to right do what their definitions say.
-use Rattle.std.proofs.Common.{ℕ, zero, suc, ◌+◌, ◌-◌, ◌≡◌, ◌≤◌, ◌++◌, ◌∙◌, Bool, true, false, cond, nat_eq, Option, Some, None, List, [], ◌∷◌, refl, sym, ap, get_or, set, length, take, drop, arith, pos}
+use Rattle.std.proofs.Common.{ℕ, zero, suc, ◌+◌, ◌-◌, ◌≡◌, ◌≤◌, ◌++◌, ◌∙◌, Bool, true, false, cond, nat_eq, Option, Some, None, List, [], ◌∷◌, refl, sym, ap}
+use Rattle.std.proofs.Common.{get_or, set, length, take, drop, arith, pos}
 use Rattle.std.proofs.lemmas.List.{drop_more, length-set}
 use Rattle.s360_model.specs.{ConditionCodes.order_code, Core.Core, Psw.protection_key_of, Psw.with_instruction_address, Storage.Storage}
 use Rattle.s360_psw.specs.declared.instruction_length.InstructionLength.{InstructionLength}
@@ -13,20 +14,25 @@ use Rattle.s360_logic.specs.declared.row.ByteCombination.{ByteCombination}
 use Rattle.s360_logic.specs.declared.row.ByteCombination.TheVariants.{Second, LowHalf, HighHalf, BitwiseAnd, BitwiseOr, BitwiseExclusiveOr}
 use Rattle.s360_logic.specs.Bytes.{byte_at, combination_code, completed_with, field_access, fields_conditions, operand_bytes, with_byte}
 use Rattle.s360_logic.specs.Immediate.{code_alone}
-use Rattle.s360_logic.specs.LeftToRight.{combine_outcome, combined, combined_byte, compare_outcome, comparison_code, field_at, found_at, found_outcome, function_access}
-use Rattle.s360_logic.specs.LeftToRight.{function_address, function_byte, search_access, search_conditions, search_outcome, translate_access, translate_and_test_outcome}
+use Rattle.s360_logic.specs.LeftToRight.{combine_outcome, combined, combined_byte, compare_outcome, comparison_code, field_at, found_at, found_outcome}
+use Rattle.s360_logic.specs.LeftToRight.{function_access}
+use Rattle.s360_logic.specs.LeftToRight.{function_address, function_byte, search_access, search_conditions, search_outcome, translate_access}
+use Rattle.s360_logic.specs.LeftToRight.{translate_and_test_outcome}
 use Rattle.s360_logic.specs.LeftToRight.{translate_conditions, translate_outcome, translated, translated_byte, with_address, with_low_byte}
 use Rattle.s360_machine.specs.Machine.{Machine}
 use Rattle.s360_footprint.specs.Altering.{altering_row, happened, psw_store, view_in, with_outcome}
-use Rattle.s360_footprint.specs.LeftToRightRows.{byte_after, code_altering, combine_row, combining, compare_row, compared, comparison_read, field_read, fields_read, found_altering, found_code, found_or}
-use Rattle.s360_footprint.specs.LeftToRightRows.{function_met, made_read, made_stores, met_or, result_code_read, search_conditions_read, search_met, search_read, searched_row, sets_code, stored_row}
+use Rattle.s360_footprint.specs.LeftToRightRows.{byte_after, code_altering, combine_row, combining, compare_row, compared, comparison_read, field_read}
+use Rattle.s360_footprint.specs.LeftToRightRows.{fields_read, found_altering, found_code, found_or}
+use Rattle.s360_footprint.specs.LeftToRightRows.{function_met, made_read, made_stores, met_or, result_code_read, search_conditions_read, search_met}
+use Rattle.s360_footprint.specs.LeftToRightRows.{search_read, searched_row, sets_code, stored_row}
 use Rattle.s360_footprint.specs.LeftToRightRows.{translate_and_test_row, translate_conditions_read, translate_met, translate_row, translating}
 use Rattle.s360_footprint.specs.OperandReadings.{bytes_read, profile_of}
 use Rattle.s360_footprint.specs.Readings.{Reading, bind, done, run}
 use Rattle.s360_footprint.specs.Rows.{Store, with_stores}
 use Rattle.s360_footprint.proofs.AlteringLemmas.{altering-as, conditioned, conditioned-when, happened-bind, psw-stored}
 use Rattle.s360_footprint.proofs.InstructionRowLemmas.{bytes-are}
-use Rattle.s360_footprint.proofs.LeftToRightLemmas.{both-met-is, byte-is, combines, fields-are, first-inside, made, made-front, made-length, made-stored, results-are, second-inside, translates}
+use Rattle.s360_footprint.proofs.LeftToRightLemmas.{both-met-is, byte-is, combines, fields-are, first-inside, made, made-front, made-length, made-stored}
+use Rattle.s360_footprint.proofs.LeftToRightLemmas.{results-are, second-inside, translates}
 use Rattle.s360_footprint.proofs.OperandLemmas.{access-is}
 use Rattle.s360_footprint.proofs.ReadingLemmas.{run-bind}
 
@@ -60,7 +66,8 @@ code-is c first second count m h = by (sets_code c) refl where
   by : (z : Bool) → sets_code c ≡ z
       → run (cond z (bind (made_read (combining c first second) first count first count) (λ results. done (combination_code c results))) (done None)) m
       ≡ combination_code c (operand_bytes (result c first second count m) first count)
-  by true e = run-bind (made_read (combining c first second) first count first count) (λ results. done (combination_code c results)) m ∙ ap (combination_code c) bytes
+  by true e = run-bind (made_read (combining c first second) first count first count) (λ results. done (combination_code c results)) m
+      ∙ ap (combination_code c) bytes
   by false e = no-code c (operand_bytes (result c first second count m) first count) e
 
 pub combine-is : (c : ByteCombination) (first second count next : ℕ) (long : InstructionLength) (m : Machine)

@@ -1,5 +1,6 @@
 -- Rows of a pair of registers, branches and shifts do what their definitions say.
-use Rattle.std.proofs.Common.{ℕ, ◌+◌, ◌%◌, ◌≡◌, ◌∙◌, ◌||◌, not, Bool, true, false, cond, Option, Some, None, List, [], ◌∷◌, refl, ap, sym, get_or, map, unwrap_or, nat_eq}
+use Rattle.std.proofs.Common.{ℕ, ◌+◌, ◌%◌, ◌≡◌, ◌∙◌, ◌||◌, not, Bool, true, false, cond, Option, Some, None, List, [], ◌∷◌, refl, ap, sym, get_or, map}
+use Rattle.std.proofs.Common.{unwrap_or, nat_eq}
 use Rattle.std.specs.Prelude.{is_none}
 use Rattle.std.specs.Option.{option_map_or}
 use Rattle.s360_model.specs.Arithmetic.{signed_sum, word_of}
@@ -20,7 +21,9 @@ use Rattle.s360_machine.specs.Machine.{Machine}
 use Rattle.s360_footprint.specs.Altering.{Altering, altered_in, altering_row, happened, refused, unless_refused, view_in, with_outcome}
 use Rattle.s360_footprint.specs.OperandReadings.{OperandReading, operand_in}
 use Rattle.s360_footprint.specs.Readings.{Reading, bind, done, read, run, value_read}
-use Rattle.s360_footprint.specs.RegisterRows.{address_taken, branch_altering, branch_row, comparand_register, first_word, index_altering, index_row, pair_altering, pair_made, pair_read, pair_row, pair_shift_altering, pair_shift_row, second_word, shift_altering, shift_row, sum_read, target_read, unless_divided}
+use Rattle.s360_footprint.specs.RegisterRows.{address_taken, branch_altering, branch_row, comparand_register, first_word, index_altering, index_row}
+use Rattle.s360_footprint.specs.RegisterRows.{pair_altering, pair_made, pair_read, pair_row, pair_shift_altering, pair_shift_row, second_word, shift_altering}
+use Rattle.s360_footprint.specs.RegisterRows.{shift_row, sum_read, target_read, unless_divided}
 use Rattle.s360_footprint.specs.Rows.{Row}
 use Rattle.s360_footprint.proofs.AlteringLemmas.{altering-as, happened-bind, refused-or}
 use Rattle.s360_footprint.proofs.ReadingLemmas.{run-bind}
@@ -48,7 +51,8 @@ last-met : (c : Conditions) (s : Bool) (outcome : Outcome) (m : Core)
 last-met c s outcome m = by c.privileged s c.addressing c.protection where
   by : (p s a k : Bool)
       → unless_met (record { privileged = p; specification = s; addressing = a; protection = k; divide = true }) m outcome
-      ≡ unless_met (record { privileged = p; specification = s; addressing = a; protection = k; divide = false }) m (record { ended = Ended.Program FixedPointDivide; core = m })
+      ≡ unless_met (record { privileged = p; specification = s; addressing = a; protection = k; divide = false }) m
+      (record { ended = Ended.Program FixedPointDivide; core = m })
   by true s a k = refl
   by false true a k = refl
   by false false true k = refl
@@ -70,7 +74,8 @@ pair-done PairCombination.Quotient words r1 next m w e =
     happened-bind words (unless_divided (altering_row (pair_altering words r1 next))) m (Some w) e
     ∙ altering-as (pair_altering words r1 next) _ m (pair-altered words r1 next m w e)
 
-pair-by : (pair : PairCombination) (c : Conditions) (words : Reading (Option (ℕ × ℕ))) (r1 next : ℕ) (m : Machine) (result : Option (ℕ × ℕ)) → run words m ≡ result
+pair-by : (pair : PairCombination) (c : Conditions) (words : Reading (Option (ℕ × ℕ))) (r1 next : ℕ) (m : Machine) (result : Option (ℕ × ℕ))
+    → run words m ≡ result
     → (result ≡ None → pair ≡ PairCombination.Quotient)
     → happened (unless_refused (program_code (with_divide c (is_odd r1 || c.specification) false)) (pair_after pair words r1 next)) m
     ≡ with_outcome m (pair_outcome_of m.core c r1 result next)
@@ -92,14 +97,16 @@ pub pair-row-is : (pair : PairCombination) (r1 : ℕ) (second : OperandReading) 
 pair-row-is pair r1 second next length m =
     let words : Reading (Option (ℕ × ℕ)) = pair_read pair r1 second.value
     in let c : Conditions = run second.conditions m
-    in happened-bind second.conditions (λ c. unless_refused (program_code (with_divide c (is_odd r1 || c.specification) false)) (pair_after pair words r1 next)) m c refl
+    in happened-bind second.conditions
+    (λ c. unless_refused (program_code (with_divide c (is_odd r1 || c.specification) false)) (pair_after pair words r1 next)) m c refl
     ∙ pair-by pair c words r1 next m (pair_result pair (get_or m.core.registers r1 0) (get_or m.core.registers (r1 + 1) 0) (run second.value m))
     (pair-is pair r1 second.value m) (divides pair (get_or m.core.registers r1 0) (get_or m.core.registers (r1 + 1) 0) (run second.value m))
 
 -- branches: the branch address is read before all else
 pub target-is : (r2 : ℕ) (v : View) (m : Machine) → v.core ≡ m.core → run (target_read r2) m ≡ register_target v r2
 target-is r2 v m e = by (nat_eq r2 0) where
-  by : (z : Bool) → run (cond z (done None) (bind (value_read (Register r2)) (λ address. done (Some address)))) m ≡ cond z None (Some (get_or v.core.registers r2 0))
+  by : (z : Bool) → run (cond z (done None) (bind (value_read (Register r2)) (λ address. done (Some address)))) m
+      ≡ cond z None (Some (get_or v.core.registers r2 0))
   by true = refl
   by false = ap (λ (c : Core). Some (get_or c.registers r2 0)) (sym e)
 
@@ -108,11 +115,14 @@ pub branch-is : (branch : Branch) (r1 : ℕ) (target : Reading (Option ℕ)) (ne
 branch-is Branch.OnCondition mask target next length m =
     altering-as (branch_altering Branch.OnCondition mask target next length) _ m (ap (λ a. no_register unchanged a) (run-bind target _ m))
 branch-is Branch.AndLink r1 target next length m =
-    altering-as (branch_altering Branch.AndLink r1 target next length) _ m (ap (λ a. one_register r1 (link_of (view_in m next length)) unchanged a) (run-bind target _ m))
+    altering-as (branch_altering Branch.AndLink r1 target next length) _ m
+    (ap (λ a. one_register r1 (link_of (view_in m next length)) unchanged a) (run-bind target _ m))
 branch-is Branch.OnCount r1 target next length m =
-    altering-as (branch_altering Branch.OnCount r1 target next length) _ m (ap (λ a. one_register r1 (count_less_one (get_or m.core.registers r1 0)) unchanged a) (run-bind target _ m))
+    altering-as (branch_altering Branch.OnCount r1 target next length) _ m
+    (ap (λ a. one_register r1 (count_less_one (get_or m.core.registers r1 0)) unchanged a) (run-bind target _ m))
 
-comparand-is : (r3 next : ℕ) (length : InstructionLength) (m : Machine) → get_or m.core.registers (comparand_register r3) 0 ≡ comparand_of (view_in m next length) r3
+comparand-is : (r3 next : ℕ) (length : InstructionLength) (m : Machine)
+    → get_or m.core.registers (comparand_register r3) 0 ≡ comparand_of (view_in m next length) r3
 comparand-is r3 next length m = by (is_odd r3) where
   by : (z : Bool) → get_or m.core.registers (cond z r3 (r3 + 1)) 0 ≡ cond z (get_or m.core.registers r3 0) (get_or m.core.registers (r3 + 1) 0)
   by true = refl
@@ -123,7 +133,8 @@ pub index-is : (branch : IndexBranch) (r1 r3 address next : ℕ) (length : Instr
 index-is branch r1 r3 address next length m =
     let sum : ℕ = word_of (signed_sum (get_or m.core.registers r1 0) (get_or m.core.registers r3 0))
     in altering-as (index_altering branch r1 r3 address next) _ m
-    (ap (λ comparand. one_register r1 sum unchanged (address_taken next (is_taken branch (signed sum) (signed comparand)) (Some address))) (comparand-is r3 next length m))
+    (ap (λ comparand. one_register r1 sum unchanged (address_taken next (is_taken branch (signed sum) (signed comparand)) (Some address)))
+    (comparand-is r3 next length m))
 
 -- shifts
 pub shift-is : (shift : Shift) (r1 address next : ℕ) (length : InstructionLength) (m : Machine)
@@ -137,7 +148,8 @@ abbrev words_shifted : Shift → ℕ → ℕ → Machine → (ℕ × ℕ) × Cod
 words_shifted shift r1 address m = shifted_words shift (get_or m.core.registers r1 0) (get_or m.core.registers (r1 + 1) 0) (address % 64)
 
 pair-shift-by : (shift : Shift) (r1 address next : ℕ) (length : InstructionLength) (m : Machine)
-    → altered_in (pair_shift_altering shift r1 (address % 64) next) m ≡ register_pair r1 (words_shifted shift r1 address m).0 (words_shifted shift r1 address m).1 next
+    → altered_in (pair_shift_altering shift r1 (address % 64) next) m
+    ≡ register_pair r1 (words_shifted shift r1 address m).0 (words_shifted shift r1 address m).1 next
     → happened (pair_shift_row shift r1 address next) m ≡ with_outcome m (pair_shift_outcome shift (view_in m next length) r1 address)
 pair-shift-by shift r1 address next length m e =
     let row : Row Ended = altering_row (pair_shift_altering shift r1 (address % 64) next)

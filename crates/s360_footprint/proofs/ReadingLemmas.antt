@@ -8,7 +8,8 @@ use Rattle.s360_footprint.specs.Values.{value_there}
 pub decided : {X : Type 0} (r : Reading X) (m n : Machine) → HaveAllSame m n (places_read r m) → (run r m ≡ run r n) × (places_read r m ≡ places_read r n)
 decided (done x) m n h = (refl, refl)
 decided (read p next) m n h =
-    let i : (run (next (value_there m p)) m ≡ run (next (value_there m p)) n) × (places_read (next (value_there m p)) m ≡ places_read (next (value_there m p)) n)
+    let i : (run (next (value_there m p)) m ≡ run (next (value_there m p)) n) ×
+    (places_read (next (value_there m p)) m ≡ places_read (next (value_there m p)) n)
     = decided (next (value_there m p)) m n h.1
     in (i.0 ∙ ap (λ v. run (next v) n) h.0, ap (λ l. p ∷ l) (i.1 ∙ ap (λ v. places_read (next v) n) h.0))
 

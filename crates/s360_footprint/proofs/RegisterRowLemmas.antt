@@ -1,5 +1,6 @@
 -- Rows of registers and a second operand do what their definitions say.
-use Rattle.std.proofs.Common.{ℕ, ◌+◌, ◌≡◌, ◌∙◌, ◌||◌, not, Bool, true, false, cond, Option, Some, None, List, [], ◌∷◌, refl, ap, sym, get_or, map, unwrap_or, nat_eq}
+use Rattle.std.proofs.Common.{ℕ, ◌+◌, ◌≡◌, ◌∙◌, ◌||◌, not, Bool, true, false, cond, Option, Some, None, List, [], ◌∷◌, refl, ap, sym, get_or, map, unwrap_or}
+use Rattle.std.proofs.Common.{nat_eq}
 use Rattle.std.specs.Prelude.{is_none}
 use Rattle.s360_model.specs.Core.{Core}
 use Rattle.s360_psw.specs.declared.instruction_length.InstructionLength.{InstructionLength}
@@ -49,7 +50,8 @@ words-are Comparison a b r1 = refl
 words-are LogicalComparison a b r1 = refl
 words-are c a b r1 = refl
 
-result-is : (c : Combination) (r1 : ℕ) (second : Reading ℕ) (m : Machine) → run (result_read c r1 second) m ≡ result_of c (get_or m.core.registers r1 0) (run second m)
+result-is : (c : Combination) (r1 : ℕ) (second : Reading ℕ) (m : Machine)
+    → run (result_read c r1 second) m ≡ result_of c (get_or m.core.registers r1 0) (run second m)
 result-is c r1 second m = by (uses_first c) refl where
   by : (z : Bool) → uses_first c ≡ z
       → run (cond z (read (Register r1) (λ a. bind second (λ b. done (result_of c a b)))) (bind second (λ b. done (result_of c 0 b)))) m
@@ -58,11 +60,13 @@ result-is c r1 second m = by (uses_first c) refl where
   by false e = run-bind second (λ b. done (result_of c 0 b)) m ∙ unused c (get_or m.core.registers r1 0) (run second m) e
 
 -- a part that is always the same, or one of what is read
-known-or : {X Y : Type 0} (z : Bool) (x : Y) (r : Reading X) (f : X → Y) (m : Machine) → (z ≡ true → x ≡ f (run r m)) → run (cond z (done x) (bind r (λ y. done (f y)))) m ≡ f (run r m)
+known-or : {X Y : Type 0} (z : Bool) (x : Y) (r : Reading X) (f : X → Y) (m : Machine) → (z ≡ true → x ≡ f (run r m))
+    → run (cond z (done x) (bind r (λ y. done (f y)))) m ≡ f (run r m)
 known-or true x r f m h = h refl
 known-or false x r f m h = run-bind r (λ y. done (f y)) m
 
-read-or : {X Y : Type 0} (z : Bool) (x : Y) (r : Reading X) (f : X → Y) (m : Machine) → (z ≡ false → x ≡ f (run r m)) → run (cond z (bind r (λ y. done (f y))) (done x)) m ≡ f (run r m)
+read-or : {X Y : Type 0} (z : Bool) (x : Y) (r : Reading X) (f : X → Y) (m : Machine) → (z ≡ false → x ≡ f (run r m))
+    → run (cond z (bind r (λ y. done (f y))) (done x)) m ≡ f (run r m)
 read-or true x r f m h = run-bind r (λ y. done (f y)) m
 read-or false x r f m h = h refl
 
@@ -72,7 +76,8 @@ one-or-none false word m = refl
 
 combination-altered : (c : Combination) (r1 : ℕ) (second : Reading ℕ) (next : ℕ) (m : Machine)
     → altered_in (combination_altering c r1 second next) m
-    ≡ record { registers = word_for r1 (result_of c (get_or m.core.registers r1 0) (run second m)).0; setting = (result_of c (get_or m.core.registers r1 0) (run second m)).1; address = next }
+    ≡ record { registers = word_for r1 (result_of c (get_or m.core.registers r1 0) (run second m)).0; setting
+    = (result_of c (get_or m.core.registers r1 0) (run second m)).1; address = next }
 combination-altered c r1 second next m =
     let a : ℕ = get_or m.core.registers r1 0
     in let b : ℕ = run second m
@@ -83,9 +88,11 @@ combination-altered c r1 second next m =
     ∙ ap (λ v. cond (compares c) [] ((r1, v) ∷ [])) (run-bind r word_result m ∙ ap (λ (x : Option ℕ × CodeSetting). unwrap_or x.0 0) i)
     ∙ words-are c a b r1
     in let code : run (cond (keeps_code c) (done None) (bind r (λ x. done x.1.code))) m ≡ (result_of c a b).1.code
-    = known-or (keeps_code c) None r (λ x. x.1.code) m (λ z. kept c a b z ∙ ap (λ (x : Option ℕ × CodeSetting). x.1.code) (sym i)) ∙ ap (λ (x : Option ℕ × CodeSetting). x.1.code) i
+    = known-or (keeps_code c) None r (λ x. x.1.code) m (λ z. kept c a b z ∙ ap (λ (x : Option ℕ × CodeSetting). x.1.code) (sym i))
+    ∙ ap (λ (x : Option ℕ × CodeSetting). x.1.code) i
     in let overflow : run (cond (may_overflow c) (bind r (λ x. done x.1.overflow)) (done false)) m ≡ (result_of c a b).1.overflow
-    = read-or (may_overflow c) false r (λ x. x.1.overflow) m (λ z. fits c a b z ∙ ap (λ (x : Option ℕ × CodeSetting). x.1.overflow) (sym i)) ∙ ap (λ (x : Option ℕ × CodeSetting). x.1.overflow) i
+    = read-or (may_overflow c) false r (λ x. x.1.overflow) m (λ z. fits c a b z ∙ ap (λ (x : Option ℕ × CodeSetting). x.1.overflow) (sym i))
+    ∙ ap (λ (x : Option ℕ × CodeSetting). x.1.overflow) i
     in rw (words, code, overflow) refl
 
 pub combination-is : (c : Combination) (r1 : ℕ) (second : OperandReading) (next : ℕ) (length : InstructionLength) (m : Machine)

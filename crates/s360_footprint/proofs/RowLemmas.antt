@@ -1,6 +1,7 @@
 -- Rows: places that are not stored keep their values, and others follow their sources.
 use Rattle.std.specs.Prelude.{MatchOption}
-use Rattle.std.proofs.Common.{ℕ, ◌≡◌, ◌<◌, ◌∙◌, ◌⊎◌, ◌||◌, inl, inr, Bool, true, false, cond, nat_eq, Option, Some, None, List, [], ◌∷◌, length, get_or, set, refl, sym, ap}
+use Rattle.std.proofs.Common.{ℕ, ◌≡◌, ◌<◌, ◌∙◌, ◌⊎◌, ◌||◌, inl, inr, Bool, true, false, cond, nat_eq, Option, Some, None, List, [], ◌∷◌, length, get_or, set}
+use Rattle.std.proofs.Common.{refl, sym, ap}
 use Rattle.std.proofs.lemmas.Bool.{eqb-true, eqb-false}
 use Rattle.std.proofs.lemmas.List.{get_or-set_same, get_or-set_other}
 use Rattle.s360_word.specs.declared.unit.Unit.{Unit as UnitAddress}
@@ -16,12 +17,14 @@ use Rattle.s360_machine.specs.Machine.{Machine, Media}
 use Rattle.s360_footprint.specs.Laws.{Decided, Follows, KeepsOthers}
 use Rattle.s360_footprint.specs.Readings.{HaveAllSame, Reading, places_read, run, value_read}
 use Rattle.s360_footprint.specs.Rows.{Store, after_store, after_stores, device_after, places_of_stores, value_after, with_stores}
-use Rattle.s360_footprint.specs.Values.{AreAlike, DeviceAt, IsThere, Value, control_at, device_at, value_there, with_control_at, with_device_at, with_value_there}
+use Rattle.s360_footprint.specs.Values.{AreAlike, DeviceAt, IsThere, Value, control_at, device_at, value_there, with_control_at, with_device_at}
+use Rattle.s360_footprint.specs.Values.{with_value_there}
 use Rattle.s360_footprint.proofs.ReadingLemmas as readings
 use Rattle.s360_footprint.proofs.ValueLemmas.{alike-sym, alike-trans, sizes-kept, there-alike, there-or-same, value-kept}
 
 -- not stored, kept
-others-kept : (before m : Machine) (ss : List Store) (p : Place) → is_among (places_of_stores ss) p ≡ false → value_there (with_stores before m ss) p ≡ value_there m p
+others-kept : (before m : Machine) (ss : List Store) (p : Place) → is_among (places_of_stores ss) p ≡ false
+    → value_there (with_stores before m ss) p ≡ value_there m p
 others-kept before m [] p h = refl
 others-kept before m (s ∷ ss) p h =
     others-kept before (with_value_there m s.place (run s.value before)) ss p (neither (same_place s.place p) (is_among (places_of_stores ss) p) h).1
@@ -37,21 +40,25 @@ pub row-decided : (Ending : Type 0) → Decided Ending
 row-decided Ending row m n h = readings.decided row m n h
 
 -- what stands at a place of a list, and how a unit stands, after a store
-list-stored : {X : Type 0} (xs : List X) (n k : ℕ) (d : X) (v r : Reading X) (before : Machine) (z : Bool) → nat_eq n k ≡ z → k < length xs → get_or xs k d ≡ run r before
+list-stored : {X : Type 0} (xs : List X) (n k : ℕ) (d : X) (v r : Reading X) (before : Machine) (z : Bool) → nat_eq n k ≡ z → k < length xs
+    → get_or xs k d ≡ run r before
     → get_or (set xs n (run v before)) k d ≡ run (cond z v r) before
 list-stored xs n k d v r before true e l h = let i : n ≡ k = eqb-true n k e in rw i (get_or-set_same xs k (run v before) d l)
 list-stored xs n k d v r before false e l h = get_or-set_other xs n k (run v before) d (λ i. eqb-false n k e (sym i)) ∙ h
 
-control-put : (u : Option ConfiguredUnit) (m : Machine) (v : UnitControl) → MatchOption u ⊥ (λ c. index_of c < length m.units) → control_at u (with_control_at u v m.units) ≡ v
+control-put : (u : Option ConfiguredUnit) (m : Machine) (v : UnitControl) → MatchOption u ⊥ (λ c. index_of c < length m.units)
+    → control_at u (with_control_at u v m.units) ≡ v
 control-put None m v t = absurd t
 control-put (Some u) m v t = get_or-set_same m.units (index_of u) v idle_unit t
 
-control-stored : (u w : UnitAddress) (m before : Machine) (v r : Reading UnitControl) (z : Bool) → nat_eq u.0 w.0 ≡ z → IsThere m (UnitState w) → control_at (unit_at w.0) m.units ≡ run r before
+control-stored : (u w : UnitAddress) (m before : Machine) (v r : Reading UnitControl) (z : Bool) → nat_eq u.0 w.0 ≡ z → IsThere m (UnitState w)
+    → control_at (unit_at w.0) m.units ≡ run r before
     → control_at (unit_at w.0) (with_control_at (unit_at u.0) (run v before) m.units) ≡ run (cond z v r) before
 control-stored u w m before v r true e t h = let i : u.0 ≡ w.0 = eqb-true u.0 w.0 e in rw i (control-put (unit_at w.0) m (run v before) t)
 control-stored u w m before v r false e t h = value-kept (UnitState u) (UnitState w) m (run v before) e ∙ h
 
-device-stored : (u w : Option ConfiguredUnit) (m : Media) (before : Machine) (v : Reading (DeviceAt u)) (r : Reading (DeviceAt w)) → device_at w m ≡ run r before
+device-stored : (u w : Option ConfiguredUnit) (m : Media) (before : Machine) (v : Reading (DeviceAt u)) (r : Reading (DeviceAt w))
+    → device_at w m ≡ run r before
     → device_at w (with_device_at u (run v before) m) ≡ run (device_after u w v r) before
 device-stored (Some Reader) (Some Reader) m before v r h = refl
 device-stored (Some Punch) (Some Punch) m before v r h = refl

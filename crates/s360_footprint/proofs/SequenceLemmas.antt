@@ -33,7 +33,8 @@ stores-after ss [] m x h = refl
 stores-after ss (t ∷ ts) m x h =
     let now : Machine = with_stores m m ss
     in let reads : List Place = flat_map (λ (s : Store). places_read s.value now) ts
-    in ap (λ v. with_stores m (with_value_there x t.place v) (stores_through ss ts)) (run-through t.value ss m (there-first now (places_read t.value now) reads h))
+    in ap (λ v. with_stores m (with_value_there x t.place v) (stores_through ss ts))
+    (run-through t.value ss m (there-first now (places_read t.value now) reads h))
     ∙ stores-after ss ts m (with_value_there x t.place (run t.value now)) (there-second now (places_read t.value now) reads h)
 
 all-alike : (m n : Machine) (ps : List Place) → AreAlike m n → AreAllThere m ps → AreAllThere n ps

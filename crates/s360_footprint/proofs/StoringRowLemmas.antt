@@ -1,5 +1,6 @@
 -- Rows that store registers and load several of them do what their definitions say.
-use Rattle.std.proofs.Common.{ℕ, zero, suc, ◌+◌, ◌*◌, ◌%◌, ◌≡◌, ◌<◌, ◌≤◌, ◌++◌, ◌∙◌, Option, None, List, [], ◌∷◌, refl, ap, sym, get_or, set, length, take, drop, arith}
+use Rattle.std.proofs.Common.{ℕ, zero, suc, ◌+◌, ◌*◌, ◌%◌, ◌≡◌, ◌<◌, ◌≤◌, ◌++◌, ◌∙◌, Option, None, List, [], ◌∷◌, refl, ap, sym, get_or, set, length, take}
+use Rattle.std.proofs.Common.{drop, arith}
 use Rattle.std.proofs.lemmas.List.{append_assoc, append-nil, drop-set-lt, drop_more, drop_all, length-set, take-append-drop, take_more_set}
 use Rattle.std.specs.Int.{bytes_high_first}
 use Rattle.s360_model.specs.{Core.Core, Core.core_with_bytes, Core.core_with_word, Storage.with_run, Storage.word_at}
@@ -10,13 +11,15 @@ use Rattle.s360_fixed.specs.declared.{ended.Ended.Ended, second_operand.Width.Wi
 use Rattle.s360_fixed.specs.Operands.{access_conditions, bytes_of_width}
 use Rattle.s360_fixed.specs.Outcomes.{unless_met}
 use Rattle.s360_fixed.specs.ProgramCodes.{program_code}
-use Rattle.s360_fixed.specs.Storing.{bytes_outcome, completed, load_multiple_outcome, register_count, store_multiple_outcome, store_outcome, with_registers_loaded, with_registers_stored}
+use Rattle.s360_fixed.specs.Storing.{bytes_outcome, completed, load_multiple_outcome, register_count, store_multiple_outcome, store_outcome}
+use Rattle.s360_fixed.specs.Storing.{with_registers_loaded, with_registers_stored}
 use Rattle.s360_machine.specs.Machine.{Machine}
 use Rattle.s360_footprint.specs.Altering.{completed_row, happened, view_in, with_outcome}
 use Rattle.s360_footprint.specs.OperandReadings.{conditions_read, number_read, profile_of}
 use Rattle.s360_footprint.specs.Readings.{Reading, bind, done, run}
 use Rattle.s360_footprint.specs.Rows.{Store, with_stores}
-use Rattle.s360_footprint.specs.StoringRows.{byte_stores, bytes_row, load_multiple_row, loaded_registers, low_bytes_read, store_multiple_row, store_row, stored_registers}
+use Rattle.s360_footprint.specs.StoringRows.{byte_stores, bytes_row, load_multiple_row, loaded_registers, low_bytes_read, store_multiple_row, store_row}
+use Rattle.s360_footprint.specs.StoringRows.{stored_registers}
 use Rattle.s360_footprint.proofs.AlteringLemmas.{completed-is, conditioned-when}
 use Rattle.s360_footprint.proofs.OperandLemmas.{conditions-are, conditions-inside, number-is}
 use Rattle.s360_footprint.proofs.ReadingLemmas.{run-bind}
@@ -42,7 +45,8 @@ abbrev with_bytes : Machine → List ℕ → Machine
 with_bytes m xs = record m { core = record m.core { storage = record m.core.storage { bytes = xs } } }
 
 pub bytes-stored : (bytes : Reading (List ℕ)) (l : List ℕ) (before m : Machine) (address i n : ℕ) → run bytes before ≡ l → i + n ≡ length l
-    → address + length l ≤ length (bytes_of m) → with_stores before m (byte_stores address bytes i n) ≡ record m { core = core_with_bytes (address + i) (drop i l) m.core }
+    → address + length l ≤ length (bytes_of m)
+    → with_stores before m (byte_stores address bytes i n) ≡ record m { core = core_with_bytes (address + i) (drop i l) m.core }
 bytes-stored bytes l before m address i zero e c h =
     let none : drop i l ≡ [] = drop_all i l (omega (arith, c))
     in sym (ap (with_bytes m) (ap (with_run (bytes_of m) (address + i)) none ∙ no-run (bytes_of m) (address + i)))
@@ -60,7 +64,8 @@ bytes-stored bytes l before m address i (suc n) e c h =
     ∙ ap (with_run (bytes_of m) (address + i)) (sym (drop_more l i 0 (omega (arith, c)))))
 
 -- all of them
-all-stored : (bytes : Reading (List ℕ)) (l : List ℕ) (before m : Machine) (address n : ℕ) → run bytes before ≡ l → n ≡ length l → address + length l ≤ length (bytes_of m)
+pub all-stored : (bytes : Reading (List ℕ)) (l : List ℕ) (before m : Machine) (address n : ℕ) → run bytes before ≡ l → n ≡ length l
+    → address + length l ≤ length (bytes_of m)
     → with_stores before m (byte_stores address bytes 0 n) ≡ record m { core = core_with_bytes address l m.core }
 all-stored bytes l before m address n e c h =
     let here : address + 0 ≡ address = omega arith
@@ -75,7 +80,8 @@ bytes-row-is bytes count address next long m c =
     (conditions-are address count count Access.Store m)
     (λ clear. completed-is (byte_stores address bytes 0 count) next m (core_with_bytes address l m.core)
     (all-stored bytes l m m address count refl c (omega (arith, c, conditions-inside m.core address count count Access.Store clear))))
-    ∙ ap (λ n. with_outcome m (unless_met (access_conditions m.core address n n Access.Store) m.core (completed (view_in m next long) (core_with_bytes address l m.core)))) c
+    ∙ ap (λ n. with_outcome m
+    (unless_met (access_conditions m.core address n n Access.Store) m.core (completed (view_in m next long) (core_with_bytes address l m.core)))) c
 
 pub store-is : (width : Width) (r1 address next : ℕ) (long : InstructionLength) (m : Machine)
     → happened (store_row (profile_of m.core) width r1 address next) m ≡ with_outcome m (store_outcome width (view_in m next long) r1 address)
@@ -88,8 +94,10 @@ stored-size : (registers : List ℕ) (r1 address n : ℕ) (m : Core) → address
     → length (with_registers_stored registers r1 address n m).storage.bytes ≡ length m.storage.bytes
 stored-size registers r1 address zero m h = refl
 stored-size registers r1 address (suc n) m h =
-    let before : length (with_registers_stored registers r1 address n m).storage.bytes ≡ length m.storage.bytes = stored-size registers r1 address n m (omega (arith, h))
-    in length-with_run (with_registers_stored registers r1 address n m).storage.bytes (bytes_high_first 4 (get_or registers ((r1 + n) % 16) 0)) (address + 4 * n) (omega (arith, h, before))
+    let before : length (with_registers_stored registers r1 address n m).storage.bytes ≡ length m.storage.bytes
+    = stored-size registers r1 address n m (omega (arith, h))
+    in length-with_run (with_registers_stored registers r1 address n m).storage.bytes (bytes_high_first 4 (get_or registers ((r1 + n) % 16) 0))
+    (address + 4 * n) (omega (arith, h, before))
     ∙ before
 
 registers-stored : (r1 address n : ℕ) (m : Machine) → address + 4 * n ≤ length (bytes_of m)
@@ -119,7 +127,8 @@ registers-loaded : (r1 address n : ℕ) (m : Machine)
 registers-loaded r1 address zero m = refl
 registers-loaded r1 address (suc n) m =
     stores-append m m (loaded_registers r1 address n) _
-    ∙ ap (λ (x : Machine). record x { core = core_with_word ((r1 + n) % 16) (run (number_read (address + 4 * n) 4) m) x.core }) (registers-loaded r1 address n m)
+    ∙ ap (λ (x : Machine). record x { core = core_with_word ((r1 + n) % 16) (run (number_read (address + 4 * n) 4) m) x.core })
+    (registers-loaded r1 address n m)
     ∙ ap (λ w. record m { core = core_with_word ((r1 + n) % 16) w (with_registers_loaded (bytes_of m) r1 address n m.core) }) (number-is (address + 4 * n) 4 m)
 
 pub load-multiple-is : (r1 r3 address next : ℕ) (long : InstructionLength) (m : Machine)

@@ -1,6 +1,7 @@
 -- What stands at a place after a value was put at a place, and what stays.
 use Rattle.std.specs.Prelude.{MatchOption}
-use Rattle.std.proofs.Common.{ℕ, ◌≡◌, ◌≢◌, ◌<◌, ◌≤◌, ◌⊎◌, ◌∙◌, inl, inr, Bool, true, false, cond, nat_eq, Option, Some, None, List, [], ◌∷◌, length, get_or, set, refl, sym, ap, arith}
+use Rattle.std.proofs.Common.{ℕ, ◌≡◌, ◌≢◌, ◌<◌, ◌≤◌, ◌⊎◌, ◌∙◌, inl, inr, Bool, true, false, cond, nat_eq, Option, Some, None, List, [], ◌∷◌, length, get_or}
+use Rattle.std.proofs.Common.{set, refl, sym, ap, arith}
 use Rattle.std.proofs.lemmas.Bool.{cases_lt, eqb-true, eq-eqb}
 use Rattle.std.proofs.lemmas.List.{length-set, get_or-set_same, get_or-set_other, get_or_past}
 use Rattle.s360_store.specs.declared.place.Place.{Place}
@@ -14,7 +15,8 @@ use Rattle.s360_channel.specs.declared.unit_control.UnitControl.{UnitControl}
 use Rattle.s360_channel.specs.ConfiguredUnits.{Units, address_of_unit, control_of, index_of, unit_at, with_control_of}
 use Rattle.s360_channel.specs.Units.{idle_unit}
 use Rattle.s360_machine.specs.Machine.{Machine, Media}
-use Rattle.s360_footprint.specs.Values.{AreAlike, DeviceAt, IsThere, Value, control_at, device_at, value_there, with_control_at, with_device_at, with_value_there}
+use Rattle.s360_footprint.specs.Values.{AreAlike, DeviceAt, IsThere, Value, control_at, device_at, value_there, with_control_at, with_device_at}
+use Rattle.s360_footprint.specs.Values.{with_value_there}
 
 -- a unit's address is its own
 named : (c u : ConfiguredUnit) → Some c ≡ Some u → address_of_unit c ≡ address_of_unit u
@@ -22,8 +24,10 @@ named c u h = let e : c ≡ u = cc in ap address_of_unit e
 
 unit-address : (a : ℕ) (u : ConfiguredUnit) → unit_at a ≡ Some u → a ≡ address_of_unit u
 unit-address a u = by _ _ _ _ _ _ refl refl refl refl refl refl where
-  by : (z0 z1 z2 z3 z4 z5 : Bool) → nat_eq a 0x00C ≡ z0 → nat_eq a 0x00D ≡ z1 → nat_eq a 0x00E ≡ z2 → nat_eq a 0x01F ≡ z3 → nat_eq a 0x180 ≡ z4 → nat_eq a 0x181 ≡ z5
-      → cond z0 (Some Reader) (cond z1 (Some Punch) (cond z2 (Some Printer) (cond z3 (Some Console) (cond z4 (Some Tape0) (cond z5 (Some Tape1) None))))) ≡ Some u → a ≡ address_of_unit u
+  by : (z0 z1 z2 z3 z4 z5 : Bool) → nat_eq a 0x00C ≡ z0 → nat_eq a 0x00D ≡ z1 → nat_eq a 0x00E ≡ z2 → nat_eq a 0x01F ≡ z3 → nat_eq a 0x180 ≡ z4
+      → nat_eq a 0x181 ≡ z5
+      → cond z0 (Some Reader) (cond z1 (Some Punch) (cond z2 (Some Printer) (cond z3 (Some Console) (cond z4 (Some Tape0) (cond z5 (Some Tape1) None)))))
+      ≡ Some u → a ≡ address_of_unit u
   by true z1 z2 z3 z4 z5 e0 e1 e2 e3 e4 e5 h = eqb-true a 0x00C e0 ∙ named Reader u h
   by false true z2 z3 z4 z5 e0 e1 e2 e3 e4 e5 h = eqb-true a 0x00D e1 ∙ named Punch u h
   by false false true z3 z4 z5 e0 e1 e2 e3 e4 e5 h = eqb-true a 0x00E e2 ∙ named Printer u h

@@ -5,7 +5,8 @@ use Rattle.s360_fixed.specs.declared.{ended.Ended.Ended, form.Form.Form}
 use Rattle.s360_fixed.specs.declared.program_code.ProgramCode.TheVariants.{Operation as operation_code}
 use Rattle.s360_fixed.specs.declared.{row.Row.Row as FixedRow, second_operand.SecondOperand.SecondOperand, second_operand.Width.Width}
 use Rattle.s360_fixed.specs.Rows.{row_of}
-use Rattle.s360_logic.specs.declared.row.{Conversion.Conversion, ImmediateRow.ImmediateRow, RegisterStatus.RegisterStatus, StorageRow.StorageRow, StorageStatus.StorageStatus}
+use Rattle.s360_logic.specs.declared.row.{Conversion.Conversion, ImmediateRow.ImmediateRow, RegisterStatus.RegisterStatus, StorageRow.StorageRow}
+use Rattle.s360_logic.specs.declared.row.{StorageStatus.StorageStatus}
 use Rattle.s360_logic.specs.Rows.{conversion_of, immediate_row_of, register_status_of, storage_row_of, storage_status_of}
 use Rattle.s360_footprint.specs.Altering.{refused}
 use Rattle.s360_footprint.specs.DigitRows.{digits_row}

@@ -8,7 +8,8 @@ use Rattle.s360_store.specs.declared.protection.{Access.Access, Checked.Checked}
 use Rattle.s360_fixed.specs.declared.{ended.Ended.Ended, form.Form.Form, program_code.ProgramCode.ProgramCode}
 use Rattle.s360_fixed.specs.declared.operation.Operation.TheVariants.{Execute as execute_operation}
 use Rattle.s360_fixed.specs.declared.program_code.ProgramCode.TheVariants.{Execute as execute_code, Operation as operation_code}
-use Rattle.s360_fixed.specs.{Operands.conditions_of, Outcomes.is_odd, ProgramCodes.Conditions, ProgramCodes.program_code, Table.form_of, Table.instruction_length}
+use Rattle.s360_fixed.specs.{Operands.conditions_of, Outcomes.is_odd, ProgramCodes.Conditions, ProgramCodes.program_code, Table.form_of}
+use Rattle.s360_fixed.specs.{Table.instruction_length}
 use Rattle.s360_logic.specs.Instruction.{Instruction, length_of_bytes}
 use Rattle.s360_logic.specs.Logic.{row_outcome}
 use Rattle.s360_machine.specs.Machine.{Machine}

@@ -146,7 +146,8 @@ index_altering branch r1 r3 address next = record {
   overflow = done false;
   address =
       bind (sum_read r1 r3)
-      (λ sum. read (Register (comparand_register r3)) (λ comparand. done (address_taken next (is_taken branch (signed sum) (signed comparand)) (Some address))));
+      (λ sum. read (Register (comparand_register r3))
+      (λ comparand. done (address_taken next (is_taken branch (signed sum) (signed comparand)) (Some address))));
 }
 
 abbrev pub index_row : IndexBranch → ℕ → ℕ → ℕ → ℕ → Row Ended
