@@ -15,3 +15,5 @@ pub mod StatusRowLemmas
 pub mod DigitRowLemmas
 pub mod FormRowLemmas
 pub mod InstructionLawLemmas
+pub mod InterruptionRowLemmas
+mod KnownFootprints

@@ -13,3 +13,4 @@ pub mod StatusRows
 pub mod DigitRows
 pub mod FormRows
 pub mod InstructionLaws
+pub mod InterruptionRows

@@ -1,5 +1,6 @@
 //! The laws of rows, the contracts of calls that do nothing. An ending is what a row says of how its event ends.
 ghost use Rattle.s360_footprint.specs.InstructionLaws.{InstructionDecided, InstructionFollows, InstructionsAreRows};
+ghost use Rattle.s360_footprint.specs.InterruptionRows.{InterruptionsAreRows};
 ghost use Rattle.s360_footprint.specs.Laws.{Decided, Follows, KeepsOthers, SequencesAreRows};
 
 /// A place that a row does not store keeps its value.
@@ -39,4 +40,10 @@ pub fn deciders_decide_the_instruction()
 /// they have the same at that place afterwards, before any interruption that follows.
 pub fn instructions_follow_their_sources()
     ensures { InstructionFollows }
+{}
+
+/// An instruction and the program or supervisor call interruption that follows it are one row, where storage has the permanent
+/// locations.
+pub fn interruptions_are_rows()
+    ensures { InterruptionsAreRows }
 {}
