@@ -17,3 +17,4 @@ pub mod FormRowLemmas
 pub mod InstructionLawLemmas
 pub mod InterruptionRowLemmas
 mod KnownFootprints
+pub mod ChannelReadingLemmas

@@ -14,3 +14,4 @@ pub mod DigitRows
 pub mod FormRows
 pub mod InstructionLaws
 pub mod InterruptionRows
+pub mod ChannelReadings
