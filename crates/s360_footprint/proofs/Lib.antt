@@ -18,3 +18,4 @@ pub mod InstructionLawLemmas
 pub mod InterruptionRowLemmas
 mod KnownFootprints
 pub mod ChannelReadingLemmas
+pub mod ChannelRowLemmas

@@ -15,3 +15,4 @@ pub mod FormRows
 pub mod InstructionLaws
 pub mod InterruptionRows
 pub mod ChannelReadings
+pub mod ChannelRows
