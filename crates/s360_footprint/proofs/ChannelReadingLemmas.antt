@@ -14,8 +14,9 @@ use Rattle.s360_channel.specs.Execution.{word_at_hand}
 use Rattle.s360_channel.specs.Programs.{ccw_at, executed_at, goes_on_with_record, is_first, is_loading, loading_word, next_ccw, next_ccw_with}
 use Rattle.s360_channel.specs.Words.{ccw_of, is_doubleword_address, is_transfer, reads_backward}
 use Rattle.s360_machine.specs.Machine.{Machine}
-use Rattle.s360_footprint.specs.ChannelReadings.{begun_read, bytes_met, ccw_read, execution_read, fetched_read, input_read, led_to_by, next_ccw_read}
-use Rattle.s360_footprint.specs.ChannelReadings.{output_met, output_read, output_with, word_or_target}
+use Rattle.s360_footprint.specs.ChannelReadings.{begin_at, begun_met, begun_read, bytes_met, ccw_read, input_bytes, led_to_by, lowest_of, next_ccw_read}
+use Rattle.s360_footprint.specs.ChannelReadings.{output_of}
+use Rattle.s360_footprint.specs.ChannelReadings.{output_read, output_with, word_met, word_or_target, word_read}
 use Rattle.s360_footprint.specs.OperandReadings.{access_read, bytes_read, number_read, profile_of}
 use Rattle.s360_footprint.specs.Readings.{Reading, bind, done, run}
 use Rattle.s360_footprint.proofs.InstructionRowLemmas.{bytes-are}
@@ -64,17 +65,6 @@ bytes-met-is key kind count (Some address) m = by (nat_eq count 0) where
   by true = refl
   by false = access-is address count kind key m
 
--- an input
-input-is : (w : WordAtHand) (total : ℕ) (m : Machine) → run (input_read (profile_of m.core) w total) m ≡ execute_input m.core.storage w total
-input-is w total m =
-    let t : Transfer = input_transfer w.ccw (total - w.moved)
-    in let bytes : List ℕ = stored_bytes w t.count
-    in let lowest : Option ℕ = lowest_address (reads_backward w.command) w.ccw.address (length bytes)
-    in run-bind (bytes_met (profile_of m.core) w.program.key Access.Store (length bytes) lowest)
-    (λ met. done (unless_checked w met (record (after_input w t) { stores = run_of lowest bytes }))) m
-    ∙ ap (λ met. unless_checked w met (record (after_input w t) { stores = run_of lowest bytes }))
-    (bytes-met-is w.program.key Access.Store (length bytes) lowest m)
-
 -- an output: bytes that meet nothing are inside storage, or there is none
 fetched-are : (address count key : ℕ) (m : Machine) → access_of m.core.storage key Access.Fetch count (Some address) ≡ Checked.Clear
     → run (bytes_read address count) m ≡ slice_range m.core.storage.bytes address (address + count)
@@ -91,38 +81,42 @@ fetched-are address count key m clear = by (nat_eq count 0) refl clear where
 
 output-by : (w : WordAtHand) (limit : ℕ) (t : Transfer) (fetched : List ℕ) (m : Machine) (met : Checked)
     → (met ≡ Checked.Clear → run (bytes_read w.ccw.address t.count) m ≡ fetched)
-    → run (output_met bytes_read w limit t met) m ≡ unless_checked w met (output_with w limit t fetched)
+    → run (output_read bytes_read w limit t met) m ≡ unless_checked w met (output_with w limit t fetched)
 output-by w limit t fetched m Checked.Clear h =
     run-bind (bytes_read w.ccw.address t.count) (λ bs. done (output_with w limit t bs)) m ∙ ap (output_with w limit t) (h refl)
 output-by w limit t fetched m Checked.Addressing h = refl
 output-by w limit t fetched m Checked.Protection h = refl
 
-output-is : (w : WordAtHand) (limit : ℕ) (m : Machine) → run (output_read bytes_read (profile_of m.core) w limit) m ≡ execute_output m.core.storage w limit
-output-is w limit m =
-    let t : Transfer = output_transfer w.ccw (limit - length w.gathered)
-    in let met : Checked = access_of m.core.storage w.program.key Access.Fetch t.count (Some w.ccw.address)
-    in run-bind (bytes_met (profile_of m.core) w.program.key Access.Fetch t.count (Some w.ccw.address)) (output_met bytes_read w limit t) m
-    ∙ ap (λ x. run (output_met bytes_read w limit t x) m) (bytes-met-is w.program.key Access.Fetch t.count (Some w.ccw.address) m)
-    ∙ output-by w limit t (slice_range m.core.storage.bytes w.ccw.address (w.ccw.address + t.count)) m met
+-- a word, by what its bytes meet
+begun-is : (w : WordAtHand) (met : Checked) (begin : Begin) (m : Machine) → run (begun_met (profile_of m.core) w begin) m ≡ met
+    → run (begun_read bytes_read w met begin) m ≡ execute_begun m.core.storage w begin
+begun-is w met (Begin.Input total) m e =
+    let bytes : List ℕ = input_bytes w total
+    in let is : met ≡ access_of m.core.storage w.program.key Access.Store (length bytes) (lowest_of w bytes)
+    = sym e ∙ bytes-met-is w.program.key Access.Store (length bytes) (lowest_of w bytes) m
+    in ap (λ x. unless_checked w x (record (after_input w (input_transfer w.ccw (total - w.moved))) { stores = run_of (lowest_of w bytes) bytes })) is
+begun-is w met (Begin.Output limit) m e =
+    let t : Transfer = output_of w limit
+    in let found : Checked = access_of m.core.storage w.program.key Access.Fetch t.count (Some w.ccw.address)
+    in let is : met ≡ found = sym e ∙ bytes-met-is w.program.key Access.Fetch t.count (Some w.ccw.address) m
+    in ap (λ x. run (output_read bytes_read w limit t x) m) is
+    ∙ output-by w limit t (slice_range m.core.storage.bytes w.ccw.address (w.ccw.address + t.count)) m found
     (λ clear. fetched-are w.ccw.address t.count w.program.key m clear)
+begun-is w met Begin.Control m e = refl
+begun-is w met (Begin.Refused sense) m e = refl
+begun-is w met Begin.NotYet m e = refl
 
--- a word
-begun-is : (w : WordAtHand) (begin : Begin) (m : Machine) → run (begun_read bytes_read (profile_of m.core) w begin) m ≡ execute_begun m.core.storage w begin
-begun-is w (Begin.Input total) m = input-is w total m
-begun-is w (Begin.Output limit) m = output-is w limit m
-begun-is w Begin.Control m = refl
-begun-is w (Begin.Refused sense) m = refl
-begun-is w Begin.NotYet m = refl
+fetched-is : (d : DeviceView) (program : Program) (f : Fetched) (met : Checked) (m : Machine) → run (word_met (profile_of m.core) d program f) m ≡ met
+    → run (word_read bytes_read d program f met) m ≡ execute_fetched d m.core.storage program f
+fetched-is d program (Fetched.Broken last) met m e = refl
+fetched-is d program (Fetched.Whole at c) met m e = begun-is (word_at_hand d program at c) met (begin_at d program c) m e
 
-fetched-is : (d : DeviceView) (program : Program) (f : Fetched) (m : Machine)
-    → run (fetched_read bytes_read (profile_of m.core) d program f) m ≡ execute_fetched d m.core.storage program f
-fetched-is d program (Fetched.Broken last) m = refl
-fetched-is d program (Fetched.Whole at c) m = begun-is (word_at_hand d program at c) (d.begin (command_with program.progress c)) m
+-- the word that is found, and what its bytes meet, in a machine
+abbrev pub FoundIn : Machine → DeviceView → Program → Fetched → Checked → Type 0
+FoundIn m d program f met = (run (next_ccw_read (profile_of m.core) program) m ≡ f) × (run (word_met (profile_of m.core) d program f) m ≡ met)
 
-pub execution-is : (d : DeviceView) (program : Program) (m : Machine)
-    → run (execution_read bytes_read (profile_of m.core) d program) m ≡ channel_execution d m.core.storage program
+pub execution-is : (d : DeviceView) (program : Program) (f : Fetched) (met : Checked) (m : Machine) → FoundIn m d program f met
+    → run (word_read bytes_read d program f met) m ≡ channel_execution d m.core.storage program
 unfolding channel_execution
-execution-is d program m =
-    run-bind (next_ccw_read (profile_of m.core) program) (fetched_read bytes_read (profile_of m.core) d program) m
-    ∙ ap (λ f. run (fetched_read bytes_read (profile_of m.core) d program f) m) (next-is program m)
-    ∙ fetched-is d program (next_ccw m.core.storage program) m
+execution-is d program f met m h =
+    fetched-is d program f met m h.1 ∙ ap (execute_fetched d m.core.storage program) (sym h.0 ∙ next-is program m)

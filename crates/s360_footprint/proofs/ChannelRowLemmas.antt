@@ -22,15 +22,15 @@ use Rattle.s360_channel.specs.Words.{reads_backward}
 use Rattle.s360_channel.specs.Units.{idle_unit, program_of}
 use Rattle.s360_machine.specs.ChannelEvents.{after_channel, after_execution, execution_at, execution_with, media_after}
 use Rattle.s360_machine.specs.Machine.{Machine, Media}
-use Rattle.s360_footprint.specs.ChannelReadings.{Fetching, begun_read, bytes_met, execution_read, fetched_read, next_ccw_read, output_met, output_read}
-use Rattle.s360_footprint.specs.ChannelReadings.{output_with}
+use Rattle.s360_footprint.specs.ChannelReadings.{Fetching, begin_at, begun_read, next_ccw_read, output_of, output_read, output_with, word_met}
 use Rattle.s360_footprint.specs.ChannelRows.{bytes_of_run, control_read, device_ending, device_read, device_seen, device_store, ending_stores, execution_stores}
-use Rattle.s360_footprint.specs.ChannelRows.{program_row, run_stores, state_executed, state_store, unit_executed, unit_row, zeros}
-use Rattle.s360_footprint.specs.OperandReadings.{bytes_read, profile_of}
+use Rattle.s360_footprint.specs.ChannelRows.{met_row, program_row, run_stores, state_after, state_executed, state_store, unit_executed, unit_row, word_again}
+use Rattle.s360_footprint.specs.ChannelRows.{zeros}
+use Rattle.s360_footprint.specs.OperandReadings.{Profile, bytes_read, profile_of}
 use Rattle.s360_footprint.specs.Readings.{Reading, bind, done, run}
 use Rattle.s360_footprint.specs.Rows.{Made, Store, after, with_stores}
 use Rattle.s360_footprint.specs.Values.{DeviceOf, device_of, with_device_of, with_value_there}
-use Rattle.s360_footprint.proofs.ChannelReadingLemmas.{execution-is}
+use Rattle.s360_footprint.proofs.ChannelReadingLemmas.{FoundIn, execution-is}
 use Rattle.s360_footprint.proofs.OperandLemmas.{clear-inside}
 use Rattle.s360_footprint.proofs.ReadingLemmas.{run-bind}
 use Rattle.s360_footprint.proofs.SequenceLemmas.{stores-append}
@@ -97,23 +97,31 @@ executed-at Console m = refl
 executed-at Tape0 m = refl
 executed-at Tape1 m = refl
 
--- what a unit executes
-state-is : (d : DeviceView) (s : UnitState) (m : Machine) → run (state_executed bytes_read (profile_of m.core) d s) m ≡ execution_with d m.core.storage s
-state-is d (UnitState.Active program) m = execution-is d program m
-state-is d UnitState.Idle m = refl
-state-is d (UnitState.Waiting csw) m = refl
+-- what a unit executes, by the word that is found and what its bytes meet
+abbrev Found : Machine → DeviceView → UnitState → Fetched → Checked → Type 0
+Found m d (UnitState.Active program) f met = FoundIn m d program f met
+Found m d other f met = Unit {0}
 
-unit-read : (fetch : Fetching) (u : ConfiguredUnit) (m : Machine)
-    → run (unit_executed fetch (profile_of m.core) u) m
-    ≡ run (state_executed fetch (profile_of m.core) (device_seen u (device_of u m.media)) (control_of m.units u).state) m
-unit-read fetch u m =
-    run-bind (control_read u) (λ (c : UnitControl). bind (device_read u) (λ d. state_executed fetch (profile_of m.core) (device_seen u d) c.state)) m
-    ∙ ap (λ (c : UnitControl). run (bind (device_read u) (λ d. state_executed fetch (profile_of m.core) (device_seen u d) c.state)) m) (control-is u m)
-    ∙ run-bind (device_read u) (λ d. state_executed fetch (profile_of m.core) (device_seen u d) (control_of m.units u).state) m
-    ∙ ap (λ d. run (state_executed fetch (profile_of m.core) (device_seen u d) (control_of m.units u).state) m) (device-is u m)
+abbrev FoundAt : ConfiguredUnit → Machine → Fetched → Checked → Type 0
+FoundAt u m f met = Found m (device_seen u (device_of u m.media)) (control_of m.units u).state f met
 
-unit-is : (u : ConfiguredUnit) (m : Machine) → run (unit_executed bytes_read (profile_of m.core) u) m ≡ execution_at u m
-unit-is u m = unit-read bytes_read u m ∙ state-is (device_seen u (device_of u m.media)) (control_of m.units u).state m ∙ sym (executed-at u m)
+state-is : (d : DeviceView) (s : UnitState) (f : Fetched) (met : Checked) (m : Machine) → Found m d s f met
+    → run (state_executed bytes_read d f met s) m ≡ execution_with d m.core.storage s
+state-is d (UnitState.Active program) f met m h = execution-is d program f met m h
+state-is d UnitState.Idle f met m h = refl
+state-is d (UnitState.Waiting csw) f met m h = refl
+
+unit-read : (fetch : Fetching) (u : ConfiguredUnit) (f : Fetched) (met : Checked) (m : Machine)
+    → run (unit_executed fetch u f met) m ≡ run (state_executed fetch (device_seen u (device_of u m.media)) f met (control_of m.units u).state) m
+unit-read fetch u f met m =
+    run-bind (control_read u) (λ (c : UnitControl). bind (device_read u) (λ d. state_executed fetch (device_seen u d) f met c.state)) m
+    ∙ ap (λ (c : UnitControl). run (bind (device_read u) (λ d. state_executed fetch (device_seen u d) f met c.state)) m) (control-is u m)
+    ∙ run-bind (device_read u) (λ d. state_executed fetch (device_seen u d) f met (control_of m.units u).state) m
+    ∙ ap (λ d. run (state_executed fetch (device_seen u d) f met (control_of m.units u).state) m) (device-is u m)
+
+unit-is : (u : ConfiguredUnit) (f : Fetched) (met : Checked) (m : Machine) → FoundAt u m f met → run (unit_executed bytes_read u f met) m ≡ execution_at u m
+unit-is u f met m h =
+    unit-read bytes_read u f met m ∙ state-is (device_seen u (device_of u m.media)) (control_of m.units u).state f met m h ∙ sym (executed-at u m)
 
 -- with other bytes of an output the same is stored, and a command ends or does not
 record SameStores (e f : Execution) : Type 0 where
@@ -134,40 +142,32 @@ same-output w t x y = by t.goes_on where
   by false = record { stores = refl; ending = refl }
 
 same-met : (w : WordAtHand) (limit : ℕ) (t : Transfer) (m : Machine) (met : Checked)
-    → SameStores (run (output_met zeros w limit t met) m) (run (output_met bytes_read w limit t met) m)
+    → SameStores (run (output_read zeros w limit t met) m) (run (output_read bytes_read w limit t met) m)
 same-met w limit t m Checked.Clear =
     rw (run-bind (bytes_read w.ccw.address t.count) (λ fetched. done (output_with w limit t fetched)) m) (same-output w t _ _)
 same-met w limit t m Checked.Addressing = same-itself _
 same-met w limit t m Checked.Protection = same-itself _
 
-same-begun : (w : WordAtHand) (begin : Begin) (m : Machine)
-    → SameStores (run (begun_read zeros (profile_of m.core) w begin) m) (run (begun_read bytes_read (profile_of m.core) w begin) m)
-same-begun w (Begin.Input total) m = same-itself _
-same-begun w (Begin.Output limit) m =
-    let t : Transfer = output_transfer w.ccw (limit - length w.gathered)
-    in let met : Reading Checked = bytes_met (profile_of m.core) w.program.key Access.Fetch t.count (Some w.ccw.address)
-    in rw (run-bind met (output_met zeros w limit t) m, run-bind met (output_met bytes_read w limit t) m) (same-met w limit t m (run met m))
-same-begun w Begin.Control m = same-itself _
-same-begun w (Begin.Refused sense) m = same-itself _
-same-begun w Begin.NotYet m = same-itself _
+same-begun : (w : WordAtHand) (met : Checked) (begin : Begin) (m : Machine)
+    → SameStores (run (begun_read zeros w met begin) m) (run (begun_read bytes_read w met begin) m)
+same-begun w met (Begin.Input total) m = same-itself _
+same-begun w met (Begin.Output limit) m = same-met w limit (output_of w limit) m met
+same-begun w met Begin.Control m = same-itself _
+same-begun w met (Begin.Refused sense) m = same-itself _
+same-begun w met Begin.NotYet m = same-itself _
 
-same-fetched : (d : DeviceView) (program : Program) (f : Fetched) (m : Machine)
-    → SameStores (run (fetched_read zeros (profile_of m.core) d program f) m) (run (fetched_read bytes_read (profile_of m.core) d program f) m)
-same-fetched d program (Fetched.Broken last) m = same-itself _
-same-fetched d program (Fetched.Whole at c) m = same-begun (word_at_hand d program at c) (d.begin (command_with program.progress c)) m
+same-executed : (d : DeviceView) (f : Fetched) (met : Checked) (s : UnitState) (m : Machine)
+    → SameStores (run (state_executed zeros d f met s) m) (run (state_executed bytes_read d f met s) m)
+same-executed d (Fetched.Broken last) met (UnitState.Active program) m = same-itself _
+same-executed d (Fetched.Whole at c) met (UnitState.Active program) m = same-begun (word_at_hand d program at c) met (begin_at d program c) m
+same-executed d f met UnitState.Idle m = same-itself _
+same-executed d f met (UnitState.Waiting csw) m = same-itself _
 
-same-executed : (d : DeviceView) (s : UnitState) (m : Machine)
-    → SameStores (run (state_executed zeros (profile_of m.core) d s) m) (run (state_executed bytes_read (profile_of m.core) d s) m)
-same-executed d (UnitState.Active program) m =
-    let next : Reading Fetched = next_ccw_read (profile_of m.core) program
-    in rw (run-bind next (fetched_read zeros (profile_of m.core) d program) m, run-bind next (fetched_read bytes_read (profile_of m.core) d program) m)
-    (same-fetched d program (run next m) m)
-same-executed d UnitState.Idle m = same-itself _
-same-executed d (UnitState.Waiting csw) m = same-itself _
-
-same-stores : (u : ConfiguredUnit) (m : Machine) → SameStores (run (unit_executed zeros (profile_of m.core) u) m) (execution_at u m)
-same-stores u m =
-    rw (unit-read zeros u m, ← unit-is u m, unit-read bytes_read u m) (same-executed (device_seen u (device_of u m.media)) (control_of m.units u).state m)
+same-stores : (u : ConfiguredUnit) (f : Fetched) (met : Checked) (m : Machine) → FoundAt u m f met
+    → SameStores (run (unit_executed zeros u f met) m) (execution_at u m)
+same-stores u f met m h =
+    rw (unit-read zeros u f met m, ← unit-is u f met m h, unit-read bytes_read u f met m)
+    (same-executed (device_seen u (device_of u m.media)) f met (control_of m.units u).state m)
 
 -- a run that is stored lies inside storage
 run-inside : (m : Core) (key : ℕ) (lowest : Option ℕ) (bytes : List ℕ) (r : Run) → access_of m.storage key Access.Store (length bytes) lowest ≡ Checked.Clear
@@ -225,64 +225,77 @@ executed-inside m d (UnitState.Active program) r h = fetched-inside m d program 
 executed-inside m d UnitState.Idle r h = absurd (cc)
 executed-inside m d (UnitState.Waiting csw) r h = absurd (cc)
 
--- the stores, one kind after another
-run-stored : (u : ConfiguredUnit) (o : Option Run) (m : Machine) → o ≡ (execution_at u m).stores
-    → with_stores m m (run_stores (profile_of m.core) u o) ≡ record m { core = core_with_run o m.core }
-run-stored u None m e = refl
-run-stored u (Some r) m e =
-    let bytes : Reading (List ℕ) = bind (unit_executed bytes_read (profile_of m.core) u) (λ (x : Execution). done (bytes_of_run x.stores))
-    in let is : run bytes m ≡ r.bytes
-    = run-bind (unit_executed bytes_read (profile_of m.core) u) (λ (x : Execution). done (bytes_of_run x.stores)) m
-    ∙ ap (λ (x : Execution). bytes_of_run x.stores) (unit-is u m) ∙ ap bytes_of_run (sym e)
-    in all-stored bytes r.bytes m m r.at (length r.bytes) is refl
+-- the stores, one kind after another, by what the unit executes
+run-stored : (u : ConfiguredUnit) (executed : Reading Execution) (o : Option Run) (m : Machine) → run executed m ≡ execution_at u m
+    → o ≡ (execution_at u m).stores
+    → with_stores m m (run_stores executed o) ≡ record m { core = core_with_run o m.core }
+run-stored u executed None m is e = refl
+run-stored u executed (Some r) m is e =
+    let bytes : Reading (List ℕ) = bind executed (λ x. done (bytes_of_run x.stores))
+    in let stored : run bytes m ≡ r.bytes
+    = run-bind executed (λ x. done (bytes_of_run x.stores)) m ∙ ap (λ (x : Execution). bytes_of_run x.stores) is ∙ ap bytes_of_run (sym e)
+    in all-stored bytes r.bytes m m r.at (length r.bytes) stored refl
     (executed-inside m.core (device_seen u (device_of u m.media)) (control_of m.units u).state r (ap (λ (x : Execution). x.stores) (sym (executed-at u m))
     ∙ sym e))
 
-ending-stored : (u : ConfiguredUnit) (o e : Option Ending) (m x : Machine) → is_some o ≡ is_some e → e ≡ (execution_at u m).ending → x.media ≡ m.media
-    → with_stores m x (ending_stores (profile_of m.core) u o) ≡ record x { media = media_after u e m.media }
-ending-stored u None None m x s e same = ap (λ k. record x { media = k }) (same ∙ sym (media-is u None m.media ∙ no-ending u m.media))
-ending-stored u None (Some y) m x s e same = absurd (cc)
-ending-stored u (Some o) None m x s e same = absurd (cc)
-ending-stored u (Some o) (Some y) m x s e same =
-    let full : Reading Execution = unit_executed bytes_read (profile_of m.core) u
-    in let is : run (bind (device_read u) (λ d. bind full (λ (k : Execution). done (device_ending u d k.ending)))) m
-    ≡ device_ending u (device_of u m.media) (Some y)
-    = run-bind (device_read u) (λ d. bind full (λ (k : Execution). done (device_ending u d k.ending))) m
-    ∙ run-bind full (λ (k : Execution). done (device_ending u (run (device_read u) m) k.ending)) m
-    ∙ ap (λ d. device_ending u d (run full m).ending) (device-is u m)
-    ∙ ap (device_ending u (device_of u m.media)) (ap (λ (k : Execution). k.ending) (unit-is u m) ∙ sym e)
-    in device-stored u (bind (device_read u) (λ d. bind full (λ (k : Execution). done (device_ending u d k.ending)))) m x
-    ∙ ap (λ d. record x { media = with_device_of u d x.media }) is
+ending-stored : (u : ConfiguredUnit) (executed : Reading Execution) (o e : Option Ending) (m x : Machine) → run executed m ≡ execution_at u m
+    → is_some o ≡ is_some e → e ≡ (execution_at u m).ending → x.media ≡ m.media
+    → with_stores m x (ending_stores u executed o) ≡ record x { media = media_after u e m.media }
+ending-stored u executed None None m x is s e same = ap (λ k. record x { media = k }) (same ∙ sym (media-is u None m.media ∙ no-ending u m.media))
+ending-stored u executed None (Some y) m x is s e same = absurd (cc)
+ending-stored u executed (Some o) None m x is s e same = absurd (cc)
+ending-stored u executed (Some o) (Some y) m x is s e same =
+    let after : Reading (DeviceOf u) = bind (device_read u) (λ d. bind executed (λ k. done (device_ending u d k.ending)))
+    in let made : run after m ≡ device_ending u (device_of u m.media) (Some y)
+    = run-bind (device_read u) (λ d. bind executed (λ k. done (device_ending u d k.ending))) m
+    ∙ run-bind executed (λ k. done (device_ending u (run (device_read u) m) k.ending)) m
+    ∙ ap (λ d. device_ending u d (run executed m).ending) (device-is u m)
+    ∙ ap (device_ending u (device_of u m.media)) (ap (λ (k : Execution). k.ending) is ∙ sym e)
+    in device-stored u after m x
+    ∙ ap (λ d. record x { media = with_device_of u d x.media }) made
     ∙ ap (λ k. record x { media = with_device_of u (device_ending u (device_of u m.media) (Some y)) k }) same
     ∙ ap (λ k. record x { media = k }) (sym (media-is u (Some y) m.media))
 
-state-stored : (u : ConfiguredUnit) (m x : Machine)
-    → with_stores m x (state_store (profile_of m.core) u ∷ [])
-    ≡ record x { units = with_control_of x.units u (record (control_of m.units u) { state = (execution_at u m).state }) }
-state-stored u m x =
-    let full : Reading Execution = unit_executed bytes_read (profile_of m.core) u
-    in let value : Reading UnitControl = bind (control_read u) (λ control. bind full (λ (e : Execution). done (record control { state = e.state })))
-    in let is : run value m ≡ record (control_of m.units u) { state = (execution_at u m).state }
-    = run-bind (control_read u) (λ control. bind full (λ (e : Execution). done (record control { state = e.state }))) m
-    ∙ run-bind full (λ (e : Execution). done (record (run (control_read u) m) { state = e.state })) m
-    ∙ ap (λ (c : UnitControl). record c { state = (run full m).state }) (control-is u m)
-    ∙ ap (λ (e : Execution). record (control_of m.units u) { state = e.state }) (unit-is u m)
-    in control-stored u value m x ∙ ap (λ c. record x { units = with_control_of x.units u c }) is
+again-is : (m : Machine) (d : DeviceView) (s : UnitState) (f : Fetched) (met : Checked) → Found m d s f met → run (word_again (profile_of m.core) s f) m ≡ f
+again-is m d (UnitState.Active program) f met h = h.0
+again-is m d UnitState.Idle f met h = refl
+again-is m d (UnitState.Waiting csw) f met h = refl
 
-execution-stored : (u : ConfiguredUnit) (e : Execution) (m : Machine) → SameStores e (execution_at u m)
-    → with_stores m m (execution_stores (profile_of m.core) u e) ≡ after_channel u m
-execution-stored u e m same =
-    let f : Execution = execution_at u m
+state-after-is : (u : ConfiguredUnit) (f : Fetched) (met : Checked) (m : Machine) → FoundAt u m f met
+    → run (state_after (profile_of m.core) u f met) m ≡ record (control_of m.units u) { state = (execution_at u m).state }
+state-after-is u f met m h =
+    let c : UnitControl = control_of m.units u
+    in run-bind (control_read u)
+    (λ (c : UnitControl). bind (word_again (profile_of m.core) c.state f)
+    (λ again. bind (unit_executed bytes_read u again met) (λ e. done (record c { state = e.state })))) m
+    ∙ ap (λ (c : UnitControl). run
+    (bind (word_again (profile_of m.core) c.state f) (λ again. bind (unit_executed bytes_read u again met) (λ e. done (record c { state = e.state })))) m)
+    (control-is u m)
+    ∙ run-bind (word_again (profile_of m.core) c.state f) (λ again. bind (unit_executed bytes_read u again met) (λ e. done (record c { state = e.state }))) m
+    ∙ ap (λ again. run (bind (unit_executed bytes_read u again met) (λ e. done (record c { state = e.state }))) m)
+    (again-is m (device_seen u (device_of u m.media)) c.state f met h)
+    ∙ run-bind (unit_executed bytes_read u f met) (λ e. done (record c { state = e.state })) m
+    ∙ ap (λ (e : Execution). record c { state = e.state }) (unit-is u f met m h)
+
+execution-stored : (u : ConfiguredUnit) (f : Fetched) (met : Checked) (e : Execution) (m : Machine) → FoundAt u m f met → SameStores e (execution_at u m)
+    → with_stores m m (execution_stores (profile_of m.core) u f met e) ≡ after_channel u m
+execution-stored u f met e m h same =
+    let x : Execution = execution_at u m
+    in let executed : Reading Execution = unit_executed bytes_read u f met
+    in let is : run executed m ≡ x = unit-is u f met m h
+    in let last : List Store = state_store u (state_after (profile_of m.core) u f met)
     in let stored : Machine = record m { core = core_with_run e.stores m.core }
-    in stores-append m m (run_stores (profile_of m.core) u e.stores) (ending_stores (profile_of m.core) u e.ending ++ state_store (profile_of m.core) u ∷ [])
-    ∙ ap (λ x. with_stores m x (ending_stores (profile_of m.core) u e.ending ++ state_store (profile_of m.core) u ∷ [])) (run-stored u e.stores m same.stores)
-    ∙ stores-append m stored (ending_stores (profile_of m.core) u e.ending) (state_store (profile_of m.core) u ∷ [])
-    ∙ ap (λ x. with_stores m x (state_store (profile_of m.core) u ∷ [])) (ending-stored u e.ending f.ending m stored same.ending refl refl)
-    ∙ state-stored u m (record stored { media = media_after u f.ending m.media })
+    in stores-append m m (run_stores executed e.stores) (ending_stores u executed e.ending ++ last)
+    ∙ ap (λ k. with_stores m k (ending_stores u executed e.ending ++ last)) (run-stored u executed e.stores m is same.stores)
+    ∙ stores-append m stored (ending_stores u executed e.ending) last
+    ∙ ap (λ k. with_stores m k last) (ending-stored u executed e.ending x.ending m stored is same.ending refl refl)
+    ∙ control-stored u (state_after (profile_of m.core) u f met) m (record stored { media = media_after u x.ending m.media })
+    ∙ ap (λ c. record m { core = core_with_run e.stores m.core; units = with_control_of m.units u c; media = media_after u x.ending m.media })
+    (state-after-is u f met m h)
     ∙ ap (λ o. record m {
       core = core_with_run o m.core;
-      units = with_control_of m.units u (record (control_of m.units u) { state = f.state });
-      media = media_after u f.ending m.media;
+      units = with_control_of m.units u (record (control_of m.units u) { state = x.state });
+      media = media_after u x.ending m.media;
     }) same.stores
 
 -- a unit that executes no program
@@ -301,14 +314,34 @@ idle-is u s m e h =
   none UnitState.Idle h = refl
   none (UnitState.Waiting csw) h = refl
 
+met-row-is : (u : ConfiguredUnit) (f : Fetched) (met : Checked) (m : Machine) → FoundAt u m f met
+    → after (met_row (profile_of m.core) u f met) m ≡ after_channel u m
+met-row-is u f met m h =
+    let shape : Reading Execution = unit_executed zeros u f met
+    in ap (λ (made : Made Bool). with_stores m m made.stores)
+    (run-bind shape (λ e. done (record { ended = true; stores = execution_stores (profile_of m.core) u f met e })) m)
+    ∙ execution-stored u f met (run shape m) m h (same-stores u f met m h)
+
+found-by : (u : ConfiguredUnit) (program : Program) (s : UnitState) (m : Machine) (d : DeviceView) (f : Fetched) (met : Checked) → program_of s ≡ Some program
+    → FoundIn m d program f met → Found m d s f met
+found-by u program (UnitState.Active other) m d f met e h = let same : program ≡ other = cc in subst (λ p. FoundIn m d p f met) same h
+found-by u program UnitState.Idle m d f met e h = tt
+found-by u program (UnitState.Waiting csw) m d f met e h = tt
+
 program-is : (u : ConfiguredUnit) (o : Option Program) (m : Machine) → program_of (control_of m.units u).state ≡ o
     → after (program_row (profile_of m.core) u o) m ≡ after_channel u m
 program-is u None m e = idle-is u (control_of m.units u).state m refl e
 program-is u (Some program) m e =
-    let shape : Reading Execution = unit_executed zeros (profile_of m.core) u
+    let p : Profile = profile_of m.core
+    in let d : DeviceView = device_seen u (device_of u m.media)
+    in let f : Fetched = run (next_ccw_read p program) m
+    in let met : Checked = run (word_met p d program f) m
     in ap (λ (made : Made Bool). with_stores m m made.stores)
-    (run-bind shape (λ e. done (record { ended = true; stores = execution_stores (profile_of m.core) u e })) m)
-    ∙ execution-stored u (run shape m) m (same-stores u m)
+    (run-bind (next_ccw_read p program) (λ f. bind (device_read u) (λ d. bind (word_met p (device_seen u d) program f) (λ met. met_row p u f met))) m
+    ∙ run-bind (device_read u) (λ d. bind (word_met p (device_seen u d) program f) (λ met. met_row p u f met)) m
+    ∙ ap (λ k. run (bind (word_met p (device_seen u k) program f) (λ met. met_row p u f met)) m) (device-is u m)
+    ∙ run-bind (word_met p d program f) (λ met. met_row p u f met) m)
+    ∙ met-row-is u f met m (found-by u program (control_of m.units u).state m d f met e (refl, refl))
 
 pub unit-row-is : (u : ConfiguredUnit) (m : Machine) → after (unit_row (profile_of m.core) u) m ≡ after_channel u m
 unit-row-is u m =

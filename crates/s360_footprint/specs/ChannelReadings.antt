@@ -39,42 +39,51 @@ abbrev pub bytes_met : Profile → ℕ → Access → ℕ → Option ℕ → Rea
 bytes_met p key kind count None = done Checked.Addressing
 bytes_met p key kind count (Some address) = if nat_eq count 0 then done Checked.Clear else access_read p address count kind key
 
--- an input stores, unless a check ends it
-abbrev pub input_read : Profile → WordAtHand → ℕ → Reading Execution
-input_read p w total =
-    let t : Transfer = input_transfer w.ccw (total - w.moved)
-    in let bytes : List ℕ = stored_bytes w t.count
-    in let lowest : Option ℕ = lowest_address (reads_backward w.command) w.ccw.address (length bytes)
-    in bind (bytes_met p w.program.key Access.Store (length bytes) lowest)
-    (λ met. done (unless_checked w met (record (after_input w t) { stores = run_of lowest bytes })))
+-- what the bytes meet that a word would store or fetch; where none moves, nothing
+abbrev pub input_bytes : WordAtHand → ℕ → List ℕ
+input_bytes w total = stored_bytes w (input_transfer w.ccw (total - w.moved)).count
 
--- an output takes the bytes that it fetches in this way, unless a check ends it
+abbrev pub lowest_of : WordAtHand → List ℕ → Option ℕ
+lowest_of w bytes = lowest_address (reads_backward w.command) w.ccw.address (length bytes)
+
+abbrev pub output_of : WordAtHand → ℕ → Transfer
+output_of w limit = output_transfer w.ccw (limit - length w.gathered)
+
+abbrev pub begun_met : Profile → WordAtHand → Begin → Reading Checked
+begun_met p w (Begin.Input total) =
+    bytes_met p w.program.key Access.Store (length (input_bytes w total)) (lowest_of w (input_bytes w total))
+begun_met p w (Begin.Output limit) = bytes_met p w.program.key Access.Fetch (output_of w limit).count (Some w.ccw.address)
+begun_met p w begin = done Checked.Clear
+
+-- a word that was found, as the device begins its command
+abbrev pub begin_at : DeviceView → Program → Ccw → Begin
+begin_at d program c = d.begin (command_with program.progress c)
+
+abbrev pub word_met : Profile → DeviceView → Program → Fetched → Reading Checked
+word_met p d program (Fetched.Broken last) = done Checked.Clear
+word_met p d program (Fetched.Whole at c) = begun_met p (word_at_hand d program at c) (begin_at d program c)
+
+-- an output takes the bytes that it fetches in this way
 abbrev pub Fetching : Type 0
 Fetching = ℕ → ℕ → Reading (List ℕ)
 
 abbrev pub output_with : WordAtHand → ℕ → Transfer → List ℕ → Execution
 output_with w limit t fetched = after_output w t (take limit (w.gathered ++ fetched))
 
-abbrev pub output_met : Fetching → WordAtHand → ℕ → Transfer → Checked → Reading Execution
-output_met fetch w limit t Checked.Clear = bind (fetch w.ccw.address t.count) (λ fetched. done (output_with w limit t fetched))
-output_met fetch w limit t met = done (unless_checked w met (output_with w limit t []))
+abbrev pub output_read : Fetching → WordAtHand → ℕ → Transfer → Checked → Reading Execution
+output_read fetch w limit t Checked.Clear = bind (fetch w.ccw.address t.count) (λ fetched. done (output_with w limit t fetched))
+output_read fetch w limit t met = done (unless_checked w met (output_with w limit t []))
 
-abbrev pub output_read : Fetching → Profile → WordAtHand → ℕ → Reading Execution
-output_read fetch p w limit =
-    let t : Transfer = output_transfer w.ccw (limit - length w.gathered)
-    in bind (bytes_met p w.program.key Access.Fetch t.count (Some w.ccw.address)) (output_met fetch w limit t)
+-- what a word does, by what its bytes meet
+abbrev pub begun_read : Fetching → WordAtHand → Checked → Begin → Reading Execution
+begun_read fetch w met (Begin.Input total) =
+    let bytes : List ℕ = input_bytes w total
+    in done (unless_checked w met (record (after_input w (input_transfer w.ccw (total - w.moved))) { stores = run_of (lowest_of w bytes) bytes }))
+begun_read fetch w met (Begin.Output limit) = output_read fetch w limit (output_of w limit) met
+begun_read fetch w met Begin.Control = done (moves_nothing w (ended_unit w.exception))
+begun_read fetch w met (Begin.Refused sense) = done (moves_nothing w refused_unit)
+begun_read fetch w met Begin.NotYet = done (record { stores = None; state = UnitState.Active w.program; ending = None })
 
--- by how the device begins the command
-abbrev pub begun_read : Fetching → Profile → WordAtHand → Begin → Reading Execution
-begun_read fetch p w (Begin.Input total) = input_read p w total
-begun_read fetch p w (Begin.Output limit) = output_read fetch p w limit
-begun_read fetch p w Begin.Control = done (moves_nothing w (ended_unit w.exception))
-begun_read fetch p w (Begin.Refused sense) = done (moves_nothing w refused_unit)
-begun_read fetch p w Begin.NotYet = done (record { stores = None; state = UnitState.Active w.program; ending = None })
-
-abbrev pub fetched_read : Fetching → Profile → DeviceView → Program → Fetched → Reading Execution
-fetched_read fetch p d program (Fetched.Broken last) = done (after_check program last meets_program_check)
-fetched_read fetch p d program (Fetched.Whole at c) = begun_read fetch p (word_at_hand d program at c) (d.begin (command_with program.progress c))
-
-abbrev pub execution_read : Fetching → Profile → DeviceView → Program → Reading Execution
-execution_read fetch p d program = bind (next_ccw_read p program) (fetched_read fetch p d program)
+abbrev pub word_read : Fetching → DeviceView → Program → Fetched → Checked → Reading Execution
+word_read fetch d program (Fetched.Broken last) met = done (after_check program last meets_program_check)
+word_read fetch d program (Fetched.Whole at c) met = begun_read fetch (word_at_hand d program at c) met (begin_at d program c)
