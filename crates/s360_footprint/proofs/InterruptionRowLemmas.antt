@@ -17,7 +17,7 @@ use Rattle.s360_footprint.specs.InstructionLaws.{row_in}
 use Rattle.s360_footprint.specs.InstructionRows.{InstructionEnd}
 use Rattle.s360_footprint.specs.InterruptionRows.{InterruptionsAreRows, ending_row, interruption_stores, new_psw_store, old_psw_read, stores_after}
 use Rattle.s360_footprint.specs.OperandReadings.{number_read}
-use Rattle.s360_footprint.specs.Readings.{AreAllThere, bind, done, run}
+use Rattle.s360_footprint.specs.Readings.{AreAllThere, Reading, bind, done, run}
 use Rattle.s360_footprint.specs.Rows.{after, with_stores}
 use Rattle.s360_footprint.specs.Sequences.{all_read}
 use Rattle.s360_footprint.proofs.InstructionLawLemmas.{instructions-are-rows}
@@ -35,14 +35,21 @@ new-psw-is : (class : Class) (m : Machine)
     ≡ current_psw (doubleword_at m.core.storage.bytes (new_location_of class))
 new-psw-is class m = run-bind (number_read (new_location_of class) 8) (λ d. done (current_psw d)) m ∙ ap current_psw (number-is (new_location_of class) 8 m)
 
-pub interruption-is : (class : Class) (next code : ℕ) (long : InstructionLength) (m : Machine) → old_location_of class + 8 ≤ length m.core.storage.bytes
-    → with_stores m m (interruption_stores class next code long) ≡ record m { core = after_interruption class code long (with_next_address next m.core) }
+pub interruption-by : (class : Class) (old : Reading (List ℕ)) (psw code : ℕ) (long : InstructionLength) (m : Machine)
+    → run old m ≡ bytes_high_first 8 (stored_psw psw code (length_code_of long)) → old_location_of class + 8 ≤ length m.core.storage.bytes
+    → with_stores m m (interruption_stores class old) ≡ record m { core = after_interruption class code long (record m.core { psw = psw }) }
 unfolding after_interruption
-interruption-is class next code long m h =
-    let bytes : List ℕ = bytes_high_first 8 (stored_psw (with_instruction_address m.core.psw next) code (length_code_of long))
-    in stores-append m m (byte_stores (old_location_of class) (old_psw_read next code long) 0 8) (new_psw_store class ∷ [])
-    ∙ ap (λ x. with_stores m x (new_psw_store class ∷ [])) (all-stored (old_psw_read next code long) bytes m m (old_location_of class) 8 refl refl h)
+interruption-by class old psw code long m e h =
+    let bytes : List ℕ = bytes_high_first 8 (stored_psw psw code (length_code_of long))
+    in stores-append m m (byte_stores (old_location_of class) old 0 8) (new_psw_store class ∷ [])
+    ∙ ap (λ x. with_stores m x (new_psw_store class ∷ [])) (all-stored old bytes m m (old_location_of class) 8 e refl h)
     ∙ ap (λ p. record m { core = record (core_with_bytes (old_location_of class) bytes m.core) { psw = p } }) (new-psw-is class m)
+
+interruption-is : (class : Class) (next code : ℕ) (long : InstructionLength) (m : Machine) → old_location_of class + 8 ≤ length m.core.storage.bytes
+    → with_stores m m (interruption_stores class (old_psw_read next code long))
+    ≡ record m { core = after_interruption class code long (with_next_address next m.core) }
+interruption-is class next code long m h =
+    interruption-by class (old_psw_read next code long) (with_instruction_address m.core.psw next) code long m refl h
 
 -- what follows an instruction
 following-is : (ended : Ended) (i : Instruction) (m : Machine) → m.core ≡ i.outcome.core → 128 ≤ length m.core.storage.bytes

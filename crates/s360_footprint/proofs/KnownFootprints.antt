@@ -10,7 +10,7 @@ use Rattle.s360_logic.specs.declared.{row.ByteCombination.TheVariants.BitwiseExc
 use Rattle.s360_machine.specs.Machine.{Machine}
 use Rattle.s360_footprint.specs.Altering.{Altering, psw_store, register_stores}
 use Rattle.s360_footprint.specs.DigitRows.{digit_stores}
-use Rattle.s360_footprint.specs.InterruptionRows.{interruption_stores}
+use Rattle.s360_footprint.specs.InterruptionRows.{interruption_stores, old_psw_read}
 use Rattle.s360_footprint.specs.LeftToRightRows.{combining, made_stores, result_code_read}
 use Rattle.s360_footprint.specs.OperandReadings.{operand_keys_read}
 use Rattle.s360_footprint.specs.Readings.{places_read, value_read}
@@ -77,7 +77,7 @@ keys-of-two-blocks m = refl
 
 -- a program interruption after 1A12: the old PSW at 40 has the condition code that the sum made
 interrupted-sum : (m : Machine)
-    → read_for (sum ++ stores_through sum (interruption_stores Class.Program 0x202 8 InstructionLength.OneHalfword)) m (Byte 40)
+    → read_for (sum ++ stores_through sum (interruption_stores Class.Program (old_psw_read 0x202 8 InstructionLength.OneHalfword))) m (Byte 40)
     ≡ Psw ∷ (Register 1 ∷ (Register 2 ∷ []))
 unfolding read_for sum altered
 interrupted-sum m = refl

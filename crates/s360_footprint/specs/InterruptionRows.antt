@@ -29,15 +29,14 @@ old_psw_read next code length =
 abbrev pub new_psw_store : Class → Store
 new_psw_store class = record { place = Psw; value = bind (number_read (new_location_of class) 8) (λ doubleword. done (current_psw doubleword)) }
 
-abbrev pub interruption_stores : Class → ℕ → ℕ → InstructionLength → List Store
-interruption_stores class next code length =
-    byte_stores (old_location_of class) (old_psw_read next code length) 0 8 ++ new_psw_store class ∷ []
+abbrev pub interruption_stores : Class → Reading (List ℕ) → List Store
+interruption_stores class old = byte_stores (old_location_of class) old 0 8 ++ new_psw_store class ∷ []
 
 -- what follows an instruction that ends so: one that the channels do is followed by none
 abbrev pub stores_after : Ended → ℕ → InstructionLength → List Store
 stores_after Ended.Done next length = []
-stores_after (Ended.Program code) next length = interruption_stores Class.Program next (number_of_code code) length
-stores_after (Ended.Svc code) next length = interruption_stores Class.Supervisor next code length
+stores_after (Ended.Program code) next length = interruption_stores Class.Program (old_psw_read next (number_of_code code) length)
+stores_after (Ended.Svc code) next length = interruption_stores Class.Supervisor (old_psw_read next code length)
 stores_after (Ended.Io operation unit) next length = []
 
 abbrev pub ending_row : InstructionEnd → Row InstructionEnd
