@@ -61,9 +61,11 @@ ending-is overflow m = by (fixed_point_overflow_mask_of m.core.psw) where
   without : (o : Bool) → Ended.Done ≡ overflow_ending (o && false)
   without true = refl
   without false = refl
+
   with-mask : (o : Bool) → overflow_ending o ≡ overflow_ending (o && true)
   with-mask true = refl
   with-mask false = refl
+
   by : (mask : Bool) → run (cond mask (bind overflow (λ o. done (overflow_ending o))) (done Ended.Done)) m ≡ overflow_ending (run overflow m && mask)
   by true = run-bind overflow (λ o. done (overflow_ending o)) m ∙ with-mask (run overflow m)
   by false = without (run overflow m)

@@ -71,6 +71,7 @@ fetched-are : (address count key : ℕ) (m : Machine) → access_of m.core.stora
 fetched-are address count key m clear = by (nat_eq count 0) refl clear where
   long : count ≡ address + count - address
   long = omega arith
+
   by : (z : Bool) → nat_eq count 0 ≡ z → cond z Checked.Clear (access m.core.storage address count Access.Fetch key) ≡ Checked.Clear
       → run (bytes_read address count) m ≡ take (address + count - address) (drop address m.core.storage.bytes)
   by true e h =

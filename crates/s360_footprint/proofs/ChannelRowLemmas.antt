@@ -37,7 +37,7 @@ use Rattle.s360_footprint.proofs.SequenceLemmas.{stores-append}
 use Rattle.s360_footprint.proofs.StoringRowLemmas.{all-stored}
 
 -- a unit and its device
-control-is : (u : ConfiguredUnit) (m : Machine) → run (control_read u) m ≡ control_of m.units u
+pub control-is : (u : ConfiguredUnit) (m : Machine) → run (control_read u) m ≡ control_of m.units u
 control-is Reader m = refl
 control-is Punch m = refl
 control-is Printer m = refl
@@ -62,7 +62,7 @@ device-stored Console d before m = refl
 device-stored Tape0 d before m = refl
 device-stored Tape1 d before m = refl
 
-control-stored : (u : ConfiguredUnit) (c : Reading UnitControl) (before m : Machine)
+pub control-stored : (u : ConfiguredUnit) (c : Reading UnitControl) (before m : Machine)
     → with_stores before m (record { place = state_of_unit (record { 0 = address_of_unit u }); value = c } ∷ [])
     ≡ record m { units = with_control_of m.units u (run c before) }
 control-stored Reader c before m = refl
@@ -308,11 +308,11 @@ idle-is u s m e h =
     ∙ ap (λ c. record m { units = with_control_of m.units u c; media = media_after u None m.media }) control
     ∙ ap (λ us. record m { units = us; media = media_after u None m.media }) (set-get_or m.units (index_of u) idle_unit)
     ∙ ap (λ k. record m { media = k }) (media-is u None m.media ∙ no-ending u m.media)) where
-  none : (s : UnitState) → program_of s ≡ None
-      → execution_with (device_seen u (device_of u m.media)) m.core.storage s ≡ record { stores = None; state = s; ending = None }
-  none (UnitState.Active p) h = absurd (cc)
-  none UnitState.Idle h = refl
-  none (UnitState.Waiting csw) h = refl
+      none : (s : UnitState) → program_of s ≡ None
+          → execution_with (device_seen u (device_of u m.media)) m.core.storage s ≡ record { stores = None; state = s; ending = None }
+      none (UnitState.Active p) h = absurd (cc)
+      none UnitState.Idle h = refl
+      none (UnitState.Waiting csw) h = refl
 
 met-row-is : (u : ConfiguredUnit) (f : Fetched) (met : Checked) (m : Machine) → FoundAt u m f met
     → after (met_row (profile_of m.core) u f met) m ≡ after_channel u m

@@ -105,6 +105,7 @@ before-is d (suc n) i a m l h = by (nat_lt n i) (λ k b. before-is d n k b m (om
       in f n a
       ∙ sym (get_or-set_other s.bytes (address_from_right d.first n) a (made_byte (move_of d m) (storage_before (move_of d m) m.core.storage n) n) 0
       (λ k. eqb-false (address_from_right d.first n) a e (sym k)))
+
   by : (z : Bool) → ((k b : ℕ) → run (byte_before d n k b) m ≡ byte_at (storage_before (move_of d m) m.core.storage n k) b)
       → run (cond z (cond (nat_eq (address_from_right d.first n) a) (made_digit d (byte_before d n) n) (byte_before d n n a)) (byte_before d n i a)) m
       ≡ byte_at (cond z (storage_after (move_of d m) (storage_before (move_of d m) m.core.storage n) n) (storage_before (move_of d m) m.core.storage n i)) a
@@ -123,8 +124,10 @@ digits-stored d (suc n) m l h =
     in let byte : run (made_digit d (byte_before d n) n) m ≡ made_byte (move_of d m) before n
     = made-is d (byte_before d n) before n m (λ k a. before-is d n k a m (omega (arith, l)) h)
     in stores-append m m (digit_stores d n) _
-    ∙ ap (λ (x : Machine). record x { core
-    = record x.core { storage = with_byte (address_from_right d.first n) (run (made_digit d (byte_before d n) n) m) x.core.storage } })
+    ∙ ap (λ (x : Machine). record x {
+      core
+          = record x.core { storage = with_byte (address_from_right d.first n) (run (made_digit d (byte_before d n) n) m) x.core.storage };
+    })
     (digits-stored d n m (omega (arith, l)) h)
     ∙ ap (λ b. record m { core = record m.core { storage = with_byte (address_from_right d.first n) b (before n) } }) byte
     ∙ ap (λ s. record m { core = record m.core { storage = s } }) (sym (last-before (move_of d m) m.core.storage n))

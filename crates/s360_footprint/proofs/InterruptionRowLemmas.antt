@@ -64,12 +64,29 @@ following-is (Ended.Svc code) i m e h =
 following-is (Ended.Io operation unit) i m e h = ap (λ c. record m { core = c }) e
 
 -- the machine has all that is read for it
-doubleword-there : (a : ℕ) (m : Machine) → a + 8 ≤ length m.core.storage.bytes
+pub doubleword-there : (a : ℕ) (m : Machine) → a + 8 ≤ length m.core.storage.bytes
     → AreAllThere m (Byte a ∷ Byte (a + 1) ∷ Byte (a + 2) ∷ Byte (a + 3) ∷ Byte (a + 4) ∷ Byte (a + 5) ∷ Byte (a + 6) ∷ Byte (a + 7) ∷ [])
 doubleword-there a m h =
     let within : (i : ℕ) → i < 8 → a + i < length m.core.storage.bytes = λ i l. omega (arith, h, l)
-    in (omega (arith, h), (within 1 (omega arith), (within 2 (omega arith), (within 3 (omega arith), (within 4 (omega arith), (within 5 (omega arith),
-    (within 6 (omega arith), (within 7 (omega arith), tt))))))))
+    in (
+      omega (arith, h),
+      (
+        within 1 (omega arith),
+        (
+          within 2 (omega arith),
+          (
+            within 3 (omega arith),
+            (
+              within 4 (omega arith),
+              (
+                within 5 (omega arith),
+                (within 6 (omega arith), (within 7 (omega arith), tt)),
+              ),
+            ),
+          ),
+        ),
+      ),
+    )
 
 there : (ended : Ended) (next : ℕ) (long : InstructionLength) (m now : Machine) → 128 ≤ length m.core.storage.bytes
     → AreAllThere m (all_read (ending_row (record { ended = ended; next_address = next; instruction_length = long })) now)

@@ -103,6 +103,7 @@ combines c first second = by c where
       ∙ run-bind (reads (second + i)) (λ b. done (byte_result c (run (reads (first + i)) m) b)) m
       ∙ ap (λ a. byte_result c a (run (reads (second + i)) m)) (h (first + i))
       ∙ ap (λ b. byte_result c (byte_at s (first + i)) b) (h (second + i))
+
   by : (c : ByteCombination) → Makes (combining c first second) (combined_byte c first second)
   by Second i reads m s h = h (second + i)
   by c i reads m s h = both c i reads m s h

@@ -63,6 +63,7 @@ code-is c first second count m h = by (sets_code c) refl where
       in results-are (combining c first second) (combined_byte c first second) (combines c first second) first count first count m h h
       ∙ ap (λ s. take count (drop first s.bytes)) (sym (made-front (combined_byte c first second) first count m.core.storage))
       ∙ ap (λ k. take k (drop first (result c first second count m).bytes)) n
+
   by : (z : Bool) → sets_code c ≡ z
       → run (cond z (bind (made_read (combining c first second) first count first count) (λ results. done (combination_code c results))) (done None)) m
       ≡ combination_code c (operand_bytes (result c first second count m) first count)

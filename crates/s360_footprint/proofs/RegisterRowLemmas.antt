@@ -76,8 +76,12 @@ one-or-none false word m = refl
 
 combination-altered : (c : Combination) (r1 : ℕ) (second : Reading ℕ) (next : ℕ) (m : Machine)
     → altered_in (combination_altering c r1 second next) m
-    ≡ record { registers = word_for r1 (result_of c (get_or m.core.registers r1 0) (run second m)).0; setting
-    = (result_of c (get_or m.core.registers r1 0) (run second m)).1; address = next }
+    ≡ record {
+      registers = word_for r1 (result_of c (get_or m.core.registers r1 0) (run second m)).0;
+      setting
+          = (result_of c (get_or m.core.registers r1 0) (run second m)).1;
+      address = next;
+    }
 combination-altered c r1 second next m =
     let a : ℕ = get_or m.core.registers r1 0
     in let b : ℕ = run second m

@@ -29,9 +29,9 @@ others-kept before m [] p h = refl
 others-kept before m (s ∷ ss) p h =
     others-kept before (with_value_there m s.place (run s.value before)) ss p (neither (same_place s.place p) (is_among (places_of_stores ss) p) h).1
     ∙ value-kept s.place p m (run s.value before) (neither (same_place s.place p) (is_among (places_of_stores ss) p) h).0 where
-  neither : (a b : Bool) → a || b ≡ false → (a ≡ false) × (b ≡ false)
-  neither false b e = (refl, e)
-  neither true b e = absurd (cc)
+      neither : (a b : Bool) → a || b ≡ false → (a ≡ false) × (b ≡ false)
+      neither false b e = (refl, e)
+      neither true b e = absurd (cc)
 
 pub keeps-others : (Ending : Type 0) → KeepsOthers Ending
 keeps-others Ending row m p h = others-kept m m (run row m).stores p h
