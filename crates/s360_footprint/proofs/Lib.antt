@@ -19,3 +19,4 @@ pub mod InterruptionRowLemmas
 mod KnownFootprints
 pub mod ChannelReadingLemmas
 pub mod ChannelRowLemmas
+pub mod CpuRowLemmas

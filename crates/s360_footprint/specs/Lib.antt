@@ -16,3 +16,4 @@ pub mod InstructionLaws
 pub mod InterruptionRows
 pub mod ChannelReadings
 pub mod ChannelRows
+pub mod CpuRows
