@@ -1,6 +1,6 @@
 -- A channel event of a unit as a row, but for the end of loading (GA22-6821, "Input/Output Operations", execution of input/output operations). What happens,
 -- and where bytes are stored, does not come from the bytes that an output fetches: the row finds it with zeros for them.
-use Rattle.std.specs.Prelude.{ℕ, Bool, Option, None, Some, is_some, List, [], ◌∷◌, ◌++◌, length, replicate}
+use Rattle.std.specs.Prelude.{ℕ, ◌≡◌, Bool, Option, None, Some, is_some, List, [], ◌∷◌, ◌++◌, length, replicate}
 use Rattle.s360_store.specs.declared.place.Place.TheVariants.{UnitState as state_of_unit, UnitMedia}
 use Rattle.s360_store.specs.declared.protection.Checked.{Checked}
 use Rattle.s360_device.specs.Punch.{punch_table}
@@ -14,11 +14,12 @@ use Rattle.s360_channel.specs.declared.{fetching.Fetched.Fetched, program.Progra
 use Rattle.s360_channel.specs.ConfiguredUnits.{address_of_unit}
 use Rattle.s360_channel.specs.Execution.{DeviceView, Ending, Execution, Run}
 use Rattle.s360_channel.specs.Units.{program_of}
-use Rattle.s360_machine.specs.ChannelEvents.{after_ending, view_of}
+use Rattle.s360_machine.specs.ChannelEvents.{after_channel, after_ending, view_of}
+use Rattle.s360_machine.specs.Machine.{Machine}
 use Rattle.s360_footprint.specs.ChannelReadings.{Fetching, next_ccw_read, word_met, word_read}
-use Rattle.s360_footprint.specs.OperandReadings.{Profile, bytes_read}
+use Rattle.s360_footprint.specs.OperandReadings.{Profile, bytes_read, profile_of}
 use Rattle.s360_footprint.specs.Readings.{Reading, bind, done, value_read}
-use Rattle.s360_footprint.specs.Rows.{Made, Row, Store}
+use Rattle.s360_footprint.specs.Rows.{Made, Row, Store, after}
 use Rattle.s360_footprint.specs.StoringRows.{byte_stores}
 use Rattle.s360_footprint.specs.Values.{DeviceOf}
 
@@ -116,3 +117,7 @@ program_row p u (Some program) =
 
 abbrev pub unit_row : Profile → ConfiguredUnit → Row Bool
 unit_row p u = bind (control_read u) (λ control. program_row p u (program_of control.state))
+
+-- the row does what the channel makes of a unit, before any end of loading
+abbrev pub ChannelsAreRows : Type 0
+ChannelsAreRows = (u : ConfiguredUnit) (m : Machine) → after (unit_row (profile_of m.core) u) m ≡ after_channel u m

@@ -1,4 +1,5 @@
 //! The laws of rows, the contracts of calls that do nothing. An ending is what a row says of how its event ends.
+ghost use Rattle.s360_footprint.specs.ChannelRows.{ChannelsAreRows};
 ghost use Rattle.s360_footprint.specs.InstructionLaws.{InstructionDecided, InstructionFollows, InstructionsAreRows};
 ghost use Rattle.s360_footprint.specs.InterruptionRows.{InterruptionsAreRows};
 ghost use Rattle.s360_footprint.specs.Laws.{Decided, Follows, KeepsOthers, SequencesAreRows};
@@ -46,4 +47,9 @@ pub fn instructions_follow_their_sources()
 /// locations.
 pub fn interruptions_are_rows()
     ensures { InterruptionsAreRows }
+{}
+
+/// The row of a channel event of a unit does what the channel does, before any end of loading.
+pub fn channels_are_rows()
+    ensures { ChannelsAreRows }
 {}

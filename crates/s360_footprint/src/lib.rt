@@ -7,7 +7,7 @@
 mod laws;
 
 pub use laws::{
-    deciders_decide, deciders_decide_the_instruction, instructions_are_rows,
+    channels_are_rows, deciders_decide, deciders_decide_the_instruction, instructions_are_rows,
     instructions_follow_their_sources, interruptions_are_rows, others_are_kept, sequences_are_rows,
     values_follow_their_sources,
 };
