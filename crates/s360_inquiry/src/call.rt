@@ -140,15 +140,16 @@ pub(crate) fn link_value(machine: &Machine, link: Link) -> u64
 pub(crate) fn call_by(number: u32, after: &Machine, calling: Option<Calling>) -> Option<Call>
     ensures { result ≡ call_by number (seen after.now.whole) calling }
 {
-    match calling {
-        Some(Calling { link, next }) if after.psw().instruction_address() != next => Some(Call {
-            number,
-            next,
-            link,
-            value: link_value(after, link),
-        }),
-        _ => None,
+    let calling = calling?;
+    if after.psw().instruction_address() == calling.next {
+        return None;
     }
+    Some(Call {
+        number,
+        next: calling.next,
+        link: calling.link,
+        value: link_value(after, calling.link),
+    })
 }
 
 /// The place of a link.

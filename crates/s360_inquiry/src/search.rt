@@ -1,10 +1,9 @@
 //! Looks back for the last changes that are sought.
 ghost use Rattle.std.specs.Prelude.{◌≡◌, ◌≤◌, ◌<◌, IfOk, OnErr, OnOk, reverse};
 ghost use Rattle.s360_journal.specs.Recorded.{with_standing};
-ghost use Rattle.s360_journal.specs.Rerun.{or_else};
 ghost use Rattle.s360_journal.specs.Returning.{one_back};
 ghost use Rattle.s360_inquiry.specs.Changes.{last_of};
-ghost use Rattle.s360_inquiry.specs.Searches.{last_up_to, numbers_up_to};
+ghost use Rattle.s360_inquiry.specs.Searches.{IsLastFrom, numbers_up_to};
 ghost use Rattle.s360_inquiry.specs.Sought.{is_sought};
 
 use crate::code_setting::sets_code;
@@ -82,7 +81,7 @@ pub(crate) fn last_number(
     least: u32,
 ) -> Result<Option<u32>, AllocError>
     requires least { least ≤ recording.old.standing }
-    ensures number { IfOk result (λ number. or_else number (last_up_to (is_sought sought recording.old) least) ≡ last_up_to (is_sought sought recording.old) recording.old.standing) }
+    ensures number { IfOk result (λ number. IsLastFrom (is_sought sought recording.old) least recording.old.standing number) }
     ensures state { recording.new ≡ with_standing recording.old recording.new.standing }
 {
     for before in (least..recording.standing()).rev() {
