@@ -192,6 +192,8 @@ def looks_at_assembler(looks):
     ]
     listed = re.findall(r"(?m)^[0-9A-F]{6} (..)", looks.assemble("all", lines_of(*lines)))
     looks.look("the code of each instruction", [*codes.values()], listed)
+    told = re.findall(r'0x(..), codes "(\w+)"', (TOP / "crates/s360_inquiry/specs/Mnemonics.antt").read_text())
+    looks.look("the mnemonics that are told", sorted((code, name) for name, code in codes.items()), told)
 
     others = [code for code in range(256) if f"{code:02X}" not in codes.values()]
     lines = [f".insn {ANY_CODE[code >> 6].format(code)}" for code in others]

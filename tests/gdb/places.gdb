@@ -15,6 +15,8 @@ changes COUNT
 changes $r3
 changes *(char[4]*)0x388
 changes 0x388 1
+changes s 388 1
+changes r 3
 changes *(char*)&RDCCW 1
 changes $pc 1
 changes u 00C 1

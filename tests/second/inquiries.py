@@ -14,6 +14,22 @@ from .machine import OPERATING
 CHANGES_TOLD, DEPTH_TOLD = b"10", b"5"
 MOST_DUMPED, MOST_DEPTH, MOST_CAUSES = 1_048_576, 100, 1000
 NAMED_MARKS = (b"start", b"end", b"last")
+# The mnemonics of successive operation codes, from the one on that a row begins with; `-` is one that has none.
+ROWS_OF_MNEMONICS = {
+    0x04: "SPM BALR BCTR BCR SSK ISK SVC",
+    0x10: "LPR LNR LTR LCR NR CLR OR XR LR CR AR SR MR DR ALR SLR",
+    0x40: "STH LA STC IC EX BAL BCT BC LH CH AH SH MH - CVD CVB ST",
+    0x54: "N CL O X L C A S M D AL SL",
+    0x80: "SSM - LPSW",
+    0x86: "BXH BXLE SRL SLL SRA SLA SRDL SLDL SRDA SLDA STM TM MVI TS NI CLI OI XI LM",
+    0x9C: "SIO TIO HIO TCH",
+    0xD1: "MVN MVC MVZ NC CLC OC XC",
+    0xDC: "TR TRT",
+    0xF1: "MVO PACK UNPK",
+}
+MNEMONICS = {
+    first + i: [name] for first, names in ROWS_OF_MNEMONICS.items() for i, name in enumerate(names.split()) if name != "-"
+}
 # What is meant where a line with a place has no number behind it.
 MEANT = {b"changes": CHANGES_TOLD, b"why": DEPTH_TOLD}
 
@@ -158,9 +174,12 @@ class Inquiries:
             return "interrupted io"
         if machine.psw_field(49, 1):
             return "waits"
-        length = (2, 4, 4, 6)[machine.byte(at) >> 6]
-        run = machine.run_of_bytes(at, min(length, max(machine.size - at, 0)))
-        return run.hex().upper() or "outside"
+        if at >= machine.size:
+            return "outside"
+        code = machine.byte(at)
+        length = (2, 4, 4, 6)[code >> 6]
+        run = machine.run_of_bytes(at, min(length, machine.size - at))
+        return " ".join([*MNEMONICS.get(code, []), run.hex().upper()])
 
     def program(self, unit):
         program = self.machine.unit(unit) if unit in UNITS else None

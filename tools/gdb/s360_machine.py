@@ -10,7 +10,9 @@ import listing_symbols
 
 # In an answer: a byte or successive bytes; what an event met, and where.
 BYTES = re.compile(r"\bs([0-9A-F]{6})(-[0-9A-F]{6})?")
-MET = re.compile(r"\b(cpu|channel \w+) at ([0-9A-F]{6})(?: ([0-9A-F]+)\b)?")
+MET = re.compile(
+    r"\b(?P<who>cpu|channel \w+) at (?P<address>[0-9A-F]{6})(?: (?P<happening>(?:[A-Z]+ )?(?P<digits>[0-9A-F]{4,})\b))?"
+)
 REFUSALS = ("refused", "no such change", "not saved")
 SECTION_TABLE, SECTION_COUNT = 32, 46
 PROGBITS, ALLOC = 1, 2
@@ -91,19 +93,19 @@ def source_at(address: int) -> tuple[str | None, str | None]:
 
 
 def labelled(text: str) -> str:
-    """An answer of the machine with labels, and with statements in place of the digits of instructions."""
+    """An answer of the machine with labels, and with statements in place of instructions."""
 
     def met(found: re.Match[str]) -> str:
-        who, where, digits = found.groups()
+        who, where, happening, digits = found.group("who", "address", "happening", "digits")
         address = int(where, 16)
         statement, line = source_at(address)
         # A line of GNU as reaches over the data behind it.
         if who != "cpu" and not statement:
             line = None
         if digits and statement and was_assembled(address, bytes.fromhex(digits)):
-            digits = statement
+            happening = statement
         told_so = f"{who} at {where}{label_at(address)}"
-        return " ".join(filter(None, [told_so, digits])) + (f"  {line}" if line else "")
+        return " ".join(filter(None, [told_so, happening])) + (f"  {line}" if line else "")
 
     text = MET.sub(met, text)
     return BYTES.sub(lambda found: found[0] + label_at(int(found[1], 16)), text)

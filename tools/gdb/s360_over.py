@@ -29,7 +29,7 @@ def last_instruction() -> bytes:
     """The instruction of the last event of the CPU. An interruption has none."""
     for count in (10**power for power in range(1, 8)):
         events = [MET.search(line) for line in told(f"history {count}").splitlines()]
-        digits = [event[3] or "" for event in events if event and event[1] == "cpu"]
+        digits = [event["digits"] or "" for event in events if event and event["who"] == "cpu"]
         if digits or len(events) < count:
             return bytes.fromhex(digits[-1] if digits else "")
     return b""

@@ -10,8 +10,8 @@ ADDRESS_BITS = 0xFFFFFF
 MOST_BYTES = 256
 REGISTER = re.compile(r"\$r(\d|1[0-5])")
 PSW = ("$pc", "$pswa", "$pswm", "$cc")
-# What monitor names and gdb has no expression for.
-OTHER_PLACE = re.compile(r"[udk] [0-9A-Fa-f]+|ext|run|p")
+# A place as monitor names it.
+MONITOR_PLACE = re.compile(r"[srudk] [0-9A-Fa-f]+|ext|run|p")
 LABEL = re.compile(r"(?P<quote>'?)(?P<name>[A-Za-z_.@#][\w.@#$]*)(?P=quote)\s*(?P<offset>[-+].*)?")
 # A number behind an expression: what is before it is not to be continued.
 COUNTED = re.compile(r"(?P<expression>.*[\w)\]'\"])\s+(?P<count>\d+)")
@@ -61,7 +61,7 @@ def places_of(expression: str) -> list[str]:
         return [f"r {int(found[1]):X}"]
     if expression in PSW:
         return ["p"]
-    if OTHER_PLACE.fullmatch(expression):
+    if MONITOR_PLACE.fullmatch(expression):
         return [expression]
     address, length = bytes_of(expression)
     return [f"s {at:06X}" for at in range(address, address + length)]
@@ -75,7 +75,7 @@ def places_of_value(value: gdb.Value) -> list[str]:
 
 def with_count(words: str) -> tuple[str, int | None]:
     """An expression, and the number behind it or nothing."""
-    found = None if OTHER_PLACE.fullmatch(words) else COUNTED.fullmatch(words)
+    found = None if MONITOR_PLACE.fullmatch(words) else COUNTED.fullmatch(words)
     return (found["expression"], int(found["count"])) if found else (words, None)
 
 

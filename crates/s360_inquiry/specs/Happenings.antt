@@ -1,7 +1,7 @@
 -- What an event is, told of the machine that it meets (own profile): of one of the CPU the instruction address and the
 -- instruction, of one of a channel the channel command word (GA22-6821, "System Structure", program execution;
 -- "Input/Output Operations", channel command word).
-use Rattle.std.specs.Prelude.{ℕ, ◌+◌, nat_lt, if◌then◌else◌, Option, Some, None, List, [], ◌++◌, codes, length, min, slice_range, option_map}
+use Rattle.std.specs.Prelude.{ℕ, ◌+◌, nat_lt, if◌then◌else◌, Option, Some, None, List, [], ◌++◌, codes, length, min, slice_index, slice_range, option_map}
 use Rattle.s360_model.specs.Psw.{instruction_address_of}
 use Rattle.s360_model.specs.Storage.{Storage, doubleword_at}
 use Rattle.s360_model.specs.Text.{hex_bytes, hex_text}
@@ -25,13 +25,22 @@ use Rattle.s360_machine.specs.Cpu.{cpu_case}
 use Rattle.s360_machine.specs.Machine.{Machine}
 use Rattle.s360_language.specs.Names.{event_name}
 use Rattle.s360_language.specs.Values.{value_words}
+use Rattle.s360_inquiry.specs.Mnemonics.{mnemonic_of}
+
+-- a mnemonic after a blank, if there is one
+abbrev pub mnemonic_words : Option (List ℕ) → List ℕ
+mnemonic_words None = []
+mnemonic_words (Some mnemonic) = codes " " ++ mnemonic
 
 -- the bytes of the instruction at an address, as many as its first byte says, without those outside storage
 abbrev pub fetched_bytes : Storage → ℕ → List ℕ
 fetched_bytes s at = slice_range s.bytes at (min (at + length_at s at) (length s.bytes))
 
+-- an instruction: its mnemonic, where its first byte is an operation code, and its bytes
 abbrev pub instruction_words : Storage → ℕ → List ℕ
-instruction_words s at = if nat_lt at (length s.bytes) then codes " " ++ hex_bytes (fetched_bytes s at) else codes " outside"
+instruction_words s at =
+    if nat_lt at (length s.bytes) then mnemonic_words (mnemonic_of (slice_index s.bytes at)) ++ codes " " ++ hex_bytes (fetched_bytes s at)
+    else codes " outside"
 
 -- by which class the CPU is interrupted: others than external and input/output come of instructions alone
 abbrev pub class_words : Class → List ℕ

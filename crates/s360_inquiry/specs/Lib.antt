@@ -1,4 +1,5 @@
 pub mod Reading
+pub mod Mnemonics
 pub mod Happenings
 pub mod Going
 pub mod Changes

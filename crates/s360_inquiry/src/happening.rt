@@ -1,12 +1,14 @@
 //! What an event is, told of the machine that it meets: which instruction, or which channel command word. Source: GA22-6821,
 //! "System Structure", program execution; "Input/Output Operations", channel command word.
+ghost use Rattle.std.specs.Option.{option_copied};
 ghost use Rattle.std.specs.Prelude.{◌≡◌, ◌++◌, ◌<◌, OnOk, length};
 ghost use Rattle.s360_channel.specs.ConfiguredUnits.{state_at};
 ghost use Rattle.s360_machine.specs.Machine.{seen};
 ghost use Rattle.s360_inquiry.specs.Happenings.{command_word_at, command_words, cpu_words, fetched_bytes};
-ghost use Rattle.s360_inquiry.specs.Happenings.{happening_words, instruction_words, program_words};
+ghost use Rattle.s360_inquiry.specs.Happenings.{happening_words, instruction_words, mnemonic_words, program_words};
 ghost use Rattle.s360_inquiry.specs.Happenings.{channel_words, class_words, state_words, transfer_words, turn_words, word_behind, words_of_unit};
 
+use crate::mnemonic::mnemonic_of;
 use s360_channel::{Ccw, Program, UnitState, ccw_at};
 use s360_fixed::length_of;
 use s360_language::{push_digits, push_event, push_value};
@@ -68,16 +70,28 @@ fn class_words(class: Class) -> &'static str
     }
 }
 
-/// Adds the bytes of the instruction at an address, after a blank.
+/// Adds the instruction at an address, after a blank: its mnemonic, if it has one, and its bytes.
 fn push_instruction(text: &mut Text, storage: &Storage, at: u32) -> Result<(), AllocError>
     ensures { OnOk result (text.new ≡ text.old ++ instruction_words storage.now at) }
 {
     if at >= storage.size() {
         return text.push_text(" outside");
     }
+    push_mnemonic(text, mnemonic_of(storage.byte(at)))?;
     text.push_text(" ")?;
     push_digits(text, fetched_bytes(storage, at))?;
     Ok(())
+}
+
+/// Adds a mnemonic after a blank, if there is one.
+fn push_mnemonic(text: &mut Text, mnemonic: Option<&str>) -> Result<(), AllocError>
+    ensures { OnOk result (text.new ≡ text.old ++ mnemonic_words (option_copied mnemonic.entry)) }
+{
+    let Some(mnemonic) = mnemonic else {
+        return Ok(());
+    };
+    text.push_text(" ")?;
+    text.push_text(mnemonic)
 }
 
 /// The bytes of the instruction at an address, without those outside storage.

@@ -11,6 +11,7 @@ mod happening;
 mod history;
 mod inquiry;
 mod inquiry_reader;
+mod mnemonic;
 mod place_set;
 mod situation;
 mod unit;
