@@ -46,6 +46,7 @@ who line 4 column 20 page 1
 goto end
 dump TEXT
 dump 0x388 16
+dump s 388 16
 dump &RDCCW
 units
 save printer list

@@ -40,7 +40,8 @@ Usage: who EXPRESSION
 
 The place is any expression of gdb that names one: a label is its field, a number
 one byte at this address, and $r5 a register. Without symbols: who *(char[4]*)0x388.
-`u 00C`, `d 00C`, `k ADDRESS`, `run` and `ext` are places as monitor names them.
+`s 388`, `r 5`, `u 00C`, `d 00C`, `k 800`, `run` and `ext` are places as monitor
+names them.
 A line and a column are those of the printer, and of its last page if none is named.
 Said again it goes one change further back. `goto last` goes back to where it stood."""
 

@@ -10,8 +10,9 @@ ADDRESS_BITS = 0xFFFFFF
 MOST_BYTES = 256
 REGISTER = re.compile(r"\$r(\d|1[0-5])")
 PSW = ("$pc", "$pswa", "$pswm", "$cc")
-# A place as monitor names it.
+# A place as monitor names it, and a byte of storage.
 MONITOR_PLACE = re.compile(r"[srudk] [0-9A-Fa-f]+|ext|run|p")
+MONITOR_BYTE = re.compile(r"s ([0-9A-Fa-f]+)")
 LABEL = re.compile(r"(?P<quote>'?)(?P<name>[A-Za-z_.@#][\w.@#$]*)(?P=quote)\s*(?P<offset>[-+].*)?")
 # A number behind an expression: what is before it is not to be continued.
 COUNTED = re.compile(r"(?P<expression>.*[\w)\]'\"])\s+(?P<count>\d+)")
@@ -34,6 +35,8 @@ def length_of_label(address: int) -> int:
 
 def bytes_of(expression: str) -> tuple[int, int]:
     """The address and the number of the bytes that an expression names: of a label its field, of a number one byte."""
+    if found := MONITOR_BYTE.fullmatch(expression):
+        return int(found[1], 16), 1
     if found := LABEL.fullmatch(expression):
         label = value_of(f"&'{found['name']}'")
         start = int(label) & ADDRESS_BITS
