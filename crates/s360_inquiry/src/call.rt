@@ -11,7 +11,7 @@ use s360_fixed::{Ended, Form, Operation};
 use s360_language::push_place;
 use s360_machine::{CpuCase, EventKind, Machine};
 use s360_source::{InstructionShape, Performance, instruction_shape};
-use s360_store::Place;
+use s360_store::{LEAST_SIZE, Place};
 use s360_text::Text;
 use s360_word::RegisterNumber;
 use std::alloc::{AllocError, Global};
@@ -132,7 +132,12 @@ pub(crate) fn link_value(machine: &Machine, link: Link) -> u64
 {
     match link {
         Link::Register(register) => u64::from(machine.register(register)),
-        Link::OldPsw => machine.storage().double(OLD_PSW),
+        Link::OldPsw => {
+            let storage = machine.storage();
+            // So storage has the doubleword.
+            prove!(storage.size() >= LEAST_SIZE);
+            storage.double(OLD_PSW)
+        }
     }
 }
 

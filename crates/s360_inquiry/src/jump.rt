@@ -133,7 +133,8 @@ fn push_branch(text: &mut Text, next: u32, at: u32) -> Result<(), AllocError>
         return text.push_text(" not taken");
     }
     text.push_text(" taken")?;
-    push_to(text, at)
+    push_to(text, at)?;
+    Ok(())
 }
 
 /// Adds what a jump is, and where it leads to: the instruction address is this after it.
