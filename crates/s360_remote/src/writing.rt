@@ -142,9 +142,9 @@ impl Target {
         ensures limit { self.new.recorded.limit ≡ self.old.recorded.limit }
         ensures start { self.new.recorded.start ≡ self.old.recorded.start }
     {
-        // Both are looked at, since their clauses have that storage is as large as at the start, and that what stands is recorded.
-        let _machine = self.machine();
-        let _standing = self.standing();
+        // So storage is as large as at the start, and what stands is recorded.
+        prove!(self.machine().storage().size() <= GREATEST_SIZE);
+        prove!(self.standing() <= self.session.recorded());
         self.session.advance(Event::Patch(patch))?;
         Ok(())
     }
