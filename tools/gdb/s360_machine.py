@@ -11,7 +11,7 @@ import listing_symbols
 # In an answer: a byte or successive bytes; what an event met, and where.
 BYTES = re.compile(r"\bs([0-9A-F]{6})(-[0-9A-F]{6})?")
 MET = re.compile(
-    r"\b(?P<who>cpu|channel \w+) at (?P<address>[0-9A-F]{6})(?: (?P<happening>(?:[A-Z]+ )?(?P<digits>[0-9A-F]{4,})\b))?"
+    r"\b(?P<who>cpu|channel \w+) at (?P<address>[0-9A-F]{6})(?: (?P<happening>(?:[A-Z]+ )?(?P<digits>[0-9A-F]{2,})\b))?"
 )
 REFUSALS = ("refused", "no such change", "not saved")
 SECTION_TABLE, SECTION_COUNT = 32, 46
