@@ -1,6 +1,6 @@
 -- A channel event of a unit as a row, but for the end of loading (GA22-6821, "Input/Output Operations", execution of input/output operations). What happens,
 -- and where bytes are stored, does not come from the bytes that an output fetches: the row finds it with zeros for them.
-use Rattle.std.specs.Prelude.{ℕ, ◌≡◌, Bool, Option, None, Some, is_some, List, [], ◌∷◌, ◌++◌, length, replicate}
+use Rattle.std.specs.Prelude.{ℕ, ◌≡◌, Option, None, Some, is_some, List, [], ◌∷◌, ◌++◌, length, replicate}
 use Rattle.s360_store.specs.declared.place.Place.TheVariants.{UnitState as state_of_unit, UnitMedia}
 use Rattle.s360_store.specs.declared.protection.Checked.{Checked}
 use Rattle.s360_device.specs.Punch.{punch_table}
@@ -105,17 +105,17 @@ execution_stores p u f met e =
     let executed : Reading Execution = unit_executed bytes_read u f met
     in run_stores executed e.stores ++ (ending_stores u executed e.ending ++ state_store u (state_after p u f met))
 
--- a unit that executes no program stores nothing
-abbrev pub met_row : Profile → ConfiguredUnit → Fetched → Checked → Row Bool
-met_row p u f met = bind (unit_executed zeros u f met) (λ e. done (record { ended = Bool.true; stores = execution_stores p u f met e }))
+-- how the unit stands then; one that executes no program stores nothing
+abbrev pub met_row : Profile → ConfiguredUnit → Fetched → Checked → Row (Option UnitState)
+met_row p u f met = bind (unit_executed zeros u f met) (λ e. done (record { ended = Some e.state; stores = execution_stores p u f met e }))
 
-abbrev pub program_row : Profile → ConfiguredUnit → Option Program → Row Bool
-program_row p u None = done (record { ended = Bool.false; stores = [] })
+abbrev pub program_row : Profile → ConfiguredUnit → Option Program → Row (Option UnitState)
+program_row p u None = done (record { ended = None; stores = [] })
 program_row p u (Some program) =
     bind (next_ccw_read p program) (λ f.
     bind (device_read u) (λ d. bind (word_met p (device_seen u d) program f) (λ met. met_row p u f met)))
 
-abbrev pub unit_row : Profile → ConfiguredUnit → Row Bool
+abbrev pub unit_row : Profile → ConfiguredUnit → Row (Option UnitState)
 unit_row p u = bind (control_read u) (λ control. program_row p u (program_of control.state))
 
 -- the row does what the channel makes of a unit, before any end of loading

@@ -1,4 +1,4 @@
--- An event of the CPU as a row, but for what the channels make of an input/output instruction (GA22-6821, "Interruptions", "Status Switching" and "System
+-- An event of the CPU as a row (GA22-6821, "Interruptions", "Status Switching" and "System
 -- Structure", program execution).
 use Rattle.std.specs.Prelude.{ℕ, ◌≡◌, ◌≤◌, Bool, false, ◌||◌, if◌then◌else◌, Option, None, Some, List, [], ◌∷◌, ◌++◌, length}
 use Rattle.std.specs.Int.{bytes_high_first}
@@ -8,7 +8,6 @@ use Rattle.s360_psw.specs.declared.instruction_length.InstructionLength.{Instruc
 use Rattle.s360_psw.specs.InstructionLength.{length_code_of}
 use Rattle.s360_store.specs.declared.place.Place.TheVariants.{Psw, Run, External}
 use Rattle.s360_fixed.specs.declared.ended.Ended.{Ended}
-use Rattle.s360_logic.specs.Instruction.{instruction}
 use Rattle.s360_channel.specs.declared.{configured_unit.ConfiguredUnit.ConfiguredUnit, unit_control.Condition.Condition, unit_control.UnitControl.UnitControl}
 use Rattle.s360_channel.specs.ConfiguredUnits.{address_of_unit, channel_of, configured_units}
 use Rattle.s360_channel.specs.IoInstructions.{csw_location}
@@ -22,10 +21,11 @@ use Rattle.s360_footprint.specs.ChannelRows.{control_read, state_store}
 use Rattle.s360_footprint.specs.FormRows.{form_rows}
 use Rattle.s360_footprint.specs.InterruptionRows.{ending_row, interruption_stores}
 use Rattle.s360_footprint.specs.InstructionRows.{InstructionEnd, instruction_row}
+use Rattle.s360_footprint.specs.IoRows.{io_row}
 use Rattle.s360_footprint.specs.OperandReadings.{Profile, profile_of}
 use Rattle.s360_footprint.specs.Readings.{Reading, bind, done, read}
 use Rattle.s360_footprint.specs.Rows.{Made, Row, Store, after}
-use Rattle.s360_footprint.specs.Sequences.{sequence}
+use Rattle.s360_footprint.specs.Sequences.{row_through, sequence}
 use Rattle.s360_footprint.specs.StoringRows.{byte_stores}
 
 -- what the CPU does: nothing, since the machine does not operate or the CPU waits; it takes an interruption; or it executes an instruction
@@ -92,8 +92,13 @@ input_output_row u = bind (control_read u) (λ control. condition_row u (conditi
 abbrev pub as_executed : Made InstructionEnd → Row CpuEnd
 as_executed made = done (record { ended = executed made.ended; stores = made.stores })
 
+-- the channels do an input/output instruction, which stores nothing itself
+abbrev pub following_row : Profile → Made InstructionEnd → Ended → Row InstructionEnd
+following_row p made (Ended.Io operation unit) = io_row p operation unit made.ended
+following_row p made ended = row_through made.stores (ending_row made.ended)
+
 abbrev pub executing_row : Profile → Row CpuEnd
-executing_row p = bind (sequence (instruction_row form_rows p) ending_row) as_executed
+executing_row p = bind (bind (instruction_row form_rows p) (λ made. following_row p made made.ended.ended)) as_executed
 
 -- the first case that holds
 abbrev pub unit_or_instruction : Profile → ℕ → Option ConfiguredUnit → Row CpuEnd
@@ -107,11 +112,5 @@ running_row p psw =
 abbrev pub cpu_row : Profile → Row CpuEnd
 cpu_row p = read Run (λ r. if is_operating r then read Psw (λ psw. running_row p psw) else nothing_row)
 
--- an instruction is not the channels' to execute
-abbrev pub IsOfCore : Ended → Type 0
-IsOfCore (Ended.Io operation unit) = ⊥
-IsOfCore ended = Unit {0}
-
 abbrev pub CpuEventsAreRows : Type 0
-CpuEventsAreRows =
-    (m : Machine) → 128 ≤ length m.core.storage.bytes → IsOfCore (instruction m.core).outcome.ended → after (cpu_row (profile_of m.core)) m ≡ after_cpu m
+CpuEventsAreRows = (m : Machine) → 128 ≤ length m.core.storage.bytes → after (cpu_row (profile_of m.core)) m ≡ after_cpu m

@@ -16,4 +16,10 @@ pub mod InstructionLaws
 pub mod InterruptionRows
 pub mod ChannelReadings
 pub mod ChannelRows
+pub mod IoRows
 pub mod CpuRows
+pub mod LoadingRows
+pub mod TimerRows
+pub mod OperatorRows
+pub mod EventRows
+pub mod EventLaws

@@ -37,3 +37,8 @@ HaveAllSame m n (p ∷ ps) = (value_there m p ≡ value_there n p) × HaveAllSam
 abbrev pub AreAllThere : Machine → List Place → Type 0
 AreAllThere m [] = Unit {0}
 AreAllThere m (p ∷ ps) = IsThere m p × AreAllThere m ps
+
+-- something that is made of what stands at some places, whatever it is there
+abbrev pub made_of : {X : Type 0} → List Place → X → Reading X
+made_of [] x = done x
+made_of (p ∷ ps) x = read p (λ v. made_of ps x)
