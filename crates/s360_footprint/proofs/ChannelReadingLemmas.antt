@@ -43,7 +43,7 @@ word-is progress address (Some c) m = by (is_transfer c && not (is_first progres
       ∙ ap (led_to_by progress address c) (ccw-is c.address m)
   by false = refl
 
-next-is : (program : Program) (m : Machine) → run (next_ccw_read (profile_of m.core) program) m ≡ next_ccw m.core.storage program
+pub next-is : (program : Program) (m : Machine) → run (next_ccw_read (profile_of m.core) program) m ≡ next_ccw m.core.storage program
 next-is program m = by (is_loading program.progress) where
   by : (z : Bool)
       → run (cond z (done (Fetched.Whole 0 (ccw_of loading_word)))

@@ -2,6 +2,7 @@
 use Rattle.std.proofs.Common.{ℕ, ◌+◌, ◌-◌, ◌≡◌, ◌≤◌, ◌<◌, ◌∙◌, ◌++◌, Bool, true, false, cond, nat_eq, Option, Some, None, List, [], ◌∷◌, refl, sym, ap, get_or}
 use Rattle.std.proofs.Common.{set, length, take, replicate, arith, subst}
 use Rattle.std.specs.Prelude.{is_some}
+use Rattle.std.specs.Option.{option_map}
 use Rattle.std.proofs.lemmas.List.{set-get_or}
 use Rattle.s360_model.specs.Core.{Core}
 use Rattle.s360_store.specs.declared.{place.Place.TheVariants.UnitState as state_of_unit, protection.Access.Access, protection.Checked.Checked}
@@ -10,7 +11,7 @@ use Rattle.s360_device.specs.declared.device.Begin.{Begin}
 use Rattle.s360_channel.specs.declared.configured_unit.ConfiguredUnit.{ConfiguredUnit}
 use Rattle.s360_channel.specs.declared.configured_unit.ConfiguredUnit.TheVariants.{Reader, Punch, Printer, Console, Tape0, Tape1}
 use Rattle.s360_channel.specs.declared.{fetching.Fetched.Fetched, program.Program.Program, program.Progress.Progress, transfer.Transfer.Transfer}
-use Rattle.s360_channel.specs.declared.{unit_control.UnitControl.UnitControl, unit_state.UnitState.UnitState}
+use Rattle.s360_channel.specs.declared.{csw.Csw.Csw, unit_control.UnitControl.UnitControl, unit_state.UnitState.UnitState}
 use Rattle.s360_channel.specs.ConfiguredUnits.{Units, address_of_unit, control_of, index_of, with_control_of}
 use Rattle.s360_channel.specs.Execution.{DeviceView, Ending, Execution, Run, WordAtHand, access_of, after_input, after_output, channel_execution, command_ends}
 use Rattle.s360_channel.specs.Execution.{command_with, conclusion_of}
@@ -123,23 +124,30 @@ unit-is : (u : ConfiguredUnit) (f : Fetched) (met : Checked) (m : Machine) → F
 unit-is u f met m h =
     unit-read bytes_read u f met m ∙ state-is (device_seen u (device_of u m.media)) (control_of m.units u).state f met m h ∙ sym (executed-at u m)
 
--- with other bytes of an output the same is stored, and a command ends or does not
+-- the status word that waits then
+pub status-of : UnitState → Option Csw
+status-of (UnitState.Waiting csw) = Some csw
+status-of other = None
+
+-- with other bytes of an output the same is stored, a command ends or does not, and the same status word waits
 record SameStores (e f : Execution) : Type 0 where
   stores : e.stores ≡ f.stores
   ending : is_some e.ending ≡ is_some f.ending
+  status : status-of e.state ≡ status-of f.state
 
 same-itself : (e : Execution) → SameStores e e
-same-itself e = record { stores = refl; ending = refl }
+same-itself e = record { stores = refl; ending = refl; status = refl }
 
 same-output : (w : WordAtHand) (t : Transfer) (x y : List ℕ) → SameStores (after_output w t x) (after_output w t y)
+unfolding status-of
 same-output w t x y = by t.goes_on where
   by : (z : Bool) → SameStores
       (cond z (record { stores = None; state = goes_on_after w.program w.at (Progress.OutputChained w.command x); ending = None })
       (command_ends w (conclusion_of w t) x))
       (cond z (record { stores = None; state = goes_on_after w.program w.at (Progress.OutputChained w.command y); ending = None })
       (command_ends w (conclusion_of w t) y))
-  by true = record { stores = refl; ending = refl }
-  by false = record { stores = refl; ending = refl }
+  by true = record { stores = refl; ending = refl; status = refl }
+  by false = record { stores = refl; ending = refl; status = refl }
 
 same-met : (w : WordAtHand) (limit : ℕ) (t : Transfer) (m : Machine) (met : Checked)
     → SameStores (run (output_read zeros w limit t met) m) (run (output_read bytes_read w limit t met) m)
@@ -318,8 +326,8 @@ met-row-is : (u : ConfiguredUnit) (f : Fetched) (met : Checked) (m : Machine) �
     → after (met_row (profile_of m.core) u f met) m ≡ after_channel u m
 met-row-is u f met m h =
     let shape : Reading Execution = unit_executed zeros u f met
-    in ap (λ (made : Made Bool). with_stores m m made.stores)
-    (run-bind shape (λ e. done (record { ended = true; stores = execution_stores (profile_of m.core) u f met e })) m)
+    in ap (λ (made : Made (Option UnitState)). with_stores m m made.stores)
+    (run-bind shape (λ e. done (record { ended = Some e.state; stores = execution_stores (profile_of m.core) u f met e })) m)
     ∙ execution-stored u f met (run shape m) m h (same-stores u f met m h)
 
 found-by : (u : ConfiguredUnit) (program : Program) (s : UnitState) (m : Machine) (d : DeviceView) (f : Fetched) (met : Checked) → program_of s ≡ Some program
@@ -327,6 +335,20 @@ found-by : (u : ConfiguredUnit) (program : Program) (s : UnitState) (m : Machine
 found-by u program (UnitState.Active other) m d f met e h = let same : program ≡ other = cc in subst (λ p. FoundIn m d p f met) same h
 found-by u program UnitState.Idle m d f met e h = tt
 found-by u program (UnitState.Waiting csw) m d f met e h = tt
+
+-- a program, by the word that is found and what its bytes meet
+program-row-made : (u : ConfiguredUnit) (program : Program) (m : Machine)
+    → run (program_row (profile_of m.core) u (Some program)) m
+    ≡ run (met_row (profile_of m.core) u (run (next_ccw_read (profile_of m.core) program) m)
+    (run (word_met (profile_of m.core) (device_seen u (device_of u m.media)) program (run (next_ccw_read (profile_of m.core) program) m)) m)) m
+program-row-made u program m =
+    let p : Profile = profile_of m.core
+    in let d : DeviceView = device_seen u (device_of u m.media)
+    in let f : Fetched = run (next_ccw_read p program) m
+    in run-bind (next_ccw_read p program) (λ f. bind (device_read u) (λ d. bind (word_met p (device_seen u d) program f) (λ met. met_row p u f met))) m
+    ∙ run-bind (device_read u) (λ d. bind (word_met p (device_seen u d) program f) (λ met. met_row p u f met)) m
+    ∙ ap (λ k. run (bind (word_met p (device_seen u k) program f) (λ met. met_row p u f met)) m) (device-is u m)
+    ∙ run-bind (word_met p d program f) (λ met. met_row p u f met) m
 
 program-is : (u : ConfiguredUnit) (o : Option Program) (m : Machine) → program_of (control_of m.units u).state ≡ o
     → after (program_row (profile_of m.core) u o) m ≡ after_channel u m
@@ -336,16 +358,41 @@ program-is u (Some program) m e =
     in let d : DeviceView = device_seen u (device_of u m.media)
     in let f : Fetched = run (next_ccw_read p program) m
     in let met : Checked = run (word_met p d program f) m
-    in ap (λ (made : Made Bool). with_stores m m made.stores)
-    (run-bind (next_ccw_read p program) (λ f. bind (device_read u) (λ d. bind (word_met p (device_seen u d) program f) (λ met. met_row p u f met))) m
-    ∙ run-bind (device_read u) (λ d. bind (word_met p (device_seen u d) program f) (λ met. met_row p u f met)) m
-    ∙ ap (λ k. run (bind (word_met p (device_seen u k) program f) (λ met. met_row p u f met)) m) (device-is u m)
-    ∙ run-bind (word_met p d program f) (λ met. met_row p u f met) m)
+    in ap (λ (made : Made (Option UnitState)). with_stores m m made.stores) (program-row-made u program m)
     ∙ met-row-is u f met m (found-by u program (control_of m.units u).state m d f met e (refl, refl))
 
 pub unit-row-is : (u : ConfiguredUnit) (m : Machine) → after (unit_row (profile_of m.core) u) m ≡ after_channel u m
 unit-row-is u m =
-    ap (λ (made : Made Bool). with_stores m m made.stores)
+    ap (λ (made : Made (Option UnitState)). with_stores m m made.stores)
     (run-bind (control_read u) (λ (c : UnitControl). program_row (profile_of m.core) u (program_of c.state)) m)
     ∙ ap (λ (c : UnitControl). after (program_row (profile_of m.core) u (program_of c.state)) m) (control-is u m)
     ∙ program-is u (program_of (control_of m.units u).state) m refl
+
+-- the status word with which the program of a unit has ended
+met-row-ends : (u : ConfiguredUnit) (f : Fetched) (met : Checked) (m : Machine) → FoundAt u m f met
+    → option_map status-of (run (met_row (profile_of m.core) u f met) m).ended ≡ Some (status-of (execution_at u m).state)
+met-row-ends u f met m h =
+    let shape : Reading Execution = unit_executed zeros u f met
+    in ap (λ (made : Made (Option UnitState)). option_map status-of made.ended)
+    (run-bind shape (λ e. done (record { ended = Some e.state; stores = execution_stores (profile_of m.core) u f met e })) m)
+    ∙ ap (λ (c : Option Csw). Some c) (same-stores u f met m h).status
+
+program-ends : (u : ConfiguredUnit) (o : Option Program) (m : Machine) → program_of (control_of m.units u).state ≡ o
+    → option_map status-of (run (program_row (profile_of m.core) u o) m).ended ≡ option_map (λ p. status-of (execution_at u m).state) o
+program-ends u None m e = refl
+program-ends u (Some program) m e =
+    let p : Profile = profile_of m.core
+    in let d : DeviceView = device_seen u (device_of u m.media)
+    in let f : Fetched = run (next_ccw_read p program) m
+    in let met : Checked = run (word_met p d program f) m
+    in ap (λ (made : Made (Option UnitState)). option_map status-of made.ended) (program-row-made u program m)
+    ∙ met-row-ends u f met m (found-by u program (control_of m.units u).state m d f met e (refl, refl))
+
+pub unit-row-ends : (u : ConfiguredUnit) (m : Machine)
+    → option_map status-of (run (unit_row (profile_of m.core) u) m).ended
+    ≡ option_map (λ p. status-of (execution_at u m).state) (program_of (control_of m.units u).state)
+unit-row-ends u m =
+    ap (λ (made : Made (Option UnitState)). option_map status-of made.ended)
+    (run-bind (control_read u) (λ (c : UnitControl). program_row (profile_of m.core) u (program_of c.state)) m)
+    ∙ ap (λ (c : UnitControl). option_map status-of (run (program_row (profile_of m.core) u (program_of c.state)) m).ended) (control-is u m)
+    ∙ program-ends u (program_of (control_of m.units u).state) m refl

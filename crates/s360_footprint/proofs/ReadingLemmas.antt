@@ -2,7 +2,7 @@
 use Rattle.std.proofs.Common.{◌≡◌, ◌∙◌, ◌++◌, List, [], ◌∷◌, refl, ap}
 use Rattle.s360_store.specs.declared.place.Place.{Place}
 use Rattle.s360_machine.specs.Machine.{Machine}
-use Rattle.s360_footprint.specs.Readings.{AreAllThere, HaveAllSame, Reading, bind, done, places_read, read, run}
+use Rattle.s360_footprint.specs.Readings.{AreAllThere, HaveAllSame, Reading, bind, done, made_of, places_read, read, run}
 use Rattle.s360_footprint.specs.Values.{value_there}
 
 pub decided : {X : Type 0} (r : Reading X) (m n : Machine) → HaveAllSame m n (places_read r m) → (run r m ≡ run r n) × (places_read r m ≡ places_read r n)
@@ -30,3 +30,7 @@ there-first m (p ∷ ps) qs h = (h.0, there-first m ps qs h.1)
 pub there-second : (m : Machine) (ps qs : List Place) → AreAllThere m (ps ++ qs) → AreAllThere m qs
 there-second m [] qs h = h
 there-second m (p ∷ ps) qs h = there-second m ps qs h.1
+
+pub run-made-of : {X : Type 0} (ps : List Place) (x : X) (m : Machine) → run (made_of ps x) m ≡ x
+run-made-of [] x m = refl
+run-made-of (p ∷ ps) x m = run-made-of ps x m
