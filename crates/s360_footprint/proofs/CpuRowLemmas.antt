@@ -1,4 +1,4 @@
--- An event of the CPU as a row does what its definition says, but for an input/output instruction.
+-- An event of the CPU as a row does what its definition says.
 use Rattle.std.proofs.Common.{ℕ, ◌+◌, ◌≡◌, ◌≤◌, ◌∙◌, ◌++◌, ◌&&◌, ◌||◌, Bool, true, false, cond, nat_eq, Option, Some, None, List, [], ◌∷◌, refl, sym, ap}
 use Rattle.std.proofs.Common.{length, find, arith}
 use Rattle.std.specs.Prelude.{is_some}
@@ -21,23 +21,27 @@ use Rattle.s360_channel.specs.ConfiguredUnits.{Units, address_of_unit, channel_o
 use Rattle.s360_channel.specs.Units.{condition_of, is_pending}
 use Rattle.s360_channel.specs.Words.{csw_doubleword}
 use Rattle.s360_machine.specs.Cpu.{after_case, after_cpu, after_ended, after_external, core_after_ended, cpu_case, first_case, pending_of}
-use Rattle.s360_machine.specs.InputOutput.{after_input_output, after_interrupting, after_taking, core_with_csw}
+use Rattle.s360_machine.specs.InputOutput.{after_io, after_input_output, after_interrupting, after_taking, core_with_csw}
 use Rattle.s360_machine.specs.Interruptions.{after_interruption, external_code}
 use Rattle.s360_machine.specs.Machine.{Machine, no_external}
 use Rattle.s360_machine.specs.RunStates.{is_operating}
 use Rattle.s360_footprint.specs.ChannelRows.{control_read, state_store}
-use Rattle.s360_footprint.specs.CpuRows.{CpuEnd, CpuEventsAreRows, IsOfCore, as_executed, condition_row, condition_stores, cpu_row, csw_bytes, executing_row}
-use Rattle.s360_footprint.specs.CpuRows.{external_comes}
+use Rattle.s360_footprint.specs.Altering.{Happened}
+use Rattle.s360_footprint.specs.CpuRows.{CpuEnd, CpuEventsAreRows, as_executed, condition_row, condition_stores, cpu_row, csw_bytes, executing_row}
+use Rattle.s360_footprint.specs.CpuRows.{external_comes, following_row}
 use Rattle.s360_footprint.specs.CpuRows.{external_row, external_taken, input_output_row, interrupting_read, nothing, nothing_row, psw_now_read, running_row}
 use Rattle.s360_footprint.specs.CpuRows.{taken_row, unit_or_instruction, unit_then}
 use Rattle.s360_footprint.specs.InstructionLaws.{row_in}
-use Rattle.s360_footprint.specs.InstructionRows.{InstructionEnd}
-use Rattle.s360_footprint.specs.InterruptionRows.{ending_row, interrupted_row, interruption_stores}
+use Rattle.s360_footprint.specs.InstructionRows.{InstructionEnd, with_instruction}
+use Rattle.s360_footprint.specs.InterruptionRows.{ending_row, interruption_stores}
 use Rattle.s360_footprint.specs.OperandReadings.{Profile, profile_of}
 use Rattle.s360_footprint.specs.Readings.{Reading, bind, done, read, run}
 use Rattle.s360_footprint.specs.Rows.{Made, Row, after, with_stores}
+use Rattle.s360_footprint.specs.Sequences.{row_through}
 use Rattle.s360_footprint.specs.StoringRows.{byte_stores}
 use Rattle.s360_footprint.proofs.ChannelRowLemmas.{control-is, control-stored}
+use Rattle.s360_footprint.proofs.InstructionLawLemmas.{instructions-are-rows}
+use Rattle.s360_footprint.proofs.IoRowLemmas.{io-is}
 use Rattle.s360_footprint.proofs.InterruptionRowLemmas.{doubleword-there, interruption-by, interruptions-are-rows}
 use Rattle.s360_footprint.proofs.ReadingLemmas.{run-bind}
 use Rattle.s360_footprint.proofs.SequenceLemmas.{sequences-are-rows, stores-append}
@@ -147,34 +151,52 @@ unit-is u m h =
     after-bind (control_read u) (λ (control : UnitControl). condition_row u (condition_of control)) m (control_of m.units u) (control-is u m)
     ∙ condition-is u (condition_of (control_of m.units u)) m h refl
 
--- an instruction
-ended-is : (ended : Ended) (i : Instruction) (m : Machine) → IsOfCore ended → record m { core = core_after_ended ended i } ≡ after_ended ended i m
-ended-is Ended.Done i m h = refl
-ended-is (Ended.Program code) i m h = refl
-ended-is (Ended.Svc code) i m h = refl
-ended-is (Ended.Io operation unit) i m h = absurd h
+-- an instruction, and what follows it
+core-is : (m : Machine) → 128 ≤ length m.core.storage.bytes
+    → after (row_through (run (row_in m) m).stores (ending_row (run (row_in m) m).ended)) m
+    ≡ record m { core = core_after_ended (instruction m.core).outcome.ended (instruction m.core) }
+core-is m h =
+    sym (ap (λ (made : Made InstructionEnd). with_stores m m made.stores)
+    (run-bind (row_in m) (λ made. row_through made.stores (ending_row made.ended)) m))
+    ∙ interruptions-are-rows m h
 
-executing-is : (m : Machine) → 128 ≤ length m.core.storage.bytes → IsOfCore (instruction m.core).outcome.ended
+end-is : (m : Machine) → (run (row_in m) m).ended ≡ (with_instruction m (instruction m.core)).ended
+end-is m = ap (λ (x : Happened InstructionEnd). x.ended) (instructions-are-rows m)
+
+following-is : (ended : Ended) (m : Machine) → 128 ≤ length m.core.storage.bytes → (instruction m.core).outcome.ended ≡ ended
+    → after (following_row (profile_of m.core) (run (row_in m) m) ended) m ≡ after_ended ended (instruction m.core) m
+following-is Ended.Done m h e = core-is m h ∙ ap (λ x. record m { core = core_after_ended x (instruction m.core) }) e
+following-is (Ended.Program code) m h e = core-is m h ∙ ap (λ x. record m { core = core_after_ended x (instruction m.core) }) e
+following-is (Ended.Svc code) m h e = core-is m h ∙ ap (λ x. record m { core = core_after_ended x (instruction m.core) }) e
+following-is (Ended.Io operation unit) m h e =
+    io-is operation unit (run (row_in m) m).ended m h ∙ ap (λ (x : InstructionEnd). after_io operation unit x.next_address m) (end-is m)
+
+executing-is : (m : Machine) → 128 ≤ length m.core.storage.bytes
     → after (executing_row (profile_of m.core)) m ≡ after_ended (instruction m.core).outcome.ended (instruction m.core) m
-executing-is m h k =
-    ap (λ (made : Made CpuEnd). with_stores m m made.stores) (run-bind (interrupted_row m) as_executed m)
-    ∙ interruptions-are-rows m h ∙ ended-is (instruction m.core).outcome.ended (instruction m.core) m k
+executing-is m h =
+    let p : Profile = profile_of m.core
+    in let made : Made InstructionEnd = run (row_in m) m
+    in ap (λ (made : Made CpuEnd). with_stores m m made.stores)
+    (run-bind (bind (row_in m) (λ made. following_row p made made.ended.ended)) as_executed m)
+    ∙ ap (λ (made : Made InstructionEnd). with_stores m m made.stores) (run-bind (row_in m) (λ made. following_row p made made.ended.ended) m)
+    ∙ ap (λ (e : InstructionEnd). after (following_row p made e.ended) m) (end-is m)
+    ∙ following-is (instruction m.core).outcome.ended m h refl
 
 -- the first case that holds
-unit-or-instruction-is : (o : Option ConfiguredUnit) (m : Machine) → 128 ≤ length m.core.storage.bytes → IsOfCore (instruction m.core).outcome.ended
+unit-or-instruction-is : (o : Option ConfiguredUnit) (m : Machine) → 128 ≤ length m.core.storage.bytes
     → interrupting_unit m.core.psw m.units ≡ o
     → after (unit_or_instruction (profile_of m.core) m.core.psw o) m
     ≡ after_case (first_case true (cond (is_some o) (Some Class.InputOutput) None) (wait_of m.core.psw)) m
-unit-or-instruction-is (Some u) m h k e = unit-is u m h ∙ ap (λ o. option_map_or (after_interrupting m) o m) (sym e)
-unit-or-instruction-is None m h k e = by (wait_of m.core.psw) where
+unit-or-instruction-is (Some u) m h e = unit-is u m h ∙ ap (λ o. option_map_or (after_interrupting m) o m) (sym e)
+unit-or-instruction-is None m h e = by (wait_of m.core.psw) where
   by : (z : Bool) → after (cond z nothing_row (executing_row (profile_of m.core))) m ≡ after_case (first_case true None z) m
   by true = refl
-  by false = executing-is m h k
+  by false = executing-is m h
 
-running-is : (m : Machine) → 128 ≤ length m.core.storage.bytes → IsOfCore (instruction m.core).outcome.ended
+running-is : (m : Machine) → 128 ≤ length m.core.storage.bytes
     → after (running_row (profile_of m.core) m.core.psw) m
     ≡ after_case (first_case true (next_interruption_of m.core.psw (pending_of m.control m.units)) (wait_of m.core.psw)) m
-running-is m h k =
+running-is m h =
     after-bind (external_comes m.core.psw)
     (λ comes. cond comes external_row (bind (interrupting_read m.core.psw configured_units) (unit_or_instruction (profile_of m.core) m.core.psw))) m
     (takes_external m.core.psw (pending_of m.control m.units)) (comes-is m)
@@ -186,12 +208,12 @@ running-is m h k =
   by false =
       after-bind (interrupting_read m.core.psw configured_units) (unit_or_instruction (profile_of m.core) m.core.psw) m (interrupting_unit m.core.psw m.units)
       (found-is m.core.psw configured_units m)
-      ∙ unit-or-instruction-is (interrupting_unit m.core.psw m.units) m h k refl
+      ∙ unit-or-instruction-is (interrupting_unit m.core.psw m.units) m h refl
       ∙ ap (λ b. after_case (first_case true (cond b (Some Class.InputOutput) None) (wait_of m.core.psw)) m) (sym (takes-is m.core.psw m))
 
 pub cpu-events-are-rows : CpuEventsAreRows
-cpu-events-are-rows m h k = by (is_operating m.control.run_state) where
+cpu-events-are-rows m h = by (is_operating m.control.run_state) where
   by : (z : Bool) → after (cond z (read Psw (λ psw. running_row (profile_of m.core) psw)) nothing_row) m
       ≡ after_case (first_case z (next_interruption_of m.core.psw (pending_of m.control m.units)) (wait_of m.core.psw)) m
-  by true = running-is m h k
+  by true = running-is m h
   by false = refl

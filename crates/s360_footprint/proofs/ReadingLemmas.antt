@@ -34,3 +34,7 @@ there-second m (p ∷ ps) qs h = there-second m ps qs h.1
 pub run-made-of : {X : Type 0} (ps : List Place) (x : X) (m : Machine) → run (made_of ps x) m ≡ x
 run-made-of [] x m = refl
 run-made-of (p ∷ ps) x m = run-made-of ps x m
+
+pub there-both : (m : Machine) (ps qs : List Place) → AreAllThere m ps → AreAllThere m qs → AreAllThere m (ps ++ qs)
+there-both m [] qs g h = h
+there-both m (p ∷ ps) qs g h = (g.0, there-both m ps qs g.1 h)
