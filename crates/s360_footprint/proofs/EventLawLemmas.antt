@@ -1,9 +1,9 @@
 -- Each event does what its row does, and the laws of events follow from the laws of rows.
-use Rattle.std.proofs.Common.{ℕ, ◌+◌, ◌/◌, ◌≡◌, ◌≤◌, ◌∙◌, ◌++◌, Bool, true, false, cond, nat_lt, Option, Some, None, List, [], ◌∷◌, refl, sym, ap, length, set}
+use Rattle.std.proofs.Common.{ℕ, ◌+◌, ◌/◌, ◌≡◌, ◌≤◌, ◌∙◌, ◌++◌, Bool, true, false, cond, nat_lt, Option, Some, None, List, [], ◌∷◌, refl, sym, ap, length, set, get_or}
 use Rattle.std.proofs.Common.{arith}
 use Rattle.std.proofs.lemmas.Bool.{ltb-false}
 use Rattle.std.specs.Int.{bytes_high_first}
-use Rattle.s360_model.specs.{Core.Core, Core.core_with_bytes, Psw.current_psw, Storage.block_size}
+use Rattle.s360_model.specs.{Core.core_with_bytes, Core.core_with_key, Storage.block_size, Storage.key_of_block, Storage.with_fetch_bit}
 use Rattle.s360_store.specs.declared.place.Place.{Place}
 use Rattle.s360_store.specs.declared.place.Place.TheVariants.{External}
 use Rattle.s360_channel.specs.declared.configured_unit.ConfiguredUnit.{ConfiguredUnit}
@@ -14,20 +14,21 @@ use Rattle.s360_machine.specs.declared.{event.Event.Event, event.Patch.Patch, op
 use Rattle.s360_machine.specs.Loading.{units_after_reset}
 use Rattle.s360_machine.specs.Machine.{Control, Machine, no_external, storage_size}
 use Rattle.s360_machine.specs.Operator.{after_key}
-use Rattle.s360_machine.specs.Refusals.{refusal_of_patch}
+use Rattle.s360_machine.specs.Refusals.{refusal_of, refusal_of_patch}
 use Rattle.s360_machine.specs.RunStates.{is_operating}
 use Rattle.s360_machine.specs.Step.{after as after_event, after_patch}
 use Rattle.s360_machine.specs.Timer.{after_tick, control_after_tick, core_after_tick, runs_out, timer_after_tick, timer_location, timer_of}
 use Rattle.s360_footprint.specs.EventLaws.{EventDecided, EventFollows, EventKeepsOthers, EventsAreRows, Happens}
 use Rattle.s360_footprint.specs.EventRows.{EventEnd, ending_as, event_row, row_in}
 use Rattle.s360_footprint.specs.OperandReadings.{Profile, number_read, profile_of}
-use Rattle.s360_footprint.specs.OperatorRows.{key_stores, patch_stores, reset_stores, reset_units}
+use Rattle.s360_footprint.specs.OperatorRows.{block_store, key_stores, patch_stores, reset_stores, reset_units}
 use Rattle.s360_footprint.specs.Readings.{Reading, bind, done, run}
 use Rattle.s360_footprint.specs.Rows.{Made, Row, after, with_stores}
 use Rattle.s360_footprint.specs.TimerRows.{conditions_after_tick, conditions_read, tick_row, tick_stores, timer_read}
 use Rattle.s360_footprint.specs.StoringRows.{byte_stores}
 use Rattle.s360_footprint.specs.Values.{AreAlike, value_there}
 use Rattle.s360_footprint.proofs.CpuRowLemmas.{cpu-events-are-rows}
+use Rattle.s360_footprint.proofs.InstructionLawLemmas.{same-profile}
 use Rattle.s360_footprint.proofs.LoadingRowLemmas.{channel-event-is}
 use Rattle.s360_footprint.proofs.OperandLemmas.{number-is}
 use Rattle.s360_footprint.proofs.ReadingLemmas as readings
@@ -132,8 +133,10 @@ patch-is (Patch.Bytes at bytes) m h = all-stored (done bytes) bytes m m at (leng
 patch-is (Patch.Register n word) m h = refl
 patch-is (Patch.StorageKey at storage_key) m h = refl
 patch-is (Patch.FetchBit at bit) m h = by m.core.storage.fetch_protection where
-  by : (z : Bool) → with_stores m m (patch_stores (record (profile_of m.core) { fetch_protection = z }) (Patch.FetchBit at bit))
-      ≡ record m { core = cond z (core_with_fetch_bit_there m (at / block_size) bit) m.core }
+  by : (z : Bool) → with_stores m m (cond z (block_store (at / block_size) (λ key. with_fetch_bit (key_of_block key) bit)) [])
+      ≡ record m {
+        core = cond z (core_with_key (at / block_size) (with_fetch_bit (key_of_block (get_or m.core.storage.keys (at / block_size) 0)) bit) m.core) m.core;
+      }
   by true = refl
   by false = refl
 patch-is (Patch.Psw psw) m h = refl

@@ -19,7 +19,7 @@ use Rattle.s360_footprint.proofs.RowLemmas.{follows}
 pub instructions-are-rows : InstructionsAreRows
 instructions-are-rows m = instruction-is form_rows m (forms-are m)
 
-same-profile : (m n : Machine) → AreAlike m n → profile_of m.core ≡ profile_of n.core
+pub same-profile : (m n : Machine) → AreAlike m n → profile_of m.core ≡ profile_of n.core
 same-profile m n a = rw (a.bytes, a.keys, a.option) refl
 
 same-row : (m n : Machine) → AreAlike m n → row_in m ≡ row_in n

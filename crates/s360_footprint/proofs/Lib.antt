@@ -19,4 +19,7 @@ pub mod InterruptionRowLemmas
 mod KnownFootprints
 pub mod ChannelReadingLemmas
 pub mod ChannelRowLemmas
+pub mod IoRowLemmas
 pub mod CpuRowLemmas
+pub mod LoadingRowLemmas
+pub mod EventLawLemmas

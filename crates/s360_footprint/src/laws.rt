@@ -1,5 +1,6 @@
 //! The laws of rows, the contracts of calls that do nothing. An ending is what a row says of how its event ends.
 ghost use Rattle.s360_footprint.specs.ChannelRows.{ChannelsAreRows};
+ghost use Rattle.s360_footprint.specs.EventLaws.{EventDecided, EventFollows, EventKeepsOthers, EventsAreRows};
 ghost use Rattle.s360_footprint.specs.InstructionLaws.{InstructionDecided, InstructionFollows, InstructionsAreRows};
 ghost use Rattle.s360_footprint.specs.InterruptionRows.{InterruptionsAreRows};
 ghost use Rattle.s360_footprint.specs.Laws.{Decided, Follows, KeepsOthers, SequencesAreRows};
@@ -52,4 +53,26 @@ pub fn interruptions_are_rows()
 /// The row of a channel event of a unit does what the channel does, before any end of loading.
 pub fn channels_are_rows()
     ensures { ChannelsAreRows }
+{}
+
+/// The row of an event that is not refused does what the event does, where storage has the permanent locations and the machine its
+/// six units.
+pub fn events_are_rows()
+    ensures { EventsAreRows }
+{}
+
+/// A place that an event does not store keeps its value.
+pub fn others_are_kept_by_the_event()
+    ensures { EventKeepsOthers }
+{}
+
+/// Where two machines of one size and profile have the same at the deciders of an event, it does the same in both.
+pub fn deciders_decide_the_event()
+    ensures { EventDecided }
+{}
+
+/// Where an event does the same in two machines of one size and profile, and they have the same at the sources of a place, they
+/// have the same at that place afterwards.
+pub fn events_follow_their_sources()
+    ensures { EventFollows }
 {}
