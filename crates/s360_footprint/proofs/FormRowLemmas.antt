@@ -4,7 +4,7 @@ use Rattle.std.specs.Prelude.{option_and_then}
 use Rattle.std.specs.Option.{option_map}
 use Rattle.s360_psw.specs.declared.instruction_length.InstructionLength.{InstructionLength}
 use Rattle.s360_fixed.specs.declared.program_code.ProgramCode.TheVariants.{Operation as operation_code}
-use Rattle.s360_fixed.specs.declared.{ended.Ended.Ended, form.Form.Form, row.Row.Row as FixedRow, second_operand.SecondOperand.SecondOperand}
+use Rattle.s360_fixed.specs.declared.{ended.Ended.Ended, form.Form.Form, row.OperationRow.OperationRow as FixedRow, second_operand.SecondOperand.SecondOperand}
 use Rattle.s360_fixed.specs.declared.{second_operand.Width.Width}
 use Rattle.s360_fixed.specs.{Branching.branch_outcome, Fixed.fixed_outcome, Fixed.rr_outcome, Fixed.rs_outcome, Fixed.rx_outcome, Operands.operand_address}
 use Rattle.s360_fixed.specs.{Rows.row_of}

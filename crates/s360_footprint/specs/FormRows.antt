@@ -3,7 +3,7 @@ use Rattle.std.specs.Prelude.{ℕ, ◌+◌, ◌/◌, ◌%◌, Option, None, Some
 use Rattle.s360_psw.specs.declared.instruction_length.InstructionLength.{InstructionLength}
 use Rattle.s360_fixed.specs.declared.{ended.Ended.Ended, form.Form.Form}
 use Rattle.s360_fixed.specs.declared.program_code.ProgramCode.TheVariants.{Operation as operation_code}
-use Rattle.s360_fixed.specs.declared.{row.Row.Row as FixedRow, second_operand.SecondOperand.SecondOperand, second_operand.Width.Width}
+use Rattle.s360_fixed.specs.declared.{row.OperationRow.OperationRow as FixedRow, second_operand.SecondOperand.SecondOperand, second_operand.Width.Width}
 use Rattle.s360_fixed.specs.Rows.{row_of}
 use Rattle.s360_logic.specs.declared.row.{Conversion.Conversion, ImmediateRow.ImmediateRow, RegisterStatus.RegisterStatus, StorageRow.StorageRow}
 use Rattle.s360_logic.specs.declared.row.{StorageStatus.StorageStatus}

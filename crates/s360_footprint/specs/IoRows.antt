@@ -1,5 +1,5 @@
 -- An input/output instruction as a row, by the address that it names (GA22-6821, "Input/Output Operations", START I/O, TEST I/O, HALT I/O and TEST CHANNEL).
-use Rattle.std.specs.Prelude.{ℕ, ◌/◌, ◌||◌, Bool, nat_eq, if◌then◌else◌, Option, None, Some, is_some, List, [], ◌∷◌, ◌++◌}
+use Rattle.std.specs.Prelude.{ℕ, ◌/◌, ◌||◌, Bool, true, nat_eq, if◌then◌else◌, Option, None, Some, is_some, List, [], ◌∷◌, ◌++◌}
 use Rattle.std.specs.Int.{bytes_high_first}
 use Rattle.s360_model.specs.Psw.{with_condition_code, with_instruction_address}
 use Rattle.s360_word.specs.declared.unit.Unit.{Unit as UnitAddress}
