@@ -125,7 +125,7 @@ unit-is u f met m h =
     unit-read bytes_read u f met m ∙ state-is (device_seen u (device_of u m.media)) (control_of m.units u).state f met m h ∙ sym (executed-at u m)
 
 -- the status word that waits then
-pub status-of : UnitState → Option Csw
+unfoldable pub status-of : UnitState → Option Csw
 status-of (UnitState.Waiting csw) = Some csw
 status-of other = None
 

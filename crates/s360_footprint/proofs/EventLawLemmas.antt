@@ -18,8 +18,10 @@ use Rattle.s360_machine.specs.Refusals.{refusal_of, refusal_of_patch}
 use Rattle.s360_machine.specs.RunStates.{is_operating}
 use Rattle.s360_machine.specs.Step.{after as after_event, after_patch}
 use Rattle.s360_machine.specs.Timer.{after_tick, control_after_tick, core_after_tick, runs_out, timer_after_tick, timer_location, timer_of}
+use Rattle.s360_footprint.specs.CpuRows.{cpu_row}
 use Rattle.s360_footprint.specs.EventLaws.{EventDecided, EventFollows, EventKeepsOthers, EventsAreRows, Happens}
 use Rattle.s360_footprint.specs.EventRows.{EventEnd, ending_as, event_row, row_in}
+use Rattle.s360_footprint.specs.LoadingRows.{channel_event_row}
 use Rattle.s360_footprint.specs.OperandReadings.{Profile, number_read, profile_of}
 use Rattle.s360_footprint.specs.OperatorRows.{block_store, key_stores, patch_stores, reset_stores, reset_units}
 use Rattle.s360_footprint.specs.Readings.{Reading, bind, done, run}
@@ -147,8 +149,8 @@ ending-is kind row m =
     ap (λ (made : Made EventEnd). with_stores m m made.stores) (run-bind row (λ made. done (record { ended = kind made.ended; stores = made.stores })) m)
 
 pub events-are-rows : EventsAreRows
-events-are-rows m Event.Cpu h = ending-is EventEnd.of_cpu _ m ∙ cpu-events-are-rows m h.permanent
-events-are-rows m (Event.Channel unit) h = ending-is EventEnd.of_channel _ m ∙ channel-event-is unit m h.permanent h.units
+events-are-rows m Event.Cpu h = ending-is EventEnd.of_cpu (cpu_row (profile_of m.core)) m ∙ cpu-events-are-rows m h.permanent
+events-are-rows m (Event.Channel unit) h = ending-is EventEnd.of_channel (channel_event_row (profile_of m.core) unit) m ∙ channel-event-is unit m h.permanent h.units
 events-are-rows m Event.Tick h = ending-is EventEnd.of_tick tick_row m ∙ tick-is m h.permanent
 events-are-rows m (Event.Key key) h = key-is key m h.units
 events-are-rows m (Event.Patch patch) h = patch-is patch m h.accepted
