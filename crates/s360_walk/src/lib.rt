@@ -1,0 +1,13 @@
+//! What is asked of a row of the footprint: its deciders, the places that it stores into, or the sources of a place, found by one
+//! walk over what the row reads and stores.
+#![tactic(auto)]
+
+mod access;
+mod altering;
+mod combination;
+mod location;
+mod part;
+mod question;
+
+pub use location::Location;
+pub use question::Question;
