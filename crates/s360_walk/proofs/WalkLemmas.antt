@@ -1,33 +1,50 @@
 -- Walks over rows: one reading after another, one store after another, and rows that alter registers or store bytes.
-use Rattle.std.proofs.Common.{ℕ, zero, suc, ◌+◌, ◌≡◌, ◌∙◌, ◌++◌, Bool, true, false, cond, Option, Some, None, List, [], ◌∷◌, refl, sym, ap, arith}
+use Rattle.std.proofs.Common.{ℕ, zero, suc, ◌+◌, ◌≡◌, ◌<◌, ◌∙◌, ◌++◌, length, take, slice_index_or, Bool, true, false, cond, Option, Some, None, List, [], ◌∷◌, refl, sym, ap, arith}
 use Rattle.std.specs.Prelude.{is_none}
-use Rattle.std.proofs.lemmas.List.{append_assoc, append-nil}
+use Rattle.std.proofs.lemmas.List.{append_assoc, append-nil, take_more}
 use Rattle.s360_model.specs.Psw.{fixed_point_overflow_mask_of}
 use Rattle.s360_store.specs.declared.place.Place.{Place}
 use Rattle.s360_store.specs.declared.place.Place.TheVariants.{Psw, Register, Byte}
-use Rattle.s360_fixed.specs.declared.{ended.Ended.Ended, program_code.ProgramCode.ProgramCode, row.Combination.Combination}
+use Rattle.s360_store.specs.declared.protection.Access.{Access}
+use Rattle.s360_fixed.specs.declared.{ended.Ended.Ended, program_code.ProgramCode.ProgramCode, row.Combination.Combination, second_operand.Width.Width, setting.CodeSetting.CodeSetting}
+use Rattle.s360_fixed.specs.Operands.{access_conditions, bytes_of_width}
 use Rattle.s360_fixed.specs.ProgramCodes.{Conditions, program_code}
 use Rattle.s360_machine.specs.Machine.{Machine}
 use Rattle.s360_footprint.specs.Altering.{Altering, altering_row, completed_row, ended_altering, overflow_ending, psw_store, register_stores, unless_refused}
+use Rattle.s360_footprint.specs.OperandReadings.{conditions_read, profile_of}
 use Rattle.s360_footprint.specs.Readings.{Reading, bind, done, places_read, run}
 use Rattle.s360_footprint.specs.RegisterRows.{combination_altering, compares, keeps_code, may_overflow, result_read, word_result}
 use Rattle.s360_footprint.specs.Rows.{Made, Row, Store}
-use Rattle.s360_footprint.specs.StoringRows.{byte_stores}
+use Rattle.s360_footprint.specs.StoringRows.{byte_stores, low_bytes_read, store_row}
+use Rattle.s360_footprint.proofs.OperandLemmas.{conditions-are}
 use Rattle.s360_footprint.proofs.ReadingLemmas.{places-bind, run-bind}
 use Rattle.s360_walk.specs.declared.question.Question.{Question}
-use Rattle.s360_walk.specs.Walks.{altered_walk, combination_walk, places_used, store_walk, walked, with_bytes, with_decided, with_each, with_store, with_stores_of}
-use Rattle.s360_walk.proofs.ReadingPlaces.{mapped, result-places}
+use Rattle.s360_walk.specs.Parts.{key_places}
+use Rattle.s360_walk.specs.Walks.{altered_walk, combination_walk, looks_at_keys, places_used, store_walk, walked, with_bytes, with_decided, with_each, with_store, with_stores_of}
+use Rattle.s360_walk.proofs.ReadingPlaces.{conditions-places, mapped, result-places}
 
 -- deciders, one after another
-pub decided-none : (q : Question) (found : List Place) → with_decided q [] found ≡ found
-decided-none Question.Deciders found = append-nil found
-decided-none Question.Stored found = refl
-decided-none (Question.Sources p) found = refl
+pub decided_none : (q : Question) (found : List Place) → with_decided q [] found ≡ found
+decided_none Question.Deciders found = append-nil found
+decided_none Question.Stored found = refl
+decided_none (Question.Sources p) found = refl
 
-pub decided-both : (q : Question) (ps qs found : List Place) → with_decided q qs (with_decided q ps found) ≡ with_decided q (ps ++ qs) found
-decided-both Question.Deciders ps qs found = append_assoc found ps qs
-decided-both Question.Stored ps qs found = refl
-decided-both (Question.Sources p) ps qs found = refl
+pub decided_both : (q : Question) (ps qs found : List Place) → with_decided q qs (with_decided q ps found) ≡ with_decided q (ps ++ qs) found
+decided_both Question.Deciders ps qs found = append_assoc found ps qs
+decided_both Question.Stored ps qs found = refl
+decided_both (Question.Sources p) ps qs found = refl
+
+-- the conditions of an access
+pub conditions_decided : (q : Question) (address boundary count : ℕ) (kind : Access) (m : Machine) (found : List Place)
+    → with_decided q (places_read (conditions_read (profile_of m.core) address boundary count kind) m) found
+    ≡ with_decided q (cond (looks_at_keys m.core address count kind) (key_places address count) []) (with_decided q (Psw ∷ []) found)
+conditions_decided q address boundary count kind m found =
+    ap (λ ps. with_decided q ps found) (conditions-places address boundary count kind m)
+    ∙ sym (decided_both q (Psw ∷ []) (cond (looks_at_keys m.core address count kind) (key_places address count) []) found)
+
+pub conditions_code : (address boundary count : ℕ) (kind : Access) (m : Machine)
+    → program_code (run (conditions_read (profile_of m.core) address boundary count kind) m) ≡ program_code (access_conditions m.core address boundary count kind)
+conditions_code address boundary count kind m = ap program_code (conditions-are address boundary count kind m)
 
 -- a row by what was read before it
 pub walked-bind : {X Ending : Type 0} (q : Question) (r : Reading X) (further : X → Row Ending) (m : Machine) (found : List Place)
@@ -35,11 +52,11 @@ pub walked-bind : {X Ending : Type 0} (q : Question) (r : Reading X) (further : 
 walked-bind q r further m found =
     ap (λ made. with_stores_of q m made.stores (with_decided q (places_read (bind r further) m) found)) (run-bind r further m)
     ∙ ap (λ ps. with_stores_of q m (run (further (run r m)) m).stores (with_decided q ps found)) (places-bind r further m)
-    ∙ ap (with_stores_of q m (run (further (run r m)) m).stores) (sym (decided-both q (places_read r m) (places_read (further (run r m)) m) found))
+    ∙ ap (with_stores_of q m (run (further (run r m)) m).stores) (sym (decided_both q (places_read r m) (places_read (further (run r m)) m) found))
 
 pub walked-done : {Ending : Type 0} (q : Question) (made : Made Ending) (m : Machine) (found : List Place)
     → walked q (done made) m found ≡ with_stores_of q m made.stores found
-walked-done q made m found = ap (with_stores_of q m made.stores) (decided-none q found)
+walked-done q made m found = ap (with_stores_of q m made.stores) (decided_none q found)
 
 pub stores-both : (q : Question) (m : Machine) (ss ts : List Store) (found : List Place)
     → with_stores_of q m (ss ++ ts) found ≡ with_stores_of q m ts (with_stores_of q m ss found)
@@ -57,7 +74,7 @@ refused-or-done q conditions row m found =
       → walked q (unless_refused o row) m (with_decided q (places_read conditions m) found)
       ≡ cond (is_none o) (walked q row m (with_decided q (places_read conditions m) found)) (with_decided q (places_read conditions m) found)
   by None = refl
-  by (Some code) = decided-none q (with_decided q (places_read conditions m) found)
+  by (Some code) = decided_none q (with_decided q (places_read conditions m) found)
 
 -- the PSW
 psw-places : (code : Reading (Option ℕ)) (address : Reading ℕ) (m : Machine) (found : List Place) (q : Question)
@@ -78,7 +95,7 @@ altering-walked q a m overflow registers words code found e f g =
     ∙ walked-done q (record { ended = run (ended_altering a.overflow) m; stores = stores }) m (with_decided q (places_read (ended_altering a.overflow) m) found)
     ∙ ap (with_stores_of q m stores)
     (ap (λ ps. with_decided q (Psw ∷ ps) found) (by (fixed_point_overflow_mask_of m.core.psw))
-    ∙ sym (decided-both q (Psw ∷ []) (cond (fixed_point_overflow_mask_of m.core.psw) overflow []) found))
+    ∙ sym (decided_both q (Psw ∷ []) (cond (fixed_point_overflow_mask_of m.core.psw) overflow []) found))
     ∙ stores-both q m (register_stores a.registers) (psw_store a.code a.address) decided
     ∙ ap (with_stores_of q m (psw_store a.code a.address)) (f decided)
     ∙ psw-places a.code a.address m (with_each q registers words decided) q
@@ -96,7 +113,7 @@ combination-walked q c r1 next second m found =
   used : List Place
   used = places_used c r1 (places_read second m)
 
-  result : Reading _
+  result : Reading (Option ℕ × CodeSetting)
   result = result_read c r1 second
 
   overflowing : (z : Bool) → places_read (cond z (bind result (λ x. done x.1.overflow)) (done false)) m ≡ cond z used []
@@ -112,6 +129,19 @@ combination-walked q c r1 next second m found =
   coded true = refl
   coded false = append-nil _ ∙ mapped result (λ x. x.1.code) m ∙ result-places c r1 second m
 
+-- one place, and one byte more
+each-append : (q : Question) (xs ys ps found : List Place) → with_each q (xs ++ ys) ps found ≡ with_each q ys ps (with_each q xs ps found)
+each-append q [] ys ps found = refl
+each-append q (x ∷ xs) ys ps found = each-append q xs ys ps (with_store q x ps found)
+
+pub each-more : (q : Question) (places : List Place) (i : ℕ) (place : Place) (ps now before : List Place) → i < length places
+    → place ≡ slice_index_or places i place → now ≡ with_each q (take i places) ps before
+    → with_store q place ps now ≡ with_each q (take (i + 1) places) ps before
+each-more q places i place ps now before l is e =
+    ap (with_store q place ps) e
+    ∙ sym (ap (λ xs. with_each q xs ps before) (take_more places i place l ∙ ap (λ x. take i places ++ x ∷ []) (sym is))
+    ∙ each-append q (take i places) (place ∷ []) ps before)
+
 -- bytes that are stored
 bytes-walked : (q : Question) (bytes : Reading (List ℕ)) (m : Machine) (address i n : ℕ) (found : List Place)
     → with_stores_of q m (byte_stores address bytes i n) (with_bytes q address i (places_read bytes m) found)
@@ -126,9 +156,25 @@ bytes-walked q bytes m address i (suc n) found =
     ∙ bytes-walked q bytes m address (i + 1) n found
     ∙ ap (λ k. with_bytes q address k (places_read bytes m) found) all
 
-pub completed-bytes : (q : Question) (bytes : Reading (List ℕ)) (address count next : ℕ) (m : Machine) (found : List Place)
+completed-bytes : (q : Question) (bytes : Reading (List ℕ)) (address count next : ℕ) (m : Machine) (found : List Place)
     → walked q (completed_row (byte_stores address bytes 0 count) next) m found ≡ store_walk q address count (places_read bytes m) found
 completed-bytes q bytes address count next m found =
-    walked-done q _ m found
-    ∙ stores-both q m (byte_stores address bytes 0 count) (psw_store (done None) (done next)) found
+    let stores : List Store = byte_stores address bytes 0 count
+    in let all : 0 + count ≡ count = omega arith
+    in walked-done q (record { ended = Ended.Done; stores = stores ++ psw_store (done None) (done next) }) m found
+    ∙ stores-both q m stores (psw_store (done None) (done next)) found
     ∙ ap (with_store q Psw (Psw ∷ [])) (bytes-walked q bytes m address 0 count found)
+    ∙ ap (λ n. store_walk q address n (places_read bytes m) found) all
+
+pub store_walked : (q : Question) (width : Width) (r1 address next : ℕ) (m : Machine) (found : List Place)
+    → walked q (store_row (profile_of m.core) width r1 address next) m found
+    ≡ cond (is_none (program_code (run (conditions_read (profile_of m.core) address (bytes_of_width width) (bytes_of_width width) Access.Store) m)))
+    (store_walk q address (bytes_of_width width) (Register r1 ∷ [])
+    (with_decided q (places_read (conditions_read (profile_of m.core) address (bytes_of_width width) (bytes_of_width width) Access.Store) m) found))
+    (with_decided q (places_read (conditions_read (profile_of m.core) address (bytes_of_width width) (bytes_of_width width) Access.Store) m) found)
+store_walked q width r1 address next m found =
+    let count : ℕ = bytes_of_width width
+    in let conditions : Reading Conditions = conditions_read (profile_of m.core) address count count Access.Store
+    in let decided : List Place = with_decided q (places_read conditions m) found
+    in refused-or-done q conditions (completed_row (byte_stores address (low_bytes_read count r1) 0 count) next) m found
+    ∙ ap (λ x. cond (is_none (program_code (run conditions m))) x decided) (completed-bytes q (low_bytes_read count r1) address count next m decided)

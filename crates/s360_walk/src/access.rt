@@ -1,51 +1,78 @@
 //! What an access to an operand in storage meets, and the places that decide it. Source: GA22-6821, "System Structure", protection
 //! feature.
-ghost use Rattle.std.specs.Prelude.{◌≡◌, ◌<◌, ◌+◌, ◌++◌, ◌≤◌, ◌^◌, IfOk, OnOk};
+ghost use Rattle.std.specs.Prelude.{◌≡◌, ◌<◌, IfOk, OnOk};
+ghost use Rattle.s360_fixed.specs.Operands.{access_conditions};
 ghost use Rattle.s360_fixed.specs.ProgramCodes.{program_code};
 ghost use Rattle.s360_machine.specs.Machine.{seen};
-ghost use Rattle.s360_footprint.specs.OperandReadings.{access_read, conditions_read, guards, profile_of};
+ghost use Rattle.s360_footprint.specs.OperandReadings.{conditions_read, profile_of};
 ghost use Rattle.s360_footprint.specs.Readings.{places_read, run};
-ghost use Rattle.s360_walk.specs.Parts.{key_places, keys_from};
-ghost use Rattle.s360_walk.specs.Walks.{with_decided};
+ghost use Rattle.s360_walk.specs.Walks.{looks_at_keys, with_decided};
 
 use crate::location::Location;
 use crate::part::Part;
 use crate::question::Question;
 use s360_fixed::ProgramCode;
 use s360_machine::Machine;
-use s360_store::{Access, BLOCK_SIZE, Place, Storage};
-use s360_word::ProtectionKey;
+use s360_store::{Access, Place};
 use std::alloc::AllocError;
 
-/// Adds the keys of so many blocks from a number on.
-fn push_keys(found: &mut Vec<Place>, block: u32, count: u32) -> Result<(), AllocError>
-    requires { block + count ≤ 2 ^ 32 }
-    ensures { OnOk result (found.new.items ≡ found.old.items ++ keys_from block count) }
+/// Whether an access to so many bytes under the key of the PSW looks at their keys.
+fn looks_at_keys(machine: &Machine, address: Location, count: u16, kind: Access) -> bool
+    ensures { result ≡ looks_at_keys machine.now.whole.core address count kind }
 {
-    for i in 0..count {
-        found.push(Place::Key(block + i))?;
-    }
-    Ok(())
-}
-
-/// Adds the keys of the blocks that so many bytes lie in.
-fn push_key_places(found: &mut Vec<Place>, address: Location, count: u16) -> Result<(), AllocError>
-    ensures { OnOk result (found.new.items ≡ found.old.items ++ key_places address count) }
-{
-    if count == 0 {
-        return Ok(());
-    }
-    let first = address.number() / BLOCK_SIZE;
-    let last = (address.number() + (u32::from(count) - 1)) / BLOCK_SIZE;
-    push_keys(found, first, last - first + 1)
-}
-
-/// Whether the bytes of storage are protected from an access.
-fn guards(storage: &Storage, kind: Access) -> bool
-    ensures { (k : _) → k.storage ≡ storage.now → result ≡ guards (profile_of k) kind }
-{
-    match kind {
+    let storage = machine.storage();
+    let is_protected = match kind {
         Access::Fetch => storage.fetch_protection(),
         Access::Store => true,
+    };
+    let is_inside = address.number() + u32::from(count) <= storage.size();
+    is_inside && is_protected && machine.psw().protection_key().number() != 0
+}
+
+/// What keeps so many bytes, on a multiple of the boundary, from being used under the key of the PSW.
+fn exception_of(
+    machine: &Machine,
+    address: Location,
+    boundary: u32,
+    count: u16,
+    kind: Access,
+) -> Option<ProgramCode>
+    requires { 0 < boundary }
+    ensures { result ≡ program_code (access_conditions machine.now.whole.core address boundary count kind) }
+{
+    if address.number() % boundary != 0 {
+        return Some(ProgramCode::Specification);
     }
+    let key = machine.psw().protection_key();
+    let checked = machine
+        .storage()
+        .check(address.number(), u32::from(count), kind, key);
+    ProgramCode::of_access(checked)
+}
+
+/// Walks over the conditions of an access to so many bytes, and returns what keeps them from being used.
+#[tactic(auto, using(crate::proofs::WalkLemmas::conditions_decided, crate::proofs::WalkLemmas::decided_none, crate::proofs::WalkLemmas::conditions_code))]
+pub(crate) fn push_conditions(
+    question: Question,
+    found: &mut Vec<Place>,
+    machine: &Machine,
+    address: Location,
+    boundary: u32,
+    count: u16,
+    kind: Access,
+) -> Result<Option<ProgramCode>, AllocError>
+    requires { 0 < boundary }
+    ensures code {
+        IfOk result (λ code. code ≡ program_code (run (conditions_read (profile_of machine.now.whole.core) address boundary count kind) (seen machine.now.whole)))
+    }
+    ensures read {
+        OnOk result (found.new.items ≡ with_decided question
+        (places_read (conditions_read (profile_of machine.now.whole.core) address boundary count kind) (seen machine.now.whole)) found.old.items)
+    }
+{
+    question.decide(found, &[Part::Place(Place::Psw)])?;
+    if looks_at_keys(machine, address, count, kind) {
+        question.decide(found, &[Part::Keys(address, count)])?;
+    }
+    Ok(exception_of(machine, address, boundary, count, kind))
 }

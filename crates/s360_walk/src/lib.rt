@@ -8,6 +8,7 @@ mod combination;
 mod location;
 mod part;
 mod question;
+mod storing;
 
 pub use location::Location;
 pub use question::Question;

@@ -1,10 +1,10 @@
 //! What something is made of: single places, the registers that an address is made of, and bytes of storage.
 ghost use Rattle.std.specs.Prelude.{◌≡◌, ◌+◌, ◌++◌, ◌≤◌, ◌^◌, OnOk};
 ghost use Rattle.s360_store.specs.Spans.{byte_places};
-ghost use Rattle.s360_walk.specs.Parts.{address_parts, places_of_part, places_of_parts};
+ghost use Rattle.s360_walk.specs.Parts.{address_parts, key_places, keys_from, places_of_part, places_of_parts};
 
 use crate::location::Location;
-use s360_store::Place;
+use s360_store::{BLOCK_SIZE, Place};
 use s360_word::RegisterNumber;
 use std::alloc::AllocError;
 
@@ -17,6 +17,31 @@ pub(crate) enum Part {
     Address(RegisterNumber, RegisterNumber),
     /// So many bytes of storage from an address on.
     Bytes(Location, u16),
+    /// The keys of the blocks that so many bytes lie in.
+    Keys(Location, u16),
+}
+
+/// Adds the keys of so many blocks from a number on.
+fn push_keys(found: &mut Vec<Place>, block: u32, count: u32) -> Result<(), AllocError>
+    requires { block + count ≤ 2 ^ 32 }
+    ensures { OnOk result (found.new.items ≡ found.old.items ++ keys_from block count) }
+{
+    for i in 0..count {
+        found.push(Place::Key(block + i))?;
+    }
+    Ok(())
+}
+
+/// Adds the keys of the blocks that so many bytes lie in.
+fn push_key_places(found: &mut Vec<Place>, address: Location, count: u16) -> Result<(), AllocError>
+    ensures { OnOk result (found.new.items ≡ found.old.items ++ key_places address count) }
+{
+    if count == 0 {
+        return Ok(());
+    }
+    let first = address.number() / BLOCK_SIZE;
+    let last = (address.number() + (u32::from(count) - 1)) / BLOCK_SIZE;
+    push_keys(found, first, last - first + 1)
 }
 
 /// Adds so many bytes of storage from an address on.
@@ -66,6 +91,7 @@ impl Part {
             }
             Part::Address(index, base) => push_address(found, index, base),
             Part::Bytes(address, count) => push_bytes(found, address.number(), u32::from(count)),
+            Part::Keys(address, count) => push_key_places(found, address, count),
         }
     }
 }
