@@ -1,3 +1,4 @@
 pub mod PartLemmas
 pub mod ReadingPlaces
 pub mod WalkLemmas
+pub mod SecondLemmas

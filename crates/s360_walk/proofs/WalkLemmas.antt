@@ -6,8 +6,8 @@ use Rattle.s360_model.specs.Psw.{fixed_point_overflow_mask_of}
 use Rattle.s360_store.specs.declared.place.Place.{Place}
 use Rattle.s360_store.specs.declared.place.Place.TheVariants.{Psw, Register, Byte}
 use Rattle.s360_store.specs.declared.protection.Access.{Access}
-use Rattle.s360_fixed.specs.declared.{ended.Ended.Ended, program_code.ProgramCode.ProgramCode, row.Combination.Combination, second_operand.Width.Width, setting.CodeSetting.CodeSetting}
-use Rattle.s360_fixed.specs.Operands.{access_conditions, bytes_of_width}
+use Rattle.s360_fixed.specs.declared.{ended.Ended.Ended, program_code.ProgramCode.ProgramCode, row.Combination.Combination, setting.CodeSetting.CodeSetting}
+use Rattle.s360_fixed.specs.Operands.{access_conditions}
 use Rattle.s360_fixed.specs.ProgramCodes.{Conditions, program_code}
 use Rattle.s360_machine.specs.Machine.{Machine}
 use Rattle.s360_footprint.specs.Altering.{Altering, altering_row, completed_row, ended_altering, overflow_ending, psw_store, register_stores, unless_refused}
@@ -15,13 +15,12 @@ use Rattle.s360_footprint.specs.OperandReadings.{conditions_read, profile_of}
 use Rattle.s360_footprint.specs.Readings.{Reading, bind, done, places_read, run}
 use Rattle.s360_footprint.specs.RegisterRows.{combination_altering, compares, keeps_code, may_overflow, result_read, word_result}
 use Rattle.s360_footprint.specs.Rows.{Made, Row, Store}
-use Rattle.s360_footprint.specs.StoringRows.{byte_stores, low_bytes_read, store_row}
+use Rattle.s360_footprint.specs.StoringRows.{byte_stores, bytes_row}
 use Rattle.s360_footprint.proofs.OperandLemmas.{conditions-are}
 use Rattle.s360_footprint.proofs.ReadingLemmas.{places-bind, run-bind}
 use Rattle.s360_walk.specs.declared.question.Question.{Question}
-use Rattle.s360_walk.specs.Parts.{key_places}
-use Rattle.s360_walk.specs.Walks.{altered_walk, combination_walk, looks_at_keys, places_used, store_walk, walked, with_bytes, with_decided, with_each, with_store, with_stores_of}
-use Rattle.s360_walk.proofs.ReadingPlaces.{conditions-places, mapped, result-places}
+use Rattle.s360_walk.specs.Walks.{altered_walk, combination_walk, places_used, store_walk, walked, with_bytes, with_decided, with_each, with_store, with_stores_of}
+use Rattle.s360_walk.proofs.ReadingPlaces.{mapped, result-places}
 
 -- deciders, one after another
 pub decided_none : (q : Question) (found : List Place) → with_decided q [] found ≡ found
@@ -35,16 +34,9 @@ decided_both Question.Stored ps qs found = refl
 decided_both (Question.Sources p) ps qs found = refl
 
 -- the conditions of an access
-pub conditions_decided : (q : Question) (address boundary count : ℕ) (kind : Access) (m : Machine) (found : List Place)
-    → with_decided q (places_read (conditions_read (profile_of m.core) address boundary count kind) m) found
-    ≡ with_decided q (cond (looks_at_keys m.core address count kind) (key_places address count) []) (with_decided q (Psw ∷ []) found)
-conditions_decided q address boundary count kind m found =
-    ap (λ ps. with_decided q ps found) (conditions-places address boundary count kind m)
-    ∙ sym (decided_both q (Psw ∷ []) (cond (looks_at_keys m.core address count kind) (key_places address count) []) found)
-
-pub conditions_code : (address boundary count : ℕ) (kind : Access) (m : Machine)
+pub conditions-code : (address boundary count : ℕ) (kind : Access) (m : Machine)
     → program_code (run (conditions_read (profile_of m.core) address boundary count kind) m) ≡ program_code (access_conditions m.core address boundary count kind)
-conditions_code address boundary count kind m = ap program_code (conditions-are address boundary count kind m)
+conditions-code address boundary count kind m = ap program_code (conditions-are address boundary count kind m)
 
 -- a row by what was read before it
 pub walked-bind : {X Ending : Type 0} (q : Question) (r : Reading X) (further : X → Row Ending) (m : Machine) (found : List Place)
@@ -109,7 +101,8 @@ altering-walked q a m overflow registers words code found e f g =
 pub combination-walked : (q : Question) (c : Combination) (r1 next : ℕ) (second : Reading ℕ) (m : Machine) (found : List Place)
     → walked q (altering_row (combination_altering c r1 second next)) m found ≡ combination_walk q m.core.psw c r1 (places_read second m) found
 combination-walked q c r1 next second m found =
-    altering-walked q (combination_altering c r1 second next) m _ _ _ _ found (overflowing (may_overflow c)) (registers (compares c)) (coded (keeps_code c)) where
+    altering-walked q (combination_altering c r1 second next) m (cond (may_overflow c) used []) (cond (compares c) [] (Register r1 ∷ [])) used
+    (cond (keeps_code c) [] used) found (overflowing (may_overflow c)) (registers (compares c)) (coded (keeps_code c)) where
   used : List Place
   used = places_used c r1 (places_read second m)
 
@@ -166,15 +159,25 @@ completed-bytes q bytes address count next m found =
     ∙ ap (with_store q Psw (Psw ∷ [])) (bytes-walked q bytes m address 0 count found)
     ∙ ap (λ n. store_walk q address n (places_read bytes m) found) all
 
-pub store_walked : (q : Question) (width : Width) (r1 address next : ℕ) (m : Machine) (found : List Place)
-    → walked q (store_row (profile_of m.core) width r1 address next) m found
-    ≡ cond (is_none (program_code (run (conditions_read (profile_of m.core) address (bytes_of_width width) (bytes_of_width width) Access.Store) m)))
-    (store_walk q address (bytes_of_width width) (Register r1 ∷ [])
-    (with_decided q (places_read (conditions_read (profile_of m.core) address (bytes_of_width width) (bytes_of_width width) Access.Store) m) found))
-    (with_decided q (places_read (conditions_read (profile_of m.core) address (bytes_of_width width) (bytes_of_width width) Access.Store) m) found)
-store_walked q width r1 address next m found =
-    let count : ℕ = bytes_of_width width
-    in let conditions : Reading Conditions = conditions_read (profile_of m.core) address count count Access.Store
+-- a store of so many bytes, refused and done
+pub bytes-refused : (q : Question) (bytes : Reading (List ℕ)) (count address next : ℕ) (m : Machine) (found now : List Place) (o : Option ProgramCode)
+    (code : ProgramCode) → o ≡ program_code (run (conditions_read (profile_of m.core) address count count Access.Store) m) → o ≡ Some code
+    → now ≡ with_decided q (places_read (conditions_read (profile_of m.core) address count count Access.Store) m) found
+    → now ≡ walked q (bytes_row (profile_of m.core) bytes count address next) m found
+bytes-refused q bytes count address next m found now o code e is h =
+    let conditions : Reading Conditions = conditions_read (profile_of m.core) address count count Access.Store
+    in let row : Row Ended = completed_row (byte_stores address bytes 0 count) next
     in let decided : List Place = with_decided q (places_read conditions m) found
-    in refused-or-done q conditions (completed_row (byte_stores address (low_bytes_read count r1) 0 count) next) m found
-    ∙ ap (λ x. cond (is_none (program_code (run conditions m))) x decided) (completed-bytes q (low_bytes_read count r1) address count next m decided)
+    in h ∙ sym (refused-or-done q conditions row m found ∙ ap (λ p. cond (is_none p) (walked q row m decided) decided) (sym e ∙ is))
+
+pub bytes-stored : (q : Question) (bytes : Reading (List ℕ)) (count address next : ℕ) (m : Machine) (found now after ps : List Place) (o : Option ProgramCode)
+    → o ≡ program_code (run (conditions_read (profile_of m.core) address count count Access.Store) m) → o ≡ None
+    → now ≡ with_decided q (places_read (conditions_read (profile_of m.core) address count count Access.Store) m) found → places_read bytes m ≡ ps
+    → after ≡ store_walk q address count ps now → after ≡ walked q (bytes_row (profile_of m.core) bytes count address next) m found
+bytes-stored q bytes count address next m found now after ps o e is h parts g =
+    let conditions : Reading Conditions = conditions_read (profile_of m.core) address count count Access.Store
+    in let row : Row Ended = completed_row (byte_stores address bytes 0 count) next
+    in let decided : List Place = with_decided q (places_read conditions m) found
+    in g ∙ ap (store_walk q address count ps) h
+    ∙ sym (refused-or-done q conditions row m found ∙ ap (λ p. cond (is_none p) (walked q row m decided) decided) (sym e ∙ is)
+    ∙ completed-bytes q bytes address count next m decided ∙ ap (λ x. store_walk q address count x decided) parts)

@@ -1,11 +1,12 @@
 //! What an access to an operand in storage meets, and the places that decide it. Source: GA22-6821, "System Structure", protection
 //! feature.
-ghost use Rattle.std.specs.Prelude.{◌≡◌, ◌<◌, IfOk, OnOk};
+ghost use Rattle.std.specs.Prelude.{◌≡◌, ◌<◌, IfOk, OnOk, if◌then◌else◌, []};
 ghost use Rattle.s360_fixed.specs.Operands.{access_conditions};
 ghost use Rattle.s360_fixed.specs.ProgramCodes.{program_code};
 ghost use Rattle.s360_machine.specs.Machine.{seen};
 ghost use Rattle.s360_footprint.specs.OperandReadings.{conditions_read, profile_of};
 ghost use Rattle.s360_footprint.specs.Readings.{places_read, run};
+ghost use Rattle.s360_walk.specs.Parts.{key_places, places_of_part};
 ghost use Rattle.s360_walk.specs.Walks.{looks_at_keys, with_decided};
 
 use crate::location::Location;
@@ -29,18 +30,29 @@ fn looks_at_keys(machine: &Machine, address: Location, count: u16, kind: Access)
     is_inside && is_protected && machine.psw().protection_key().number() != 0
 }
 
+/// The keys that it looks at.
+fn keys_looked_at(machine: &Machine, address: Location, count: u16, kind: Access) -> Part
+    ensures { places_of_part result ≡ (if looks_at_keys machine.now.whole.core address count kind then key_places address count else []) }
+{
+    if looks_at_keys(machine, address, count, kind) {
+        Part::Keys(address, count)
+    } else {
+        Part::Keys(address, 0)
+    }
+}
+
 /// What keeps so many bytes, on a multiple of the boundary, from being used under the key of the PSW.
 fn exception_of(
     machine: &Machine,
     address: Location,
-    boundary: u32,
+    boundary: u16,
     count: u16,
     kind: Access,
 ) -> Option<ProgramCode>
     requires { 0 < boundary }
     ensures { result ≡ program_code (access_conditions machine.now.whole.core address boundary count kind) }
 {
-    if address.number() % boundary != 0 {
+    if address.number() % u32::from(boundary) != 0 {
         return Some(ProgramCode::Specification);
     }
     let key = machine.psw().protection_key();
@@ -51,13 +63,12 @@ fn exception_of(
 }
 
 /// Walks over the conditions of an access to so many bytes, and returns what keeps them from being used.
-#[tactic(auto, using(crate::proofs::WalkLemmas::conditions_decided, crate::proofs::WalkLemmas::decided_none, crate::proofs::WalkLemmas::conditions_code))]
 pub(crate) fn push_conditions(
     question: Question,
     found: &mut Vec<Place>,
     machine: &Machine,
     address: Location,
-    boundary: u32,
+    boundary: u16,
     count: u16,
     kind: Access,
 ) -> Result<Option<ProgramCode>, AllocError>
@@ -70,9 +81,7 @@ pub(crate) fn push_conditions(
         (places_read (conditions_read (profile_of machine.now.whole.core) address boundary count kind) (seen machine.now.whole)) found.old.items)
     }
 {
-    question.decide(found, &[Part::Place(Place::Psw)])?;
-    if looks_at_keys(machine, address, count, kind) {
-        question.decide(found, &[Part::Keys(address, count)])?;
-    }
+    let keys = keys_looked_at(machine, address, count, kind);
+    question.decide(found, &[Part::Place(Place::Psw), keys])?;
     Ok(exception_of(machine, address, boundary, count, kind))
 }

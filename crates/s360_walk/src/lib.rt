@@ -8,6 +8,7 @@ mod combination;
 mod location;
 mod part;
 mod question;
+mod second;
 mod storing;
 
 pub use location::Location;

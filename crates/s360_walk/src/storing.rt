@@ -1,9 +1,10 @@
 //! Instructions that store bytes of a register. Source: GA22-6821, "Fixed-Point Arithmetic" and "Logical Operations".
-ghost use Rattle.std.specs.Prelude.{◌≡◌, ℕ, OnOk};
+ghost use Rattle.std.specs.Prelude.{◌≡◌, ◌<◌, ℕ, List, OnOk};
 ghost use Rattle.s360_fixed.specs.Operands.{bytes_of_width};
 ghost use Rattle.s360_machine.specs.Machine.{seen};
 ghost use Rattle.s360_footprint.specs.OperandReadings.{profile_of};
-ghost use Rattle.s360_footprint.specs.StoringRows.{store_row};
+ghost use Rattle.s360_footprint.specs.Readings.{Reading, places_read};
+ghost use Rattle.s360_footprint.specs.StoringRows.{bytes_row, store_row};
 ghost use Rattle.s360_walk.specs.Parts.{places_of_parts};
 ghost use Rattle.s360_walk.specs.Walks.{store_walk, walked};
 
@@ -18,8 +19,9 @@ use s360_word::RegisterNumber;
 use std::alloc::AllocError;
 
 /// The number of bytes of an operand.
-fn bytes_of(width: Width) -> u16
-    ensures { result ≡ bytes_of_width width }
+pub(crate) fn bytes_of(width: Width) -> u16
+    ensures bytes { result ≡ bytes_of_width width }
+    ensures some { 0 < result }
 {
     match width {
         Width::Byte => 1,
@@ -42,8 +44,29 @@ fn push_stored_bytes(
     question.store_psw(found, &[])
 }
 
+/// Walks over an instruction that stores so many bytes on the boundary of their number, made of these parts.
+pub(crate) fn push_bytes_row(
+    question: Question,
+    found: &mut Vec<Place>,
+    machine: &Machine,
+    address: Location,
+    count: u16,
+    parts: &[Part],
+) -> Result<(), AllocError>
+    requires { 0 < count }
+    ensures {
+        (bytes : Reading (List ℕ)) → (next : ℕ) → places_read bytes (seen machine.now.whole) ≡ places_of_parts parts.now
+        → OnOk result (found.new.items ≡ walked question (bytes_row (profile_of machine.now.whole.core) bytes count address next)
+        (seen machine.now.whole) found.old.items)
+    }
+{
+    match push_conditions(question, found, machine, address, count, count, Access::Store)? {
+        Some(_) => Ok(()),
+        None => push_stored_bytes(question, found, address, count, parts),
+    }
+}
+
 /// Walks over a store of so many low bytes of R1.
-#[tactic(auto, using(crate::proofs::WalkLemmas::store_walked))]
 pub(crate) fn push_store(
     question: Question,
     found: &mut Vec<Place>,
@@ -57,10 +80,5 @@ pub(crate) fn push_store(
         (seen machine.now.whole) found.old.items)
     }
 {
-    let count = bytes_of(width);
-    let boundary = u32::from(count);
-    match push_conditions(question, found, machine, address, boundary, count, Access::Store)? {
-        Some(_) => Ok(()),
-        None => push_stored_bytes(question, found, address, count, &[Part::register(r1)]),
-    }
+    push_bytes_row(question, found, machine, address, bytes_of(width), &[Part::register(r1)])
 }
