@@ -1,8 +1,6 @@
 -- The places that readings of operands read, by the parts that they are made of.
-use Rattle.std.proofs.Common.{ℕ, zero, suc, ◌+◌, ◌-◌, ◌/◌, ◌%◌, ◌^◌, ◌≡◌, ◌∙◌, ◌&&◌, ◌++◌, not, Bool, true, false, cond, List, [], ◌∷◌, refl, ap, nat_eq, nat_le, length}
-use Rattle.std.proofs.lemmas.List.{append-nil}
-use Rattle.s360_model.specs.{Core.Core, Psw.protection_key_of}
-use Rattle.s360_store.specs.declared.place.Place.{Place}
+use Rattle.std.proofs.Common.{ℕ, zero, suc, ◌+◌, ◌%◌, ◌^◌, ◌≡◌, ◌∙◌, ◌&&◌, ◌++◌, not, Bool, true, false, cond, [], ◌∷◌, refl, ap, nat_eq, nat_le, length}
+use Rattle.s360_model.specs.{Psw.protection_key_of}
 use Rattle.s360_store.specs.declared.place.Place.TheVariants.{Psw, Register, Byte, Key}
 use Rattle.s360_store.specs.declared.protection.{Access.Access, Checked.Checked}
 use Rattle.s360_store.specs.Spans.{byte_places}
@@ -11,7 +9,7 @@ use Rattle.s360_fixed.specs.declared.row.Combination.{Combination}
 use Rattle.s360_fixed.specs.Rows.{result_of}
 use Rattle.s360_machine.specs.Machine.{Machine}
 use Rattle.s360_footprint.specs.OperandReadings.{access_read, address_read, conditions_read, guards, keys_read, met_with, number_read, operand_keys_read, profile_of}
-use Rattle.s360_footprint.specs.Readings.{Reading, bind, done, places_read, read, run, value_read}
+use Rattle.s360_footprint.specs.Readings.{Reading, bind, done, places_read, read, value_read}
 use Rattle.s360_footprint.specs.RegisterRows.{result_read, uses_first}
 use Rattle.s360_walk.specs.Parts.{address_parts, key_places, keys_from}
 use Rattle.s360_walk.specs.Walks.{looks_at_keys, places_used}
@@ -51,13 +49,13 @@ access-places : (address count : ℕ) (kind : Access) (key : ℕ) (m : Machine)
     ≡ cond (nat_le (address + count) (length m.core.storage.bytes) && (guards (profile_of m.core) kind && not (nat_eq key 0))) (key_places address count) []
 access-places address count kind key m =
     by (nat_le (address + count) (length m.core.storage.bytes)) (guards (profile_of m.core) kind && not (nat_eq key 0)) where
-  by : (inside looks : Bool)
-      → places_read (cond (not inside) (done Checked.Addressing)
-      (cond looks (bind (operand_keys_read address count) (λ keys. done (met_with kind key keys))) (done Checked.Clear))) m
-      ≡ cond (inside && looks) (key_places address count) []
-  by false looks = refl
-  by true false = refl
-  by true true = mapped (operand_keys_read address count) (met_with kind key) m ∙ operand-keys-places address count m
+      by : (inside looks : Bool)
+          → places_read (cond (not inside) (done Checked.Addressing)
+          (cond looks (bind (operand_keys_read address count) (λ keys. done (met_with kind key keys))) (done Checked.Clear))) m
+          ≡ cond (inside && looks) (key_places address count) []
+      by false looks = refl
+      by true false = refl
+      by true true = mapped (operand_keys_read address count) (met_with kind key) m ∙ operand-keys-places address count m
 
 pub conditions-places : (address boundary count : ℕ) (kind : Access) (m : Machine)
     → places_read (conditions_read (profile_of m.core) address boundary count kind) m

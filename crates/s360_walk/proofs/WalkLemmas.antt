@@ -62,11 +62,11 @@ pub refused-or-done : (q : Question) (conditions : Reading Conditions) (row : Ro
     (with_decided q (places_read conditions m) found)
 refused-or-done q conditions row m found =
     walked-bind q conditions (λ c. unless_refused (program_code c) row) m found ∙ by (program_code (run conditions m)) where
-  by : (o : Option ProgramCode)
-      → walked q (unless_refused o row) m (with_decided q (places_read conditions m) found)
-      ≡ cond (is_none o) (walked q row m (with_decided q (places_read conditions m) found)) (with_decided q (places_read conditions m) found)
-  by None = refl
-  by (Some code) = decided_none q (with_decided q (places_read conditions m) found)
+      by : (o : Option ProgramCode)
+          → walked q (unless_refused o row) m (with_decided q (places_read conditions m) found)
+          ≡ cond (is_none o) (walked q row m (with_decided q (places_read conditions m) found)) (with_decided q (places_read conditions m) found)
+      by None = refl
+      by (Some code) = decided_none q (with_decided q (places_read conditions m) found)
 
 -- the PSW
 psw-places : (code : Reading (Option ℕ)) (address : Reading ℕ) (m : Machine) (found : List Place) (q : Question)
@@ -103,37 +103,35 @@ pub combination-walked : (q : Question) (c : Combination) (r1 next : ℕ) (secon
 combination-walked q c r1 next second m found =
     altering-walked q (combination_altering c r1 second next) m (cond (may_overflow c) used []) (cond (compares c) [] (Register r1 ∷ [])) used
     (cond (keeps_code c) [] used) found (overflowing (may_overflow c)) (registers (compares c)) (coded (keeps_code c)) where
-  used : List Place
-  used = places_used c r1 (places_read second m)
+      used : List Place
+      used = places_used c r1 (places_read second m)
 
-  result : Reading (Option ℕ × CodeSetting)
-  result = result_read c r1 second
+      result : Reading (Option ℕ × CodeSetting)
+      result = result_read c r1 second
 
-  overflowing : (z : Bool) → places_read (cond z (bind result (λ x. done x.1.overflow)) (done false)) m ≡ cond z used []
-  overflowing true = mapped result (λ x. x.1.overflow) m ∙ result-places c r1 second m
-  overflowing false = refl
+      overflowing : (z : Bool) → places_read (cond z (bind result (λ x. done x.1.overflow)) (done false)) m ≡ cond z used []
+      overflowing true = mapped result (λ x. x.1.overflow) m ∙ result-places c r1 second m
+      overflowing false = refl
 
-  registers : (z : Bool) (before : List Place)
-      → with_stores_of q m (register_stores (cond z [] ((r1, bind result word_result) ∷ []))) before ≡ with_each q (cond z [] (Register r1 ∷ [])) used before
-  registers true before = refl
-  registers false before = ap (λ ps. with_store q (Register r1) ps before) (mapped result _ m ∙ result-places c r1 second m)
+      registers : (z : Bool) (before : List Place)
+          → with_stores_of q m (register_stores (cond z [] ((r1, bind result word_result) ∷ []))) before ≡ with_each q (cond z [] (Register r1 ∷ [])) used before
+      registers true before = refl
+      registers false before = ap (λ ps. with_store q (Register r1) ps before) (mapped result _ m ∙ result-places c r1 second m)
 
-  coded : (z : Bool) → places_read (cond z (done None) (bind result (λ x. done x.1.code))) m ++ [] ≡ cond z [] used
-  coded true = refl
-  coded false = append-nil _ ∙ mapped result (λ x. x.1.code) m ∙ result-places c r1 second m
+      coded : (z : Bool) → places_read (cond z (done None) (bind result (λ x. done x.1.code))) m ++ [] ≡ cond z [] used
+      coded true = refl
+      coded false = append-nil _ ∙ mapped result (λ x. x.1.code) m ∙ result-places c r1 second m
 
 -- one place, and one byte more
 each-append : (q : Question) (xs ys ps found : List Place) → with_each q (xs ++ ys) ps found ≡ with_each q ys ps (with_each q xs ps found)
 each-append q [] ys ps found = refl
 each-append q (x ∷ xs) ys ps found = each-append q xs ys ps (with_store q x ps found)
 
-pub each-more : (q : Question) (places : List Place) (i : ℕ) (place : Place) (ps now before : List Place) → i < length places
-    → place ≡ slice_index_or places i place → now ≡ with_each q (take i places) ps before
-    → with_store q place ps now ≡ with_each q (take (i + 1) places) ps before
-each-more q places i place ps now before l is e =
-    ap (with_store q place ps) e
-    ∙ sym (ap (λ xs. with_each q xs ps before) (take_more places i place l ∙ ap (λ x. take i places ++ x ∷ []) (sym is))
-    ∙ each-append q (take i places) (place ∷ []) ps before)
+pub each-more : (q : Question) (places : List Place) (i : ℕ) (d : Place) (ps now before : List Place) → i < length places
+    → now ≡ with_each q (take i places) ps before → with_store q (slice_index_or places i d) ps now ≡ with_each q (take (i + 1) places) ps before
+each-more q places i d ps now before l e =
+    ap (with_store q (slice_index_or places i d) ps) e
+    ∙ sym (ap (λ xs. with_each q xs ps before) (take_more places i d l) ∙ each-append q (take i places) (slice_index_or places i d ∷ []) ps before)
 
 -- bytes that are stored
 bytes-walked : (q : Question) (bytes : Reading (List ℕ)) (m : Machine) (address i n : ℕ) (found : List Place)

@@ -1,5 +1,4 @@
 -- A second operand as a reading, and what it is made of (ours).
-use Rattle.std.specs.Prelude.{ℕ}
 use Rattle.s360_store.specs.declared.place.Place.TheVariants.{Register}
 use Rattle.s360_fixed.specs.Operands.{bytes_of_width}
 use Rattle.s360_fixed.specs.declared.second_operand.SecondOperand.{SecondOperand}

@@ -73,13 +73,9 @@ pub(crate) fn push_conditions(
     kind: Access,
 ) -> Result<Option<ProgramCode>, AllocError>
     requires { 0 < boundary }
-    ensures code {
-        IfOk result (λ code. code ≡ program_code (run (conditions_read (profile_of machine.now.whole.core) address boundary count kind) (seen machine.now.whole)))
-    }
-    ensures read {
-        OnOk result (found.new.items ≡ with_decided question
-        (places_read (conditions_read (profile_of machine.now.whole.core) address boundary count kind) (seen machine.now.whole)) found.old.items)
-    }
+    ensures code { IfOk result (λ code. code ≡ program_code (run (conditions_read (profile_of machine.now.whole.core) address boundary count kind) (seen machine.now.whole))) }
+    ensures read { OnOk result (found.new.items ≡ with_decided question
+        (places_read (conditions_read (profile_of machine.now.whole.core) address boundary count kind) (seen machine.now.whole)) found.old.items) }
 {
     let keys = keys_looked_at(machine, address, count, kind);
     question.decide(found, &[Part::Place(Place::Psw), keys])?;

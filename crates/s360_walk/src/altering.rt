@@ -29,10 +29,8 @@ pub(crate) fn push_altered(
     psw: Psw,
     altered: &Altered,
 ) -> Result<(), AllocError>
-    ensures {
-        OnOk result (found.new.items ≡ altered_walk question psw (places_of_parts altered.now.overflow.now) altered.now.registers.now
-        (places_of_parts altered.now.words.now) (places_of_parts altered.now.code.now) found.old.items)
-    }
+    ensures { OnOk result (found.new.items ≡ altered_walk question psw (places_of_parts altered.now.overflow.now) altered.now.registers.now
+        (places_of_parts altered.now.words.now) (places_of_parts altered.now.code.now) found.old.items) }
 {
     question.decide(found, &[Part::Place(Place::Psw)])?;
     if psw.fixed_point_overflow_mask() {

@@ -42,7 +42,10 @@ fn keeps_code(combination: Combination) -> bool
 fn compares(combination: Combination) -> bool
     ensures { result ≡ compares combination }
 {
-    matches!(combination, Combination::Comparison | Combination::LogicalComparison)
+    matches!(
+        combination,
+        Combination::Comparison | Combination::LogicalComparison
+    )
 }
 
 /// Whether the result may overflow.
@@ -51,10 +54,7 @@ fn may_overflow(combination: Combination) -> bool
 {
     matches!(
         combination,
-        Combination::Complement
-            | Combination::Absolute
-            | Combination::Sum
-            | Combination::Difference
+        Combination::Complement | Combination::Absolute | Combination::Sum | Combination::Difference
     )
 }
 
@@ -80,7 +80,11 @@ pub(crate) fn push_combination(
     };
     let none = &operands[..0];
     let altered = Altered {
-        overflow: if may_overflow(combination) { used } else { none },
+        overflow: if may_overflow(combination) {
+            used
+        } else {
+            none
+        },
         registers: if compares(combination) {
             &registers[..0]
         } else {

@@ -34,10 +34,10 @@ pub(crate) enum Second {
 
 impl Second {
     /// What it is made of.
-    fn part(self) -> Part
-        ensures { result ≡ part_of self }
+    fn part(&self) -> Part
+        ensures { result ≡ part_of self.now }
     {
-        match self {
+        match *self {
             Second::Register(register) => Part::register(register),
             Second::Storage(width, address) => Part::Bytes(address, bytes_of(width)),
             Second::Address(index, base, _) => Part::Address(index, base),
@@ -47,23 +47,27 @@ impl Second {
     /// Walks over its conditions, and returns what keeps it from being used.
     #[tactic(auto, using(crate::proofs::WalkLemmas::decided_none))]
     fn push_conditions(
-        self,
+        &self,
         question: Question,
         found: &mut Vec<Place>,
         machine: &Machine,
     ) -> Result<Option<ProgramCode>, AllocError>
-        ensures code {
-            IfOk result (λ code. code ≡ program_code (run (second_reading (profile_of machine.now.whole.core) self).conditions (seen machine.now.whole)))
-        }
-        ensures read {
-            OnOk result (found.new.items ≡ with_decided question
-            (places_read (second_reading (profile_of machine.now.whole.core) self).conditions (seen machine.now.whole)) found.old.items)
-        }
+        ensures code { IfOk result (λ code. code ≡ program_code (run (second_reading (profile_of machine.now.whole.core) self.now).conditions (seen machine.now.whole))) }
+        ensures read { OnOk result (found.new.items ≡ with_decided question
+            (places_read (second_reading (profile_of machine.now.whole.core) self.now).conditions (seen machine.now.whole)) found.old.items) }
     {
-        match self {
+        match *self {
             Second::Storage(width, address) => {
                 let count = bytes_of(width);
-                push_conditions(question, found, machine, address, count, count, Access::Fetch)
+                push_conditions(
+                    question,
+                    found,
+                    machine,
+                    address,
+                    count,
+                    count,
+                    Access::Fetch,
+                )
             }
             Second::Register(_) | Second::Address(..) => Ok(None),
         }
@@ -77,15 +81,18 @@ pub(crate) fn push_combined(
     machine: &Machine,
     combination: Combination,
     r1: RegisterNumber,
-    second: Second,
+    second: &Second,
 ) -> Result<(), AllocError>
-    ensures {
-        (next : ℕ) → OnOk result (found.new.items ≡ walked question
-        (combination_row combination r1 (second_reading (profile_of machine.now.whole.core) second) next) (seen machine.now.whole) found.old.items)
-    }
+    ensures { (next : ℕ) → OnOk result (found.new.items ≡ walked question
+        (combination_row combination r1 (second_reading (profile_of machine.now.whole.core) second.now) next) (seen machine.now.whole) found.old.items) }
 {
+    let part = second.part();
+    let psw = machine.psw();
     match second.push_conditions(question, found, machine)? {
         Some(_) => Ok(()),
-        None => push_combination(question, found, machine.psw(), combination, r1, second.part()),
+        None => {
+            push_combination(question, found, psw, combination, r1, part)?;
+            Ok(())
+        }
     }
 }

@@ -54,15 +54,24 @@ pub(crate) fn push_bytes_row(
     parts: &[Part],
 ) -> Result<(), AllocError>
     requires { 0 < count }
-    ensures {
-        (bytes : Reading (List ℕ)) → (next : ℕ) → places_read bytes (seen machine.now.whole) ≡ places_of_parts parts.now
+    ensures { (bytes : Reading (List ℕ)) → (next : ℕ) → places_read bytes (seen machine.now.whole) ≡ places_of_parts parts.now
         → OnOk result (found.new.items ≡ walked question (bytes_row (profile_of machine.now.whole.core) bytes count address next)
-        (seen machine.now.whole) found.old.items)
-    }
+        (seen machine.now.whole) found.old.items) }
 {
-    match push_conditions(question, found, machine, address, count, count, Access::Store)? {
+    match push_conditions(
+        question,
+        found,
+        machine,
+        address,
+        count,
+        count,
+        Access::Store,
+    )? {
         Some(_) => Ok(()),
-        None => push_stored_bytes(question, found, address, count, parts),
+        None => {
+            push_stored_bytes(question, found, address, count, parts)?;
+            Ok(())
+        }
     }
 }
 
@@ -75,10 +84,16 @@ pub(crate) fn push_store(
     r1: RegisterNumber,
     address: Location,
 ) -> Result<(), AllocError>
-    ensures {
-        (next : ℕ) → OnOk result (found.new.items ≡ walked question (store_row (profile_of machine.now.whole.core) width r1 address next)
-        (seen machine.now.whole) found.old.items)
-    }
+    ensures { (next : ℕ) → OnOk result (found.new.items ≡ walked question (store_row (profile_of machine.now.whole.core) width r1 address next)
+        (seen machine.now.whole) found.old.items) }
 {
-    push_bytes_row(question, found, machine, address, bytes_of(width), &[Part::register(r1)])
+    push_bytes_row(
+        question,
+        found,
+        machine,
+        address,
+        bytes_of(width),
+        &[Part::register(r1)],
+    )?;
+    Ok(())
 }
