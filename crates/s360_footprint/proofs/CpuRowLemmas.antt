@@ -95,24 +95,24 @@ takes-is psw m =
     by (channel_mask_of psw 0) (channel_mask_of psw 1) (is_pending (control_of m.units Reader)) (is_pending (control_of m.units Punch))
     (is_pending (control_of m.units Printer)) (is_pending (control_of m.units Console)) (is_pending (control_of m.units Tape0))
     (is_pending (control_of m.units Tape1)) where
-  by : (c d r p l k s t : Bool)
-      → (c && is_some (option_map (λ (u : ConfiguredUnit). named u)
-      (cond r (Some Reader) (cond p (Some Punch) (cond l (Some Printer) (cond k (Some Console) None))))))
-      || (d && is_some (option_map (λ (u : ConfiguredUnit). named u) (cond s (Some Tape0) (cond t (Some Tape1) None))))
-      ≡ is_some (cond (c && r) (Some Reader) (cond (c && p) (Some Punch) (cond (c && l) (Some Printer) (cond (c && k) (Some Console)
-      (cond (d && s) (Some Tape0) (cond (d && t) (Some Tape1) None))))))
-  by true d true p l k s t = refl
-  by true d false true l k s t = refl
-  by true d false false true k s t = refl
-  by true d false false false true s t = refl
-  by true true false false false false true t = refl
-  by true true false false false false false true = refl
-  by true true false false false false false false = refl
-  by true false false false false false s t = refl
-  by false true r p l k true t = refl
-  by false true r p l k false true = refl
-  by false true r p l k false false = refl
-  by false false r p l k s t = refl
+      by : (c d r p l k s t : Bool)
+          → (c && is_some (option_map (λ (u : ConfiguredUnit). named u)
+          (cond r (Some Reader) (cond p (Some Punch) (cond l (Some Printer) (cond k (Some Console) None))))))
+          || (d && is_some (option_map (λ (u : ConfiguredUnit). named u) (cond s (Some Tape0) (cond t (Some Tape1) None))))
+          ≡ is_some (cond (c && r) (Some Reader) (cond (c && p) (Some Punch) (cond (c && l) (Some Printer) (cond (c && k) (Some Console)
+          (cond (d && s) (Some Tape0) (cond (d && t) (Some Tape1) None))))))
+      by true d true p l k s t = refl
+      by true d false true l k s t = refl
+      by true d false false true k s t = refl
+      by true d false false false true s t = refl
+      by true true false false false false true t = refl
+      by true true false false false false false true = refl
+      by true true false false false false false false = refl
+      by true false false false false false s t = refl
+      by false true r p l k true t = refl
+      by false true r p l k false true = refl
+      by false true r p l k false false = refl
+      by false false r p l k s t = refl
 
 -- an interruption of a unit
 condition-stored : (u : ConfiguredUnit) (c : Condition) (m : Machine) → 128 ≤ length m.core.storage.bytes → condition_of (control_of m.units u) ≡ Some c
@@ -201,15 +201,15 @@ running-is m h =
     (λ comes. cond comes external_row (bind (interrupting_read m.core.psw configured_units) (unit_or_instruction (profile_of m.core) m.core.psw))) m
     (takes_external m.core.psw (pending_of m.control m.units)) (comes-is m)
     ∙ by (takes_external m.core.psw (pending_of m.control m.units)) where
-  by : (z : Bool) → after (cond z external_row (bind (interrupting_read m.core.psw configured_units) (unit_or_instruction (profile_of m.core) m.core.psw))) m
-      ≡ after_case (first_case true
-      (cond z (Some Class.External) (cond (takes_input_output m.core.psw (pending_of m.control m.units)) (Some Class.InputOutput) None)) (wait_of m.core.psw)) m
-  by true = external-is m h
-  by false =
-      after-bind (interrupting_read m.core.psw configured_units) (unit_or_instruction (profile_of m.core) m.core.psw) m (interrupting_unit m.core.psw m.units)
-      (found-is m.core.psw configured_units m)
-      ∙ unit-or-instruction-is (interrupting_unit m.core.psw m.units) m h refl
-      ∙ ap (λ b. after_case (first_case true (cond b (Some Class.InputOutput) None) (wait_of m.core.psw)) m) (sym (takes-is m.core.psw m))
+      by : (z : Bool) → after (cond z external_row (bind (interrupting_read m.core.psw configured_units) (unit_or_instruction (profile_of m.core) m.core.psw))) m
+          ≡ after_case (first_case true
+          (cond z (Some Class.External) (cond (takes_input_output m.core.psw (pending_of m.control m.units)) (Some Class.InputOutput) None)) (wait_of m.core.psw)) m
+      by true = external-is m h
+      by false =
+          after-bind (interrupting_read m.core.psw configured_units) (unit_or_instruction (profile_of m.core) m.core.psw) m (interrupting_unit m.core.psw m.units)
+          (found-is m.core.psw configured_units m)
+          ∙ unit-or-instruction-is (interrupting_unit m.core.psw m.units) m h refl
+          ∙ ap (λ b. after_case (first_case true (cond b (Some Class.InputOutput) None) (wait_of m.core.psw)) m) (sym (takes-is m.core.psw m))
 
 pub cpu-events-are-rows : CpuEventsAreRows
 cpu-events-are-rows m h = by (is_operating m.control.run_state) where

@@ -49,11 +49,11 @@ conditions-are m =
     (run-bind (number_read timer_location 4) (λ word. done (conditions_after_tick m.control.external word)) m
     ∙ ap (conditions_after_tick m.control.external) (word-is m))
     ∙ by (runs_out (timer_of m.core)) where
-  by : (z : Bool)
-      → record m.control { external = cond z (record m.control.external { timer = true }) m.control.external }
-      ≡ cond z (record m.control { external = record m.control.external { timer = true } }) m.control
-  by true = refl
-  by false = refl
+      by : (z : Bool)
+          → record m.control { external = cond z (record m.control.external { timer = true }) m.control.external }
+          ≡ cond z (record m.control { external = record m.control.external { timer = true } }) m.control
+      by true = refl
+      by false = refl
 
 tick-stored : (m : Machine) → 128 ≤ length m.core.storage.bytes
     → with_stores m m tick_stores ≡ record m { core = core_after_tick m.core; control = control_after_tick (timer_of m.core) m.control }
