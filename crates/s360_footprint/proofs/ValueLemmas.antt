@@ -50,7 +50,7 @@ index-address Tape0 = refl
 index-address Tape1 = refl
 
 -- units of two addresses are two
-apart : (a b : ℕ) (u w : ConfiguredUnit) → unit_at a ≡ Some u → unit_at b ≡ Some w → nat_eq a b ≡ false → index_of w ≢ index_of u
+pub apart : (a b : ℕ) (u w : ConfiguredUnit) → unit_at a ≡ Some u → unit_at b ≡ Some w → nat_eq a b ≡ false → index_of w ≢ index_of u
 apart a b u w e f h i =
     let here : a ≡ address_of_unit u = unit-address a u e
     in let there : b ≡ address_of_unit w = unit-address b w f

@@ -5,11 +5,13 @@
 mod access;
 mod altering;
 mod combination;
+mod laws;
 mod location;
 mod part;
 mod question;
 mod second;
 mod storing;
 
+pub use laws::walks_answer;
 pub use location::Location;
 pub use question::Question;
