@@ -1,17 +1,17 @@
 -- Rows that alter registers, the condition code and the instruction address, and rows that are refused.
-use Rattle.std.proofs.Common.{ℕ, ◌≡◌, ◌∙◌, ◌&&◌, ◌++◌, Bool, true, false, cond, Option, Some, None, List, [], ◌∷◌, refl, ap, sym, map, set}
+use Rattle.std.proofs.Common.{ℕ, ◌≡◌, ◌∙◌, ◌&&◌, ◌++◌, Bool, true, false, cond, Option, Some, None, List, [], ◌∷◌, refl, ap, map, set}
 use Rattle.std.specs.Option.{option_map_or}
 use Rattle.s360_model.specs.{Core.Core, Psw.fixed_point_overflow_mask_of, Psw.with_instruction_address}
-use Rattle.s360_fixed.specs.declared.{ended.Ended.Ended, program_code.ProgramCode.ProgramCode, setting.CodeSetting.CodeSetting}
-use Rattle.s360_fixed.specs.Alterations.{Alteration, after_alteration, core_with_alteration, ended_by, psw_with, with_words}
+use Rattle.s360_fixed.specs.declared.{ended.Ended.Ended, program_code.ProgramCode.ProgramCode}
+use Rattle.s360_fixed.specs.Alterations.{Alteration, after_alteration, ended_by, psw_with, with_words}
 use Rattle.s360_fixed.specs.Outcomes.{unless_met}
 use Rattle.s360_fixed.specs.ProgramCodes.{Conditions, program_code}
 use Rattle.s360_fixed.specs.View.{Outcome}
 use Rattle.s360_machine.specs.Machine.{Machine}
-use Rattle.s360_footprint.specs.Altering.{Altering, Happened, altered_in, altering_row, completed_row, ended_altering, happened, happened_by, overflow_ending}
+use Rattle.s360_footprint.specs.Altering.{Altering, altered_in, altering_row, completed_row, ended_altering, happened, happened_by, overflow_ending}
 use Rattle.s360_footprint.specs.Altering.{psw_altered, psw_store, register_stores, unless_refused, with_outcome, word_in}
-use Rattle.s360_footprint.specs.Readings.{Reading, bind, done, read, run}
-use Rattle.s360_footprint.specs.Rows.{Made, Row, Store, with_stores}
+use Rattle.s360_footprint.specs.Readings.{Reading, bind, done, run}
+use Rattle.s360_footprint.specs.Rows.{Row, Store, with_stores}
 use Rattle.s360_footprint.proofs.ReadingLemmas.{run-bind}
 use Rattle.s360_footprint.proofs.SequenceLemmas.{stores-append}
 

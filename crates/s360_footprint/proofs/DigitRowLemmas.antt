@@ -1,11 +1,11 @@
 -- MOVE WITH OFFSET, PACK and UNPACK do what their definitions say.
-use Rattle.std.proofs.Common.{ℕ, zero, suc, ◌+◌, ◌-◌, ◌*◌, ◌/◌, ◌%◌, ◌≡◌, ◌<◌, ◌≤◌, ◌∙◌, Bool, true, false, cond, nat_eq, nat_lt, None, List, [], ◌∷◌, refl}
-use Rattle.std.proofs.Common.{sym, ap, get_or, set, length, arith}
+use Rattle.std.proofs.Common.{ℕ, zero, suc, ◌+◌, ◌-◌, ◌*◌, ◌/◌, ◌%◌, ◌≡◌, ◌<◌, ◌≤◌, ◌∙◌, Bool, true, false, cond, nat_eq, nat_lt, None, refl}
+use Rattle.std.proofs.Common.{sym, ap, length, arith}
 use Rattle.std.proofs.lemmas.Bool.{eqb-true, eqb-false, lt-ltb}
 use Rattle.std.proofs.lemmas.List.{get_or-set_same, get_or-set_other, length-set}
 use Rattle.s360_model.specs.{Psw.protection_key_of, Storage.Storage}
 use Rattle.s360_psw.specs.declared.instruction_length.InstructionLength.{InstructionLength}
-use Rattle.s360_store.specs.declared.{place.Place.TheVariants.Byte, protection.Access.Access}
+use Rattle.s360_store.specs.declared.{protection.Access.Access}
 use Rattle.s360_logic.specs.declared.{field.Field.Field, row.DigitRow.DigitRow}
 use Rattle.s360_logic.specs.Bytes.{byte_at, completed_with, with_byte}
 use Rattle.s360_logic.specs.RightToLeft.{DigitMove, address_from_right, byte_from_right, digits, digits_outcome, digits_stored, exchanged, first_user}

@@ -11,7 +11,7 @@ use Rattle.s360_fixed.specs.{Rows.row_of}
 use Rattle.s360_fixed.specs.{Outcomes.combination_outcome, Outcomes.pair_outcome, View.Outcome, View.View}
 use Rattle.s360_logic.specs.declared.row.{Conversion.Conversion, ImmediateRow.ImmediateRow, RegisterStatus.RegisterStatus, StorageRow.StorageRow}
 use Rattle.s360_logic.specs.declared.row.{StorageStatus.StorageStatus}
-use Rattle.s360_logic.specs.{Converting.conversion_outcome, Immediate.immediate_outcome, Logic.by_row, Logic.logic_outcome, Logic.row_outcome}
+use Rattle.s360_logic.specs.{Converting.conversion_outcome, Immediate.immediate_outcome, Logic.by_row, Logic.logic_outcome}
 use Rattle.s360_logic.specs.{Logic.status_outcome}
 use Rattle.s360_logic.specs.{Logic.storage_outcome, Status.register_status_outcome, Status.storage_status_outcome}
 use Rattle.s360_logic.specs.Rows.{conversion_of, immediate_row_of, register_status_of, storage_row_of, storage_status_of}

@@ -1,9 +1,7 @@
 -- The laws of an instruction follow from the laws of rows.
 use Rattle.std.proofs.Common.{◌≡◌, ◌∙◌, refl, sym, ap}
-use Rattle.s360_logic.specs.Instruction.{instruction}
-use Rattle.s360_store.specs.declared.place.Place.{Place}
 use Rattle.s360_machine.specs.Machine.{Machine}
-use Rattle.s360_footprint.specs.Altering.{Happened, happened}
+use Rattle.s360_footprint.specs.Altering.{Happened}
 use Rattle.s360_footprint.specs.FormRows.{form_rows}
 use Rattle.s360_footprint.specs.InstructionLaws.{InstructionDecided, InstructionFollows, InstructionsAreRows, after_instruction, row_in}
 use Rattle.s360_footprint.specs.InstructionRows.{InstructionEnd, instruction_row}

@@ -1,6 +1,6 @@
 -- One instruction as a row does what its definition says.
-use Rattle.std.proofs.Common.{ℕ, zero, suc, ◌+◌, ◌-◌, ◌%◌, ◌≡◌, ◌≤◌, ◌<◌, ◌∙◌, not, Bool, true, false, cond, Option, Some, None, List, [], ◌∷◌, refl, ap, sym}
-use Rattle.std.proofs.Common.{get_or, nat_eq, nat_lt, nat_le, length, take, drop, set, arith, slice_range, slice_index, bit_or}
+use Rattle.std.proofs.Common.{ℕ, zero, suc, ◌+◌, ◌-◌, ◌%◌, ◌≡◌, ◌≤◌, ◌∙◌, Bool, true, false, cond, Option, Some, None, List, ◌∷◌, refl, ap, sym}
+use Rattle.std.proofs.Common.{get_or, nat_eq, length, take, drop, set, arith, slice_index, bit_or}
 use Rattle.std.proofs.lemmas.List.{drop_more}
 use Rattle.std.specs.Option.{option_map, option_map_or}
 use Rattle.std.specs.Prelude.{is_none, if◌then◌else◌}
@@ -9,26 +9,26 @@ use Rattle.s360_psw.specs.declared.instruction_length.InstructionLength.{Instruc
 use Rattle.s360_store.specs.declared.place.Place.TheVariants.{Register}
 use Rattle.s360_store.specs.declared.protection.{Access.Access, Checked.Checked}
 use Rattle.s360_store.specs.Protection.{access}
-use Rattle.s360_fixed.specs.declared.{ended.Ended.Ended, form.Form.Form, operation.Operation.Operation, program_code.ProgramCode.ProgramCode}
+use Rattle.s360_fixed.specs.declared.{ended.Ended.Ended, form.Form.Form, program_code.ProgramCode.ProgramCode}
 use Rattle.s360_fixed.specs.declared.operation.Operation.TheVariants.{Execute as execute_operation}
-use Rattle.s360_fixed.specs.declared.program_code.ProgramCode.TheVariants.{Execute as execute_code, Operation as operation_code}
+use Rattle.s360_fixed.specs.declared.program_code.ProgramCode.TheVariants.{Execute as execute_code}
 use Rattle.s360_fixed.specs.Fetching.{fetch_conditions, instruction_bytes, length_at, met_in_turn}
-use Rattle.s360_fixed.specs.Operands.{conditions_of, is_outside, operand_address}
-use Rattle.s360_fixed.specs.Outcomes.{is_odd, unless_met}
+use Rattle.s360_fixed.specs.Operands.{conditions_of, operand_address}
+use Rattle.s360_fixed.specs.Outcomes.{is_odd}
 use Rattle.s360_fixed.specs.ProgramCodes.{Conditions, program_code}
-use Rattle.s360_fixed.specs.Table.{form_of, instruction_length}
+use Rattle.s360_fixed.specs.Table.{form_of}
 use Rattle.s360_fixed.specs.View.{Outcome, View}
-use Rattle.s360_logic.specs.Instruction.{Instruction, conditions_at, fetched_outcome, instruction, instruction_at, length_of_bytes, view_at}
-use Rattle.s360_logic.specs.Logic.{execute_outcome, outcome_of, row_outcome, subject_bytes, subject_of, subject_outcome, with_ored_byte}
+use Rattle.s360_logic.specs.Instruction.{Instruction, conditions_at, fetched_outcome, instruction, instruction_at, length_of_bytes}
+use Rattle.s360_logic.specs.Logic.{execute_outcome, row_outcome, subject_bytes, subject_of, subject_outcome, with_ored_byte}
 use Rattle.s360_machine.specs.Machine.{Machine}
-use Rattle.s360_footprint.specs.Altering.{Happened, happened, happened_by, refused, unless_refused, view_in, with_outcome}
+use Rattle.s360_footprint.specs.Altering.{Happened, happened, happened_by, unless_refused, view_in, with_outcome}
 use Rattle.s360_footprint.specs.InstructionRows.{ExecuteFields, FormRows, InstructionEnd, coded_row, ending_with, execute_of, execute_row, executed_row}
 use Rattle.s360_footprint.specs.InstructionRows.{fetch_conditions_read, fetch_met, fetched_row, instruction_read, instruction_row, ored_read, row_at}
 use Rattle.s360_footprint.specs.InstructionRows.{subject_read, subject_row, unless_execute, unless_unfetched, whole_met, with_instruction, RowsAre}
 use Rattle.s360_footprint.specs.OperandReadings.{access_read, address_read, bytes_read, profile_of}
-use Rattle.s360_footprint.specs.Readings.{Reading, bind, done, read, run}
-use Rattle.s360_footprint.specs.Rows.{Made, Row}
-use Rattle.s360_footprint.proofs.AlteringLemmas.{happened-bind, refused-or}
+use Rattle.s360_footprint.specs.Readings.{bind, done, read, run}
+use Rattle.s360_footprint.specs.Rows.{Row}
+use Rattle.s360_footprint.proofs.AlteringLemmas.{happened-bind}
 use Rattle.s360_footprint.proofs.OperandLemmas.{access-is, address-is, clear-inside, met-nothing}
 use Rattle.s360_footprint.proofs.ReadingLemmas.{run-bind}
 

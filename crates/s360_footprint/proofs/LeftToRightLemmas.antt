@@ -1,13 +1,13 @@
 -- Bytes that are made from left to right: what their readings make, and what their stores leave.
-use Rattle.std.proofs.Common.{ℕ, zero, suc, ◌+◌, ◌≡◌, ◌≢◌, ◌<◌, ◌≤◌, ◌++◌, ◌∙◌, Bool, true, false, cond, nat_eq, Option, Some, None, List, [], ◌∷◌, refl, sym}
-use Rattle.std.proofs.Common.{ap, get_or, set, length, take, drop, arith}
+use Rattle.std.proofs.Common.{ℕ, zero, suc, ◌+◌, ◌≡◌, ◌<◌, ◌≤◌, ◌∙◌, Bool, true, false, cond, nat_eq, None, [], ◌∷◌, refl, sym}
+use Rattle.std.proofs.Common.{ap, length, take, drop, arith}
 use Rattle.std.proofs.lemmas.Bool.{eqb-true, eqb-false}
 use Rattle.std.proofs.lemmas.List.{drop_more, get_or-set_same, get_or-set_other, length-set}
 use Rattle.s360_model.specs.{Core.Core, Psw.protection_key_of, Storage.Storage}
 use Rattle.s360_store.specs.declared.protection.{Access.Access, Checked.Checked}
 use Rattle.s360_store.specs.Protection.{access, met_of_both}
 use Rattle.s360_store.specs.declared.place.Place.TheVariants.{Byte}
-use Rattle.s360_fixed.specs.{Operands.conditions_of, ProgramCodes.Conditions, ProgramCodes.program_code}
+use Rattle.s360_fixed.specs.{Operands.conditions_of, ProgramCodes.program_code}
 use Rattle.s360_logic.specs.declared.{field.Field.Field, row.ByteCombination.ByteCombination}
 use Rattle.s360_logic.specs.declared.row.ByteCombination.TheVariants.{Second}
 use Rattle.s360_logic.specs.Bytes.{byte_at, byte_result, fields_conditions, with_byte}
@@ -16,9 +16,9 @@ use Rattle.s360_machine.specs.Machine.{Machine}
 use Rattle.s360_psw.specs.declared.instruction_length.InstructionLength.{InstructionLength}
 use Rattle.s360_footprint.specs.Altering.{view_in}
 use Rattle.s360_footprint.specs.LeftToRightRows.{Making, both_met, byte_after, combining, field_read, fields_read, made_read, made_stores, translating}
-use Rattle.s360_footprint.specs.OperandReadings.{access_read, profile_of}
-use Rattle.s360_footprint.specs.Readings.{Reading, bind, done, run, value_read}
-use Rattle.s360_footprint.specs.Rows.{Store, with_stores}
+use Rattle.s360_footprint.specs.OperandReadings.{profile_of}
+use Rattle.s360_footprint.specs.Readings.{Reading, bind, done, run}
+use Rattle.s360_footprint.specs.Rows.{with_stores}
 use Rattle.s360_footprint.proofs.OperandLemmas.{access-is, clear-inside, met-nothing}
 use Rattle.s360_footprint.proofs.ReadingLemmas.{run-bind}
 use Rattle.s360_footprint.proofs.SequenceLemmas.{stores-append}

@@ -1,39 +1,30 @@
 -- Rows of two operands in storage from left to right do what their definitions say.
-use Rattle.std.proofs.Common.{ℕ, zero, suc, ◌+◌, ◌-◌, ◌≡◌, ◌≤◌, ◌++◌, ◌∙◌, Bool, true, false, cond, nat_eq, Option, Some, None, List, [], ◌∷◌, refl, sym, ap}
-use Rattle.std.proofs.Common.{get_or, set, length, take, drop, arith, pos}
-use Rattle.std.proofs.lemmas.List.{drop_more, length-set}
-use Rattle.s360_model.specs.{ConditionCodes.order_code, Core.Core, Psw.protection_key_of, Psw.with_instruction_address, Storage.Storage}
+use Rattle.std.proofs.Common.{ℕ, zero, suc, ◌+◌, ◌-◌, ◌≡◌, ◌≤◌, ◌∙◌, Bool, true, false, cond, nat_eq, Option, Some, None, List, ◌∷◌, refl, sym, ap}
+use Rattle.std.proofs.Common.{get_or, length, take, drop, arith, pos}
+use Rattle.std.proofs.lemmas.List.{drop_more}
+use Rattle.s360_model.specs.{ConditionCodes.order_code, Psw.protection_key_of, Storage.Storage}
 use Rattle.s360_psw.specs.declared.instruction_length.InstructionLength.{InstructionLength}
-use Rattle.s360_store.specs.declared.protection.{Access.Access, Checked.Checked}
-use Rattle.s360_store.specs.Protection.{access, met_of_both}
+use Rattle.s360_store.specs.declared.protection.{Access.Access}
 use Rattle.s360_fixed.specs.declared.ended.Ended.{Ended}
-use Rattle.s360_fixed.specs.{Operands.conditions_of, ProgramCodes.Conditions, ProgramCodes.program_code}
-use Rattle.s360_fixed.specs.Alterations.{no_register, psw_with, set_to}
-use Rattle.s360_fixed.specs.View.{Outcome, View}
+use Rattle.s360_fixed.specs.Alterations.{no_register, set_to}
 use Rattle.s360_logic.specs.declared.row.ByteCombination.{ByteCombination}
-use Rattle.s360_logic.specs.declared.row.ByteCombination.TheVariants.{Second, LowHalf, HighHalf, BitwiseAnd, BitwiseOr, BitwiseExclusiveOr}
-use Rattle.s360_logic.specs.Bytes.{byte_at, combination_code, completed_with, field_access, fields_conditions, operand_bytes, with_byte}
+use Rattle.s360_logic.specs.declared.row.ByteCombination.TheVariants.{BitwiseAnd, BitwiseOr, BitwiseExclusiveOr}
+use Rattle.s360_logic.specs.Bytes.{combination_code, completed_with, operand_bytes}
 use Rattle.s360_logic.specs.Immediate.{code_alone}
-use Rattle.s360_logic.specs.LeftToRight.{combine_outcome, combined, combined_byte, compare_outcome, comparison_code, field_at, found_at, found_outcome}
-use Rattle.s360_logic.specs.LeftToRight.{function_access}
-use Rattle.s360_logic.specs.LeftToRight.{function_address, function_byte, search_access, search_conditions, search_outcome, translate_access}
-use Rattle.s360_logic.specs.LeftToRight.{translate_and_test_outcome}
-use Rattle.s360_logic.specs.LeftToRight.{translate_conditions, translate_outcome, translated, translated_byte, with_address, with_low_byte}
+use Rattle.s360_logic.specs.LeftToRight.{combine_outcome, combined, combined_byte, compare_outcome, comparison_code, field_at}
 use Rattle.s360_machine.specs.Machine.{Machine}
-use Rattle.s360_footprint.specs.Altering.{altering_row, happened, psw_store, view_in, with_outcome}
-use Rattle.s360_footprint.specs.LeftToRightRows.{byte_after, code_altering, combine_row, combining, compare_row, compared, comparison_read, field_read}
-use Rattle.s360_footprint.specs.LeftToRightRows.{fields_read, found_altering, found_code, found_or}
-use Rattle.s360_footprint.specs.LeftToRightRows.{function_met, made_read, made_stores, met_or, result_code_read, search_conditions_read, search_met}
-use Rattle.s360_footprint.specs.LeftToRightRows.{search_read, searched_row, sets_code, stored_row}
-use Rattle.s360_footprint.specs.LeftToRightRows.{translate_and_test_row, translate_conditions_read, translate_met, translate_row, translating}
+use Rattle.s360_footprint.specs.Altering.{altering_row, happened, view_in, with_outcome}
+use Rattle.s360_footprint.specs.LeftToRightRows.{code_altering, combine_row, combining, compare_row, compared, comparison_read}
+use Rattle.s360_footprint.specs.LeftToRightRows.{fields_read}
+use Rattle.s360_footprint.specs.LeftToRightRows.{made_read, made_stores, result_code_read}
+use Rattle.s360_footprint.specs.LeftToRightRows.{sets_code, stored_row}
 use Rattle.s360_footprint.specs.OperandReadings.{bytes_read, profile_of}
 use Rattle.s360_footprint.specs.Readings.{Reading, bind, done, run}
 use Rattle.s360_footprint.specs.Rows.{Store, with_stores}
-use Rattle.s360_footprint.proofs.AlteringLemmas.{altering-as, conditioned, conditioned-when, happened-bind, psw-stored}
+use Rattle.s360_footprint.proofs.AlteringLemmas.{altering-as, conditioned-when, psw-stored}
 use Rattle.s360_footprint.proofs.InstructionRowLemmas.{bytes-are}
-use Rattle.s360_footprint.proofs.LeftToRightLemmas.{both-met-is, byte-is, combines, fields-are, first-inside, made, made-front, made-length, made-stored}
-use Rattle.s360_footprint.proofs.LeftToRightLemmas.{results-are, second-inside, translates}
-use Rattle.s360_footprint.proofs.OperandLemmas.{access-is}
+use Rattle.s360_footprint.proofs.LeftToRightLemmas.{combines, fields-are, first-inside, made-front, made-stored}
+use Rattle.s360_footprint.proofs.LeftToRightLemmas.{results-are, second-inside}
 use Rattle.s360_footprint.proofs.ReadingLemmas.{run-bind}
 
 -- an instruction that is completed with another storage

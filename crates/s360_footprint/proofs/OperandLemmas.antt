@@ -1,9 +1,9 @@
 -- Operands: what is read of them is what their definitions say.
-use Rattle.std.proofs.Common.{ℕ, zero, suc, ◌+◌, ◌-◌, ◌*◌, ◌/◌, ◌%◌, ◌^◌, ◌≡◌, ◌≤◌, ◌∙◌, ◌&&◌, ◌||◌, not, Bool, true, false, cond, None, List, [], ◌∷◌, refl}
-use Rattle.std.proofs.Common.{ap, sym, nat_eq, nat_le, get_or, map, length, arith}
+use Rattle.std.proofs.Common.{ℕ, zero, suc, ◌+◌, ◌-◌, ◌*◌, ◌/◌, ◌%◌, ◌^◌, ◌≡◌, ◌≤◌, ◌∙◌, ◌&&◌, ◌||◌, not, Bool, true, false, cond, None, List, ◌∷◌, refl}
+use Rattle.std.proofs.Common.{ap, sym, nat_eq, nat_le, get_or, length, arith}
 use Rattle.std.proofs.lemmas.Bool.{eqb-true, eqb-false, leb-true}
-use Rattle.std.specs.List.{list_all, range_with_len}
-use Rattle.s360_model.specs.{Core.Core, Psw.protection_key_of, Storage.keys_of_operand, Storage.number_at, Storage.halfword_at}
+use Rattle.std.specs.List.{list_all}
+use Rattle.s360_model.specs.{Core.Core, Psw.protection_key_of, Storage.keys_of_operand, Storage.number_at}
 use Rattle.s360_store.specs.declared.protection.{Access.Access, Checked.Checked}
 use Rattle.s360_store.specs.Protection.{access, block_allows, is_protected}
 use Rattle.s360_fixed.specs.declared.second_operand.{SecondOperand.SecondOperand, Width.Width}
@@ -11,9 +11,9 @@ use Rattle.s360_fixed.specs.Operands.{access_conditions, address_part, bytes_of_
 use Rattle.s360_fixed.specs.Operands.{word_in, word_operand}
 use Rattle.s360_fixed.specs.ProgramCodes.{Conditions, program_code}
 use Rattle.s360_machine.specs.Machine.{Machine}
-use Rattle.s360_footprint.specs.OperandReadings.{Profile, access_read, address_read, conditions_read, guards, keys_read, met_with, number_read, operand_in}
+use Rattle.s360_footprint.specs.OperandReadings.{access_read, address_read, conditions_read, guards, keys_read, met_with, number_read, operand_in}
 use Rattle.s360_footprint.specs.OperandReadings.{operand_keys_read, part_read, profile_of, register_operand, second_operand_read, word_read}
-use Rattle.s360_footprint.specs.Readings.{Reading, bind, done, read, run, value_read}
+use Rattle.s360_footprint.specs.Readings.{Reading, bind, done, run, value_read}
 use Rattle.s360_store.specs.declared.place.Place.TheVariants.{Register}
 use Rattle.s360_footprint.proofs.ReadingLemmas.{run-bind}
 

@@ -1,29 +1,28 @@
 -- Rows of a pair of registers, branches and shifts do what their definitions say.
-use Rattle.std.proofs.Common.{ℕ, ◌+◌, ◌%◌, ◌≡◌, ◌∙◌, ◌||◌, not, Bool, true, false, cond, Option, Some, None, List, [], ◌∷◌, refl, ap, sym, get_or, map}
-use Rattle.std.proofs.Common.{unwrap_or, nat_eq}
+use Rattle.std.proofs.Common.{ℕ, ◌+◌, ◌%◌, ◌≡◌, ◌∙◌, ◌||◌, Bool, true, false, cond, Option, Some, None, refl, ap, sym, get_or}
+use Rattle.std.proofs.Common.{nat_eq}
 use Rattle.std.specs.Prelude.{is_none}
-use Rattle.std.specs.Option.{option_map_or}
 use Rattle.s360_model.specs.Arithmetic.{signed_sum, word_of}
 use Rattle.s360_model.specs.{Core.Core, Numbers.signed}
 use Rattle.s360_psw.specs.declared.instruction_length.InstructionLength.{InstructionLength}
 use Rattle.s360_store.specs.declared.place.Place.TheVariants.{Register}
-use Rattle.s360_fixed.specs.declared.{ended.Ended.Ended, program_code.ProgramCode.ProgramCode, setting.CodeSetting.CodeSetting}
+use Rattle.s360_fixed.specs.declared.{ended.Ended.Ended, setting.CodeSetting.CodeSetting}
 use Rattle.s360_fixed.specs.declared.program_code.ProgramCode.TheVariants.{FixedPointDivide}
 use Rattle.s360_fixed.specs.declared.row.{Branch.Branch, IndexBranch.IndexBranch, PairCombination.PairCombination, Shift.Shift}
-use Rattle.s360_fixed.specs.Alterations.{Alteration, after_alteration, no_register, one_register, register_pair, unchanged}
-use Rattle.s360_fixed.specs.Branching.{address_after_branch, branch_outcome, comparand_of, count_less_one, index_outcome, link_of, register_target}
+use Rattle.s360_fixed.specs.Alterations.{after_alteration, no_register, one_register, register_pair, unchanged}
+use Rattle.s360_fixed.specs.Branching.{branch_outcome, comparand_of, count_less_one, index_outcome, link_of, register_target}
 use Rattle.s360_fixed.specs.Outcomes.{is_odd, pair_alteration, pair_outcome, pair_result, unless_met}
 use Rattle.s360_fixed.specs.ProgramCodes.{Conditions, program_code}
 use Rattle.s360_fixed.specs.Rows.{is_taken}
-use Rattle.s360_fixed.specs.Shifting.{pair_shift_outcome, register_pair_conditions, shift_outcome, shifted_word, shifted_words}
+use Rattle.s360_fixed.specs.Shifting.{pair_shift_outcome, register_pair_conditions, shift_outcome, shifted_words}
 use Rattle.s360_fixed.specs.View.{Outcome, View}
 use Rattle.s360_machine.specs.Machine.{Machine}
-use Rattle.s360_footprint.specs.Altering.{Altering, altered_in, altering_row, happened, refused, unless_refused, view_in, with_outcome}
+use Rattle.s360_footprint.specs.Altering.{altered_in, altering_row, happened, unless_refused, view_in, with_outcome}
 use Rattle.s360_footprint.specs.OperandReadings.{OperandReading, operand_in}
-use Rattle.s360_footprint.specs.Readings.{Reading, bind, done, read, run, value_read}
+use Rattle.s360_footprint.specs.Readings.{Reading, bind, done, run, value_read}
 use Rattle.s360_footprint.specs.RegisterRows.{address_taken, branch_altering, branch_row, comparand_register, first_word, index_altering, index_row}
 use Rattle.s360_footprint.specs.RegisterRows.{pair_altering, pair_made, pair_read, pair_row, pair_shift_altering, pair_shift_row, second_word, shift_altering}
-use Rattle.s360_footprint.specs.RegisterRows.{shift_row, sum_read, target_read, unless_divided}
+use Rattle.s360_footprint.specs.RegisterRows.{shift_row, target_read, unless_divided}
 use Rattle.s360_footprint.specs.Rows.{Row}
 use Rattle.s360_footprint.proofs.AlteringLemmas.{altering-as, happened-bind, refused-or}
 use Rattle.s360_footprint.proofs.ReadingLemmas.{run-bind}

@@ -1,25 +1,18 @@
 -- Rows of registers and a second operand do what their definitions say.
-use Rattle.std.proofs.Common.{ℕ, ◌+◌, ◌≡◌, ◌∙◌, ◌||◌, not, Bool, true, false, cond, Option, Some, None, List, [], ◌∷◌, refl, ap, sym, get_or, map, unwrap_or}
-use Rattle.std.proofs.Common.{nat_eq}
-use Rattle.std.specs.Prelude.{is_none}
-use Rattle.s360_model.specs.Core.{Core}
+use Rattle.std.proofs.Common.{ℕ, ◌≡◌, ◌∙◌, Bool, true, false, cond, Option, None, [], ◌∷◌, refl, ap, sym, get_or, map, unwrap_or}
 use Rattle.s360_psw.specs.declared.instruction_length.InstructionLength.{InstructionLength}
-use Rattle.s360_fixed.specs.declared.{ended.Ended.Ended, program_code.ProgramCode.ProgramCode, setting.CodeSetting.CodeSetting}
-use Rattle.s360_fixed.specs.declared.row.{Branch.Branch, Combination.Combination, IndexBranch.IndexBranch, PairCombination.PairCombination, Shift.Shift}
+use Rattle.s360_fixed.specs.declared.{setting.CodeSetting.CodeSetting}
+use Rattle.s360_fixed.specs.declared.row.{Combination.Combination}
 use Rattle.s360_fixed.specs.declared.row.Combination.TheVariants.{Second, InsertedCharacter, Tested, Complement, Absolute, NegativeAbsolute, Sum, Difference}
 use Rattle.s360_fixed.specs.declared.row.Combination.TheVariants.{LowProduct, Comparison, LogicalComparison}
-use Rattle.s360_fixed.specs.Alterations.{Alteration, after_alteration, no_register, one_register, register_pair, unchanged}
-use Rattle.s360_fixed.specs.Outcomes.{combination_outcome, is_odd, pair_alteration, pair_outcome, pair_result, unless_met, word_for}
-use Rattle.s360_fixed.specs.ProgramCodes.{Conditions, program_code}
+use Rattle.s360_fixed.specs.Outcomes.{combination_outcome, word_for}
 use Rattle.s360_fixed.specs.Rows.{result_of}
-use Rattle.s360_fixed.specs.View.{View}
 use Rattle.s360_machine.specs.Machine.{Machine}
-use Rattle.s360_footprint.specs.Altering.{Altering, altered_in, altering_row, happened, refused, unless_refused, view_in, with_outcome, word_in}
+use Rattle.s360_footprint.specs.Altering.{altered_in, altering_row, happened, view_in, with_outcome, word_in}
 use Rattle.s360_footprint.specs.OperandReadings.{OperandReading, operand_in}
-use Rattle.s360_footprint.specs.Readings.{Reading, bind, done, read, run, value_read}
+use Rattle.s360_footprint.specs.Readings.{Reading, bind, done, read, run}
 use Rattle.s360_footprint.specs.RegisterRows.{combination_altering, combination_row, compares, keeps_code, may_overflow, result_read, uses_first, word_result}
-use Rattle.s360_footprint.specs.Rows.{Row}
-use Rattle.s360_footprint.proofs.AlteringLemmas.{altering-as, conditioned, happened-bind, refused-or}
+use Rattle.s360_footprint.proofs.AlteringLemmas.{altering-as, conditioned}
 use Rattle.s360_footprint.proofs.ReadingLemmas.{run-bind}
 use Rattle.s360_store.specs.declared.place.Place.TheVariants.{Register}
 

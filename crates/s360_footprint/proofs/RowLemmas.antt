@@ -1,6 +1,6 @@
 -- Rows: places that are not stored keep their values, and others follow their sources.
 use Rattle.std.specs.Prelude.{MatchOption}
-use Rattle.std.proofs.Common.{ℕ, ◌≡◌, ◌<◌, ◌∙◌, ◌⊎◌, ◌||◌, inl, inr, Bool, true, false, cond, nat_eq, Option, Some, None, List, [], ◌∷◌, length, get_or, set}
+use Rattle.std.proofs.Common.{ℕ, ◌≡◌, ◌<◌, ◌∙◌, ◌||◌, inl, inr, Bool, true, false, cond, nat_eq, Option, Some, None, List, [], ◌∷◌, length, get_or, set}
 use Rattle.std.proofs.Common.{refl, sym, ap}
 use Rattle.std.proofs.lemmas.Bool.{eqb-true, eqb-false}
 use Rattle.std.proofs.lemmas.List.{get_or-set_same, get_or-set_other}
@@ -15,7 +15,7 @@ use Rattle.s360_channel.specs.ConfiguredUnits.{index_of, unit_at}
 use Rattle.s360_channel.specs.Units.{idle_unit}
 use Rattle.s360_machine.specs.Machine.{Machine, Media}
 use Rattle.s360_footprint.specs.Laws.{Decided, Follows, KeepsOthers}
-use Rattle.s360_footprint.specs.Readings.{HaveAllSame, Reading, places_read, run, value_read}
+use Rattle.s360_footprint.specs.Readings.{Reading, run, value_read}
 use Rattle.s360_footprint.specs.Rows.{Store, after_store, after_stores, device_after, places_of_stores, value_after, with_stores}
 use Rattle.s360_footprint.specs.Values.{AreAlike, DeviceAt, IsThere, Value, control_at, device_at, value_there, with_control_at, with_device_at}
 use Rattle.s360_footprint.specs.Values.{with_value_there}

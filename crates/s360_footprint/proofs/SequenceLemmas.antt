@@ -3,9 +3,9 @@ use Rattle.std.proofs.Common.{◌≡◌, ◌∙◌, ◌++◌, List, [], ◌∷�
 use Rattle.std.specs.Prelude.{flat_map}
 use Rattle.s360_store.specs.declared.place.Place.{Place}
 use Rattle.s360_machine.specs.Machine.{Machine}
-use Rattle.s360_footprint.specs.Laws.{IsSequence, SequencesAreRows}
-use Rattle.s360_footprint.specs.Readings.{AreAllThere, Reading, bind, done, places_read, read, run, value_read}
-use Rattle.s360_footprint.specs.Rows.{Made, Row, Store, after, value_after, with_stores}
+use Rattle.s360_footprint.specs.Laws.{SequencesAreRows}
+use Rattle.s360_footprint.specs.Readings.{AreAllThere, Reading, done, places_read, read, run, value_read}
+use Rattle.s360_footprint.specs.Rows.{Made, Row, Store, value_after, with_stores}
 use Rattle.s360_footprint.specs.Sequences.{all_read, made_through, row_through, sequence, stores_through, through}
 use Rattle.s360_footprint.specs.Values.{AreAlike, value_there, with_value_there}
 use Rattle.s360_footprint.proofs.ReadingLemmas.{run-bind, there-first, there-second}

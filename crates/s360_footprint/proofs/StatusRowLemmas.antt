@@ -1,18 +1,18 @@
 -- Rows of an immediate byte, conversions and status switching do what their definitions say.
-use Rattle.std.proofs.Common.{ℕ, ◌+◌, ◌*◌, ◌/◌, ◌%◌, ◌≡◌, ◌∙◌, not, Bool, true, false, cond, nat_eq, nat_le, Option, Some, None, List, [], ◌∷◌, refl, sym, ap}
-use Rattle.std.proofs.Common.{get_or, length, pos, ℤ}
+use Rattle.std.proofs.Common.{ℕ, ◌/◌, ◌≡◌, ◌∙◌, cond, Option, Some, None, [], ◌∷◌, refl, ap}
+use Rattle.std.proofs.Common.{get_or, pos, ℤ}
 use Rattle.std.specs.Int.{bytes_high_first}
-use Rattle.s360_model.specs.{Arithmetic.word_of, ConditionCodes.order_code, Core.Core, Core.core_with_psw, Numbers.fits_word, Numbers.signed, Packed.packed}
+use Rattle.s360_model.specs.{Arithmetic.word_of, ConditionCodes.order_code, Numbers.fits_word}
 use Rattle.s360_model.specs.{Packed.packed_value}
-use Rattle.s360_model.specs.Psw.{ascii_mode_of, current_psw, problem_state_of, with_instruction_address, with_program_mask, with_system_mask}
+use Rattle.s360_model.specs.Psw.{current_psw, problem_state_of}
 use Rattle.s360_model.specs.Storage.{doubleword_at}
 use Rattle.s360_psw.specs.declared.instruction_length.InstructionLength.{InstructionLength}
 use Rattle.s360_store.specs.declared.place.Place.TheVariants.{Register, Byte, Key}
 use Rattle.s360_store.specs.declared.protection.Access.{Access}
-use Rattle.s360_fixed.specs.declared.{ended.Ended.Ended, program_code.ProgramCode.TheVariants.Data, program_code.ProgramCode.TheVariants.FixedPointDivide}
+use Rattle.s360_fixed.specs.declared.{ended.Ended.Ended, program_code.ProgramCode.TheVariants.FixedPointDivide}
 use Rattle.s360_fixed.specs.{Alterations.core_with_alteration, Alterations.one_register, Alterations.unchanged, Operands.access_conditions}
-use Rattle.s360_fixed.specs.ProgramCodes.{Conditions, no_conditions, program_code}
-use Rattle.s360_fixed.specs.{Outcomes.unless_met, View.Outcome, View.View}
+use Rattle.s360_fixed.specs.ProgramCodes.{Conditions, no_conditions}
+use Rattle.s360_fixed.specs.{Outcomes.unless_met}
 use Rattle.s360_logic.specs.declared.row.{ByteCombination.ByteCombination, Conversion.Conversion, ImmediateRow.ImmediateRow}
 use Rattle.s360_logic.specs.declared.row.{KeyRow.KeyRow, RegisterStatus.RegisterStatus, StorageStatus.StorageStatus}
 use Rattle.s360_logic.specs.declared.row.ByteCombination.TheVariants.{Second, LowHalf, HighHalf, BitwiseAnd, BitwiseOr, BitwiseExclusiveOr}
@@ -22,10 +22,9 @@ use Rattle.s360_logic.specs.Immediate.{immediate_access, immediate_outcome, imme
 use Rattle.s360_logic.specs.Status.{block_of, key_conditions, key_in, key_outcome, privileged, register_status_outcome, storage_status_outcome, unit_of}
 use Rattle.s360_logic.specs.Status.{with_key_in, with_psw}
 use Rattle.s360_machine.specs.Machine.{Machine}
-use Rattle.s360_footprint.specs.Altering.{happened, psw_store, refused, view_in, with_outcome}
+use Rattle.s360_footprint.specs.Altering.{happened, view_in, with_outcome}
 use Rattle.s360_footprint.specs.OperandReadings.{conditions_read, number_read, profile_of}
 use Rattle.s360_footprint.specs.Readings.{Reading, bind, done, read, run}
-use Rattle.s360_footprint.specs.Rows.{Row, with_stores}
 use Rattle.s360_footprint.specs.StatusRows.{binary_made, binary_read, combined_code, combined_read, conversion_row, decimal_read, immediate_made, immediate_row}
 use Rattle.s360_footprint.specs.StatusRows.{key_conditions_of, key_made}
 use Rattle.s360_footprint.specs.StatusRows.{key_row, privileged_read, privileged_row, psw_row, register_status_row, storage_status_row, word_of_number}

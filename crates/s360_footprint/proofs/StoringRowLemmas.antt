@@ -1,23 +1,22 @@
 -- Rows that store registers and load several of them do what their definitions say.
-use Rattle.std.proofs.Common.{ℕ, zero, suc, ◌+◌, ◌*◌, ◌%◌, ◌≡◌, ◌<◌, ◌≤◌, ◌++◌, ◌∙◌, Option, None, List, [], ◌∷◌, refl, ap, sym, get_or, set, length, take}
+use Rattle.std.proofs.Common.{ℕ, zero, suc, ◌+◌, ◌*◌, ◌%◌, ◌≡◌, ◌<◌, ◌≤◌, ◌++◌, ◌∙◌, List, [], ◌∷◌, refl, ap, sym, get_or, set, length, take}
 use Rattle.std.proofs.Common.{drop, arith}
 use Rattle.std.proofs.lemmas.List.{append_assoc, append-nil, drop-set-lt, drop_more, drop_all, length-set, take-append-drop, take_more_set}
 use Rattle.std.specs.Int.{bytes_high_first}
-use Rattle.s360_model.specs.{Core.Core, Core.core_with_bytes, Core.core_with_word, Storage.with_run, Storage.word_at}
+use Rattle.s360_model.specs.{Core.Core, Core.core_with_bytes, Core.core_with_word, Storage.with_run}
 use Rattle.s360_psw.specs.declared.instruction_length.InstructionLength.{InstructionLength}
 use Rattle.s360_store.specs.declared.protection.Access.{Access}
 use Rattle.s360_store.proofs.StoredRunLemmas.{length-with_run}
-use Rattle.s360_fixed.specs.declared.{ended.Ended.Ended, second_operand.Width.Width}
-use Rattle.s360_fixed.specs.Operands.{access_conditions, bytes_of_width}
+use Rattle.s360_fixed.specs.declared.{second_operand.Width.Width}
+use Rattle.s360_fixed.specs.Operands.{access_conditions}
 use Rattle.s360_fixed.specs.Outcomes.{unless_met}
-use Rattle.s360_fixed.specs.ProgramCodes.{program_code}
 use Rattle.s360_fixed.specs.Storing.{bytes_outcome, completed, load_multiple_outcome, register_count, store_multiple_outcome, store_outcome}
 use Rattle.s360_fixed.specs.Storing.{with_registers_loaded, with_registers_stored}
 use Rattle.s360_machine.specs.Machine.{Machine}
 use Rattle.s360_footprint.specs.Altering.{completed_row, happened, view_in, with_outcome}
 use Rattle.s360_footprint.specs.OperandReadings.{conditions_read, number_read, profile_of}
 use Rattle.s360_footprint.specs.Readings.{Reading, bind, done, run}
-use Rattle.s360_footprint.specs.Rows.{Store, with_stores}
+use Rattle.s360_footprint.specs.Rows.{with_stores}
 use Rattle.s360_footprint.specs.StoringRows.{byte_stores, bytes_row, load_multiple_row, loaded_registers, low_bytes_read, store_multiple_row, store_row}
 use Rattle.s360_footprint.specs.StoringRows.{stored_registers}
 use Rattle.s360_footprint.proofs.AlteringLemmas.{completed-is, conditioned-when}

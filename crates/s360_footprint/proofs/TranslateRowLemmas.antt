@@ -1,5 +1,5 @@
 -- TRANSLATE and TRANSLATE AND TEST do what their definitions say.
-use Rattle.std.proofs.Common.{ℕ, zero, suc, ◌+◌, ◌≡◌, ◌≤◌, ◌∙◌, not, Bool, true, false, cond, nat_eq, nat_le, Option, Some, None, List, [], ◌∷◌, refl, sym, ap}
+use Rattle.std.proofs.Common.{ℕ, zero, suc, ◌+◌, ◌≡◌, ◌≤◌, ◌∙◌, Bool, true, false, cond, nat_eq, nat_le, Option, Some, None, [], ◌∷◌, refl, sym, ap}
 use Rattle.std.proofs.Common.{get_or, length, arith}
 use Rattle.std.proofs.lemmas.Bool.{leb-true}
 use Rattle.std.proofs.lemmas.List.{length-set}
@@ -8,17 +8,16 @@ use Rattle.s360_model.specs.{Core.Core, Psw.protection_key_of, Storage.Storage}
 use Rattle.s360_psw.specs.declared.instruction_length.InstructionLength.{InstructionLength}
 use Rattle.s360_store.specs.declared.protection.{Access.Access, Checked.Checked}
 use Rattle.s360_store.specs.Protection.{access, met_of_both}
-use Rattle.s360_fixed.specs.{Operands.conditions_of, ProgramCodes.Conditions, ProgramCodes.program_code}
+use Rattle.s360_fixed.specs.{Operands.conditions_of}
 use Rattle.s360_fixed.specs.Alterations.{Alteration, no_register, set_to}
-use Rattle.s360_fixed.specs.View.{Outcome, View}
 use Rattle.s360_logic.specs.Bytes.{byte_at, completed_with, with_byte}
 use Rattle.s360_logic.specs.LeftToRight.{field_at, found_at, function_access, function_address, function_byte, search_access, search_conditions, search_outcome}
 use Rattle.s360_logic.specs.LeftToRight.{translate_access, translate_and_test_outcome, translate_conditions, translate_outcome, translated, translated_byte}
 use Rattle.s360_logic.specs.LeftToRight.{with_address, with_low_byte}
 use Rattle.s360_machine.specs.Machine.{Machine}
 use Rattle.s360_footprint.specs.Altering.{altering_row, happened, view_in, with_outcome}
-use Rattle.s360_footprint.specs.LeftToRightRows.{both_met, byte_after, field_read, found_altering, found_code, found_or, function_met, made_of_found}
-use Rattle.s360_footprint.specs.LeftToRightRows.{made_stores, met_or, search_conditions_read, search_met}
+use Rattle.s360_footprint.specs.LeftToRightRows.{byte_after, field_read, found_altering, found_code, function_met, made_of_found}
+use Rattle.s360_footprint.specs.LeftToRightRows.{made_stores, search_conditions_read, search_met}
 use Rattle.s360_footprint.specs.LeftToRightRows.{search_read, searched_row, stored_row, translate_and_test_row, translate_conditions_read, translate_met}
 use Rattle.s360_footprint.specs.LeftToRightRows.{translate_row, translating}
 use Rattle.s360_footprint.specs.OperandReadings.{profile_of}

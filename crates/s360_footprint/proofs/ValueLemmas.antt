@@ -1,18 +1,18 @@
 -- What stands at a place after a value was put at a place, and what stays.
 use Rattle.std.specs.Prelude.{MatchOption}
-use Rattle.std.proofs.Common.{ℕ, ◌≡◌, ◌≢◌, ◌<◌, ◌≤◌, ◌⊎◌, ◌∙◌, inl, inr, Bool, true, false, cond, nat_eq, Option, Some, None, List, [], ◌∷◌, length, get_or}
-use Rattle.std.proofs.Common.{set, refl, sym, ap, arith}
+use Rattle.std.proofs.Common.{ℕ, ◌≡◌, ◌≢◌, ◌<◌, ◌⊎◌, ◌∙◌, inl, inr, Bool, true, false, cond, nat_eq, Option, Some, None, List, [], ◌∷◌, length, get_or}
+use Rattle.std.proofs.Common.{refl, sym, ap}
 use Rattle.std.proofs.lemmas.Bool.{cases_lt, eqb-true, eq-eqb}
-use Rattle.std.proofs.lemmas.List.{length-set, get_or-set_same, get_or-set_other, get_or_past}
+use Rattle.std.proofs.lemmas.List.{length-set, get_or-set_other, get_or_past}
 use Rattle.s360_store.specs.declared.place.Place.{Place}
 use Rattle.s360_store.specs.declared.place.Place.TheVariants.{Psw, Register, Byte, Key, Run, External, UnitState, UnitMedia}
 use Rattle.s360_store.specs.Places.{same_place}
-use Rattle.s360_store.proofs.PlaceLemmas.{value_at-other, IsPlaceOf-before}
+use Rattle.s360_store.proofs.PlaceLemmas.{value_at-other}
 use Rattle.s360_store.proofs.PlanLemmas.{differs}
 use Rattle.s360_channel.specs.declared.configured_unit.ConfiguredUnit.{ConfiguredUnit}
 use Rattle.s360_channel.specs.declared.configured_unit.ConfiguredUnit.TheVariants.{Reader, Punch, Printer, Console, Tape0, Tape1}
 use Rattle.s360_channel.specs.declared.unit_control.UnitControl.{UnitControl}
-use Rattle.s360_channel.specs.ConfiguredUnits.{Units, address_of_unit, control_of, index_of, unit_at, with_control_of}
+use Rattle.s360_channel.specs.ConfiguredUnits.{Units, address_of_unit, index_of, unit_at}
 use Rattle.s360_channel.specs.Units.{idle_unit}
 use Rattle.s360_machine.specs.Machine.{Machine, Media}
 use Rattle.s360_footprint.specs.Values.{AreAlike, DeviceAt, IsThere, Value, control_at, device_at, value_there, with_control_at, with_device_at}

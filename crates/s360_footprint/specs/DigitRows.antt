@@ -1,6 +1,6 @@
 -- MOVE WITH OFFSET, PACK and UNPACK as readings: the bytes of the result are made and stored from right to left, and what was stored is seen by later
 -- fetches (GA22-6821, "Decimal Arithmetic").
-use Rattle.std.specs.Prelude.{ℕ, zero, suc, ◌+◌, ◌-◌, ◌*◌, ◌/◌, ◌%◌, nat_eq, nat_lt, if◌then◌else◌, None, List, [], ◌∷◌, ◌++◌}
+use Rattle.std.specs.Prelude.{ℕ, zero, suc, ◌+◌, ◌-◌, ◌*◌, ◌/◌, ◌%◌, nat_eq, nat_lt, if◌then◌else◌, List, [], ◌∷◌, ◌++◌}
 use Rattle.s360_store.specs.declared.{place.Place.TheVariants.Psw, place.Place.TheVariants.Byte, protection.Access.Access}
 use Rattle.s360_fixed.specs.{declared.ended.Ended.Ended, ProgramCodes.program_code}
 use Rattle.s360_logic.specs.declared.{field.Field.Field, row.DigitRow.DigitRow}

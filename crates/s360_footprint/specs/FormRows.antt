@@ -12,7 +12,7 @@ use Rattle.s360_footprint.specs.Altering.{refused}
 use Rattle.s360_footprint.specs.DigitRows.{digits_row}
 use Rattle.s360_footprint.specs.InstructionRows.{FormRows}
 use Rattle.s360_footprint.specs.LeftToRightRows.{combine_row, compare_row, translate_and_test_row, translate_row}
-use Rattle.s360_footprint.specs.OperandReadings.{OperandReading, Profile, address_read, register_operand, second_operand_read}
+use Rattle.s360_footprint.specs.OperandReadings.{Profile, address_read, register_operand, second_operand_read}
 use Rattle.s360_footprint.specs.Readings.{Reading, bind, done}
 use Rattle.s360_footprint.specs.RegisterRows.{branch_row, combination_row, index_row, pair_row, pair_shift_row, shift_row, target_read}
 use Rattle.s360_footprint.specs.Rows.{Row}

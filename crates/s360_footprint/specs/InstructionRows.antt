@@ -1,6 +1,6 @@
 -- One instruction as a row: it is fetched and decoded, and done by the row of its form, or the subject of an execute is (GA22-6821, "System Structure",
 -- program execution, "Branching", EXECUTE, and "Interruptions").
-use Rattle.std.specs.Prelude.{ℕ, ◌+◌, ◌%◌, ◌≡◌, nat_eq, if◌then◌else◌, Option, None, Some, List, [], slice_index, slice_set, bit_or}
+use Rattle.std.specs.Prelude.{ℕ, ◌+◌, ◌%◌, ◌≡◌, nat_eq, if◌then◌else◌, Option, None, Some, List, slice_index, slice_set, bit_or}
 use Rattle.s360_model.specs.{Psw.instruction_address_of, Psw.protection_key_of}
 use Rattle.s360_psw.specs.declared.instruction_length.InstructionLength.{InstructionLength}
 use Rattle.s360_store.specs.declared.{place.Place.TheVariants.Psw, place.Place.TheVariants.Register, place.Place.TheVariants.Byte}

@@ -7,7 +7,7 @@ use Rattle.s360_store.specs.Protection.{met_of_both}
 use Rattle.s360_fixed.specs.declared.ended.Ended.{Ended}
 use Rattle.s360_fixed.specs.{Operands.conditions_of, ProgramCodes.Conditions, ProgramCodes.program_code}
 use Rattle.s360_logic.specs.declared.{field.Field.Field, row.ByteCombination.ByteCombination}
-use Rattle.s360_logic.specs.declared.row.ByteCombination.TheVariants.{Second, LowHalf, HighHalf, BitwiseAnd, BitwiseOr, BitwiseExclusiveOr}
+use Rattle.s360_logic.specs.declared.row.ByteCombination.TheVariants.{Second, BitwiseAnd, BitwiseOr, BitwiseExclusiveOr}
 use Rattle.s360_logic.specs.Bytes.{byte_result, combination_code}
 use Rattle.s360_logic.specs.LeftToRight.{field_at, function_address, with_address, with_low_byte}
 use Rattle.s360_footprint.specs.Altering.{Altering, altering_row, psw_store, unless_refused}

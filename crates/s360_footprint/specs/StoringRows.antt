@@ -1,9 +1,9 @@
 -- The rows that store registers and load several of them, as readings (GA22-6821, "Fixed-Point Arithmetic" and "Logical Operations").
-use Rattle.std.specs.Prelude.{ℕ, zero, suc, ◌+◌, ◌*◌, ◌%◌, None, List, [], ◌∷◌, ◌++◌, slice_index}
+use Rattle.std.specs.Prelude.{ℕ, zero, suc, ◌+◌, ◌*◌, ◌%◌, List, [], ◌∷◌, ◌++◌, slice_index}
 use Rattle.std.specs.Int.{bytes_high_first}
 use Rattle.s360_store.specs.declared.{place.Place.TheVariants.Register, place.Place.TheVariants.Byte, protection.Access.Access}
 use Rattle.s360_fixed.specs.declared.{ended.Ended.Ended, second_operand.Width.Width}
-use Rattle.s360_fixed.specs.{Operands.bytes_of_width, ProgramCodes.Conditions, ProgramCodes.program_code, Storing.register_count}
+use Rattle.s360_fixed.specs.{Operands.bytes_of_width, ProgramCodes.program_code, Storing.register_count}
 use Rattle.s360_footprint.specs.Altering.{completed_row, unless_refused}
 use Rattle.s360_footprint.specs.OperandReadings.{Profile, conditions_read, number_read}
 use Rattle.s360_footprint.specs.Readings.{Reading, bind, done, read}
