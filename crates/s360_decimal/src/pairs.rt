@@ -49,8 +49,8 @@ fn write_few(bytes: &mut [u8], number: u64)
     ensures { bytes.new ≡ bytes_of (low_digits (2 * length bytes.old) number) }
 {
     let mut rest = number;
-    for byte in bytes.iter_mut().rev() {
-        *byte = (rest / 10 % 10 * 16 + rest % 10) as u8;
+    for place in (0..bytes.len()).rev() {
+        bytes[place] = (rest / 10 % 10 * 16 + rest % 10) as u8;
         rest /= 100;
     }
 }
