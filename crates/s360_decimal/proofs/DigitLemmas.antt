@@ -1,10 +1,10 @@
 -- Digits of joined bytes, and the numbers that they are.
 use Rattle.std.proofs.Common.{◌≡◌, ◌<◌, ◌≤◌, ◌+◌, ◌-◌, ◌*◌, ◌/◌, ◌%◌, ◌^◌, ℕ, zero, suc, Bool, true, false, ◌&&◌, nat_lt, List, [], ◌∷◌, ◌++◌, length, take, drop, get_or, Option, Some, None, refl, sym, ◌∙◌, ap, arith, ltb-true}
 use Rattle.std.specs.List.{list_all}
-use Rattle.std.proofs.lemmas.List.{append_assoc, length-append, take-append-drop, take_more}
+use Rattle.std.proofs.lemmas.List.{length-append, length-take, take-append-drop, take_more}
 use Rattle.std.proofs.lemmas.List.Folds.{list_all-append}
 use Rattle.std.proofs.lemmas.Nat.{pow-add}
-use Rattle.std.proofs.Math.Nat.{pow-suc, mul-le-mul_right}
+use Rattle.std.proofs.Math.Nat.{pow-suc, pow-le-pow_right, mul-le-mul_right}
 use Rattle.std.proofs.Math.Seq.{drop-cons}
 use Rattle.s360_decimal.specs.Decimals.{is_digit}
 use Rattle.s360_decimal.specs.Digits.{digits_in, number_of}
@@ -59,8 +59,8 @@ number_of-below (d ∷ ds) h =
 
 -- digits that have a number, and digits that have none
 pub record AreDigits (ds : List ℕ) (n : ℕ) : Type 0 where
-  all : list_all is_digit ds ≡ true
-  number : number_of ds ≡ n
+  pub all : list_all is_digit ds ≡ true
+  pub number : number_of ds ≡ n
 
 pub digits_number-are : (ds : List ℕ) (n : ℕ) → digits_number ds ≡ Some n → AreDigits ds n
 unfolding digits_number
@@ -131,19 +131,50 @@ digits_number-no_byte b h =
     in rw (digits_in-byte b) (digits_number-none (b / 16 ∷ b % 16 ∷ []) none)
 
 -- one byte more of several
-pub digits_number-more : (bytes : List ℕ) (i n b : ℕ) → i < length bytes → b ≡ get_or bytes i b → digits_number (digits_in (take i bytes)) ≡ Some n
+pub digits_number-more : (bytes : List ℕ) (i n b : ℕ) → i < length bytes → get_or bytes i 0 ≡ b → digits_number (digits_in (take i bytes)) ≡ Some n
     → (is_digit (b / 16) && is_digit (b % 16)) ≡ true → digits_number (digits_in (take (i + 1) bytes)) ≡ Some (n * 100 + (b / 16 * 10 + b % 16))
 digits_number-more bytes i n b inside is so_far digits =
-    let cut : take (i + 1) bytes ≡ take i bytes ++ b ∷ [] = take_more bytes i b inside ∙ ap (λ x. take i bytes ++ x ∷ []) (sym is)
+    let cut : take (i + 1) bytes ≡ take i bytes ++ b ∷ [] = take_more bytes i 0 inside ∙ ap (λ x. take i bytes ++ x ∷ []) is
     in let two : length (digits_in (b ∷ [])) ≡ 2 = length-digits_in (b ∷ [])
     in let joined = digits_number-append (digits_in (take i bytes)) (digits_in (b ∷ [])) n (b / 16 * 10 + b % 16) so_far (digits_number-byte b digits)
     in rw (cut, digits_in-append (take i bytes) (b ∷ [])) (rw two at joined)
 
 -- a byte that has none among several
-pub digits_number-bad : (bytes : List ℕ) (i b : ℕ) → i < length bytes → b ≡ get_or bytes i b → (is_digit (b / 16) && is_digit (b % 16)) ≡ false → digits_number (digits_in bytes) ≡ None
+pub digits_number-bad : (bytes : List ℕ) (i b : ℕ) → i < length bytes → get_or bytes i 0 ≡ b → (is_digit (b / 16) && is_digit (b % 16)) ≡ false → digits_number (digits_in bytes) ≡ None
 digits_number-bad bytes i b inside is digits =
-    let rest : drop i bytes ≡ b ∷ drop (suc i) bytes = drop-cons bytes i b inside ∙ ap (λ x. x ∷ drop (suc i) bytes) (sym is)
+    let rest : drop i bytes ≡ b ∷ drop (suc i) bytes = drop-cons bytes i 0 inside ∙ ap (λ x. x ∷ drop (suc i) bytes) is
     in let whole : bytes ≡ take i bytes ++ ((b ∷ []) ++ drop (suc i) bytes) = sym (take-append-drop i bytes) ∙ ap (λ x. take i bytes ++ x) rest
     in let back : digits_number (digits_in (b ∷ []) ++ digits_in (drop (suc i) bytes)) ≡ None = digits_number-none_left _ _ (digits_number-no_byte b digits)
     in let all : digits_number (digits_in (take i bytes) ++ (digits_in (b ∷ []) ++ digits_in (drop (suc i) bytes))) ≡ None = digits_number-none_right _ _ back
     in ap (λ x. digits_number (digits_in x)) whole ∙ rw (digits_in-append (take i bytes) ((b ∷ []) ++ drop (suc i) bytes), digits_in-append (b ∷ []) (drop (suc i) bytes)) all
+
+-- the number of so many bytes is below the power of as many digits
+pub digits_number-room : (bytes : List ℕ) (i n : ℕ) → digits_number (digits_in (take i bytes)) ≡ Some n → n < 10 ^ (2 * i)
+digits_number-room bytes i n h =
+    let below : n < 10 ^ length (digits_in (take i bytes)) = digits_number-below _ n h
+    in let few : length (digits_in (take i bytes)) ≤ 2 * i = omega (arith, length-digits_in (take i bytes), length-take i bytes)
+    in let power : 10 ^ length (digits_in (take i bytes)) ≤ 10 ^ (2 * i) = pow-le-pow_right (omega arith) few
+    in omega arith
+
+-- and so is that of at most eight
+pub digits_number-few : (bytes : List ℕ) (i k n : ℕ) → i ≤ k → digits_number (digits_in (take i bytes)) ≡ Some n → n < 10 ^ (2 * k)
+digits_number-few bytes i k n h is =
+    let power : 10 ^ (2 * i) ≤ 10 ^ (2 * k) = pow-le-pow_right (omega arith) (omega arith)
+    in omega (arith, digits_number-room bytes i n is)
+
+pub digits_number-within : (bytes : List ℕ) (n : ℕ) → digits_number (digits_in bytes) ≡ Some n → n < 10 ^ (2 * length bytes)
+digits_number-within bytes n h = rw (length-digits_in bytes) at (digits_number-below _ n h)
+
+-- bytes in two parts
+pub digits_number-parts : (bytes left right : List ℕ) (k a b : ℕ) → left ++ right ≡ bytes → length right ≡ k → digits_number (digits_in left) ≡ Some a → digits_number (digits_in right) ≡ Some b
+    → digits_number (digits_in bytes) ≡ Some (a * 10 ^ (2 * k) + b)
+digits_number-parts bytes left right k a b whole few h i =
+    let places : length (digits_in right) ≡ 2 * k = omega (arith, length-digits_in right)
+    in let joined = digits_number-append (digits_in left) (digits_in right) a b h i
+    in rw (← whole, digits_in-append left right) (rw places at joined)
+
+pub digits_number-left : (bytes left right : List ℕ) → left ++ right ≡ bytes → digits_number (digits_in left) ≡ None → digits_number (digits_in bytes) ≡ None
+digits_number-left bytes left right whole h = rw (← whole, digits_in-append left right) (digits_number-none_left _ _ h)
+
+pub digits_number-right : (bytes left right : List ℕ) → left ++ right ≡ bytes → digits_number (digits_in right) ≡ None → digits_number (digits_in bytes) ≡ None
+digits_number-right bytes left right whole h = rw (← whole, digits_in-append left right) (digits_number-none_right _ _ h)

@@ -1,2 +1,4 @@
 pub mod DigitLemmas
+pub mod OperandLemmas
+pub mod FieldLemmas
 mod KnownDecimal
