@@ -91,8 +91,11 @@ IsWritten-more bytes place number rest byte some inside so_far is =
       left = rw (more, power, so_far.left) (div-div-eq-div-mul number (10 ^ (2 * k)) 100);
     }
 
-pub IsWritten-all : (bytes : List ℕ) (number rest : ℕ) → IsWritten bytes 0 number rest → bytes ≡ bytes_of (low_digits (2 * length bytes) number)
-IsWritten-all bytes number rest all = all.right
+pub IsWritten-all : (bytes : List ℕ) (place number rest count : ℕ) → place ≤ 0 → length bytes ≡ count → IsWritten bytes place number rest → bytes ≡ bytes_of (low_digits (2 * count) number)
+IsWritten-all bytes place number rest count none all written =
+    let done : place ≡ 0 = omega arith
+    in let whole : length bytes - 0 ≡ count = omega arith
+    in rw (done, whole) at written.right
 
 -- the bytes of a number that is cut off above them
 pub cut-few : (k n : ℕ) → k ≤ 8 → bytes_of (low_digits (2 * k) (n % 10 ^ 16)) ≡ bytes_of (low_digits (2 * k) n)
@@ -112,3 +115,8 @@ unfolding bytes_of low_digits
 sign-apart count n sign h =
     let odd : 2 * count - 1 ≡ suc (2 * (count - 1)) = omega arith
     in rw (odd, append_assoc (low_digits (2 * (count - 1)) (n / 10)) (n % 10 ∷ []) (sign ∷ []), bytes_of-low (count - 1) (n / 10) (n % 10 ∷ sign ∷ [])) refl
+
+pub set-one : (bytes : List ℕ) (byte : ℕ) → length bytes ≡ 1 → set bytes 0 byte ≡ byte ∷ []
+set-one [] byte h = absurd (omega arith)
+set-one (b ∷ []) byte h = refl
+set-one (b ∷ c ∷ bs) byte h = absurd (omega arith)

@@ -1,4 +1,5 @@
 pub mod DigitLemmas
 pub mod OperandLemmas
 pub mod FieldLemmas
+pub mod ProductLemmas
 mod KnownDecimal
