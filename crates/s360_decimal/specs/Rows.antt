@@ -77,6 +77,6 @@ abbrev pub divided : Bool → List ℕ → List ℕ → Result (List ℕ) Decima
 divided ascii first second =
     let count = length first - length second
     in of_both (λ a b.
-      if cannot_divide count a b
-      then Err Divide
-      else Ok (result_field ascii count (quotient_of a b) ++ result_field ascii (length second) (remainder_of a b))) first second
+    if cannot_divide count a b
+    then Err Divide
+    else Ok (result_field ascii count (quotient_of a b) ++ result_field ascii (length second) (remainder_of a b))) first second

@@ -5,9 +5,9 @@ ghost use Rattle.s360_decimal.specs.Decimals.{IsValue, decimal_of, digit_count, 
 
 use crate::pairs::number_of_bytes;
 
-/// A decimal number of at most 32 digits. The sign of a zero is kept.
+/// A decimal number. The sign of a zero is kept.
 #[derive(Clone, Copy, PartialEq, Eq)]
-pub struct Decimal {
+pub(crate) struct Decimal {
     /// Whether its sign is minus.
     pub minus: bool,
     /// Its digits, as a whole number.
@@ -24,7 +24,7 @@ pub(crate) fn is_minus(sign: u8) -> bool
 impl Decimal {
     /// The decimal number that an operand is; `None` where a digit is above 9 or the sign is below
     /// A, which is a data exception.
-    pub fn read(operand: &[u8]) -> Option<Decimal>
+    pub(crate) fn read(operand: &[u8]) -> Option<Decimal>
         requires some { 0 < length operand.now }
         requires few { length operand.now ≤ 16 }
         ensures decimal { result ≡ decimal_of operand.now }
@@ -45,7 +45,7 @@ impl Decimal {
     }
 
     /// The whole number that it stands for.
-    pub fn value(self) -> i128
+    pub(crate) fn value(self) -> i128
         requires { self.magnitude < 10 ^ 31 }
         ensures value { result ≡ value_of self }
         ensures fits { IsValue result }
@@ -55,7 +55,7 @@ impl Decimal {
     }
 
     /// The decimal number of a whole number: a zero has a plus.
-    pub fn with_value(number: i128) -> Decimal
+    pub(crate) fn with_value(number: i128) -> Decimal
         ensures { result ≡ with_value number }
     {
         Decimal {

@@ -28,7 +28,11 @@ impl Digit {
     pub fn new(number: u8) -> Option<Digit>
         ensures { result ≡ (if is_digit number then Some number else None) }
     {
-        if number < 10 { Some(Digit(number)) } else { None }
+        if number < 10 {
+            Some(Digit(number))
+        } else {
+            None
+        }
     }
 
     /// Its number, 0 to 9.

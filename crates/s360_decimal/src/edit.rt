@@ -103,14 +103,17 @@ impl EditState {
             PatternByte::FieldSeparator => Some(EditStep {
                 byte: rules.fill,
                 state: EditState {
-                    significance: false,
-                    all_zero: true,
                     right: self.right,
+                    ..EditState::start()
                 },
                 marked: false,
             }),
             PatternByte::Message => Some(EditStep {
-                byte: if self.significance { pattern } else { rules.fill },
+                byte: if self.significance {
+                    pattern
+                } else {
+                    rules.fill
+                },
                 state: self,
                 marked: false,
             }),

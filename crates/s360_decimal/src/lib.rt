@@ -17,7 +17,6 @@ mod pattern;
 mod products;
 
 pub use arithmetic::{add, compare, subtract, zero_and_add};
-pub use decimal::Decimal;
 pub use digit::Digit;
 pub use edit::{EditRules, EditState, EditStep};
 pub use fault::DecimalFault;
