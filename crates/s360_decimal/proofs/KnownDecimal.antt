@@ -1,13 +1,11 @@
 -- Operands and results worked by hand, and seen on an independent emulator, which the definitions have to give. Bytes stand as they
 -- do in storage.
-use Rattle.std.specs.Prelude.{◌≡◌, ℕ, true, false, refl, Ok, Err, Some, None, List, [], ◌∷◌, slice_index, pos, negsuc, option_map}
+use Rattle.std.specs.Prelude.{◌≡◌, ℕ, false, refl, Ok, Err, Some, None, List, [], ◌∷◌, slice_index}
 use Rattle.s360_decimal.specs.Digits.{bytes_of, digits_in, low_digits, number_of}
-use Rattle.s360_decimal.specs.Decimals.{decimal_of, value_of}
-use Rattle.s360_decimal.specs.declared.edit.EditRules.{EditRules}
 use Rattle.s360_decimal.specs.declared.fault.DecimalFault.TheVariants.{Data, Divide}
 use Rattle.s360_decimal.specs.declared.field.DecimalSum.{DecimalSum}
 use Rattle.s360_decimal.specs.Editing.{Editing, Source, edit_code, edited, editing_start}
-use Rattle.s360_decimal.specs.Rows.{added, are_lengths_wrong, compared, divided, multiplied, subtracted, zero_added}
+use Rattle.s360_decimal.specs.Rows.{added, compared, divided, multiplied, subtracted, zero_added}
 
 -- a result and its condition code
 abbrev sum : List ℕ → ℕ → DecimalSum

@@ -2,4 +2,5 @@ pub mod DigitLemmas
 pub mod OperandLemmas
 pub mod FieldLemmas
 pub mod ProductLemmas
+pub mod LawLemmas
 mod KnownDecimal

@@ -1,5 +1,5 @@
 -- An operand is its digits, two in each byte before the last and one in that, and a sign.
-use Rattle.std.proofs.Common.{◌≡◌, ◌<◌, ◌≤◌, ◌+◌, ◌-◌, ◌*◌, ◌/◌, ◌%◌, ◌^◌, ℕ, Bool, true, false, ◌&&◌, List, [], ◌∷◌, ◌++◌, length, take, drop, get_or, Option, Some, None, refl, sym, ◌∙◌, ap, arith, nat_lt, lt-ltb, le-ltb, if◌then◌else◌}
+use Rattle.std.proofs.Common.{◌≡◌, ◌<◌, ◌≤◌, ◌+◌, ◌*◌, ◌/◌, ◌%◌, ◌^◌, ℕ, Bool, true, false, ◌&&◌, List, [], ◌∷◌, ◌++◌, length, take, drop, get_or, Option, Some, None, refl, ◌∙◌, ap, arith, lt-ltb, le-ltb, if◌then◌else◌}
 use Rattle.std.specs.List.{list_all}
 use Rattle.std.proofs.lemmas.List.{get_or-append-add, length-append, take-append-drop}
 use Rattle.std.proofs.Math.Seq.{take-append-add}
@@ -9,7 +9,7 @@ use Rattle.s360_decimal.specs.declared.decimal.Decimal.{Decimal}
 use Rattle.s360_decimal.specs.Decimals.{decimal_of, digit_count, is_digit, is_minus, is_sign, operand_digits, operand_sign}
 use Rattle.s360_decimal.specs.Digits.{digits_in, number_of}
 use Rattle.s360_decimal.specs.Pairs.{digits_number}
-use Rattle.s360_decimal.proofs.DigitLemmas.{AreDigits, digits_in-append, digits_in-byte, digits_number-append, digits_number-are, digits_number-below, digits_number-none, digits_number-none_left, digits_number-none_right, digits_number-not, digits_number-some, length-digits_in, number_of-one}
+use Rattle.s360_decimal.proofs.DigitLemmas.{digits_in-append, digits_in-byte, digits_number-append, digits_number-are, digits_number-none, digits_number-none_left, digits_number-none_right, digits_number-not, digits_number-some, length-digits_in, number_of-one}
 
 -- what an operand of these bytes, and a last one, has
 record Parts (front : List ℕ) (last : ℕ) : Type 0 where

@@ -3,3 +3,4 @@ pub mod Decimals
 pub mod Pairs
 pub mod Rows
 pub mod Editing
+pub mod Laws

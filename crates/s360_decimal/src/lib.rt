@@ -12,6 +12,7 @@ mod digit;
 mod edit;
 mod fault;
 mod field;
+mod laws;
 mod pairs;
 mod pattern;
 mod products;
@@ -21,5 +22,8 @@ pub use digit::Digit;
 pub use edit::{EditRules, EditState, EditStep};
 pub use fault::DecimalFault;
 pub use field::{DecimalField, DecimalSum};
+pub use laws::{
+    divide_is_tried, edits_each_byte, products_are_exact, results_are_operands, sums_are_exact,
+};
 pub use pattern::PatternByte;
 pub use products::{are_lengths_wrong, divide, multiply};

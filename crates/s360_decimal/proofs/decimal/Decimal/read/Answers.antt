@@ -1,5 +1,4 @@
-use Rattle.std.proofs.Common.{◌≡◌, ◌<◌, ◌≤◌, ◌+◌, ◌++◌, ◌-◌, ◌/◌, ◌%◌, ◌^◌, ◌*◌, [], ◌∷◌, get_or, length, sym, ◌∙◌, arith}
-use Rattle.s360_decimal.specs.Decimals.{digit_count}
+use Rattle.std.proofs.Common.{◌≡◌, ◌<◌, ◌≤◌, ◌+◌, ◌++◌, ◌-◌, ◌%◌, [], ◌∷◌, get_or, length, sym, ◌∙◌, arith}
 use Rattle.s360_decimal.proofs.OperandLemmas.{decimal-no_digit, decimal-no_digits, decimal-no_sign, decimal-some, front-below, last_apart, magnitude-below}
 use Rattle.s360_decimal.proofs.decimal.Decimal.read.Goals as goal
 use Rattle.s360_decimal.proofs.decimal.Decimal.read.Goals.{then-digit-gt9-via-then-digit-gt9, then-digit-gt9-via-else-digit-gt9+then-sign-lt10}
