@@ -97,17 +97,16 @@ IsWritten-all bytes place number rest count none all written =
     in let whole : length bytes - 0 ≡ count = omega arith
     in rw (done, whole) at written.right
 
--- the bytes of a number that is cut off above them
-pub cut-few : (k n : ℕ) → k ≤ 8 → bytes_of (low_digits (2 * k) (n % 10 ^ 16)) ≡ bytes_of (low_digits (2 * k) n)
-cut-few k n h =
-    let whole : n ≡ n / 10 ^ 16 * 10 ^ 16 + n % 10 ^ 16 = omega arith
-    in ap bytes_of (sym (ap (low_digits (2 * k)) whole ∙ low_digits-rem (2 * k) 16 (n / 10 ^ 16) (n % 10 ^ 16) (omega arith)))
+-- the bytes of a number whose last fourteen digits are given apart
+pub low-part : (k high low : ℕ) → k ≤ 7 → bytes_of (low_digits (2 * k) low) ≡ bytes_of (low_digits (2 * k) (high * 10 ^ 14 + low))
+low-part k high low h = ap bytes_of (sym (low_digits-rem (2 * k) 14 high low (omega arith)))
 
--- the bytes of a number in two parts, of which the right one has eight
-pub cut-parts : (k j n : ℕ) → k + 8 ≡ j → k ≤ 8 → bytes_of (low_digits (2 * k) (n / 10 ^ 16 % 10 ^ 16)) ++ bytes_of (low_digits 16 (n % 10 ^ 16)) ≡ bytes_of (low_digits (2 * j) n)
-cut-parts k j n e h =
-    let both : 2 * j ≡ 2 * k + 16 = omega arith
-    in rw (cut-few k (n / 10 ^ 16) h, cut-few 8 n (omega arith), both, low_digits-add (2 * k) 16 n) (sym (bytes_of-low k (n / 10 ^ 16) (low_digits 16 n)))
+pub both-parts : (k j high low : ℕ) → k + 7 ≡ j → low < 10 ^ 14 → bytes_of (low_digits (2 * k) high) ++ bytes_of (low_digits 14 low) ≡ bytes_of (low_digits (2 * j) (high * 10 ^ 14 + low))
+both-parts k j high low e h =
+    let places : 2 * j ≡ 2 * k + 14 = omega arith
+    in let above : (high * 10 ^ 14 + low) / 10 ^ 14 ≡ high = omega arith
+    in let right : low_digits 14 (high * 10 ^ 14 + low) ≡ low_digits 14 low = low_digits-rem 14 14 high low (omega arith)
+    in rw (places, low_digits-add (2 * k) 14 (high * 10 ^ 14 + low), above, right) (sym (bytes_of-low k high (low_digits 14 low)))
 
 -- the bytes before the last, and the last
 pub sign-apart : (count n sign : ℕ) → 0 < count → bytes_of (low_digits (2 * (count - 1)) (n / 10)) ++ (n % 10 * 16 + sign) ∷ [] ≡ bytes_of (low_digits (2 * count - 1) n ++ sign ∷ [])
@@ -120,3 +119,14 @@ pub set-one : (bytes : List ℕ) (byte : ℕ) → length bytes ≡ 1 → set byt
 set-one [] byte h = absurd (omega arith)
 set-one (b ∷ []) byte h = refl
 set-one (b ∷ c ∷ bs) byte h = absurd (omega arith)
+
+-- the bytes of the low digits of a number, of which the last fifteen are given apart
+pub halves-apart : (count number sign high low : ℕ) → 0 < count → count ≤ 16 → high ≡ number / 10 ^ 15 % 10 ^ 16 → low ≡ number % 10 ^ 15
+    → bytes_of (low_digits (2 * (count - 1)) (high * 10 ^ 14 + low / 10)) ++ (low % 10 * 16 + sign) ∷ [] ≡ bytes_of (low_digits (2 * count - 1) number ++ sign ∷ [])
+halves-apart count number sign high low some few h l =
+    let n : ℕ = high * 10 ^ 15 + low
+    in let rest : n / 10 ≡ high * 10 ^ 14 + low / 10 = omega arith
+    in let last : n % 10 ≡ low % 10 = omega arith
+    in let whole : number ≡ number / 10 ^ 31 * 10 ^ 31 + n = omega (arith, h, l)
+    in let same : low_digits (2 * count - 1) number ≡ low_digits (2 * count - 1) n = ap (low_digits (2 * count - 1)) whole ∙ low_digits-rem (2 * count - 1) 31 (number / 10 ^ 31) n (omega arith)
+    in rw (same, ← rest, ← last) (sign-apart count n sign some)

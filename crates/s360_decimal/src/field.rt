@@ -1,11 +1,16 @@
 //! The bytes of a result. Source: GA22-6821, "Decimal Arithmetic", data format and sign codes.
-ghost use Rattle.std.specs.Prelude.{◌≡◌, ◌<◌, ◌≤◌, ◌+◌, ◌++◌, length};
+ghost use Rattle.std.specs.Prelude.{◌≡◌, ◌<◌, ◌≤◌, ◌+◌, ◌++◌, ◌/◌, ◌%◌, ◌^◌, length};
 ghost use Rattle.s360_decimal.specs.Decimals.{result_field, result_sign};
 
 use crate::decimal::Decimal;
 use crate::pairs::write_bytes;
 use s360_word::Cc;
 use std::marker::Model;
+
+/// The first number of more than fifteen digits, which an operand of eight bytes has.
+const FIFTEEN_DIGITS: u128 = 1_000_000_000_000_000;
+/// The first number of more than sixteen digits, which eight bytes have that are no last ones.
+const SIXTEEN_DIGITS: u128 = 10_000_000_000_000_000;
 
 /// The bytes of a result, at most 16. A contract sees them as their list.
 #[derive(Drop)]
@@ -45,6 +50,18 @@ fn sign_of(ascii: bool, minus: bool) -> u8
     }
 }
 
+/// The low 31 digits of a number: those above the last fifteen, and those.
+fn halves_of(number: u128) -> (u64, u64)
+    ensures high { result.0 ≡ number / 10 ^ 15 % 10 ^ 16 }
+    ensures low { result.1 ≡ number % 10 ^ 15 }
+{
+    if number < FIFTEEN_DIGITS {
+        return (0, number as u64);
+    }
+    let high = number / FIFTEEN_DIGITS % SIXTEEN_DIGITS;
+    (high as u64, (number % FIFTEEN_DIGITS) as u64)
+}
+
 impl Decimal {
     /// Writes its low digits and its sign into bytes: as many digits as there are places.
     fn write(self, ascii: bool, bytes: &mut [u8])
@@ -52,9 +69,10 @@ impl Decimal {
         requires few { length bytes.old ≤ 16 }
         ensures { bytes.new ≡ result_field ascii (length bytes.old) self }
     {
+        let (high, low) = halves_of(self.magnitude);
         let (front, back) = bytes.split_at_mut(bytes.len() - 1);
-        write_bytes(front, self.magnitude / 10);
-        back[0] = (self.magnitude % 10) as u8 * 16 + sign_of(ascii, self.minus);
+        write_bytes(front, high, low / 10);
+        back[0] = (low % 10) as u8 * 16 + sign_of(ascii, self.minus);
     }
 }
 

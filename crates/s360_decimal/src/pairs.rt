@@ -1,12 +1,12 @@
 //! Bytes of two decimal digits each, and the whole number that they are. Source: GA22-6821,
 //! "Decimal Arithmetic", data format.
-ghost use Rattle.std.specs.Prelude.{◌≡◌, ◌≤◌, ◌<◌, ◌*◌, ◌/◌, ◌%◌, ◌^◌, ◌&&◌, IfSome, length};
+ghost use Rattle.std.specs.Prelude.{◌≡◌, ◌≤◌, ◌<◌, ◌+◌, ◌*◌, ◌/◌, ◌%◌, ◌^◌, ◌&&◌, IfSome, length};
 ghost use Rattle.s360_decimal.specs.Decimals.{is_digit};
 ghost use Rattle.s360_decimal.specs.Digits.{bytes_of, digits_in, low_digits};
 ghost use Rattle.s360_decimal.specs.Pairs.{digits_number};
 
-/// So many digits stand in a `u64` of two in each byte.
-const HALF: u128 = 10_000_000_000_000_000;
+/// The first number that has more digits than eight bytes have.
+const EIGHT_BYTES: u128 = 10_000_000_000_000_000;
 
 /// Whether both digits of a byte are 0 to 9.
 fn are_digits(byte: u8) -> bool
@@ -41,7 +41,7 @@ pub(crate) fn number_of_bytes(bytes: &[u8]) -> Option<u128>
         return Some(u128::from(number_of_few(bytes)?));
     }
     let (high, low) = bytes.split_at(bytes.len() - 8);
-    Some(u128::from(number_of_few(high)?) * HALF + u128::from(number_of_few(low)?))
+    Some(u128::from(number_of_few(high)?) * EIGHT_BYTES + u128::from(number_of_few(low)?))
 }
 
 /// Writes the low digits of a number, two in each byte: as many as there are places.
@@ -55,17 +55,18 @@ fn write_few(bytes: &mut [u8], number: u64)
     }
 }
 
-/// Writes the low digits of a number, two in each byte: as many as there are places.
-pub(crate) fn write_bytes(bytes: &mut [u8], number: u128)
+/// Writes the low digits of a number, two in each byte: as many as there are places. The number is
+/// given as what stands above its last fourteen digits, and those.
+pub(crate) fn write_bytes(bytes: &mut [u8], high: u64, low: u64)
     requires few { length bytes.old ≤ 15 }
-    ensures { bytes.new ≡ bytes_of (low_digits (2 * length bytes.old) number) }
+    requires fourteen { low < 10 ^ 14 }
+    ensures { bytes.new ≡ bytes_of (low_digits (2 * length bytes.old) (high * 10 ^ 14 + low)) }
 {
-    let low = (number % HALF) as u64;
-    if bytes.len() <= 8 {
+    if bytes.len() <= 7 {
         write_few(bytes, low);
     } else {
-        let (left, right) = bytes.split_at_mut(bytes.len() - 8);
-        write_few(left, (number / HALF % HALF) as u64);
+        let (left, right) = bytes.split_at_mut(bytes.len() - 7);
+        write_few(left, high);
         write_few(right, low);
     }
 }
