@@ -44,7 +44,8 @@ number_of-two d e = omega arith
 below_more : (d n p : ℕ) → d < 10 → n < p → d * p + n < p * 10
 below_more d n p h k = omega (arith, let t : d * p ≤ 9 * p = mul-le-mul_right p (omega arith) in t)
 
-both : (a b : Bool) → (a && b) ≡ true → (a ≡ true) × (b ≡ true)
+-- two tests that are true together
+pub both : (a b : Bool) → (a && b) ≡ true → (a ≡ true) × (b ≡ true)
 both true b h = (refl, h)
 both false b h = absurd (cc)
 

@@ -1,11 +1,11 @@
--- Operands and results worked by hand, and seen on an independent emulator, which the definitions have to give. Bytes stand as they
--- do in storage.
-use Rattle.std.specs.Prelude.{◌≡◌, ℕ, false, refl, Ok, Err, Some, None, List, [], ◌∷◌, slice_index}
+-- Operands and results worked by hand, which the definitions have to give. Bytes stand as they do in storage.
+use Rattle.std.specs.Prelude.{◌≡◌, ℕ, true, false, refl, Ok, Err, Some, None, List, [], ◌∷◌, ◌++◌, replicate, slice_index}
+use Rattle.s360_model.specs.Storage.{with_run}
 use Rattle.s360_decimal.specs.Digits.{bytes_of, digits_in, low_digits, number_of}
 use Rattle.s360_decimal.specs.declared.fault.DecimalFault.TheVariants.{Data, Divide}
 use Rattle.s360_decimal.specs.declared.field.DecimalSum.{DecimalSum}
-use Rattle.s360_decimal.specs.Editing.{Editing, Source, edit_code, edited, editing_start}
-use Rattle.s360_decimal.specs.Rows.{added, compared, divided, multiplied, subtracted, zero_added}
+use Rattle.s360_decimal.specs.Editing.{Editing, Source, bad_digit, edit_code, edited, editing_start}
+use Rattle.s360_decimal.specs.Rows.{added, are_lengths_wrong, compared, divided, multiplied, subtracted, zero_added}
 
 -- a result and its condition code
 abbrev sum : List ℕ → ℕ → DecimalSum
@@ -152,3 +152,61 @@ no_mark_of_3 = refl
 pub code_of_3 : edit_code of_3.state ≡ 2
 unfolding edited
 code_of_3 = refl
+
+-- two fields, the second all zero: the separator ends the significance of the first
+abbrev two_fields : Editing
+two_fields = edit_of (0x40 ∷ 0x20 ∷ 0x20 ∷ 0x22 ∷ 0x20 ∷ 0x20 ∷ []) (0x01 ∷ 0x00 ∷ [])
+
+pub separator_ends_significance : two_fields.made ≡ 0x40 ∷ 0x40 ∷ 0xF1 ∷ 0x40 ∷ 0x40 ∷ 0x40 ∷ []
+unfolding edited
+separator_ends_significance = refl
+
+pub zero_field_gives_0 : edit_code two_fields.state ≡ 0
+unfolding edited
+zero_field_gives_0 = refl
+
+-- a pattern that is its own source: the first byte has the digits 4 and 0, and the second is seen as it was stored, F4, whose left
+-- digit is none
+abbrev itself : Editing
+itself =
+    let pattern = 0x40 ∷ 0x20 ∷ 0x20 ∷ 0x20 ∷ []
+    in edited (record { fill = 0x40; ascii = false }) (λ made place. Some (slice_index (with_run pattern 0 made) place)) editing_start pattern
+
+pub stored_byte_is_seen : itself.made ≡ 0x40 ∷ 0xF4 ∷ 0xF0 ∷ []
+unfolding edited
+stored_byte_is_seen = refl
+
+pub stored_byte_is_bad : itself.fault ≡ Some bad_digit
+unfolding edited
+stored_byte_is_bad = refl
+
+pub two_bytes_are_used : itself.used ≡ 2
+unfolding edited
+two_bytes_are_used = refl
+
+-- the greatest operand of all and 1, in ASCII mode: each of the 31 digits that are kept is zero
+abbrev fifteen_bytes : ℕ → List ℕ → List ℕ
+fifteen_bytes byte last = replicate 15 byte ++ last
+
+pub overflow_of_31_digits : added true (fifteen_bytes 0x99 (0x9F ∷ [])) (0x1E ∷ []) ≡ Ok (sum (fifteen_bytes 0x00 (0x0A ∷ [])) 3)
+unfolding bytes_of digits_in low_digits number_of
+overflow_of_31_digits = refl
+
+-- a digit that is none in the first byte, and a sign that is none
+pub digit_above_9 : compared (0xA0 ∷ 0x0C ∷ []) (0x0C ∷ []) ≡ Err Data
+unfolding digits_in number_of
+digit_above_9 = refl
+
+pub sign_below_A : zero_added false 1 (0x19 ∷ []) ≡ Err Data
+unfolding digits_in number_of
+sign_below_A = refl
+
+-- lengths of a multiplication: the greatest that it has, and each of the two that it has not
+pub greatest_lengths : are_lengths_wrong 15 7 ≡ false
+greatest_lengths = refl
+
+pub multiplier_of_nine_bytes : are_lengths_wrong 15 8 ≡ true
+multiplier_of_nine_bytes = refl
+
+pub equal_lengths : are_lengths_wrong 3 3 ≡ true
+equal_lengths = refl

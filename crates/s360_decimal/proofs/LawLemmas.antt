@@ -13,7 +13,7 @@ use Rattle.s360_decimal.specs.Decimals.{digit_count, is_digit, is_minus, is_sign
 use Rattle.s360_decimal.specs.Digits.{bytes_of, digits_in, low_digits, number_of}
 use Rattle.s360_decimal.specs.Editing.{EditFault, Editing, Source, edit_step, edited, edited_byte, editing_start, fetches, with_optional_step, with_source}
 use Rattle.s360_decimal.specs.Laws.{EditsEachByte, ResultsAreOperands, SumsAreExact}
-use Rattle.s360_decimal.proofs.DigitLemmas.{number_of-append, number_of-one}
+use Rattle.s360_decimal.proofs.DigitLemmas.{both, number_of-append, number_of-one}
 use Rattle.s360_decimal.proofs.FieldLemmas.{length-low_digits}
 
 -- the digits of a number, below ten, and the number that they are
@@ -45,10 +45,6 @@ number_of-low_digits (suc k) n =
 are_four_bits : List ℕ → Bool
 are_four_bits ds = list_all (λ d. nat_lt d 16) ds
 
-both : (a b : Bool) → (a && b) ≡ true → (a ≡ true) × (b ≡ true)
-both true b h = (refl, h)
-both false b h = absurd (cc)
-
 record AreIn (ds : List ℕ) (count : ℕ) : Type 0 where
   same : digits_in (bytes_of ds) ≡ ds
   length : length (bytes_of ds) ≡ count
@@ -60,9 +56,9 @@ are_in (suc k) [] h bits = absurd (omega arith)
 are_in zero (x ∷ ds) h bits = absurd (omega arith)
 are_in (suc k) (x ∷ []) h bits = absurd (omega arith)
 are_in (suc k) (x ∷ y ∷ ds) h bits =
-    let rest : are_four_bits (y ∷ ds) ≡ true = (both _ _ bits).1
-    in let low : y < 16 = ltb-true y 16 (both _ _ rest).0
-    in let are : AreIn ds k = are_in k ds (omega arith) (both _ _ rest).1
+    let rest : are_four_bits (y ∷ ds) ≡ true = (both (nat_lt x 16) (are_four_bits (y ∷ ds)) bits).1
+    in let low : y < 16 = ltb-true y 16 (both (nat_lt y 16) (are_four_bits ds) rest).0
+    in let are : AreIn ds k = are_in k ds (omega arith) (both (nat_lt y 16) (are_four_bits ds) rest).1
     in let above : (x * 16 + y) / 16 ≡ x = omega arith
     in let below : (x * 16 + y) % 16 ≡ y = omega arith
     in record {

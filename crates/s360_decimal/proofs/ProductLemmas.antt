@@ -10,11 +10,7 @@ use Rattle.s360_decimal.specs.declared.decimal.Decimal.{Decimal}
 use Rattle.s360_decimal.specs.Decimals.{decimal_of, digit_count, is_digit, is_packed, operand_decimal, operand_digits}
 use Rattle.s360_decimal.specs.Digits.{digits_in, number_of}
 use Rattle.s360_decimal.specs.Rows.{has_room}
-use Rattle.s360_decimal.proofs.DigitLemmas.{digits_in-append, length-digits_in, number_of-append, number_of-below}
-
-both : (a b : Bool) → (a && b) ≡ true → (a ≡ true) × (b ≡ true)
-both true b h = (refl, h)
-both false b h = absurd (cc)
+use Rattle.s360_decimal.proofs.DigitLemmas.{both, digits_in-append, length-digits_in, number_of-append, number_of-below}
 
 -- the decimal number that an operand is
 record IsOperand (operand : List ℕ) (d : Decimal) : Type 0 where
@@ -50,7 +46,7 @@ room-below operand k h zeros packed =
     in let count : digit_count (length operand) ≡ length left + n = omega (arith, length-digits_in (take k operand), length-take k operand)
     in let all : operand_digits operand ≡ left ++ take n right = rw (cut, count) (take-append-add left right n)
     in let few : length (take n right) ≡ n = omega (arith, length-take n right, length-digits_in (drop k operand), length-drop k operand)
-    in let ok : list_all is_digit (take n right) ≡ true = (both _ _ (sym (list_all-append is_digit left (take n right)) ∙ ap (list_all is_digit) (sym all) ∙ digits)).1
+    in let ok : list_all is_digit (take n right) ≡ true = (both (list_all is_digit left) (list_all is_digit (take n right)) (sym (list_all-append is_digit left (take n right)) ∙ ap (list_all is_digit) (sym all) ∙ digits)).1
     in let below : number_of (take n right) < 10 ^ length (take n right) = number_of-below (take n right) ok
     in let value : number_of (operand_digits operand) ≡ number_of (take n right) = rw (all, number_of-append left (take n right), zero_bytes (take k operand) zeros) (omega arith)
     in rw value (rw few at below)
