@@ -1,4 +1,4 @@
--- Digits of bytes that have no sign among them.
+-- Digits in bytes that have no sign among them, as they are read in parts (kept).
 use Rattle.std.specs.Prelude.{ℕ, if◌then◌else◌, Option, Some, None, List}
 use Rattle.std.specs.List.{list_all}
 use Rattle.s360_decimal.specs.Decimals.{is_digit}
