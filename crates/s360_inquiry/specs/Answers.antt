@@ -1,7 +1,7 @@
 -- What an inquiry is answered, and where the recording stands then (own profile). Each line of an answer is ended by one line
 -- feed. No inquiry alters the record.
 use Rattle.std.specs.Prelude.{ℕ, nat_eq, if◌then◌else◌, Option, Some, List}
-use Rattle.s360_language.specs.declared.show_bytes.Row.TheVariants.{Signs}
+use Rattle.s360_language.specs.declared.show_bytes.RowForm.TheVariants.{Signs}
 use Rattle.s360_language.specs.ShownBytes.{storage_rows}
 use Rattle.s360_journal.specs.Standing.{machine_of}
 use Rattle.s360_journal.specs.Recorded.{Recorded, session_of, with_standing}

@@ -2,7 +2,7 @@
 ghost use Rattle.std.specs.Prelude.{◌≡◌, IfOk, OnErr, OnOk};
 ghost use Rattle.s360_journal.specs.Recorded.{with_standing};
 ghost use Rattle.s360_language.specs.ShownBytes.{storage_rows};
-ghost use Rattle.s360_language.specs.declared.show_bytes.Row.TheVariants.{Signs};
+ghost use Rattle.s360_language.specs.declared.show_bytes.RowForm.TheVariants.{Signs};
 ghost use Rattle.s360_inquiry.specs.Answers.{answer_to, inquired, stands_after, state_after};
 
 use crate::calling::answer_calls;
@@ -15,7 +15,7 @@ use crate::situation::{units_of, where_of};
 use crate::visit::answer_visits;
 use crate::why::answer_why;
 use s360_journal::Session;
-use s360_language::{Row, push_storage};
+use s360_language::{RowForm, push_storage};
 use s360_store::Storage;
 use s360_text::Text;
 use std::alloc::{AllocError, Global};
@@ -73,6 +73,6 @@ fn dump_of(alloc: Global, storage: &Storage, at: u32, count: u32) -> Result<Text
     ensures { IfOk result (λ text. text ≡ storage_rows Signs storage.now at count) }
 {
     let mut text = Text::new(alloc);
-    push_storage(&mut text, storage, Row::Signs, at, count)?;
+    push_storage(&mut text, storage, RowForm::Signs, at, count)?;
     Ok(text)
 }

@@ -5,7 +5,7 @@ use Rattle.s360_store.specs.Items.{cells_of_items, cells_of_part}
 use Rattle.s360_store.proofs.ByteCellLemmas.{length-byte_cells}
 use Rattle.s360_store.proofs.SpanLemmas.{byte_places-get, places-of-bytes}
 use Rattle.s360_machine.proofs.SpanLemmas.{place-of-part}
-use Rattle.s360_machine.proofs.row.Row.place.Goals as goal
+use Rattle.s360_machine.proofs.row.PackedRow.place.Goals as goal
 
 pub overflow_add-result : goal.overflow_add-result
 overflow_add-result c =

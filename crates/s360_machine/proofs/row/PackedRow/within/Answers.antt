@@ -2,7 +2,7 @@ use Rattle.std.proofs.Common.{◌≡◌, ◌∙◌, ℕ, Some, sym, Ok, Err, OkI
 use Rattle.std.specs.Result.{result_ok}
 use Rattle.s360_store.specs.Items.{IsRunOf}
 use Rattle.s360_machine.proofs.PackedLemmas.{row-of-bytes}
-use Rattle.s360_machine.proofs.row.Row.within.Goals as goal
+use Rattle.s360_machine.proofs.row.PackedRow.within.Goals as goal
 
 -- a number that is held is the one that there was
 number-held : {E : Type 0} (r : Result ℕ E) (P : Type 0) (v n : ℕ) → OkIff r P v → result_ok r ≡ Some n → v ≡ n

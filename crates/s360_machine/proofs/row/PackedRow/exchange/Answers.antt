@@ -5,7 +5,7 @@ use Rattle.s360_store.specs.Items.{cells_of_items}
 use Rattle.s360_store.specs.declared.place.Place.TheVariants.{Psw}
 use Rattle.s360_store.proofs.ExchangeLemmas.{AllFit-any, AreCellsOf-kept}
 use Rattle.s360_store.proofs.ItemExchangeLemmas.{length-cells_after_exchange}
-use Rattle.s360_machine.proofs.row.Row.exchange.Goals as goal
+use Rattle.s360_machine.proofs.row.PackedRow.exchange.Goals as goal
 
 pub exchange_run-requires-clause-can : goal.exchange_run-requires-clause-can
 exchange_run-requires-clause-can c =

@@ -2,7 +2,7 @@ use Rattle.std.proofs.Common.{◌≡◌, ◌+◌, ◌++◌, [], None, ap, append
 use Rattle.s360_store.specs.Cells.{byte_cells, places_of_cells}
 use Rattle.s360_machine.specs.Stretches.{stretches}
 use Rattle.s360_machine.proofs.StretchLemmas.{run-more}
-use Rattle.s360_machine.proofs.row.Row.stretches.Goals as goal
+use Rattle.s360_machine.proofs.row.PackedRow.stretches.Goals as goal
 
 pub returns-in-Bytes : goal.returns-in-Bytes
 returns-in-Bytes c =
