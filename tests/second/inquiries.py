@@ -277,10 +277,13 @@ class Inquiries:
         return [f"{machine.shown_unit(unit)}{machine.shown_device(unit)[3:]}" for unit in UNITS]
 
     def answer_where(self):
-        machine, recording = self.machine, self.recording
+        machine, recording, stands = self.machine, self.recording, self.standing
+        interruption = Jumps(self).last_interruption()
+        self.go_to(stands)
         pending = [unit for unit in UNITS if machine.control(unit).condition]
         return [
             self.line_of_standing(),
+            *interruption,
             *recording.show_psw(),
             self.cpu(),
             *recording.show_ext(),

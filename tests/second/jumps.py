@@ -11,6 +11,11 @@ SUPERVISOR_CALL, LOAD_PSW = 0x0A, 0x82
 # The masks that select no condition code, and all.
 UNDECIDED = (0, 15)
 OLD_PSW = 0x20
+# By the codes of program interruptions, from 1 on.
+EXCEPTIONS = (
+    *("operation", "privileged operation", "execute", "protection", "addressing", "specification", "data"),
+    *("fixed-point overflow", "fixed-point divide"),
+)
 
 
 def address(machine):
@@ -22,11 +27,13 @@ def code(machine):
 
 
 class Jump(NamedTuple):
-    """What a jump is, in words; where it leads to if it does, and whether the condition code decides."""
+    """What a jump is, in words; where it leads to if it does, and whether the condition code decides; of an
+    interruption what follows on its line."""
 
     words: str
     following: int | None = None
     is_decided: bool = False
+    interruption: str | None = None
 
     def told(self, at):
         """Where it led to is the instruction address after it."""
@@ -39,12 +46,13 @@ def jump_of(machine):
     """The jump that an event of the CPU is to the machine that it meets, if it is one."""
     what = of_cpu(machine)
     if not isinstance(what, Instruction):
-        return Jump("") if what.name.startswith("interruption") else None
+        return Jump("", interruption="") if what.name.startswith("interruption") else None
     if what.code:
-        return Jump(f" interrupted program {what.code}")
+        name = EXCEPTIONS[what.code - 1]
+        return Jump(f" interrupted program {what.code}", interruption=f", {name} exception")
     operation, second = what.performed[:2]
     if operation == SUPERVISOR_CALL:
-        return Jump(f" interrupted svc {second:02X}")
+        return Jump(f" interrupted svc {second:02X}", interruption="")
     if operation == LOAD_PSW:
         return Jump("")
     if operation not in BRANCHES:
@@ -99,11 +107,16 @@ class Jumps:
 
     def events(self):
         """The changes that stand, with their numbers, each where it is the next, and its event in words."""
-        inquiries, stands = self.inquiries, self.inquiries.standing
-        for number in range(1, stands + 1):
-            inquiries.go_to(number - 1)
-            change = inquiries.recording.later[-1]
-            yield number, change, f"{number} {inquiries.happening(change.event[0])}"
+        return map(self.event, range(1, self.inquiries.standing + 1))
+
+    def events_back(self):
+        """The same, the last one first."""
+        return map(self.event, range(self.inquiries.standing, 0, -1))
+
+    def event(self, number):
+        self.inquiries.go_to(number - 1)
+        change = self.inquiries.recording.later[-1]
+        return number, change, f"{number} {self.inquiries.happening(change.event[0])}"
 
     def address_after(self, number):
         self.inquiries.go_to(number)
@@ -119,6 +132,14 @@ class Jumps:
                 setter = f"by {words}"
             if jump:
                 yield f"{words}{jump.told(self.address_after(number))}{decided}"
+
+    def last_interruption(self):
+        """The line of the last interruption, if there was one."""
+        for number, change, words in self.events_back():
+            jump = jump_of(self.machine) if change.event[0] == "cpu" else None
+            if jump and jump.interruption is not None:
+                return [f"last interruption {words}{jump.told(self.address_after(number))}{jump.interruption}"]
+        return []
 
     def open_calls(self):
         """The calls that have not returned, the innermost first."""

@@ -8,6 +8,7 @@ pub mod Searches
 pub mod Visits
 pub mod CodeSettings
 pub mod Jumps
+pub mod Interruptions
 pub mod Sought
 pub mod Extents
 pub mod Causes

@@ -14,6 +14,7 @@ mod happening;
 mod history;
 mod inquiry;
 mod inquiry_reader;
+mod interruption;
 mod jump;
 mod jumping;
 mod mnemonic;

@@ -7,6 +7,7 @@ ghost use Rattle.s360_inquiry.specs.Searches.{IsLastFrom, numbers_up_to};
 ghost use Rattle.s360_inquiry.specs.Sought.{is_sought};
 
 use crate::code_setting::sets_code;
+use crate::interruption::is_interruption;
 use crate::jump::jump_of;
 use crate::visit::is_visit;
 use s360_journal::Session;
@@ -21,6 +22,8 @@ pub(crate) enum Sought {
     Jumps,
     /// Those that set the condition code.
     CodeSettings,
+    /// Interruptions.
+    Interruptions,
 }
 
 /// Takes the last change back, and answers whether it is sought.
@@ -35,6 +38,10 @@ fn take_back(alloc: Global, recording: &mut Session, sought: Sought) -> Result<b
         Sought::Visits(at) => Ok(is_visit(at, recording.machine(), kind)),
         Sought::Jumps => match jump_of(alloc, recording.machine(), kind) {
             Ok(jump) => Ok(jump.is_some()),
+            Err(error) => Err(error),
+        },
+        Sought::Interruptions => match jump_of(alloc, recording.machine(), kind) {
+            Ok(jump) => Ok(is_interruption(jump)),
             Err(error) => Err(error),
         },
         Sought::CodeSettings => sets_code(alloc, recording.machine(), after, kind),
