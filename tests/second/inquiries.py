@@ -35,6 +35,8 @@ MNEMONICS = {
 # What the CPU does where it executes no instruction.
 NO_INSTRUCTION = "stopped|loading|interrupted|waits"
 # What is meant where a line with a place has no number behind it.
+# Lines about a place.
+ABOUT_A_PLACE = (b"who", b"why", b"changes")
 MEANT = {b"changes": CHANGES_TOLD, b"why": DEPTH_TOLD}
 
 
@@ -84,6 +86,8 @@ class Inquiries:
         if fault:
             return [fault]
         name, *rest = (word.decode() for word in words)
+        if words[0] in ABOUT_A_PLACE and words[1] in (b"s", b"k") and int(words[2], 16) >= self.machine.size:
+            return ["? argument 2"]
         stands = self.standing
         answers = getattr(self, f"answer_{name}")(*rest)
         if self.standing != stands:
