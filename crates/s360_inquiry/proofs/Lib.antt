@@ -1,5 +1,6 @@
 pub mod InquiryLemmas
 pub mod CallLemmas
 pub mod SearchLemmas
+pub mod JumpLemmas
 pub mod VisitLemmas
 pub mod WhyLemmas

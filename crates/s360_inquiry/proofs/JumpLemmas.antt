@@ -1,0 +1,39 @@
+-- The line of a jump, which is told a part at a time.
+use Rattle.std.proofs.Common.{◌≡◌, ◌-◌, ◌++◌, ℕ, List, Option, Some, ap, ◌∙◌, sym, min, length, take, codes}
+use Rattle.std.proofs.lemmas.List.{take_min}
+use Rattle.s360_model.specs.Psw.{condition_code_of, instruction_address_of}
+use Rattle.s360_machine.specs.declared.event.Event.{Event}
+use Rattle.s360_machine.specs.Machine.{Machine, seen}
+use Rattle.s360_journal.specs.Rerun.{rerun}
+use Rattle.s360_journal.specs.Standing.{machine_of}
+use Rattle.s360_journal.specs.Recorded.{Recorded, session_of, with_standing}
+use Rattle.s360_inquiry.specs.Changes.{just_before, machine_after, words_of_change}
+use Rattle.s360_inquiry.specs.declared.jump.Jump.{Jump}
+use Rattle.s360_inquiry.specs.CodeSettings.{setter_in}
+use Rattle.s360_inquiry.specs.Jumps.{decided_words, jump_line, jump_of_change, jump_words, line_if_jump}
+use Rattle.s360_language.proofs.ShownLemmas.{pushed}
+
+-- the machine of a recording that went to a change, or to the end if there is no such change
+pub machine-there : (r x : Recorded) (number : ℕ) (m : Machine) → x ≡ with_standing r (min number (length r.events)) → m ≡ machine_of (session_of x)
+    → m ≡ machine_after r number
+machine-there r x number m gone is =
+    is ∙ ap (λ (y : Recorded). machine_of (session_of y)) gone ∙ ap (λ (es : List Event). rerun (seen r.start) es) (take_min number r.events)
+
+-- what it was before is what it is gone from
+pub gone-on : (r x y : Recorded) (number : ℕ) → x ≡ just_before r number → y ≡ with_standing x (min number (length x.events))
+    → y ≡ with_standing r (min number (length r.events))
+gone-on r x y number before on = on ∙ ap (λ (z : Recorded). with_standing z (min number (length z.events))) before
+
+pub jump-told : (r : Recorded) (number at code : ℕ) (jump : Jump) (setter : Option (List ℕ)) (old words first second third fourth : List ℕ)
+    → Some jump ≡ jump_of_change r number → words ≡ words_of_change r number → at ≡ instruction_address_of (machine_after r number).core.psw
+    → code ≡ condition_code_of (machine_after r (number - 1)).core.psw → setter ≡ setter_in (just_before r number)
+    → first ≡ old ++ words → second ≡ first ++ jump_words jump at → third ≡ second ++ decided_words jump code setter → fourth ≡ third ++ codes "\n"
+    → fourth ≡ old ++ jump_line r number
+jump-told r number at code jump setter old words first second third fourth is event leads before by begun more decided end =
+    pushed old third fourth ((words ++ jump_words jump at) ++ decided_words jump code setter) (codes "\n")
+    (pushed old second third (words ++ jump_words jump at) (decided_words jump code setter) (pushed old first second words (jump_words jump at) begun more) decided) end
+    ∙ ap (λ (t : List ℕ). old ++ (((t ++ jump_words jump at) ++ decided_words jump code setter) ++ codes "\n")) event
+    ∙ ap (λ (n : ℕ). old ++ (((words_of_change r number ++ jump_words jump n) ++ decided_words jump code setter) ++ codes "\n")) leads
+    ∙ ap (λ (n : ℕ). old ++ (((words_of_change r number ++ jump_words jump (instruction_address_of (machine_after r number).core.psw)) ++ decided_words jump n setter) ++ codes "\n")) before
+    ∙ ap (λ (s : Option (List ℕ)). old ++ (((words_of_change r number ++ jump_words jump (instruction_address_of (machine_after r number).core.psw)) ++ decided_words jump (condition_code_of (machine_after r (number - 1)).core.psw) s) ++ codes "\n")) by
+    ∙ ap (λ (o : Option Jump). old ++ line_if_jump r number o) is
