@@ -1,4 +1,4 @@
-use Rattle.std.proofs.Common.{◌≡◌, ◌+◌, ◌-◌, ℕ, List, [], ◌∷◌, ◌∙◌, ap, sym, length, length-append, arith}
+use Rattle.std.proofs.Common.{◌≡◌, ◌+◌, ◌-◌, ℕ, List, ◌∙◌, ap, sym, length, arith}
 use Rattle.std.proofs.lemmas.List.{length_push}
 use Rattle.s360_journal.specs.Recorded.{Recorded}
 use Rattle.s360_journal.specs.Returning.{one_back}
@@ -14,8 +14,12 @@ loop-before-preserved-in-Continue-branch-2 c =
       numbers = sought-found (is_sought c.args.sought c.args.recording.now) c.loop-before.before _ _ c.loop-before.found.items _ (omega arith) (omega arith) c.in_ok-push.ensures.items
           (found ∙ c.if-branch.true) c.loop-before.invariant.numbers;
       kept = c.in_ok-take_back.ensures.state ∙ ap (λ (r : Recorded). one_back r) c.loop-before.invariant.kept;
-      few = omega (arith, c.loop-before.found.ok, length_push c.loop-before.found.items (c.loop-before.before - 1 + 1),
-          ap (λ (ns : List ℕ). length ns) c.in_ok-push.ensures.items);
+      few = omega (
+        arith,
+        c.loop-before.found.ok,
+        length_push c.loop-before.found.items (c.loop-before.before - 1 + 1),
+        ap (λ (ns : List ℕ). length ns) c.in_ok-push.ensures.items,
+      );
     }
 
 pub loop-before-preserved : goal.loop-before-preserved
