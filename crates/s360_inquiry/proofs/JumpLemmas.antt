@@ -1,5 +1,5 @@
 -- The line of a jump, which is told a part at a time.
-use Rattle.std.proofs.Common.{◌≡◌, ◌-◌, ◌++◌, ℕ, List, Option, Some, ap, ◌∙◌, sym, min, length, take, codes}
+use Rattle.std.proofs.Common.{◌≡◌, ◌-◌, ◌++◌, ℕ, List, Option, Some, ap, ◌∙◌, sym, min, length, codes}
 use Rattle.std.proofs.lemmas.List.{take_min}
 use Rattle.std.specs.Option.{option_map}
 use Rattle.s360_model.specs.Psw.{condition_code_of, instruction_address_of}

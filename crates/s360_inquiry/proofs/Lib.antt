@@ -2,5 +2,4 @@ pub mod InquiryLemmas
 pub mod CallLemmas
 pub mod SearchLemmas
 pub mod JumpLemmas
-pub mod VisitLemmas
 pub mod WhyLemmas

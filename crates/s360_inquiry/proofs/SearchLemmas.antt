@@ -1,9 +1,8 @@
 -- The last of some numbers that something holds of, which are found from the last one on.
-use Rattle.std.proofs.Common.{◌≡◌, ◌<◌, ◌≤◌, ◌+◌, ◌-◌, ◌++◌, ℕ, zero, suc, Bool, true, false, Option, Some, None, List, [], ◌∷◌, ap, sym, ◌∙◌, refl, arith, append_assoc, drop, length, length-append, reverse, if◌then◌else◌}
+use Rattle.std.proofs.Common.{◌≡◌, ◌<◌, ◌≤◌, ◌+◌, ◌-◌, ◌++◌, ℕ, zero, suc, Bool, true, false, Some, List, [], ◌∷◌, ap, sym, ◌∙◌, refl, arith, append_assoc, drop, length, length-append, reverse, if◌then◌else◌}
 use Rattle.std.proofs.lemmas.List.{append-nil, length-reverse, reverse-append}
 use Rattle.std.proofs.Math.Seq.{drop-append_seam}
 use Rattle.s360_journal.specs.Recorded.{Recorded, with_standing}
-use Rattle.s360_journal.specs.Rerun.{or_else}
 use Rattle.s360_inquiry.specs.Changes.{last_of}
 use Rattle.s360_inquiry.specs.Searches.{last_up_to, numbers_up_to}
 use Rattle.s360_inquiry.specs.Sought.{is_sought}

@@ -1,4 +1,4 @@
-use Rattle.std.proofs.Common.{Bool, List, ℕ, ◌++◌, ◌∙◌, ap, sym, codes, if◌then◌else◌}
+use Rattle.std.proofs.Common.{codes}
 use Rattle.std.proofs.lemmas.Bool.{ne_eqb}
 use Rattle.s360_inquiry.specs.Jumps.{to_words}
 use Rattle.s360_language.proofs.ShownLemmas.{pushed}

@@ -1,4 +1,4 @@
-use Rattle.std.proofs.Common.{◌≡◌, ◌-◌, ℕ, List, Option, Some, ap, ◌∙◌, sym}
+use Rattle.std.proofs.Common.{◌≡◌, ◌-◌, ℕ, Option, Some, ap, ◌∙◌, sym}
 use Rattle.s360_model.specs.Psw.{condition_code_of, instruction_address_of}
 use Rattle.s360_machine.specs.declared.event_kind.EventKind.{EventKind}
 use Rattle.s360_machine.specs.Machine.{Machine, seen}
