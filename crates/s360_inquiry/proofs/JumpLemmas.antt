@@ -12,6 +12,7 @@ use Rattle.s360_inquiry.specs.Changes.{just_before, machine_after, words_of_chan
 use Rattle.s360_inquiry.specs.declared.jump.Jump.{Jump}
 use Rattle.s360_inquiry.specs.declared.search.Sought.TheVariants.{CodeSettings}
 use Rattle.s360_inquiry.specs.CodeSettings.{setter_in, sets_code}
+use Rattle.s360_inquiry.specs.Interruptions.{exception_words, interruption_line, interruption_words}
 use Rattle.s360_inquiry.specs.Jumps.{decided_words, jump_line, jump_of_change, jump_words, line_if_jump}
 use Rattle.s360_inquiry.specs.Searches.{last_up_to}
 use Rattle.s360_inquiry.specs.Sought.{is_sought}
@@ -55,3 +56,16 @@ setter-found r x y n m s found others words gone left stands is last told =
     in ap (λ (ws : List ℕ). Some ws) same
     ∙ ap (λ (o : Option ℕ). option_map (words_of_change r) o) there
     ∙ ap (λ (k : ℕ). setter_in (with_standing r k)) at
+
+-- the line of an interruption likewise
+pub interruption-told : (r : Recorded) (number at : ℕ) (jump : Jump) (old words first second third fourth fifth : List ℕ)
+    → Some jump ≡ jump_of_change r number → words ≡ words_of_change r number → at ≡ instruction_address_of (machine_after r number).core.psw
+    → first ≡ old ++ codes "last interruption " → second ≡ first ++ words → third ≡ second ++ jump_words jump at → fourth ≡ third ++ exception_words jump
+    → fifth ≡ fourth ++ codes "\n" → fifth ≡ old ++ interruption_line r (Some number)
+interruption-told r number at jump old words first second third fourth fifth is event leads begun named more exception end =
+    pushed old fourth fifth _ (codes "\n")
+    (pushed old third fourth _ (exception_words jump)
+    (pushed old second third _ (jump_words jump at) (pushed old first second (codes "last interruption ") words begun named) more) exception) end
+    ∙ ap (λ (t : List ℕ). old ++ ((((codes "last interruption " ++ t) ++ jump_words jump at) ++ exception_words jump) ++ codes "\n")) event
+    ∙ ap (λ (n : ℕ). old ++ ((((codes "last interruption " ++ words_of_change r number) ++ jump_words jump n) ++ exception_words jump) ++ codes "\n")) leads
+    ∙ ap (λ (o : Option Jump). old ++ interruption_words r number o) is
