@@ -1,8 +1,6 @@
 -- The calls that have not returned, of which the innermost is the last that is kept.
-use Rattle.std.proofs.Common.{◌≡◌, ◌<◌, ◌≤◌, ◌+◌, ◌-◌, ◌++◌, ℕ, zero, suc, Bool, true, false, Option, Some, None, get_or, List, [], ◌∷◌, ap, sym, ◌∙◌, refl, arith, subst, length, map, reverse, take, take-append-drop, drop, codes, nat_eq, if◌then◌else◌}
+use Rattle.std.proofs.Common.{◌≡◌, ◌<◌, ◌≤◌, ◌+◌, ◌-◌, ◌++◌, ℕ, suc, Bool, true, false, Some, get_or, List, [], ◌∷◌, ap, sym, ◌∙◌, refl, arith, subst, length, map, reverse, take, take-append-drop, drop, codes, nat_eq, if◌then◌else◌}
 use Rattle.std.proofs.lemmas.List.{map-append, reverse-append, take_more}
-use Rattle.s360_machine.specs.declared.event.Event.{Event}
-use Rattle.s360_machine.specs.EventKinds.{kind_of_event}
 use Rattle.s360_model.specs.Text.{hex_text}
 use Rattle.s360_store.specs.declared.place.Place.{Place}
 use Rattle.s360_journal.specs.Recorded.{Recorded, with_standing}

@@ -1,5 +1,5 @@
 -- The last of some numbers that something holds of, which are found from the last one on.
-use Rattle.std.proofs.Common.{◌≡◌, ◌<◌, ◌≤◌, ◌+◌, ◌-◌, ◌++◌, ℕ, zero, suc, Bool, true, false, Some, List, [], ◌∷◌, ap, sym, ◌∙◌, refl, arith, append_assoc, drop, length, length-append, reverse, if◌then◌else◌}
+use Rattle.std.proofs.Common.{◌≡◌, ◌<◌, ◌≤◌, ◌-◌, ◌++◌, ℕ, zero, suc, Bool, true, false, Some, List, [], ◌∷◌, ap, sym, ◌∙◌, refl, arith, append_assoc, drop, length, length-append, reverse, if◌then◌else◌}
 use Rattle.std.proofs.lemmas.List.{append-nil, length-reverse, reverse-append}
 use Rattle.std.proofs.Math.Seq.{drop-append_seam}
 use Rattle.s360_journal.specs.Recorded.{Recorded, with_standing}

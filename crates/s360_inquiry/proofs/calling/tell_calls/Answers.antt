@@ -1,4 +1,4 @@
-use Rattle.std.proofs.Common.{◌≡◌, ◌∙◌, List, ap, map, rules}
+use Rattle.std.proofs.Common.{◌∙◌, List, ap, map, rules}
 use Rattle.s360_journal.specs.Recorded.{Recorded, with_standing}
 use Rattle.s360_inquiry.specs.declared.calling.OpenCall.{OpenCall}
 use Rattle.s360_inquiry.specs.Calls.{line_of_call}

@@ -1,4 +1,4 @@
-use Rattle.std.proofs.Common.{◌≡◌, ◌-◌, ℕ, ◌∙◌, ap, sym, arith}
+use Rattle.std.proofs.Common.{◌≡◌, ℕ, ◌∙◌, ap, sym, arith}
 use Rattle.s360_journal.specs.Recorded.{Recorded}
 use Rattle.s360_journal.specs.Returning.{one_back}
 use Rattle.s360_inquiry.specs.Searches.{last_up_to}
