@@ -5,7 +5,8 @@ ghost use Rattle.s360_machine.specs.Cpu.{cpu_case};
 ghost use Rattle.s360_machine.specs.Machine.{seen};
 ghost use Rattle.s360_journal.specs.Recorded.{with_standing};
 ghost use Rattle.s360_inquiry.specs.Changes.{kind_of_change};
-ghost use Rattle.s360_inquiry.specs.Calls.{call_by, calls_after, calls_after_change, led_to, calling_if, calling_of, calling_of_case, calling_of_shape, link_of_ended};
+ghost use Rattle.s360_inquiry.specs.Calls.{call_by, calls_after, calls_after_change, calling_if, calling_of, calling_of_case};
+ghost use Rattle.s360_inquiry.specs.Calls.{calling_of_shape, led_to, link_of_ended};
 ghost use Rattle.s360_inquiry.specs.Calls.{link_of_form, link_of_performed, link_place, outside_of, link_value, overwritten_words};
 ghost use Rattle.s360_inquiry.specs.Calls.{returning_words, value_words_of};
 
