@@ -1,6 +1,7 @@
 -- A fixed-point, branch or shift instruction: its row in its format (GA22-6821, "Fixed-Point Arithmetic", "Logical Operations" and "Branching").
 use Rattle.std.specs.Prelude.{ℕ, Option, None, Some, option_and_then, option_map}
-use Rattle.s360_fixed.specs.declared.{form.Form.Form, row.OperationRow.OperationRow, second_operand.SecondOperand.SecondOperand, second_operand.Width.TheVariants.Word}
+use Rattle.s360_fixed.specs.declared.{form.Form.Form, row.OperationRow.OperationRow}
+use Rattle.s360_fixed.specs.declared.second_operand.{SecondOperand.SecondOperand, Width.TheVariants.Word}
 use Rattle.s360_fixed.specs.Branching.{branch_outcome, index_outcome, register_target}
 use Rattle.s360_fixed.specs.Operands.{Operand, operand_address, storage_operand, word_operand}
 use Rattle.s360_fixed.specs.{Outcomes.combination_outcome, Outcomes.pair_outcome, Rows.row_of, Shifting.pair_shift_outcome, Shifting.shift_outcome}

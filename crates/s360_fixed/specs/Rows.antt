@@ -5,7 +5,8 @@ use Rattle.s360_model.specs.ConditionCodes.{sign_code, signed_code, carry_code, 
 use Rattle.s360_model.specs.Arithmetic.{signed_sum, signed_difference, signed_complement, absolute_value, negative_absolute_value, logical_sum}
 use Rattle.s360_model.specs.Arithmetic.{logical_difference, word_of}
 use Rattle.s360_fixed.specs.{declared.operation.Operation.Operation, Alterations.set_by_signed, Alterations.set_to, Alterations.unchanged}
-use Rattle.s360_fixed.specs.declared.row.{Combination.Combination, PairCombination.PairCombination, Branch.Branch, IndexBranch.IndexBranch, OperationRow.OperationRow}
+use Rattle.s360_fixed.specs.declared.row.{Combination.Combination, PairCombination.PairCombination, OperationRow.OperationRow}
+use Rattle.s360_fixed.specs.declared.row.{Branch.Branch, IndexBranch.IndexBranch}
 use Rattle.s360_fixed.specs.declared.row.Combination.TheVariants.{Second, InsertedCharacter, Tested, Complement, Absolute, NegativeAbsolute, Sum, Difference}
 use Rattle.s360_fixed.specs.declared.row.Combination.TheVariants.{LogicalSum, LogicalDifference, Comparison, LogicalComparison, BitwiseAnd, BitwiseOr}
 use Rattle.s360_fixed.specs.declared.row.Combination.TheVariants.{BitwiseExclusiveOr, LowProduct}

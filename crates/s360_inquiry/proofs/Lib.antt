@@ -1,5 +1,5 @@
 pub mod InquiryLemmas
 pub mod CallLemmas
 pub mod SearchLemmas
-pub mod VisitLemmas
+pub mod JumpLemmas
 pub mod WhyLemmas

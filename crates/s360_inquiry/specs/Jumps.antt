@@ -1,7 +1,7 @@
 -- Jumps (own profile): the events of the CPU that lead the program elsewhere, or might. They are branches, taken or not, the loading of a
 -- PSW, and interruptions (GA22-6821, "Branching"; "Status Switching", load PSW; "Interruptions").
 use Rattle.std.specs.Prelude.{◌≡◌, ℕ, ◌-◌, Bool, false, not, ◌&&◌, nat_eq, if◌then◌else◌, Option, Some, None, is_some, List, [], ◌∷◌, ◌++◌, codes, flat_map}
-use Rattle.std.specs.Option.{option_and_then, option_map}
+use Rattle.std.specs.Option.{option_and_then}
 use Rattle.s360_model.specs.Core.{Core}
 use Rattle.s360_model.specs.Psw.{condition_code_of, instruction_address_of}
 use Rattle.s360_model.specs.Text.{decimal, hex_text}

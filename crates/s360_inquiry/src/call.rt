@@ -1,13 +1,17 @@
 //! Calls: branches and links, and supervisor calls. Source: GA22-6821, "Branching", branch and link; "Interruptions",
 //! supervisor-call interruption.
-ghost use Rattle.std.specs.Prelude.{◌≡◌, ◌++◌, IfOk, OnOk};
+ghost use Rattle.std.specs.Prelude.{◌≡◌, ◌++◌, ◌+◌, ◌<◌, IfOk, OnErr, OnOk, length, reverse, unwrap_or};
 ghost use Rattle.s360_machine.specs.Cpu.{cpu_case};
 ghost use Rattle.s360_machine.specs.Machine.{seen};
-ghost use Rattle.s360_inquiry.specs.Calls.{call_by, calling_if, calling_of, calling_of_case, calling_of_shape, link_of_ended};
-ghost use Rattle.s360_inquiry.specs.Calls.{link_of_form, link_of_performed, link_place, link_value, overwritten_words};
+ghost use Rattle.s360_journal.specs.Recorded.{with_standing};
+ghost use Rattle.s360_inquiry.specs.Changes.{kind_of_change};
+ghost use Rattle.s360_inquiry.specs.Calls.{call_by, calls_after, calls_after_change, calling_if, calling_of, calling_of_case};
+ghost use Rattle.s360_inquiry.specs.Calls.{calling_of_shape, led_to, link_of_ended};
+ghost use Rattle.s360_inquiry.specs.Calls.{link_of_form, link_of_performed, link_place, outside_of, link_value, overwritten_words};
 ghost use Rattle.s360_inquiry.specs.Calls.{returning_words, value_words_of};
 
 use s360_fixed::{Ended, Form, Operation};
+use s360_journal::Session;
 use s360_language::push_place;
 use s360_machine::{CpuCase, EventKind, Machine};
 use s360_source::{InstructionShape, Performance, instruction_shape};
@@ -42,6 +46,13 @@ pub(crate) struct Call {
     pub(crate) next: u32,
     pub(crate) link: Link,
     pub(crate) value: u64,
+}
+
+/// What an event does to the calls: it is one, or it leads to another instruction address.
+#[derive(Clone, Copy)]
+struct Turn {
+    call: Option<Call>,
+    led: Option<u32>,
 }
 
 /// Where the link of an instruction stands.
@@ -113,7 +124,7 @@ fn calling_of_cpu(alloc: Global, machine: &Machine) -> Result<Option<Calling>, A
 
 /// An event, if there is one and it is such an instruction in the machine that it meets.
 #[tactic(auto, unfolding(crate::specs::Calls::calling_of))]
-pub(crate) fn calling_of(
+fn calling_of(
     alloc: Global,
     machine: &Machine,
     kind: Option<EventKind>,
@@ -142,7 +153,7 @@ pub(crate) fn link_value(machine: &Machine, link: Link) -> u64
 }
 
 /// The call of this number, which led to this machine, if another instruction comes than the next one.
-pub(crate) fn call_by(number: u32, after: &Machine, calling: Option<Calling>) -> Option<Call>
+fn call_by(number: u32, after: &Machine, calling: Option<Calling>) -> Option<Call>
     ensures { result ≡ call_by number (seen after.now.whole) calling }
 {
     let calling = calling?;
@@ -155,6 +166,90 @@ pub(crate) fn call_by(number: u32, after: &Machine, calling: Option<Calling>) ->
         link: calling.link,
         value: link_value(after, calling.link),
     })
+}
+
+/// Runs the next event of the record again, whose number this is: it calls, or may return. The innermost call is the last.
+pub(crate) fn go_on(
+    alloc: Global,
+    recording: &mut Session,
+    calls: &mut Vec<Call>,
+    number: u32,
+) -> Result<(), AllocError>
+    requires next { recording.old.standing < length recording.old.events }
+    requires numbered { number ≡ recording.old.standing + 1 }
+    ensures calls { OnOk result (reverse calls.new.items ≡ calls_after_change recording.old number (reverse calls.old.items)) }
+    ensures state { OnOk result (recording.new ≡ with_standing recording.old number) }
+    ensures memory { OnErr result (recording.new ≡ with_standing recording.old recording.new.standing) }
+{
+    let kind = next_kind(recording)?;
+    let calling = calling_of(alloc, recording.machine(), kind)?;
+    let before = recording.machine().psw().instruction_address();
+    let _ran = recording.again()?;
+    let after = recording.machine().psw().instruction_address();
+    let turn = Turn {
+        call: call_by(number, recording.machine(), calling),
+        led: led_to(before, after),
+    };
+    note(calls, turn)
+}
+
+/// The instruction address after an event, if it was another before it.
+fn led_to(before: u32, after: u32) -> Option<u32>
+    ensures { result ≡ led_to before after }
+{
+    if before == after {
+        return None;
+    }
+    Some(after)
+}
+
+/// What the next event of the record is.
+fn next_kind(recording: &Session) -> Result<Option<EventKind>, AllocError>
+    requires next { recording.now.standing < length recording.now.events }
+    ensures { IfOk result (λ kind. kind ≡ kind_of_change recording.now (recording.now.standing + 1)) }
+{
+    let event = recording.next_event()?;
+    Ok(Some(event.kind()))
+}
+
+/// Takes away the innermost call that goes on at an address, if one does, with those within it. The innermost one is the last.
+fn return_to(calls: &mut Vec<Call>, at: u32)
+    ensures { reverse calls.new.items ≡ unwrap_or (outside_of at (reverse calls.old.items)) (reverse calls.old.items) }
+{
+    for index in (0..calls.len()).rev() {
+        if calls[index].next == at {
+            calls.truncate(index);
+            return;
+        }
+    }
+}
+
+/// Adds the call that an event is, or takes away what has returned.
+fn note(calls: &mut Vec<Call>, turn: Turn) -> Result<(), AllocError>
+    ensures { OnOk result (reverse calls.new.items ≡ calls_after turn.call turn.led (reverse calls.old.items)) }
+{
+    // Taken apart, since the checker looks for the link's type.
+    if let Some(
+        Call {
+            number,
+            next,
+            link,
+            value,
+        },
+    ) = turn.call
+    {
+        calls.push(Call {
+            number,
+            next,
+            link,
+            value,
+        })?;
+        return Ok(());
+    }
+    if let Some(at) = turn.led {
+        return_to(calls, at);
+    }
+    Ok(())
 }
 
 /// The place of a link.
@@ -196,5 +291,6 @@ pub(crate) fn push_returning(text: &mut Text, call: Call, now: u64) -> Result<()
     text.push_text(" by ")?;
     push_place(text, link_place(call.link))?;
     push_link_value(text, call.link, call.value)?;
-    push_overwritten(text, call.link, call.value, now)
+    push_overwritten(text, call.link, call.value, now)?;
+    Ok(())
 }

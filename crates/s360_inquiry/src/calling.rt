@@ -1,17 +1,15 @@
 //! The calls that have not returned.
-ghost use Rattle.std.specs.Prelude.{◌≡◌, ◌<◌, ◌+◌, ◌++◌, ◌∷◌, [], IfOk, List, OnErr, OnOk, length, map, reverse, unwrap_or, ℕ};
+ghost use Rattle.std.specs.Prelude.{◌≡◌, ◌++◌, ◌∷◌, [], IfOk, List, OnErr, OnOk, map, reverse, ℕ};
 ghost use Rattle.s360_journal.specs.Recorded.{with_standing};
-ghost use Rattle.s360_inquiry.specs.Calls.{calls_after_change, calls_text, line_of_call, open_call, open_calls, outside_of, told_open_calls};
+ghost use Rattle.s360_inquiry.specs.Calls.{calls_text, line_of_call, open_call, open_calls, told_open_calls};
 ghost use Rattle.s360_inquiry.specs.Causes.{IsTold};
-ghost use Rattle.s360_inquiry.specs.Changes.{kind_of_change};
 
-use crate::call::{Call, call_by, calling_of, link_value, push_returning};
+use crate::call::{Call, go_on, link_value, push_returning};
 use crate::change::{go_before, push_event_of};
 use crate::going::go_to;
 use crate::why::Telling;
 use s360_debug::text_of_line;
 use s360_journal::Session;
-use s360_machine::EventKind;
 use s360_text::Text;
 use std::alloc::{AllocError, Global};
 
@@ -20,53 +18,6 @@ use std::alloc::{AllocError, Global};
 struct OpenCall {
     call: Call,
     now: u64,
-}
-
-/// Takes away the innermost call that goes on at an address, if one does, with those within it. The innermost one is the last.
-fn return_to(calls: &mut Vec<Call>, at: u32)
-    ensures { reverse calls.new.items ≡ unwrap_or (outside_of at (reverse calls.old.items)) (reverse calls.old.items) }
-{
-    for index in (0..calls.len()).rev() {
-        if calls[index].next == at {
-            calls.truncate(index);
-            return;
-        }
-    }
-}
-
-/// Runs the next event of the record again, whose number this is: it calls, or may return.
-fn go_on(
-    alloc: Global,
-    recording: &mut Session,
-    calls: &mut Vec<Call>,
-    number: u32,
-) -> Result<(), AllocError>
-    requires next { recording.old.standing < length recording.old.events }
-    requires numbered { number ≡ recording.old.standing + 1 }
-    ensures calls { OnOk result (reverse calls.new.items ≡ calls_after_change recording.old number (reverse calls.old.items)) }
-    ensures state { OnOk result (recording.new ≡ with_standing recording.old number) }
-    ensures memory { OnErr result (recording.new ≡ with_standing recording.old recording.new.standing) }
-{
-    let kind = next_kind(recording)?;
-    let calling = calling_of(alloc, recording.machine(), kind)?;
-    let before = recording.machine().psw().instruction_address();
-    let _ran = recording.again()?;
-    let after = recording.machine().psw().instruction_address();
-    match call_by(number, recording.machine(), calling) {
-        Some(call) => calls.push(call)?,
-        None if before != after => return_to(calls, after),
-        None => {}
-    }
-    Ok(())
-}
-
-/// What the next event of the record is.
-fn next_kind(recording: &Session) -> Result<Option<EventKind>, AllocError>
-    requires next { recording.now.standing < length recording.now.events }
-    ensures { IfOk result (λ kind. kind ≡ kind_of_change recording.now (recording.now.standing + 1)) }
-{
-    let event = recording.next_event()?;
-    Ok(Some(event.kind()))
 }
 
 /// The calls that have not returned, the outermost first. All that stands is run again.
@@ -129,7 +80,8 @@ fn push_call(
     push_event_of(&mut line, number, recording.machine(), kind)?;
     push_returning(&mut line, found.call, found.now)?;
     line.push_text("\n")?;
-    telling.push(line.as_bytes())
+    telling.push(line.as_bytes())?;
+    Ok(())
 }
 
 /// Tells calls. The recording is left at some change.

@@ -71,7 +71,8 @@ fn push_interruption(
     go_to(recording, number)?;
     push_jump_words(text, jump, recording.machine().psw().instruction_address())?;
     push_exception(text, jump)?;
-    text.push_text("\n")
+    text.push_text("\n")?;
+    Ok(())
 }
 
 /// Adds the line of the last interruption, if there was one. The recording is left at some change.

@@ -97,7 +97,8 @@ fn push_jump(
     go_to(recording, number)?;
     push_jump_words(text, jump, recording.machine().psw().instruction_address())?;
     push_decided(text, jump, code, &setter.words)?;
-    text.push_text("\n")
+    text.push_text("\n")?;
+    Ok(())
 }
 
 /// Tells jumps.

@@ -1,6 +1,6 @@
 use Rattle.std.proofs.Common.{◌≡◌, reverse, take}
 use Rattle.s360_inquiry.specs.Calls.{outside_of}
-use Rattle.s360_inquiry.proofs.calling.return_to.Given as goal
+use Rattle.s360_inquiry.proofs.call.return_to.Given as goal
 
 abbrev pub invariant-loop-index : goal.invariant-loop-index
 invariant-loop-index l = record {
