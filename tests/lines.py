@@ -44,6 +44,9 @@ def ends_of(form):
     if sort in ("kind", "part"):
         rest = form.partition(". ")[2]
         return [[*end, *more] for end in table(words[0]) for more in (ends_of(rest) if rest else [[]])]
+    if sort == "takes":
+        rest = ends_of(form.partition(". ")[2])
+        return [[value, *more] for value in values(words[0]) for more in rest]
     ends = [[]]
     for kind in (w for w in words if w in KINDS or WORD.search(DEFINED.get(w, ""))):
         ends = [[*end, value] for end in ends for value in values(kind)]

@@ -23,6 +23,7 @@ LINES += ["last p", "last u 00C", "show psw", "show regs", "show u 00C", "show d
 LINES += ["show m 00E 1", "show ext", "show k 200", "show image 180"]
 LINES += ["goto start", "goto end", "goto end", "goto last", "goto last", "units", "where", "where"]
 LINES += ["history", "who", "goto", "dump 0", "where x", "changes x"]
+LINES += ["jumps", "jumps", "calls", "calls", "calls", "visits", "visits 200"]
 LINES += ["patch k 200 3", "patch f 200 1", "patch f 1000 1"]
 LINES = [line.encode() for line in LINES]
 SAVED = [b"printer", b"printer", b"printer", b"console", b"console", b"punch", b"P1", b"P2", b"RP3"]
@@ -169,7 +170,8 @@ class Requests(random.Random):
         place = self.choice([*PLACES, f"s {at:X}", f"k {at:X}", f"r {number % 4}"]).encode()
         places = [b"who %s" % place, b"changes %s" % place, b"changes %s %d" % (place, number)]
         numbers = [b"goto %d" % number, b"history %d" % number, b"dump %X %d" % (at, number)]
-        return places * 3 + numbers * 2
+        visits = [b"visits %X" % self.code(), b"visits %X %d" % (at, number), b"jumps %d" % number]
+        return places * 3 + numbers * 2 + visits * 2
 
     def why(self):
         """Of a place that a change altered, most of them by the CPU, or of any that has a name."""

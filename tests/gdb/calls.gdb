@@ -53,4 +53,18 @@ goto start
 break ADD if $_changes("TOTAL") == 3
 continue
 print *(int*)&TOTAL
+delete
+# the calls that have not returned where the second TWICE has called ADD for the second time; out of ADD, and back to the call of TWICE
+calls
+jumps 2
+visits ADD 2
+out
+calls
+reverse-out
+print $pc
+calls
+out
+reverse-out
+jumps x
+visits
 kill

@@ -10,7 +10,11 @@ monitor who s 388
 monitor goto last
 monitor changes u 00C 1
 monitor history 1
+monitor visits 208
+monitor jumps 3
 monitor dump 388 21
+monitor goto 30
+monitor calls
 monitor goto end
 monitor units
 kill

@@ -3,16 +3,18 @@
 Source: docs/reference/gdb.md.
 """
 import itertools
+import re
 
 from .causes import Causes
 from .channels import LOAD, UNITS, Program
 from .core import ADDRESSES, BLOCK
 from .devices import SHOWN
+from .jumps import Jumps
 from .lines import ADDRESS, COUNT, PLACES, TOO_LONG, UNKNOWN, count_up_to, fault_of
 from .machine import OPERATING
 
 CHANGES_TOLD, DEPTH_TOLD = b"10", b"5"
-MOST_DUMPED, MOST_DEPTH, MOST_CAUSES = 1_048_576, 100, 1000
+MOST_DUMPED, MOST_DEPTH, MOST_CAUSES, MOST_TOLD = 1_048_576, 100, 1000, 1000
 NAMED_MARKS = (b"start", b"end", b"last")
 # The mnemonics of successive operation codes, from the one on that a row begins with; `-` is one that has none.
 ROWS_OF_MNEMONICS = {
@@ -30,21 +32,26 @@ ROWS_OF_MNEMONICS = {
 MNEMONICS = {
     first + i: [name] for first, names in ROWS_OF_MNEMONICS.items() for i, name in enumerate(names.split()) if name != "-"
 }
+# What the CPU does where it executes no instruction.
+NO_INSTRUCTION = "stopped|loading|interrupted|waits"
 # What is meant where a line with a place has no number behind it.
+# Lines about a place.
+ABOUT_A_PLACE = (b"who", b"why", b"changes")
 MEANT = {b"changes": CHANGES_TOLD, b"why": DEPTH_TOLD}
 
 
-FORMS = {b"who": PLACES, b"units": (), b"where": (), b"history": (COUNT,)}
+FORMS = {b"who": PLACES, b"units": (), b"where": (), b"history": (COUNT,), b"jumps": (count_up_to(MOST_TOLD),)}
+FORMS |= {b"calls": ()}
 FORMS |= {b"goto": (lambda word: word in NAMED_MARKS or COUNT(word),)}
 FORMS |= {b"changes": {kind: (*form, COUNT) for kind, form in PLACES.items()}}
 FORMS |= {b"why": {kind: (*form, count_up_to(MOST_DEPTH)) for kind, form in PLACES.items()}}
-FORMS |= {b"dump": (ADDRESS, count_up_to(MOST_DUMPED))}
+FORMS |= {b"dump": (ADDRESS, count_up_to(MOST_DUMPED)), b"visits": (ADDRESS, count_up_to(MOST_TOLD))}
 
 
 def words_of(line):
     """The words of a line, with the number that is meant where one that may have it has none."""
     words = list(filter(None, line.split(b" ")))
-    if words == [b"history"]:
+    if words in ([b"history"], [b"jumps"]) or len(words) == 2 and words[0] == b"visits":
         return [*words, CHANGES_TOLD]
     meant = MEANT.get(words[0]) if words else None
     place = PLACES.get(words[1]) if meant and len(words) > 1 else None
@@ -79,6 +86,8 @@ class Inquiries:
         if fault:
             return [fault]
         name, *rest = (word.decode() for word in words)
+        if words[0] in ABOUT_A_PLACE and words[1] in (b"s", b"k") and int(words[2], 16) >= self.machine.size:
+            return ["? argument 2"]
         stands = self.standing
         answers = getattr(self, f"answer_{name}")(*rest)
         if self.standing != stands:
@@ -150,6 +159,51 @@ class Inquiries:
         event = self.happening(change.event[0])
         self.go_to(stands)
         return f"{number} {event} {self.recording.altered_words(change.places)}"
+
+    # Visits of an address.
+
+    def answer_visits(self, address, most):
+        stands, at = self.standing, int(address, 16)
+        numbers = [number for number in range(1, stands + 1) if self.is_visit(number, at)]
+        befores = [None, *numbers]
+        lines = [self.visit(*visit) for visit in list(zip(befores, numbers))[-int(most) :]]
+        self.go_to(stands)
+        return lines or ["visits none"]
+
+    def is_visit(self, number, at):
+        """Whether the event of a change executes what is at an address; the recording is left just
+        before it."""
+        self.go_to(number - 1)
+        kind, *unit = self.recording.later[-1].event[0].split()
+        if kind == "cpu":
+            address = self.machine.psw_field(0, 24)
+            return address == at and not re.match(NO_INSTRUCTION, self.turn(at))
+        program = self.machine.unit(int(unit[0], 16)) if kind == "channel" and int(unit[0], 16) in UNITS else None
+        if not isinstance(program, Program) or program.after == LOAD:
+            return False
+        ccw = self.machine.ccw_at(program.at)
+        return program.at == at or bool(ccw and ccw.transfers and ccw.data == at)
+
+    def visit(self, before, number):
+        """The line of a visit, with the registers that were altered since the one before."""
+        self.go_to(number - 1)
+        since = self.recording.changes[before - 1 :] if before else []
+        altered = {place for change in since for place in change.places}
+        registers = [name for name in map("r{:X}".format, range(16)) if name in altered]
+        values = "".join(f" {name} {self.value(name)}" for name in registers)
+        return f"{number} {self.happening(self.recording.later[-1].event[0])}{values}"
+
+    # Jumps and calls.
+
+    def answer_jumps(self, most):
+        stands = self.standing
+        lines = list(Jumps(self).lines())[-int(most) :]
+        self.go_to(stands)
+        return lines or ["jumps none"]
+
+    def answer_calls(self):
+        lines = list(Jumps(self).calls()) or ["calls none"]
+        return lines if len(lines) <= MOST_TOLD else [*lines[:MOST_TOLD], "and more"]
 
     # What an event is, and a value.
 
@@ -227,10 +281,13 @@ class Inquiries:
         return [f"{machine.shown_unit(unit)}{machine.shown_device(unit)[3:]}" for unit in UNITS]
 
     def answer_where(self):
-        machine, recording = self.machine, self.recording
+        machine, recording, stands = self.machine, self.recording, self.standing
+        interruption = Jumps(self).last_interruption()
+        self.go_to(stands)
         pending = [unit for unit in UNITS if machine.control(unit).condition]
         return [
             self.line_of_standing(),
+            *interruption,
             *recording.show_psw(),
             self.cpu(),
             *recording.show_ext(),

@@ -14,7 +14,7 @@ gdb.execute(f"source {FOLDER / 's360.gdb'}")
 
 from s360_command import Command, refuse  # noqa: E402
 from s360_machine import machine, show, standing, told  # noqa: E402
-from s360_over import Over, ReverseOver  # noqa: E402
+from s360_over import Out, Over, ReverseOut, ReverseOver  # noqa: E402
 from s360_places import Change, bytes_of, changes_of, places_of, places_of_value, show_change, with_count  # noqa: E402
 from s360_printed import MOST_CHANGES, print_of  # noqa: E402
 
@@ -101,6 +101,46 @@ Ten, or as many as told."""
 
     def carry_out(self, words: str) -> None:
         show(told(f"history {words}".strip()))
+
+
+class Visits(Command):
+    """Tell the last times that what stands at an address was executed, the oldest first.
+Usage: visits EXPRESSION [COUNT]
+
+Ten, or as many as told: of an instruction by the CPU, of a command word by a channel.
+Behind each stand the registers that were altered since the one before."""
+
+    def carry_out(self, words: str) -> None:
+        expression, count = with_count(words)
+        if not expression:
+            raise gdb.GdbError("Argument required (an address).")
+        address, _ = bytes_of(expression)
+        show(told(f"visits {address:X} {TOLD if count is None else count}"))
+
+
+class Jumps(Command):
+    """Tell the last branches and interruptions, the oldest first.
+Usage: jumps [COUNT]
+
+Ten, or as many as told: where each led to, and what decided it."""
+
+    completion = gdb.COMPLETE_NONE
+
+    def carry_out(self, words: str) -> None:
+        show(told(f"jumps {words}".strip()))
+
+
+class Calls(Command):
+    """Tell the calls that have not returned, the innermost first.
+Usage: calls
+
+Each BAL, BALR and SVC, with where it goes on and its link."""
+
+    completion = gdb.COMPLETE_NONE
+
+    def carry_out(self, words: str) -> None:
+        refuse(words)
+        show(told("calls"))
 
 
 class Dump(Command):
@@ -290,9 +330,9 @@ def count_in_condition(point: gdb.Breakpoint) -> None:
         point.condition = COUNT.sub("$_changes()", point.condition)
 
 
-for command in (Who, Why, Changes, History, Dump, Units, Key, Load, Enter, Tick, Withdraw, Marks, Mark, Goto):
+for command in (Who, Why, Changes, History, Visits, Jumps, Calls, Dump, Units):
     command()
-for command in (Over, ReverseOver):
+for command in (Key, Load, Enter, Tick, Withdraw, Marks, Mark, Goto, Over, ReverseOver, Out, ReverseOut):
     command()
 for kind in Save.KINDS:
     Save(kind)

@@ -8,10 +8,11 @@ import gdb
 import listing
 import listing_symbols
 
-# In an answer: a byte or successive bytes; what an event met, and where.
+# In an answer: a byte or successive bytes; where a jump or a call leads to; what an event met, and where.
 BYTES = re.compile(r"\bs([0-9A-F]{6})(-[0-9A-F]{6})?")
+LED_TO = re.compile(r"\bto ([0-9A-F]{6})\b(?! [0-9A-F]{16})")
 MET = re.compile(
-    r"\b(?P<who>cpu|channel \w+) at (?P<address>[0-9A-F]{6})(?: (?P<happening>(?:[A-Z]+ )?(?P<digits>[0-9A-F]{4,})\b))?"
+    r"\b(?P<who>cpu|channel \w+) at (?P<address>[0-9A-F]{6})(?: (?P<happening>(?:[A-Z]+ )?(?P<digits>[0-9A-F]{2,})\b))?"
 )
 REFUSALS = ("refused", "no such change", "not saved")
 SECTION_TABLE, SECTION_COUNT = 32, 46
@@ -107,8 +108,10 @@ def labelled(text: str) -> str:
         told_so = f"{who} at {where}{label_at(address)}"
         return " ".join(filter(None, [told_so, happening])) + (f"  {line}" if line else "")
 
-    text = MET.sub(met, text)
-    return BYTES.sub(lambda found: found[0] + label_at(int(found[1], 16)), text)
+    def with_label(found: re.Match[str]) -> str:
+        return found[0] + label_at(int(found[1], 16))
+
+    return BYTES.sub(with_label, LED_TO.sub(with_label, MET.sub(met, text)))
 
 
 def standing() -> int:

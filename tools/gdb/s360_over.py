@@ -1,10 +1,14 @@
-"""Steps past subroutines: gdb's own go by frames, which a System/360 does not have."""
+"""Steps past subroutines and out of them: gdb's own go by frames, which a System/360 does not have."""
+import re
+
 import gdb
 from s360_command import Command, refuse
 from s360_machine import MET, told
 from s360_places import ADDRESS_BITS
 
 BALR, BCR, BAL, BC = 0x05, 0x07, 0x45, 0x47
+# The innermost call that has not returned: its change, and where it goes on.
+CALL = re.compile(r"(\d+) .* returns to ([0-9A-F]{6})")
 
 
 def call_at(address: int) -> tuple[int, int] | None:
@@ -83,3 +87,40 @@ BAL or BALR has set. Else it is `reverse-stepi`. Breakpoints and watches between
                 if call_at(back - length) == (length, register):
                     return back - length
         return None
+
+
+def innermost_call() -> tuple[int, int]:
+    """The number of the change that called last and has not returned, and where that goes on."""
+    found = CALL.match(told("calls"))
+    if not found:
+        raise gdb.GdbError("No call is open.")
+    return int(found[1]), int(found[2], 16)
+
+
+class Out(Command):
+    """Run to where the innermost of `calls` goes on.
+Usage: out
+
+Breakpoints and watches before it stop it. A subroutine that comes back elsewhere runs
+on to one of them."""
+
+    completion = gdb.COMPLETE_NONE
+
+    def carry_out(self, words: str) -> None:
+        refuse(words)
+        _, back = innermost_call()
+        gdb.execute(f"advance *{back:#x}")
+
+
+class ReverseOut(Command):
+    """Go back to just before the innermost of `calls`.
+Usage: reverse-out"""
+
+    name = "reverse-out"
+    completion = gdb.COMPLETE_NONE
+
+    def carry_out(self, words: str) -> None:
+        refuse(words)
+        number, _ = innermost_call()
+        told(f"goto {number - 1 or 'start'}")
+        gdb.execute("s360-renew")

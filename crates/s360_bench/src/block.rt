@@ -5,7 +5,7 @@ ghost use Rattle.std.specs.Prelude.{◌≤◌, ◌+◌, length, IsTrue};
 use crate::bench_fault::BenchFault;
 use crate::measured::{Measured, Moved, a_second};
 use s360_channel::{Program, Progress, channel_plan};
-use s360_store::{Part, Plan, Storage};
+use s360_store::{CellPart, Plan, Storage};
 use s360_tape::{Tape, tape_from};
 use s360_word::ProtectionKey;
 use std::alloc::{AllocError, Global};
@@ -102,7 +102,7 @@ fn altering_run(alloc: Global, storage: &Storage, tape: &Tape) -> Result<Run, Be
         return Err(BenchFault::Size);
     }
     match plan.part_at(0) {
-        Part::Bytes(address, bytes)
+        CellPart::Bytes(address, bytes)
             if bytes.len() == BLOCK && alters_each_byte(storage, address, bytes) => {
             let bytes = Vec::from_slice(alloc, bytes)?;
             Ok(Run { address, bytes })

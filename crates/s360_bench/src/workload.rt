@@ -120,7 +120,7 @@ enum Turn {
 /// What a loop is: its name, what its events are, its instructions, the areas and the runs of bytes
 /// that are patched, each with its address, and what its events move, where it is counted.
 #[derive(Clone, Copy, Debug)]
-struct Row {
+struct LoopRow {
     name: &'static str,
     turn: Turn,
     program: &'static [u8],
@@ -129,7 +129,7 @@ struct Row {
     moving: Option<Moving>,
 }
 
-static FIXED_ROW: Row = Row {
+static FIXED_ROW: LoopRow = LoopRow {
     name: "fixed",
     turn: Turn::Instruction,
     program: &ADD_AND_STORE,
@@ -138,7 +138,7 @@ static FIXED_ROW: Row = Row {
     moving: None,
 };
 
-static MOVE_ROW: Row = Row {
+static MOVE_ROW: LoopRow = LoopRow {
     name: "mvc",
     turn: Turn::Instruction,
     program: &MOVE_TWICE,
@@ -153,7 +153,7 @@ static MOVE_ROW: Row = Row {
     }),
 };
 
-static EXCLUSIVE_OR_ROW: Row = Row {
+static EXCLUSIVE_OR_ROW: LoopRow = LoopRow {
     name: "xc",
     turn: Turn::Instruction,
     program: &EXCLUSIVE_OR,
@@ -165,7 +165,7 @@ static EXCLUSIVE_OR_ROW: Row = Row {
     }),
 };
 
-static TRANSLATE_ROW: Row = Row {
+static TRANSLATE_ROW: LoopRow = LoopRow {
     name: "tr",
     turn: Turn::Instruction,
     program: &TRANSLATE,
@@ -177,7 +177,7 @@ static TRANSLATE_ROW: Row = Row {
     }),
 };
 
-static PACK_ROW: Row = Row {
+static PACK_ROW: LoopRow = LoopRow {
     name: "pack",
     turn: Turn::Instruction,
     program: &PACK_TWICE,
@@ -189,7 +189,7 @@ static PACK_ROW: Row = Row {
     }),
 };
 
-static COMPARE_LOGICAL_ROW: Row = Row {
+static COMPARE_LOGICAL_ROW: LoopRow = LoopRow {
     name: "clc",
     turn: Turn::Instruction,
     program: &COMPARE,
@@ -204,7 +204,7 @@ static COMPARE_LOGICAL_ROW: Row = Row {
     }),
 };
 
-static SUPERVISOR_CALL_ROW: Row = Row {
+static SUPERVISOR_CALL_ROW: LoopRow = LoopRow {
     name: "svc",
     turn: Turn::Instruction,
     program: &CALL,
@@ -213,7 +213,7 @@ static SUPERVISOR_CALL_ROW: Row = Row {
     moving: None,
 };
 
-static CARDS_ROW: Row = Row {
+static CARDS_ROW: LoopRow = LoopRow {
     name: "cards",
     turn: Turn::Card,
     program: &START_READER,
@@ -222,7 +222,7 @@ static CARDS_ROW: Row = Row {
     moving: None,
 };
 
-static BLOCKS_ROW: Row = Row {
+static BLOCKS_ROW: LoopRow = LoopRow {
     name: "blocks",
     turn: Turn::Block,
     program: &START_TAPE,
@@ -328,7 +328,7 @@ impl Workload {
         Some(self.row().moving?.bytes_within(events))
     }
 
-    fn row(self) -> &'static Row {
+    fn row(self) -> &'static LoopRow {
         match self {
             Workload::Fixed => &FIXED_ROW,
             Workload::Move => &MOVE_ROW,

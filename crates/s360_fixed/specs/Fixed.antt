@@ -1,6 +1,7 @@
 -- A fixed-point, branch or shift instruction: its row in its format (GA22-6821, "Fixed-Point Arithmetic", "Logical Operations" and "Branching").
 use Rattle.std.specs.Prelude.{ℕ, Option, None, Some, option_and_then, option_map}
-use Rattle.s360_fixed.specs.declared.{form.Form.Form, row.Row.Row, second_operand.SecondOperand.SecondOperand, second_operand.Width.TheVariants.Word}
+use Rattle.s360_fixed.specs.declared.{form.Form.Form, row.OperationRow.OperationRow}
+use Rattle.s360_fixed.specs.declared.second_operand.{SecondOperand.SecondOperand, Width.TheVariants.Word}
 use Rattle.s360_fixed.specs.Branching.{branch_outcome, index_outcome, register_target}
 use Rattle.s360_fixed.specs.Operands.{Operand, operand_address, storage_operand, word_operand}
 use Rattle.s360_fixed.specs.{Outcomes.combination_outcome, Outcomes.pair_outcome, Rows.row_of, Shifting.pair_shift_outcome, Shifting.shift_outcome}
@@ -14,27 +15,27 @@ abbrev pub with_operand : SecondOperand → (View → ℕ → Operand → Outcom
 with_operand second row v r1 address = row v r1 (storage_operand v.core second address)
 
 -- the rows of the format RR, by R1 and R2, which has the second operand or the branch address
-abbrev pub rr_outcome : Row → Option (View → ℕ → ℕ → Outcome)
-rr_outcome (Row.Combine second c) = Some (with_register (combination_outcome c))
-rr_outcome (Row.CombinePair c) = Some (with_register (pair_outcome c))
-rr_outcome (Row.Branch b) = Some (λ v r1 r2. branch_outcome b v r1 (register_target v r2))
+abbrev pub rr_outcome : OperationRow → Option (View → ℕ → ℕ → Outcome)
+rr_outcome (OperationRow.Combine second c) = Some (with_register (combination_outcome c))
+rr_outcome (OperationRow.CombinePair c) = Some (with_register (pair_outcome c))
+rr_outcome (OperationRow.Branch b) = Some (λ v r1 r2. branch_outcome b v r1 (register_target v r2))
 rr_outcome row = None
 
 -- the rows of the format RX, by R1 and the address
-abbrev pub rx_outcome : Row → Option (View → ℕ → ℕ → Outcome)
-rx_outcome (Row.Combine second c) = Some (with_operand second (combination_outcome c))
-rx_outcome (Row.CombinePair c) = Some (with_operand (SecondOperand.InStorage Word) (pair_outcome c))
-rx_outcome (Row.Branch b) = Some (λ v r1 address. branch_outcome b v r1 (Some address))
-rx_outcome (Row.StoreBytes width) = Some (store_outcome width)
+abbrev pub rx_outcome : OperationRow → Option (View → ℕ → ℕ → Outcome)
+rx_outcome (OperationRow.Combine second c) = Some (with_operand second (combination_outcome c))
+rx_outcome (OperationRow.CombinePair c) = Some (with_operand (SecondOperand.InStorage Word) (pair_outcome c))
+rx_outcome (OperationRow.Branch b) = Some (λ v r1 address. branch_outcome b v r1 (Some address))
+rx_outcome (OperationRow.StoreBytes width) = Some (store_outcome width)
 rx_outcome row = None
 
 -- the rows of the format RS, by R1, R3 and the address. A shift has no R3
-abbrev pub rs_outcome : Row → Option (View → ℕ → ℕ → ℕ → Outcome)
-rs_outcome Row.StoreRegisters = Some store_multiple_outcome
-rs_outcome Row.LoadRegisters = Some load_multiple_outcome
-rs_outcome (Row.Shift s) = Some (λ v r1 r3. shift_outcome s v r1)
-rs_outcome (Row.ShiftPair s) = Some (λ v r1 r3. pair_shift_outcome s v r1)
-rs_outcome (Row.BranchOnIndex b) = Some (index_outcome b)
+abbrev pub rs_outcome : OperationRow → Option (View → ℕ → ℕ → ℕ → Outcome)
+rs_outcome OperationRow.StoreRegisters = Some store_multiple_outcome
+rs_outcome OperationRow.LoadRegisters = Some load_multiple_outcome
+rs_outcome (OperationRow.Shift s) = Some (λ v r1 r3. shift_outcome s v r1)
+rs_outcome (OperationRow.ShiftPair s) = Some (λ v r1 r3. pair_shift_outcome s v r1)
+rs_outcome (OperationRow.BranchOnIndex b) = Some (index_outcome b)
 rs_outcome row = None
 
 -- what an instruction does, where it is one of these chapters

@@ -5,7 +5,8 @@ use Rattle.s360_model.specs.ConditionCodes.{sign_code, signed_code, carry_code, 
 use Rattle.s360_model.specs.Arithmetic.{signed_sum, signed_difference, signed_complement, absolute_value, negative_absolute_value, logical_sum}
 use Rattle.s360_model.specs.Arithmetic.{logical_difference, word_of}
 use Rattle.s360_fixed.specs.{declared.operation.Operation.Operation, Alterations.set_by_signed, Alterations.set_to, Alterations.unchanged}
-use Rattle.s360_fixed.specs.declared.row.{Combination.Combination, PairCombination.PairCombination, Branch.Branch, IndexBranch.IndexBranch, Row.Row}
+use Rattle.s360_fixed.specs.declared.row.{Combination.Combination, PairCombination.PairCombination, OperationRow.OperationRow}
+use Rattle.s360_fixed.specs.declared.row.{Branch.Branch, IndexBranch.IndexBranch}
 use Rattle.s360_fixed.specs.declared.row.Combination.TheVariants.{Second, InsertedCharacter, Tested, Complement, Absolute, NegativeAbsolute, Sum, Difference}
 use Rattle.s360_fixed.specs.declared.row.Combination.TheVariants.{LogicalSum, LogicalDifference, Comparison, LogicalComparison, BitwiseAnd, BitwiseOr}
 use Rattle.s360_fixed.specs.declared.row.Combination.TheVariants.{BitwiseExclusiveOr, LowProduct}
@@ -57,18 +58,18 @@ is_taken IndexBranch.High sum comparand = int_lt comparand sum
 is_taken IndexBranch.LowOrEqual sum comparand = not (int_lt comparand sum)
 
 -- rows of R1 and a word or a halfword. In the format RR the second operand is in a register
-abbrev pub on_word : Combination → Option Row
-on_word combination = Some (Row.Combine (SecondOperand.InStorage Width.Word) combination)
+abbrev pub on_word : Combination → Option OperationRow
+on_word combination = Some (OperationRow.Combine (SecondOperand.InStorage Width.Word) combination)
 
-abbrev pub on_halfword : Combination → Option Row
-on_halfword combination = Some (Row.Combine (SecondOperand.InStorage Width.Halfword) combination)
+abbrev pub on_halfword : Combination → Option OperationRow
+on_halfword combination = Some (OperationRow.Combine (SecondOperand.InStorage Width.Halfword) combination)
 
 -- the row of an operation, where it is one of these chapters
-abbrev pub row_of : Operation → Option Row
+abbrev pub row_of : Operation → Option OperationRow
 row_of Operation.Load = on_word Second
 row_of Operation.LoadHalfword = on_halfword Second
-row_of Operation.LoadAddress = Some (Row.Combine SecondOperand.Address Second)
-row_of Operation.InsertCharacter = Some (Row.Combine (SecondOperand.InStorage Width.Byte) InsertedCharacter)
+row_of Operation.LoadAddress = Some (OperationRow.Combine SecondOperand.Address Second)
+row_of Operation.InsertCharacter = Some (OperationRow.Combine (SecondOperand.InStorage Width.Byte) InsertedCharacter)
 row_of Operation.LoadAndTest = on_word Tested
 row_of Operation.LoadComplement = on_word Complement
 row_of Operation.LoadPositive = on_word Absolute
@@ -86,24 +87,24 @@ row_of Operation.And = on_word BitwiseAnd
 row_of Operation.Or = on_word BitwiseOr
 row_of Operation.ExclusiveOr = on_word BitwiseExclusiveOr
 row_of Operation.MultiplyHalfword = on_halfword LowProduct
-row_of Operation.Multiply = Some (Row.CombinePair PairCombination.Product)
-row_of Operation.Divide = Some (Row.CombinePair PairCombination.Quotient)
-row_of Operation.Store = Some (Row.StoreBytes Width.Word)
-row_of Operation.StoreHalfword = Some (Row.StoreBytes Width.Halfword)
-row_of Operation.StoreCharacter = Some (Row.StoreBytes Width.Byte)
-row_of Operation.StoreMultiple = Some Row.StoreRegisters
-row_of Operation.LoadMultiple = Some Row.LoadRegisters
-row_of Operation.ShiftLeftSingleLogical = Some (Row.Shift Shift.LeftLogical)
-row_of Operation.ShiftRightSingleLogical = Some (Row.Shift Shift.RightLogical)
-row_of Operation.ShiftLeftSingle = Some (Row.Shift Shift.Left)
-row_of Operation.ShiftRightSingle = Some (Row.Shift Shift.Right)
-row_of Operation.ShiftLeftDoubleLogical = Some (Row.ShiftPair Shift.LeftLogical)
-row_of Operation.ShiftRightDoubleLogical = Some (Row.ShiftPair Shift.RightLogical)
-row_of Operation.ShiftLeftDouble = Some (Row.ShiftPair Shift.Left)
-row_of Operation.ShiftRightDouble = Some (Row.ShiftPair Shift.Right)
-row_of Operation.BranchOnCondition = Some (Row.Branch Branch.OnCondition)
-row_of Operation.BranchAndLink = Some (Row.Branch Branch.AndLink)
-row_of Operation.BranchOnCount = Some (Row.Branch Branch.OnCount)
-row_of Operation.BranchOnIndexHigh = Some (Row.BranchOnIndex IndexBranch.High)
-row_of Operation.BranchOnIndexLowOrEqual = Some (Row.BranchOnIndex IndexBranch.LowOrEqual)
+row_of Operation.Multiply = Some (OperationRow.CombinePair PairCombination.Product)
+row_of Operation.Divide = Some (OperationRow.CombinePair PairCombination.Quotient)
+row_of Operation.Store = Some (OperationRow.StoreBytes Width.Word)
+row_of Operation.StoreHalfword = Some (OperationRow.StoreBytes Width.Halfword)
+row_of Operation.StoreCharacter = Some (OperationRow.StoreBytes Width.Byte)
+row_of Operation.StoreMultiple = Some OperationRow.StoreRegisters
+row_of Operation.LoadMultiple = Some OperationRow.LoadRegisters
+row_of Operation.ShiftLeftSingleLogical = Some (OperationRow.Shift Shift.LeftLogical)
+row_of Operation.ShiftRightSingleLogical = Some (OperationRow.Shift Shift.RightLogical)
+row_of Operation.ShiftLeftSingle = Some (OperationRow.Shift Shift.Left)
+row_of Operation.ShiftRightSingle = Some (OperationRow.Shift Shift.Right)
+row_of Operation.ShiftLeftDoubleLogical = Some (OperationRow.ShiftPair Shift.LeftLogical)
+row_of Operation.ShiftRightDoubleLogical = Some (OperationRow.ShiftPair Shift.RightLogical)
+row_of Operation.ShiftLeftDouble = Some (OperationRow.ShiftPair Shift.Left)
+row_of Operation.ShiftRightDouble = Some (OperationRow.ShiftPair Shift.Right)
+row_of Operation.BranchOnCondition = Some (OperationRow.Branch Branch.OnCondition)
+row_of Operation.BranchAndLink = Some (OperationRow.Branch Branch.AndLink)
+row_of Operation.BranchOnCount = Some (OperationRow.Branch Branch.OnCount)
+row_of Operation.BranchOnIndexHigh = Some (OperationRow.BranchOnIndex IndexBranch.High)
+row_of Operation.BranchOnIndexLowOrEqual = Some (OperationRow.BranchOnIndex IndexBranch.LowOrEqual)
 row_of other = None

@@ -15,7 +15,7 @@ use crate::form::Form;
 use crate::load_store::{fetch, put_loads, put_register, put_stores};
 use crate::program_code::ProgramCode;
 use crate::registers::odd_partner;
-use crate::row::{Combination, PairCombination, Row};
+use crate::row::{Combination, OperationRow, PairCombination};
 use crate::second_operand::{SecondOperand, Width};
 use crate::shifts::{put_pair_shift, put_shift};
 use crate::view::View;
@@ -66,7 +66,7 @@ pub fn put_pair_at<P: Puts>(
 /// Puts a row in the format RR, which has it.
 fn put_rr<P: Puts>(
     view: &View,
-    row: Row,
+    row: OperationRow,
     r1: RegisterNumber,
     r2: RegisterNumber,
     puts: &mut P,
@@ -76,11 +76,17 @@ fn put_rr<P: Puts>(
     ensures { IfSome (rr_outcome row) (λ outcome. IfOk result (PutsOutcome P.Puts puts.new view.now (outcome view.now r1 r2))) }
 {
     match row {
-        Row::Combine(_, combination) => {
+        OperationRow::Combine(_, combination) => {
             put_combined(view, combination, r1, view.register(r2), puts)
         }
-        Row::CombinePair(pair) => put_pair(view, pair, r1, view.register(r2), puts),
-        Row::Branch(branch) => put_branch(view, branch, r1, register_target(view, r2), puts),
+        OperationRow::CombinePair(pair) => put_pair(view, pair, r1, view.register(r2), puts),
+        OperationRow::Branch(branch) => put_branch(
+            view,
+            branch,
+            r1,
+            register_target(view, r2),
+            puts,
+        ),
         _ => unreachable!(),
     }
 }
@@ -88,7 +94,7 @@ fn put_rr<P: Puts>(
 /// Puts a row in the format RX, which has it.
 fn put_rx<P: Puts>(
     view: &View,
-    row: Row,
+    row: OperationRow,
     r1: RegisterNumber,
     address: u32,
     puts: &mut P,
@@ -98,12 +104,12 @@ fn put_rx<P: Puts>(
     ensures { IfSome (rx_outcome row) (λ outcome. IfOk result (PutsOutcome P.Puts puts.new view.now (outcome view.now r1 address))) }
 {
     match row {
-        Row::Combine(second, combination) => {
+        OperationRow::Combine(second, combination) => {
             put_combined_at(view, second, combination, r1, address, puts)
         }
-        Row::CombinePair(pair) => put_pair_at(view, pair, r1, address, puts),
-        Row::Branch(branch) => put_branch(view, branch, r1, Some(address), puts),
-        Row::StoreBytes(width) => put_register(view, width, r1, address, puts),
+        OperationRow::CombinePair(pair) => put_pair_at(view, pair, r1, address, puts),
+        OperationRow::Branch(branch) => put_branch(view, branch, r1, Some(address), puts),
+        OperationRow::StoreBytes(width) => put_register(view, width, r1, address, puts),
         _ => unreachable!(),
     }
 }
@@ -111,7 +117,7 @@ fn put_rx<P: Puts>(
 /// Puts a row in the format RS, which has it.
 fn put_rs<P: Puts>(
     view: &View,
-    row: Row,
+    row: OperationRow,
     r1: RegisterNumber,
     r3: RegisterNumber,
     address: u32,
@@ -122,11 +128,13 @@ fn put_rs<P: Puts>(
     ensures { IfSome (rs_outcome row) (λ outcome. IfOk result (PutsOutcome P.Puts puts.new view.now (outcome view.now r1 r3 address))) }
 {
     match row {
-        Row::StoreRegisters => put_stores(view, r1, r3, address, puts),
-        Row::LoadRegisters => put_loads(view, r1, r3, address, puts),
-        Row::Shift(shift) => put_shift(view, shift, r1, address, puts),
-        Row::ShiftPair(shift) => put_pair_shift(view, shift, r1, address, puts),
-        Row::BranchOnIndex(branch) => put_branch_on_index(view, branch, r1, r3, address, puts),
+        OperationRow::StoreRegisters => put_stores(view, r1, r3, address, puts),
+        OperationRow::LoadRegisters => put_loads(view, r1, r3, address, puts),
+        OperationRow::Shift(shift) => put_shift(view, shift, r1, address, puts),
+        OperationRow::ShiftPair(shift) => put_pair_shift(view, shift, r1, address, puts),
+        OperationRow::BranchOnIndex(branch) => put_branch_on_index(
+            view, branch, r1, r3, address, puts,
+        ),
         _ => unreachable!(),
     }
 }
@@ -142,19 +150,29 @@ pub fn is_fixed(form: &Form) -> bool
         Form::Si { .. } | Form::Ss { .. } => None,
     };
     match (form, row) {
-        (Form::Rr { .. }, Some(Row::Combine(..) | Row::CombinePair(_) | Row::Branch(_))) => true,
+        (
+            Form::Rr { .. },
+            Some(
+                OperationRow::Combine(..) | OperationRow::CombinePair(_) | OperationRow::Branch(_),
+            ),
+        ) => true,
         (
             Form::Rx { .. },
-            Some(Row::Combine(..) | Row::CombinePair(_) | Row::Branch(_) | Row::StoreBytes(_)),
+            Some(
+                OperationRow::Combine(..)
+                | OperationRow::CombinePair(_)
+                | OperationRow::Branch(_)
+                | OperationRow::StoreBytes(_),
+            ),
         ) => true,
         (
             Form::Rs { .. },
             Some(
-                Row::StoreRegisters
-                | Row::LoadRegisters
-                | Row::Shift(_)
-                | Row::ShiftPair(_)
-                | Row::BranchOnIndex(_),
+                OperationRow::StoreRegisters
+                | OperationRow::LoadRegisters
+                | OperationRow::Shift(_)
+                | OperationRow::ShiftPair(_)
+                | OperationRow::BranchOnIndex(_),
             ),
         ) => true,
         _ => false,

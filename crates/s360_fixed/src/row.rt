@@ -88,7 +88,7 @@ pub enum IndexBranch {
 
 /// What an operation does.
 #[derive(Clone, Copy)]
-pub(crate) enum Row {
+pub(crate) enum OperationRow {
     /// R1 becomes something of it and the second operand, or the two are compared. In the format RX
     /// the second operand is where this says.
     Combine(SecondOperand, Combination),
@@ -112,34 +112,34 @@ pub(crate) enum Row {
 
 /// A row of R1 and a word.
 #[inline(always)]
-fn on_word(combination: Combination) -> Option<Row>
+fn on_word(combination: Combination) -> Option<OperationRow>
     ensures { result ≡ on_word combination }
 {
-    Some(Row::Combine(SecondOperand::InStorage(Width::Word), combination))
+    Some(OperationRow::Combine(SecondOperand::InStorage(Width::Word), combination))
 }
 
 /// A row of R1 and a halfword.
 #[inline(always)]
-fn on_halfword(combination: Combination) -> Option<Row>
+fn on_halfword(combination: Combination) -> Option<OperationRow>
     ensures { result ≡ on_halfword combination }
 {
-    Some(Row::Combine(SecondOperand::InStorage(Width::Halfword), combination))
+    Some(OperationRow::Combine(SecondOperand::InStorage(Width::Halfword), combination))
 }
 
 impl Operation {
     /// The row of the operation, where it is one of these chapters.
     #[inline(always)]
-    pub(crate) fn row(self) -> Option<Row>
+    pub(crate) fn row(self) -> Option<OperationRow>
         ensures { result ≡ row_of self }
     {
         match self {
             Operation::Load => on_word(Combination::Second),
             Operation::LoadHalfword => on_halfword(Combination::Second),
-            Operation::LoadAddress => Some(Row::Combine(
+            Operation::LoadAddress => Some(OperationRow::Combine(
                 SecondOperand::Address,
                 Combination::Second,
             )),
-            Operation::InsertCharacter => Some(Row::Combine(
+            Operation::InsertCharacter => Some(OperationRow::Combine(
                 SecondOperand::InStorage(Width::Byte),
                 Combination::InsertedCharacter,
             )),
@@ -160,26 +160,30 @@ impl Operation {
             Operation::Or => on_word(Combination::BitwiseOr),
             Operation::ExclusiveOr => on_word(Combination::BitwiseExclusiveOr),
             Operation::MultiplyHalfword => on_halfword(Combination::LowProduct),
-            Operation::Multiply => Some(Row::CombinePair(PairCombination::Product)),
-            Operation::Divide => Some(Row::CombinePair(PairCombination::Quotient)),
-            Operation::Store => Some(Row::StoreBytes(Width::Word)),
-            Operation::StoreHalfword => Some(Row::StoreBytes(Width::Halfword)),
-            Operation::StoreCharacter => Some(Row::StoreBytes(Width::Byte)),
-            Operation::StoreMultiple => Some(Row::StoreRegisters),
-            Operation::LoadMultiple => Some(Row::LoadRegisters),
-            Operation::ShiftLeftSingleLogical => Some(Row::Shift(Shift::LeftLogical)),
-            Operation::ShiftRightSingleLogical => Some(Row::Shift(Shift::RightLogical)),
-            Operation::ShiftLeftSingle => Some(Row::Shift(Shift::Left)),
-            Operation::ShiftRightSingle => Some(Row::Shift(Shift::Right)),
-            Operation::ShiftLeftDoubleLogical => Some(Row::ShiftPair(Shift::LeftLogical)),
-            Operation::ShiftRightDoubleLogical => Some(Row::ShiftPair(Shift::RightLogical)),
-            Operation::ShiftLeftDouble => Some(Row::ShiftPair(Shift::Left)),
-            Operation::ShiftRightDouble => Some(Row::ShiftPair(Shift::Right)),
-            Operation::BranchOnCondition => Some(Row::Branch(Branch::OnCondition)),
-            Operation::BranchAndLink => Some(Row::Branch(Branch::AndLink)),
-            Operation::BranchOnCount => Some(Row::Branch(Branch::OnCount)),
-            Operation::BranchOnIndexHigh => Some(Row::BranchOnIndex(IndexBranch::High)),
-            Operation::BranchOnIndexLowOrEqual => Some(Row::BranchOnIndex(IndexBranch::LowOrEqual)),
+            Operation::Multiply => Some(OperationRow::CombinePair(PairCombination::Product)),
+            Operation::Divide => Some(OperationRow::CombinePair(PairCombination::Quotient)),
+            Operation::Store => Some(OperationRow::StoreBytes(Width::Word)),
+            Operation::StoreHalfword => Some(OperationRow::StoreBytes(Width::Halfword)),
+            Operation::StoreCharacter => Some(OperationRow::StoreBytes(Width::Byte)),
+            Operation::StoreMultiple => Some(OperationRow::StoreRegisters),
+            Operation::LoadMultiple => Some(OperationRow::LoadRegisters),
+            Operation::ShiftLeftSingleLogical => Some(OperationRow::Shift(Shift::LeftLogical)),
+            Operation::ShiftRightSingleLogical => Some(OperationRow::Shift(Shift::RightLogical)),
+            Operation::ShiftLeftSingle => Some(OperationRow::Shift(Shift::Left)),
+            Operation::ShiftRightSingle => Some(OperationRow::Shift(Shift::Right)),
+            Operation::ShiftLeftDoubleLogical => Some(OperationRow::ShiftPair(Shift::LeftLogical)),
+            Operation::ShiftRightDoubleLogical => Some(OperationRow::ShiftPair(
+                Shift::RightLogical,
+            )),
+            Operation::ShiftLeftDouble => Some(OperationRow::ShiftPair(Shift::Left)),
+            Operation::ShiftRightDouble => Some(OperationRow::ShiftPair(Shift::Right)),
+            Operation::BranchOnCondition => Some(OperationRow::Branch(Branch::OnCondition)),
+            Operation::BranchAndLink => Some(OperationRow::Branch(Branch::AndLink)),
+            Operation::BranchOnCount => Some(OperationRow::Branch(Branch::OnCount)),
+            Operation::BranchOnIndexHigh => Some(OperationRow::BranchOnIndex(IndexBranch::High)),
+            Operation::BranchOnIndexLowOrEqual => Some(OperationRow::BranchOnIndex(
+                IndexBranch::LowOrEqual,
+            )),
             _ => None,
         }
     }

@@ -1,5 +1,5 @@
 -- A text that is told item by item, and the changes of a record.
-use Rattle.std.proofs.Common.{◌≡◌, ◌<◌, ◌≤◌, ◌+◌, ◌-◌, ◌++◌, ℕ, zero, suc, Bool, true, false, List, [], ◌∷◌, Option, Some, None, ap, sym, ◌∙◌, refl, arith, length, length-append, length-take, min, take, drop, codes, slice_get, unwrap_or, if◌then◌else◌}
+use Rattle.std.proofs.Common.{◌≡◌, ◌<◌, ◌≤◌, ◌+◌, ◌-◌, ◌++◌, ℕ, zero, suc, Bool, true, false, List, [], ◌∷◌, Option, Some, None, Result, Ok, Err, IfOk, ap, sym, ◌∙◌, refl, arith, length, length-append, length-take, min, take, drop, codes, slice_get, unwrap_or, if◌then◌else◌}
 use Rattle.s360_store.specs.declared.place.Place.{Place}
 use Rattle.s360_machine.specs.declared.event.Event.{Event}
 use Rattle.s360_machine.specs.declared.event_kind.EventKind.{EventKind}
@@ -17,6 +17,11 @@ use Rattle.s360_language.proofs.ShownLemmas.{pushed, told-next}
 use Rattle.s360_debug.specs.Answers.{changed_after}
 use Rattle.s360_inquiry.specs.Changes.{event_words, kind_of_change, last_change_in, machine_after}
 use Rattle.s360_inquiry.specs.Histories.{altered_next, history_line, lines_from, places_words, report_words}
+
+-- what holds of any answer that is one
+pub if_ok : {A E : Type 0} {P Q : A → Type 0} (r : Result A E) → IfOk r P → ((x : A) → P x → Q x) → IfOk r Q
+if_ok (Ok x) p more = more x p
+if_ok (Err e) p more = p
 
 -- ---- a text that is added to a part at a time
 
@@ -70,6 +75,15 @@ last-kind es e =
     let count : length (es ++ e ∷ []) - 1 ≡ length es = omega (arith, length-append es (e ∷ []))
     in let last : last_of (es ++ e ∷ []) ≡ Some e = ap (λ n. slice_get (es ++ e ∷ []) n) count ∙ last-there es e
     in rw last refl
+
+-- what the next change of a record is
+pub next-kind : (r : Recorded) (e d : Event) → r.standing < length r.events → e ≡ unwrap_or (next_recorded r) d
+    → Some (kind_of_event e) ≡ kind_of_change r (r.standing + 1)
+next-kind r e d less is =
+    sym (
+    ap (λ es. last_kind_of es) (take-next r.standing (r.standing + 1) r.events e refl (next-recorded r e d less is))
+    ∙ last-kind (standing_events r) e
+    )
 
 -- a report tells the places that were altered
 pub reported : (report : Report) (ps : List Place) → IsReport report ps → report_words report ≡ places_words ps

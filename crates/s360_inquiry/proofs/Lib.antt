@@ -1,2 +1,5 @@
 pub mod InquiryLemmas
+pub mod CallLemmas
+pub mod SearchLemmas
+pub mod JumpLemmas
 pub mod WhyLemmas

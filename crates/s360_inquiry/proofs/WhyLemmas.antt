@@ -5,7 +5,6 @@ use Rattle.std.proofs.lemmas.Grind.{flat_map-append, fold-append}
 use Rattle.std.specs.List.{list_any}
 use Rattle.indexmap.specs.IndexSet.{insert_all, insert_key}
 use Rattle.s360_store.specs.declared.place.Place.{Place}
-use Rattle.s360_store.specs.declared.place.Place.TheVariants.{Psw, Register, Byte, Key, Run, External, UnitState, UnitMedia}
 use Rattle.s360_store.specs.Places.{same_place}
 use Rattle.s360_store.proofs.PlanPartLemmas.{equal, equal_is}
 use Rattle.s360_journal.specs.Recorded.{Recorded, with_standing}

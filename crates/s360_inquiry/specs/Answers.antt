@@ -1,17 +1,23 @@
 -- What an inquiry is answered, and where the recording stands then (own profile). Each line of an answer is ended by one line
 -- feed. No inquiry alters the record.
-use Rattle.std.specs.Prelude.{ℕ, nat_eq, if◌then◌else◌, Option, Some, List}
-use Rattle.s360_language.specs.declared.show_bytes.Row.TheVariants.{Signs}
+use Rattle.std.specs.Prelude.{ℕ, Bool, false, not, nat_eq, nat_lt, if◌then◌else◌, Option, Some, List, ◌++◌, codes, length}
+use Rattle.s360_model.specs.Storage.{Storage}
+use Rattle.s360_store.specs.declared.place.Place.{Place}
+use Rattle.s360_store.specs.declared.place.Place.TheVariants.{Byte, Key}
+use Rattle.s360_language.specs.declared.show_bytes.RowForm.TheVariants.{Signs}
 use Rattle.s360_language.specs.ShownBytes.{storage_rows}
 use Rattle.s360_journal.specs.Standing.{machine_of}
 use Rattle.s360_journal.specs.Recorded.{Recorded, session_of, with_standing}
 use Rattle.s360_inquiry.specs.declared.inquiry.Inquiry.{Inquiry}
-use Rattle.s360_inquiry.specs.declared.inquiry.Inquiry.TheVariants.{Who, Why, Goto, Changes, History, Dump, Units, Where}
+use Rattle.s360_inquiry.specs.declared.inquiry.Inquiry.TheVariants.{Who, Why, Goto, Changes, History, Visits, Jumps, Calls, Dump, Units, Where}
+use Rattle.s360_inquiry.specs.Calls.{calls_text}
 use Rattle.s360_inquiry.specs.Causes.{why_text}
 use Rattle.s360_inquiry.specs.Changes.{changes_text, last_change_in, stands_after_who, who_text}
 use Rattle.s360_inquiry.specs.Going.{goto_number, goto_text, stands_after_goto}
 use Rattle.s360_inquiry.specs.Histories.{history_text}
+use Rattle.s360_inquiry.specs.Jumps.{jumps_text}
 use Rattle.s360_inquiry.specs.Situations.{units_text, where_text}
+use Rattle.s360_inquiry.specs.Visits.{visits_text}
 
 -- a recording, and where it stood before the last line that went elsewhere, if one did
 pub record Inquired : Type 0 where
@@ -21,21 +27,45 @@ pub record Inquired : Type 0 where
 abbrev pub inquired : Recorded → Option ℕ → Inquired
 inquired recorded stood = record { recorded = recorded; stood = stood }
 
-unfoldable pub answer_to : Inquired → Inquiry → List ℕ
-answer_to i (Who place) = who_text i.recorded place (last_change_in i.recorded place)
-answer_to i (Why place depth) = why_text i.recorded place depth
-answer_to i (Goto mark) = goto_text i.recorded (goto_number i.recorded i.stood mark)
-answer_to i (Changes place most) = changes_text i.recorded place most
-answer_to i (History most) = history_text i.recorded most
-answer_to i (Dump at count) = storage_rows Signs (machine_of (session_of i.recorded)).core.storage at count
-answer_to i Units = units_text (machine_of (session_of i.recorded))
-answer_to i Where = where_text i.recorded
+-- a place that storage does not have is a wrong argument
+abbrev pub is_outside : Storage → Place → Bool
+is_outside s (Byte a) = not (nat_lt a (length s.bytes))
+is_outside s (Key b) = not (nat_lt b (length s.keys))
+is_outside s place = false
+
+abbrev pub asks_outside : Storage → Inquiry → Bool
+asks_outside s (Who place) = is_outside s place
+asks_outside s (Why place depth) = is_outside s place
+asks_outside s (Changes place most) = is_outside s place
+asks_outside s inquiry = false
+
+unfoldable pub told_answer : Inquired → Inquiry → List ℕ
+told_answer i (Who place) = who_text i.recorded place (last_change_in i.recorded place)
+told_answer i (Why place depth) = why_text i.recorded place depth
+told_answer i (Goto mark) = goto_text i.recorded (goto_number i.recorded i.stood mark)
+told_answer i (Changes place most) = changes_text i.recorded place most
+told_answer i (History most) = history_text i.recorded most
+told_answer i (Visits at most) = visits_text i.recorded at most
+told_answer i (Jumps most) = jumps_text i.recorded most
+told_answer i Calls = calls_text i.recorded
+told_answer i (Dump at count) = storage_rows Signs (machine_of (session_of i.recorded)).core.storage at count
+told_answer i Units = units_text (machine_of (session_of i.recorded))
+told_answer i Where = where_text i.recorded
+
+abbrev pub asked_storage : Inquired → Storage
+asked_storage i = (machine_of (session_of i.recorded)).core.storage
+
+abbrev pub answer_to : Inquired → Inquiry → List ℕ
+answer_to i inquiry = if asks_outside (asked_storage i) inquiry then codes "? argument 2" ++ codes "\n" else told_answer i inquiry
 
 -- how many changes stand then: `who` goes to just before the change that it tells, `goto` to its mark, and any other stays
-unfoldable pub stands_after : Inquired → Inquiry → ℕ
-stands_after i (Who place) = stands_after_who i.recorded (last_change_in i.recorded place)
-stands_after i (Goto mark) = stands_after_goto i.recorded (goto_number i.recorded i.stood mark)
-stands_after i inquiry = i.recorded.standing
+unfoldable pub stands_after_told : Inquired → Inquiry → ℕ
+stands_after_told i (Who place) = stands_after_who i.recorded (last_change_in i.recorded place)
+stands_after_told i (Goto mark) = stands_after_goto i.recorded (goto_number i.recorded i.stood mark)
+stands_after_told i inquiry = i.recorded.standing
+
+abbrev pub stands_after : Inquired → Inquiry → ℕ
+stands_after i inquiry = if asks_outside (asked_storage i) inquiry then i.recorded.standing else stands_after_told i inquiry
 
 -- a line that goes elsewhere leaves where it came from to `goto last`
 abbrev pub gone_to : Inquired → ℕ → Inquired

@@ -4,7 +4,14 @@ pub mod Happenings
 pub mod Going
 pub mod Changes
 pub mod Histories
+pub mod Searches
+pub mod Visits
+pub mod CodeSettings
+pub mod Jumps
+pub mod Interruptions
+pub mod Sought
 pub mod Extents
 pub mod Causes
+pub mod Calls
 pub mod Situations
 pub mod Answers

@@ -3,20 +3,23 @@ use Rattle.std.specs.Prelude.{ℕ, Option, Result, List, [], ◌∷◌, codes}
 use Rattle.std.specs.Option.{option_map, option_or}
 use Rattle.s360_language.specs.declared.command.LineFault.{LineFault}
 use Rattle.s360_language.specs.Digits.{count_of}
-use Rattle.s360_language.specs.Lines.{Line, if_known, judged, line, makes, may_take, one, one_of, part, two}
+use Rattle.s360_language.specs.Lines.{Line, if_known, judged, line, makes, may_take, one, one_of, part, takes, two}
 use Rattle.s360_language.specs.Reading.{address, most_count, places}
 use Rattle.s360_inquiry.specs.Causes.{most_depth}
 use Rattle.s360_inquiry.specs.declared.inquiry.Inquiry.{Inquiry}
-use Rattle.s360_inquiry.specs.declared.inquiry.Inquiry.TheVariants.{Who, Why, Goto, Changes, History, Dump, Units, Where}
+use Rattle.s360_inquiry.specs.declared.inquiry.Inquiry.TheVariants.{Who, Why, Goto, Changes, History, Visits, Jumps, Calls, Dump, Units, Where}
 use Rattle.s360_inquiry.specs.declared.inquiry.Mark.{Mark}
 use Rattle.s360_inquiry.specs.declared.inquiry.Mark.TheVariants.{Change, Start, End, Last}
 
 abbrev pub Asked : Type 0
 Asked = Result Inquiry LineFault
 
--- so many changes are told where no number is given, and so many bytes has the greatest storage
+-- so many changes are told where no number is given; so many visits and jumps at most; and so many bytes has the greatest storage
 abbrev pub changes_told : ℕ
 changes_told = 10
+
+abbrev pub most_told : ℕ
+most_told = 1000
 
 abbrev pub most_dumped : ℕ
 most_dumped = 1048576
@@ -38,6 +41,9 @@ inquiries =
     line (codes "goto") (one mark_of (λ mark. Goto mark)) ∷
     line (codes "changes") (part places (λ place. may_take (count_of most_count) changes_told (λ most. makes (Changes place most)))) ∷
     line (codes "history") (may_take (count_of most_count) changes_told (λ most. makes (History most))) ∷
+    line (codes "visits") (takes address (λ at. may_take (count_of most_told) changes_told (λ most. makes (Visits at most)))) ∷
+    line (codes "jumps") (may_take (count_of most_told) changes_told (λ most. makes (Jumps most))) ∷
+    line (codes "calls") (makes Calls) ∷
     line (codes "dump") (two address (count_of most_dumped) (λ at count. Dump at count)) ∷
     line (codes "units") (makes Units) ∷
     line (codes "where") (makes Where) ∷

@@ -13,6 +13,7 @@ use Rattle.s360_language.specs.declared.command.Shown.TheVariants.{External, Psw
 use Rattle.s360_language.specs.Values.{value_words}
 use Rattle.s360_inquiry.specs.Going.{stands_line}
 use Rattle.s360_inquiry.specs.Happenings.{cpu_words}
+use Rattle.s360_inquiry.specs.Interruptions.{interruption_line, last_interruption_in}
 
 -- a unit by its address: what the channel does for it, and its device
 abbrev pub unit_and_device : Machine → ConfiguredUnit → List ℕ
@@ -34,6 +35,6 @@ pending_lines m = flat_map (pending_text m) configured_units
 abbrev pub next_text : Machine → List ℕ
 next_text m = shown_text m Psw ++ cpu_words m ++ codes "\n" ++ shown_text m External ++ pending_lines m
 
--- below how many changes stand
+-- below how many changes stand, and the last interruption
 abbrev pub where_text : Recorded → List ℕ
-where_text r = stands_line r ++ next_text (machine_of (session_of r))
+where_text r = (stands_line r ++ interruption_line r (last_interruption_in r)) ++ next_text (machine_of (session_of r))

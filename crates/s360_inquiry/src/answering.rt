@@ -2,18 +2,23 @@
 ghost use Rattle.std.specs.Prelude.{◌≡◌, IfOk, OnErr, OnOk};
 ghost use Rattle.s360_journal.specs.Recorded.{with_standing};
 ghost use Rattle.s360_language.specs.ShownBytes.{storage_rows};
-ghost use Rattle.s360_language.specs.declared.show_bytes.Row.TheVariants.{Signs};
-ghost use Rattle.s360_inquiry.specs.Answers.{answer_to, inquired, stands_after, state_after};
+ghost use Rattle.s360_language.specs.declared.show_bytes.RowForm.TheVariants.{Signs};
+ghost use Rattle.s360_inquiry.specs.Answers.{answer_to, asks_outside, inquired, is_outside, stands_after, stands_after_told, state_after};
+ghost use Rattle.s360_inquiry.specs.Answers.{told_answer};
 
+use crate::calling::answer_calls;
 use crate::change::{answer_changes, answer_who};
 use crate::going::answer_goto;
 use crate::history::answer_history;
 use crate::inquiry::Inquiry;
+use crate::jumping::answer_jumps;
 use crate::situation::{units_of, where_of};
+use crate::visit::answer_visits;
 use crate::why::answer_why;
+use s360_debug::text_of_line;
 use s360_journal::Session;
-use s360_language::{Row, push_storage};
-use s360_store::Storage;
+use s360_language::{RowForm, push_storage};
+use s360_store::{BLOCK_SIZE, Place, Storage};
 use s360_text::Text;
 use std::alloc::{AllocError, Global};
 
@@ -38,8 +43,7 @@ pub fn answer_inquiry(
     Ok(text)
 }
 
-/// Answers an inquiry.
-#[tactic(auto, unfolding(crate::specs::Answers::answer_to, crate::specs::Answers::stands_after))]
+/// Answers an inquiry, or that its place is a wrong argument.
 fn text_of_inquiry(
     alloc: Global,
     recording: &mut Session,
@@ -50,12 +54,56 @@ fn text_of_inquiry(
     ensures state { OnOk result (recording.new ≡ with_standing recording.old (stands_after (inquired recording.old stood) inquiry)) }
     ensures memory { OnErr result (recording.new ≡ with_standing recording.old recording.new.standing) }
 {
+    if asks_outside(recording.machine().storage(), inquiry) {
+        return text_of_line(alloc, "? argument 2");
+    }
+    told_answer(alloc, recording, stood, inquiry)
+}
+
+/// Whether storage does not have a place.
+fn is_outside(storage: &Storage, place: Place) -> bool
+    ensures { result ≡ is_outside storage.now place }
+{
+    match place {
+        Place::Byte(address) => address >= storage.size(),
+        Place::Key(block) => block >= storage.size() / BLOCK_SIZE,
+        _ => false,
+    }
+}
+
+/// Whether an inquiry is about such a place.
+fn asks_outside(storage: &Storage, inquiry: Inquiry) -> bool
+    ensures { result ≡ asks_outside storage.now inquiry }
+{
+    match inquiry {
+        Inquiry::Who(place) | Inquiry::Why { place, .. } | Inquiry::Changes { place, .. } => {
+            is_outside(storage, place)
+        }
+        _ => false,
+    }
+}
+
+/// Answers an inquiry about a place that the machine has, or about none.
+#[tactic(auto, unfolding(crate::specs::Answers::told_answer, crate::specs::Answers::stands_after_told))]
+fn told_answer(
+    alloc: Global,
+    recording: &mut Session,
+    stood: Option<u32>,
+    inquiry: Inquiry,
+) -> Result<Text, AllocError>
+    ensures text { IfOk result (λ text. text ≡ told_answer (inquired recording.old stood) inquiry) }
+    ensures state { OnOk result (recording.new ≡ with_standing recording.old (stands_after_told (inquired recording.old stood) inquiry)) }
+    ensures memory { OnErr result (recording.new ≡ with_standing recording.old recording.new.standing) }
+{
     match inquiry {
         Inquiry::Who(place) => answer_who(alloc, recording, place),
         Inquiry::Why { place, depth } => answer_why(alloc, recording, place, depth),
         Inquiry::Goto(mark) => answer_goto(alloc, recording, stood, mark),
         Inquiry::Changes { place, most } => answer_changes(alloc, recording, place, most),
         Inquiry::History { most } => answer_history(alloc, recording, most),
+        Inquiry::Visits { at, most } => answer_visits(alloc, recording, at, most),
+        Inquiry::Jumps { most } => answer_jumps(alloc, recording, most),
+        Inquiry::Calls => answer_calls(alloc, recording),
         Inquiry::Dump { at, count } => dump_of(alloc, recording.machine().storage(), at, count),
         Inquiry::Units => units_of(alloc, recording.machine()),
         Inquiry::Where => where_of(alloc, recording),
@@ -67,6 +115,6 @@ fn dump_of(alloc: Global, storage: &Storage, at: u32, count: u32) -> Result<Text
     ensures { IfOk result (λ text. text ≡ storage_rows Signs storage.now at count) }
 {
     let mut text = Text::new(alloc);
-    push_storage(&mut text, storage, Row::Signs, at, count)?;
+    push_storage(&mut text, storage, RowForm::Signs, at, count)?;
     Ok(text)
 }

@@ -5,10 +5,9 @@ ghost use Rattle.s360_inquiry.specs.Causes.{IsMaking, cause_in, cause_with, caus
 ghost use Rattle.s360_inquiry.specs.Causes.{decided_words, event_next, first_cause, origin_in, origin_of};
 ghost use Rattle.s360_inquiry.specs.Changes.{just_before};
 
-use crate::change::push_event_of;
+use crate::change::{go_before, push_event_of};
 use crate::decider::decided_by;
 use crate::extent::{Extent, extents_of, push_words};
-use crate::going::go_to;
 use crate::place_set::places_before;
 use s360_journal::Session;
 use s360_machine::Event;
@@ -152,9 +151,7 @@ pub(crate) fn making_of(
     ensures state { OnOk result (recording.new ≡ just_before recording.old number) }
     ensures memory { OnErr result (recording.new ≡ with_standing recording.old recording.new.standing) }
 {
-    go_to(recording, number)?;
-    let kind = recording.last_event();
-    let _stand = recording.back_to(number.saturating_sub(1));
+    let kind = go_before(recording, number)?;
     let mut words = Text::new(alloc);
     push_event_of(&mut words, number, recording.machine(), kind)?;
     let (decided, causes) = of_next(alloc, recording, extent)?;

@@ -61,6 +61,22 @@ fn value_after(
     Ok((value, recording.last_event()))
 }
 
+/// Goes to just before the change of a number, and answers what its event is. Want of memory leaves the recording at some
+/// change.
+pub(crate) fn go_before(
+    recording: &mut Session,
+    number: u32,
+) -> Result<Option<EventKind>, AllocError>
+    ensures kind { IfOk result (λ kind. kind ≡ kind_of_change recording.old number) }
+    ensures state { OnOk result (recording.new ≡ just_before recording.old number) }
+    ensures memory { OnErr result (recording.new ≡ with_standing recording.old recording.new.standing) }
+{
+    go_to(recording, number)?;
+    let kind = recording.last_event();
+    let _before = recording.back_to(number.saturating_sub(1));
+    Ok(kind)
+}
+
 /// Adds the event of a change, and the value of a place in the machine that it meets and the one just after it.
 fn push_told(
     text: &mut Text,

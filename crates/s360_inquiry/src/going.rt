@@ -15,8 +15,8 @@ pub(crate) fn go_to(recording: &mut Session, number: u32) -> Result<(), AllocErr
     ensures state { OnOk result (recording.new ≡ with_standing recording.old (min number (length recording.old.events))) }
     ensures err { OnErr result (recording.new ≡ with_standing recording.old (min number recording.old.standing)) }
 {
-    // Looked at, since its clauses have that no more stand than are recorded.
-    let _standing = recording.standing();
+    // No more stand than are recorded.
+    prove!(recording.standing() <= recording.recorded());
     let _stand = recording.back_to(number);
     let _stand = recording.again_to(number)?;
     Ok(())

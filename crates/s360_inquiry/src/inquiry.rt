@@ -27,6 +27,12 @@ pub enum Inquiry {
     Changes { place: Place, most: u32 },
     /// `history`: the last changes of any place, so many at most.
     History { most: u32 },
+    /// `visits`: the last events that executed what is at an address, so many at most.
+    Visits { at: u32, most: u32 },
+    /// `jumps`: the last branches and interruptions, so many at most.
+    Jumps { most: u32 },
+    /// `calls`: the calls that have not returned.
+    Calls,
     /// `dump A N`: so many bytes of storage from an address on, with their signs.
     Dump { at: u32, count: u32 },
     /// `units`: how each unit stands, with its device.

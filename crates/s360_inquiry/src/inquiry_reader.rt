@@ -17,6 +17,9 @@ use s360_store::GREATEST_SIZE;
 /// So many changes are told where no number is given.
 const CHANGES: u32 = 10;
 
+/// So many visits and jumps are told at most.
+const MOST_TOLD: u32 = 1000;
+
 /// So deep is a chain of causes followed where no depth is given.
 const DEPTH: u32 = 5;
 
@@ -42,6 +45,9 @@ fn read_words(mut words: Words<'_>) -> Result<Inquiry, LineFault>
         "goto" (mark: mark_in) => Inquiry::Goto(mark);
         "changes" (place: [next_place], most: count_in(MOST_COUNT) or CHANGES) => Inquiry::Changes { place, most };
         "history" (most: count_in(MOST_COUNT) or CHANGES) => Inquiry::History { most };
+        "visits" (at: address_in, most: count_in(MOST_TOLD) or CHANGES) => Inquiry::Visits { at, most };
+        "jumps" (most: count_in(MOST_TOLD) or CHANGES) => Inquiry::Jumps { most };
+        "calls" () => Inquiry::Calls;
         "dump" (at: address_in, count: count_in(GREATEST_SIZE)) => Inquiry::Dump { at, count };
         "units" () => Inquiry::Units;
         "where" () => Inquiry::Where;

@@ -2,8 +2,11 @@
 #![tactic(auto)]
 
 mod answering;
+mod call;
+mod calling;
 mod cause;
 mod change;
+mod code_setting;
 mod decider;
 mod extent;
 mod going;
@@ -11,10 +14,15 @@ mod happening;
 mod history;
 mod inquiry;
 mod inquiry_reader;
+mod interruption;
+mod jump;
+mod jumping;
 mod mnemonic;
 mod place_set;
+mod search;
 mod situation;
 mod unit;
+mod visit;
 mod why;
 
 pub use answering::answer_inquiry;

@@ -1,11 +1,13 @@
 //! How the machine stands: its units, and what it does next.
-ghost use Rattle.std.specs.Prelude.{◌≡◌, ◌++◌, IfOk, OnOk};
+ghost use Rattle.std.specs.Prelude.{◌≡◌, ◌++◌, IfOk, OnErr, OnOk};
+ghost use Rattle.s360_journal.specs.Recorded.{with_standing};
 ghost use Rattle.s360_machine.specs.Machine.{seen};
 ghost use Rattle.s360_inquiry.specs.Situations.{next_text, pending_lines, pending_text, unit_and_device, units_text};
 ghost use Rattle.s360_inquiry.specs.Situations.{where_text};
 
-use crate::going::text_of_standing;
+use crate::going::{go_to, text_of_standing};
 use crate::happening::push_cpu;
+use crate::interruption::push_last_interruption;
 use crate::unit::is_pending;
 use s360_journal::Session;
 use s360_language::{Shown, push_shown, push_value};
@@ -36,11 +38,17 @@ fn push_unit(text: &mut Text, machine: &Machine, unit: ConfiguredUnit) -> Result
     Ok(())
 }
 
-/// How far the recording stands, the PSW and the run state, what the CPU does next, and what is pending.
-pub(crate) fn where_of(alloc: Global, recording: &Session) -> Result<Text, AllocError>
-    ensures { IfOk result (λ text. text ≡ where_text recording.now) }
+/// How far the recording stands, the last interruption, the PSW and the run state, what the CPU does next, and what is pending.
+/// The recording stands where it stood; want of memory leaves it at some change.
+pub(crate) fn where_of(alloc: Global, recording: &mut Session) -> Result<Text, AllocError>
+    ensures text { IfOk result (λ text. text ≡ where_text recording.old) }
+    ensures state { OnOk result (recording.new ≡ recording.old) }
+    ensures memory { OnErr result (recording.new ≡ with_standing recording.old recording.new.standing) }
 {
+    let standing = recording.standing();
     let mut text = text_of_standing(alloc, recording)?;
+    push_last_interruption(alloc, &mut text, recording)?;
+    go_to(recording, standing)?;
     push_next(&mut text, recording.machine())?;
     Ok(text)
 }

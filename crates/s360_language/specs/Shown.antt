@@ -11,7 +11,7 @@ use Rattle.s360_machine.specs.declared.refusal.Refusal.TheVariants.{NoSuchUnit, 
 use Rattle.s360_machine.specs.Machine.{Machine}
 use Rattle.s360_language.specs.declared.command.Shown.{Shown}
 use Rattle.s360_language.specs.declared.command.Shown.TheVariants.{Registers, Psw, Storage, StorageKey, External, UnitState, Device, Item, Image}
-use Rattle.s360_language.specs.declared.show_bytes.Row.TheVariants.{Digits}
+use Rattle.s360_language.specs.declared.show_bytes.RowForm.TheVariants.{Digits}
 use Rattle.s360_language.specs.Names.{refused_text}
 use Rattle.s360_language.specs.ShownBytes.{storage_rows}
 use Rattle.s360_language.specs.ShownImages.{image_text}

@@ -6,8 +6,8 @@ use Rattle.s360_model.specs.Storage.{Storage, is_inside}
 use Rattle.s360_model.specs.Text.{hex_bytes, hex_text}
 use Rattle.s360_print.specs.Signs.{ascii_of}
 use Rattle.s360_machine.specs.declared.refusal.Refusal.TheVariants.{OutsideStorage}
-use Rattle.s360_language.specs.declared.show_bytes.Row.{Row}
-use Rattle.s360_language.specs.declared.show_bytes.Row.TheVariants.{Plain, Digits, Signs}
+use Rattle.s360_language.specs.declared.show_bytes.RowForm.{RowForm}
+use Rattle.s360_language.specs.declared.show_bytes.RowForm.TheVariants.{Plain, Digits, Signs}
 use Rattle.s360_language.specs.Names.{refused_text}
 
 -- the sign of an EBCDIC byte, or a period where it has none
@@ -34,20 +34,20 @@ abbrev pub words_of_row : List ℕ → List ℕ
 words_of_row bytes = flat_map (λ index. digits_in_word index (slice_index bytes index)) (range_with_len 0 (length bytes))
 
 -- a row whose first byte has this address: between asterisks stand the signs
-abbrev pub told_row : Row → ℕ → List ℕ → List ℕ
+abbrev pub told_row : RowForm → ℕ → List ℕ → List ℕ
 told_row Plain at bytes = hex_bytes bytes ++ codes "\n"
 told_row Digits at bytes = hex_text 6 at ++ codes " " ++ hex_bytes bytes ++ codes "\n"
 told_row Signs at bytes = hex_text 6 at ++ words_of_row bytes ++ codes " *" ++ map sign_of bytes ++ codes "*\n"
 
 -- of bytes the row with this number: so many bytes, or those that are left
-abbrev pub numbered_row : Row → ℕ → ℕ → List ℕ → ℕ → List ℕ
+abbrev pub numbered_row : RowForm → ℕ → ℕ → List ℕ → ℕ → List ℕ
 numbered_row row at size bytes number =
     told_row row (at + number * size) (slice_range bytes (number * size) (min (length bytes) (number * size + size)))
 
-abbrev pub in_rows : Row → ℕ → ℕ → List ℕ → List ℕ
+abbrev pub in_rows : RowForm → ℕ → ℕ → List ℕ → List ℕ
 in_rows row at size bytes = flat_map (numbered_row row at size bytes) (range_with_len 0 (div_ceil (length bytes) size))
 
 -- so many bytes of storage from an address on, sixteen a row, if all are inside
-abbrev pub storage_rows : Row → Storage → ℕ → ℕ → List ℕ
+abbrev pub storage_rows : RowForm → Storage → ℕ → ℕ → List ℕ
 storage_rows row s at count =
     if is_inside s at count then in_rows row at 16 (slice_range s.bytes at (at + count)) else refused_text OutsideStorage

@@ -9,7 +9,7 @@ use Rattle.s360_channel.specs.declared.configured_unit.ConfiguredUnit.TheVariant
 use Rattle.s360_machine.specs.declared.refusal.Refusal.TheVariants.{NoSuchUnit}
 use Rattle.s360_machine.specs.Machine.{Machine}
 use Rattle.s360_channel.specs.ConfiguredUnits.{unit_at}
-use Rattle.s360_language.specs.declared.show_bytes.Row.TheVariants.{Plain}
+use Rattle.s360_language.specs.declared.show_bytes.RowForm.TheVariants.{Plain}
 use Rattle.s360_language.specs.Names.{refused_text}
 use Rattle.s360_language.specs.ShownBytes.{in_rows}
 

@@ -6,7 +6,7 @@ ghost use Rattle.s360_language.specs.Shown.{key_text, psw_text, register_line, r
 
 use crate::command::Shown;
 use crate::names::push_refusal;
-use crate::show_bytes::{Row, push_storage};
+use crate::show_bytes::{RowForm, push_storage};
 use crate::show_image::push_image;
 use crate::show_items::push_item;
 use crate::value::push_value;
@@ -24,7 +24,7 @@ pub fn push_shown(text: &mut Text, machine: &Machine, shown: Shown) -> Result<()
         Shown::Registers => push_registers(text, machine),
         Shown::Psw => push_psw(text, machine),
         Shown::Storage { at, count } => {
-            push_storage(text, machine.storage(), Row::Digits, at, count)
+            push_storage(text, machine.storage(), RowForm::Digits, at, count)
         }
         Shown::StorageKey { at } => push_key(text, machine, at),
         Shown::External => push_line(text, "ext", machine, Place::External),

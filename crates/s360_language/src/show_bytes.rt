@@ -20,7 +20,7 @@ const BYTES_A_WORD: usize = 4;
 
 /// How a row of bytes is told.
 #[derive(Clone, Copy)]
-pub enum Row {
+pub enum RowForm {
     /// By its digits alone.
     Plain,
     /// By the address of its first byte, and its digits.
@@ -33,7 +33,7 @@ pub enum Row {
 pub fn push_storage(
     text: &mut Text,
     storage: &Storage,
-    row: Row,
+    row: RowForm,
     at: u32,
     count: u32,
 ) -> Result<(), AllocError>
@@ -48,7 +48,7 @@ pub fn push_storage(
 /// Adds bytes in rows, so many a row. The first byte has an address.
 pub(crate) fn push_rows(
     text: &mut Text,
-    row: Row,
+    row: RowForm,
     at: u32,
     size: usize,
     bytes: &[u8],
@@ -66,21 +66,21 @@ pub(crate) fn push_rows(
 }
 
 /// Adds a row of bytes, the first of which has this address.
-fn push_row(text: &mut Text, row: Row, at: u64, bytes: &[u8]) -> Result<(), AllocError>
+fn push_row(text: &mut Text, row: RowForm, at: u64, bytes: &[u8]) -> Result<(), AllocError>
     ensures { OnOk result (text.new ≡ text.old ++ told_row row at bytes.now) }
 {
     match row {
-        Row::Plain => {
+        RowForm::Plain => {
             push_digits(text, bytes)?;
             text.push_text("\n")
         }
-        Row::Digits => {
+        RowForm::Digits => {
             text.push_hex(at, 6)?;
             text.push_text(" ")?;
             push_digits(text, bytes)?;
             text.push_text("\n")
         }
-        Row::Signs => {
+        RowForm::Signs => {
             text.push_hex(at, 6)?;
             push_words(text, bytes)?;
             text.push_text(" *")?;

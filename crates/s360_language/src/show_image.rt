@@ -6,7 +6,7 @@ ghost use Rattle.s360_device.specs.DeviceChanges.{bare};
 ghost use Rattle.s360_tape.specs.WholeTape.{seen as seen_tape};
 
 use crate::names::push_refusal;
-use crate::show_bytes::{Row, push_rows};
+use crate::show_bytes::{RowForm, push_rows};
 use s360_machine::{Machine, Refusal};
 use s360_tape::{Tape, image_of};
 use s360_text::Text;
@@ -40,5 +40,5 @@ fn push_file(text: &mut Text, file: &[u8]) -> Result<(), AllocError>
 {
     text.push_counted("image ", file.len() as u64)?;
     text.push_text("\n")?;
-    push_rows(text, Row::Plain, 0, BYTES_A_LINE, file)
+    push_rows(text, RowForm::Plain, 0, BYTES_A_LINE, file)
 }

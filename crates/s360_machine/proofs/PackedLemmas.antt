@@ -2,8 +2,8 @@
 use Rattle.std.proofs.Common.{subst, ◌≡◌, ◌<◌, ◌≤◌, ◌+◌, ◌-◌, ◌^◌, ◌++◌, ◌∙◌, ℕ, zero, suc, List, [], ◌∷◌, refl, ap, sym, take, drop, set, get_or, length, reverse, arith, Some, None, append-nil, Option, Bool, true, false, slice_get, IfSome}
 use Rattle.std.proofs.lemmas.List.{append_assoc, drop-append-le, drop-drop, drop-take, drop_all, drop_at, length-append, length-drop, length-reverse, length-take-le, reverse-append, take-append-drop, take-take, take_all, take_at, take_more}
 use Rattle.s360_machine.specs.declared.packed.End.{End}
-use Rattle.s360_machine.specs.declared.row.Row.{Row}
-use Rattle.s360_machine.specs.declared.row.Row.TheVariants.{Nothing, Psw, Register, Bytes, More}
+use Rattle.s360_machine.specs.declared.row.PackedRow.{PackedRow}
+use Rattle.s360_machine.specs.declared.row.PackedRow.TheVariants.{Nothing, Psw, Register, Bytes, More}
 use Rattle.s360_store.specs.declared.items.Item.{Item}
 use Rattle.s360_store.specs.declared.items.Item.TheVariants.{Single, Run}
 use Rattle.s360_store.specs.declared.place.Cell.{Cell}
@@ -40,7 +40,7 @@ pub length-newest : {X : Type 0} (n : ℕ) (xs : List X) → n ≤ length xs →
 length-newest n xs l = omega (arith, l, length-drop (length xs - n) xs)
 
 -- a row more
-pub record IsOwn (r : Row) (ms : Lists) : Type 0 where
+pub record IsOwn (r : PackedRow) (ms : Lists) : Type 0 where
   pub items : length ms.items ≡ items_of_row r
   pub bytes : length ms.bytes ≡ bytes_of_row r
   pub beside : length ms.beside ≡ beside_of_row r
@@ -49,28 +49,28 @@ pub same-lists : (ls ms : Lists) → ls.items ≡ ms.items → ls.bytes ≡ ms.b
 same-lists ls ms a b c =
     ap (λ k. record ls { items = k }) a ∙ ap (λ k. record ls { items = ms.items; bytes = k }) b ∙ ap (λ k. record ms { beside = k }) c
 
-own-joined : (r : Row) (ls ms : Lists) → IsOwn r ms → own r (joined ls ms) ≡ ms
+own-joined : (r : PackedRow) (ls ms : Lists) → IsOwn r ms → own r (joined ls ms) ≡ ms
 own-joined r ls ms o =
     same-lists (own r (joined ls ms)) ms (newest-joined (items_of_row r) ls.items ms.items o.items) (newest-joined (bytes_of_row r) ls.bytes ms.bytes o.bytes)
     (newest-joined (beside_of_row r) ls.beside ms.beside o.beside)
 
-others-joined : (r : Row) (ls ms : Lists) → IsOwn r ms → others r (joined ls ms) ≡ ls
+others-joined : (r : PackedRow) (ls ms : Lists) → IsOwn r ms → others r (joined ls ms) ≡ ls
 others-joined r ls ms o =
     same-lists (others r (joined ls ms)) ls (older-joined (items_of_row r) ls.items ms.items o.items) (older-joined (bytes_of_row r) ls.bytes ms.bytes o.bytes)
     (older-joined (beside_of_row r) ls.beside ms.beside o.beside)
 
-own-counts : (r : Row) (ls : Lists) → HasOwn r ls → IsOwn r (own r ls)
+own-counts : (r : PackedRow) (ls : Lists) → HasOwn r ls → IsOwn r (own r ls)
 own-counts r ls h = record {
   items = length-newest (items_of_row r) ls.items h.0;
   bytes = length-newest (bytes_of_row r) ls.bytes h.1;
   beside = length-newest (beside_of_row r) ls.beside h.2;
 }
 
-pub unpacked-joined : (r : Row) (rs : List Row) (ls ms : Lists) → IsOwn r ms → unpacked (r ∷ rs) (joined ls ms) ≡ change_of_row r ms ∷ unpacked rs ls
+pub unpacked-joined : (r : PackedRow) (rs : List PackedRow) (ls ms : Lists) → IsOwn r ms → unpacked (r ∷ rs) (joined ls ms) ≡ change_of_row r ms ∷ unpacked rs ls
 unpacked-joined r rs ls ms o =
     ap (λ k. change_of_row r k ∷ unpacked rs (others r (joined ls ms))) (own-joined r ls ms o) ∙ ap (λ k. change_of_row r ms ∷ unpacked rs k) (others-joined r ls ms o)
 
-pub ArePacked-joined : (r : Row) (rs : List Row) (ls ms : Lists) → IsOwn r ms → IsOver r ms.items ms.bytes → ArePacked rs ls → ArePacked (r ∷ rs) (joined ls ms)
+pub ArePacked-joined : (r : PackedRow) (rs : List PackedRow) (ls ms : Lists) → IsOwn r ms → IsOver r ms.items ms.bytes → ArePacked rs ls → ArePacked (r ∷ rs) (joined ls ms)
 ArePacked-joined r rs ls ms o over h = (
   (omega (arith, o.items, length-append ls.items ms.items), omega (arith, o.bytes, length-append ls.bytes ms.bytes), omega (arith, o.beside, length-append ls.beside ms.beside)),
   subst (λ k. IsOver r k.items k.bytes) (sym (own-joined r ls ms o)) over,
@@ -88,12 +88,12 @@ newest-take k n xs m l =
     let count : length (take n xs) ≡ n = length-take-le n xs l
     in rw count (sym (drop-append-le (n - k) (take n xs) (drop n xs) (omega (arith, count))) ∙ ap (λ l. drop (n - k) l) (take-append-drop n xs))
 
-others-to : (r : Row) (rows : List Row) (ls : Lists) (e : End) → IsWithin rows ls e → others r (lists_to e ls) ≡ lists_to (end_before e r) ls
+others-to : (r : PackedRow) (rows : List PackedRow) (ls : Lists) (e : End) → IsWithin rows ls e → others r (lists_to e ls) ≡ lists_to (end_before e r) ls
 others-to r rows ls e w =
     same-lists (others r (lists_to e ls)) (lists_to (end_before e r) ls) (older-take (items_of_row r) e.items ls.items w.items) (older-take (bytes_of_row r) e.bytes ls.bytes w.bytes)
     (older-take (beside_of_row r) e.beside ls.beside w.beside)
 
-own-from : (r : Row) (rows : List Row) (ls : Lists) (e : End) → IsWithin rows ls e → HasBefore e r → joined (own r (lists_to e ls)) (lists_from e ls) ≡ lists_from (end_before e r) ls
+own-from : (r : PackedRow) (rows : List PackedRow) (ls : Lists) (e : End) → IsWithin rows ls e → HasBefore e r → joined (own r (lists_to e ls)) (lists_from e ls) ≡ lists_from (end_before e r) ls
 own-from r rows ls e w h =
     same-lists (joined (own r (lists_to e ls)) (lists_from e ls)) (lists_from (end_before e r) ls) (newest-take (items_of_row r) e.items ls.items h.items w.items)
     (newest-take (bytes_of_row r) e.bytes ls.bytes h.bytes w.bytes) (newest-take (beside_of_row r) e.beside ls.beside h.beside w.beside)
@@ -103,15 +103,15 @@ joined-twice ls ms ns =
     same-lists (joined (joined ls ms) ns) (joined ls (joined ms ns)) (append_assoc ls.items ms.items ns.items) (append_assoc ls.bytes ms.bytes ns.bytes) (append_assoc ls.beside ms.beside ns.beside)
 
 -- the last of the first rows
-abbrev pub last_row : List Row → End → Row → Type 0
+abbrev pub last_row : List PackedRow → End → PackedRow → Type 0
 last_row rows e r = take e.rows rows ≡ take (e.rows - 1) rows ++ r ∷ []
 
-pub last-row : (rows : List Row) (e : End) (r : Row) → 0 < e.rows → e.rows ≤ length rows → r ≡ get_or rows (e.rows - 1) r → last_row rows e r
+pub last-row : (rows : List PackedRow) (e : End) (r : PackedRow) → 0 < e.rows → e.rows ≤ length rows → r ≡ get_or rows (e.rows - 1) r → last_row rows e r
 last-row rows e r some within is =
     let on : e.rows - 1 + 1 ≡ e.rows = omega (arith, some)
     in ap (λ n. take n rows) (sym on) ∙ take_more rows (e.rows - 1) r (omega (arith, some, within)) ∙ ap (λ x. take (e.rows - 1) rows ++ x ∷ []) (sym is)
 
-drop-last : (rows : List Row) (e : End) (r : Row) → last_row rows e r → 0 < e.rows → e.rows ≤ length rows → drop (e.rows - 1) rows ≡ r ∷ drop e.rows rows
+drop-last : (rows : List PackedRow) (e : End) (r : PackedRow) → last_row rows e r → 0 < e.rows → e.rows ≤ length rows → drop (e.rows - 1) rows ≡ r ∷ drop e.rows rows
 drop-last rows e r h some within =
     let front : take e.rows rows ++ drop e.rows rows ≡ rows = take-append-drop e.rows rows
     in let count : length (take (e.rows - 1) rows) ≡ e.rows - 1 = length-take-le (e.rows - 1) rows (omega (arith, within))
@@ -129,7 +129,7 @@ take-further (suc n) (x ∷ xs) ys y h =
 drop-further : {X : Type 0} (n : ℕ) (xs ys : List X) (y : X) → drop n xs ≡ y ∷ ys → drop (n + 1) xs ≡ ys
 drop-further n xs ys y h = sym (drop-drop 1 n xs) ∙ ap (λ l. drop 1 l) h
 
-before-has : (rows : List Row) (ls : Lists) (e : End) (r : Row) → IsEnd rows ls e → 0 < e.rows → HasOwn r (lists_to e ls) → HasBefore e r
+before-has : (rows : List PackedRow) (ls : Lists) (e : End) (r : PackedRow) → IsEnd rows ls e → 0 < e.rows → HasOwn r (lists_to e ls) → HasBefore e r
 before-has rows ls e r h some own = record {
   rows = some;
   items = omega (arith, own.0, length-take-le e.items ls.items h.within.items);
@@ -141,16 +141,16 @@ reverse-cons : {X : Type 0} (x : X) (xs : List X) → reverse (x ∷ xs) ≡ rev
 reverse-cons x xs = reverse-append (x ∷ []) xs
 
 -- what stands there of the last of the first rows
-pub record IsLast (rows : List Row) (ls : Lists) (e : End) (r : Row) : Type 0 where
+pub record IsLast (rows : List PackedRow) (ls : Lists) (e : End) (r : PackedRow) : Type 0 where
   pub has : HasBefore e r
   pub own_is : IsOwn r (own r (lists_to e ls))
   pub over : IsOver r (own r (lists_to e ls)).items (own r (lists_to e ls)).bytes
   pub change : drop (length rows - e.rows) (unpacked (reverse rows) ls) ≡ change_of_row r (own r (lists_to e ls)) ∷ unpacked (reverse (take (e.rows - 1) rows)) (lists_to (end_before e r) ls)
   pub before : IsEnd rows ls (end_before e r)
 
-pub IsEnd-before : (rows : List Row) (ls : Lists) (e : End) (r : Row) → IsEnd rows ls e → 0 < e.rows → last_row rows e r → IsLast rows ls e r
+pub IsEnd-before : (rows : List PackedRow) (ls : Lists) (e : End) (r : PackedRow) → IsEnd rows ls e → 0 < e.rows → last_row rows e r → IsLast rows ls e r
 IsEnd-before rows ls e r h some last =
-    let newest_first : reverse (take e.rows rows) ≡ r ∷ reverse (take (e.rows - 1) rows) = ap (λ (l : List Row). reverse l) last ∙ reverse-append (take (e.rows - 1) rows) (r ∷ [])
+    let newest_first : reverse (take e.rows rows) ≡ r ∷ reverse (take (e.rows - 1) rows) = ap (λ (l : List PackedRow). reverse l) last ∙ reverse-append (take (e.rows - 1) rows) (r ∷ [])
     in let packed : ArePacked (r ∷ reverse (take (e.rows - 1) rows)) (lists_to e ls) = rw newest_first at h.packed
     in let has : HasBefore e r = before-has rows ls e r h some packed.0
     in let counts : IsOwn r (own r (lists_to e ls)) = own-counts r (lists_to e ls) packed.0
@@ -159,8 +159,8 @@ IsEnd-before rows ls e r h some last =
     = sym h.changes ∙ rw (newest_first, before) refl
     in let further : length rows - (e.rows - 1) ≡ length rows - e.rows + 1 = omega (arith, some, h.within.rows)
     in let rest : drop (e.rows - 1) rows ≡ r ∷ drop e.rows rows = drop-last rows e r last some h.within.rows
-    in let turned : (rs : List Row) → reverse (drop (e.rows - 1) rows) ++ rs ≡ reverse (drop e.rows rows) ++ r ∷ rs
-    = λ rs. ap (λ (l : List Row). reverse l ++ rs) rest ∙ ap (λ (l : List Row). l ++ rs) (reverse-cons r (drop e.rows rows)) ∙ append_assoc (reverse (drop e.rows rows)) (r ∷ []) rs
+    in let turned : (rs : List PackedRow) → reverse (drop (e.rows - 1) rows) ++ rs ≡ reverse (drop e.rows rows) ++ r ∷ rs
+    = λ rs. ap (λ (l : List PackedRow). reverse l ++ rs) rest ∙ ap (λ (l : List PackedRow). l ++ rs) (reverse-cons r (drop e.rows rows)) ∙ append_assoc (reverse (drop e.rows rows)) (r ∷ []) rs
     in let from : (ms : Lists) → joined ms (lists_from (end_before e r) ls) ≡ joined (joined ms (own r (lists_to e ls))) (lists_from e ls)
     = λ ms. ap (λ l. joined ms l) (sym (own-from r rows ls e h.within has)) ∙ sym (joined-twice ms (own r (lists_to e ls)) (lists_from e ls))
     in record {
@@ -187,11 +187,11 @@ IsEnd-before rows ls e r h some last =
     }
 
 -- the first changes
-length-unpacked : (rs : List Row) (ls : Lists) → length (unpacked rs ls) ≡ length rs
+length-unpacked : (rs : List PackedRow) (ls : Lists) → length (unpacked rs ls) ≡ length rs
 length-unpacked [] ls = refl
 length-unpacked (r ∷ rs) ls = ap suc (length-unpacked rs (others r ls))
 
-pub length-changes : (rows : List Row) (ls : Lists) → length (changes_of_rows rows ls) ≡ length rows
+pub length-changes : (rows : List PackedRow) (ls : Lists) → length (changes_of_rows rows ls) ≡ length rows
 length-changes rows ls = length-reverse (unpacked (reverse rows) ls) ∙ length-unpacked (reverse rows) ls ∙ length-reverse rows
 
 reverse-parts : {X : Type 0} (n : ℕ) (xs : List X) → reverse xs ≡ reverse (drop n xs) ++ reverse (take n xs)
@@ -200,7 +200,7 @@ reverse-parts n xs = ap (λ l. reverse l) (sym (take-append-drop n xs)) ∙ reve
 length-behind : {X : Type 0} (n : ℕ) (xs : List X) → length (reverse (drop n xs)) ≡ length xs - n
 length-behind n xs = length-reverse (drop n xs) ∙ length-drop n xs
 
-pub first-changes : (rows : List Row) (ls : Lists) (e : End) → IsEnd rows ls e → changes_of_rows (take e.rows rows) (lists_to e ls) ≡ take e.rows (changes_of_rows rows ls)
+pub first-changes : (rows : List PackedRow) (ls : Lists) (e : End) → IsEnd rows ls e → changes_of_rows (take e.rows rows) (lists_to e ls) ≡ take e.rows (changes_of_rows rows ls)
 first-changes rows ls e h =
     let all : List Change = unpacked (reverse rows) ls
     in let n : ℕ = length rows - e.rows
@@ -222,27 +222,27 @@ get-there (z ∷ xs) ys x zero l = absurd (omega (arith, l))
 get-there (z ∷ xs) ys x (suc n) l = get-there xs ys x n (omega (arith, l))
 
 -- lists in which a row has other parts of its own
-abbrev pub replaced : Lists → End → Row → Lists → Lists
+abbrev pub replaced : Lists → End → PackedRow → Lists → Lists
 replaced ls e r ms = joined (joined (lists_to (end_before e r) ls) ms) (lists_from e ls)
 
-rows-replaced : (rows : List Row) (e : End) (r s : Row) → last_row rows e r → 0 < e.rows → e.rows ≤ length rows
+rows-replaced : (rows : List PackedRow) (e : End) (r s : PackedRow) → last_row rows e r → 0 < e.rows → e.rows ≤ length rows
     → reverse (set rows (e.rows - 1) s) ≡ reverse (drop e.rows rows) ++ s ∷ reverse (take (e.rows - 1) rows)
 rows-replaced rows e r s last some within =
-    let front : List Row = take (e.rows - 1) rows
-    in let parts : rows ≡ front ++ r ∷ drop e.rows rows = sym (take-append-drop (e.rows - 1) rows) ∙ ap (λ (l : List Row). front ++ l) (drop-last rows e r last some within)
+    let front : List PackedRow = take (e.rows - 1) rows
+    in let parts : rows ≡ front ++ r ∷ drop e.rows rows = sym (take-append-drop (e.rows - 1) rows) ∙ ap (λ (l : List PackedRow). front ++ l) (drop-last rows e r last some within)
     in let count : length front ≡ e.rows - 1 = length-take-le (e.rows - 1) rows (omega (arith, within))
-    in let new : set rows (e.rows - 1) s ≡ front ++ s ∷ drop e.rows rows = ap (λ (l : List Row). set l (e.rows - 1) s) parts ∙ set-there front (drop e.rows rows) r s (e.rows - 1) count
-    in ap (λ (l : List Row). reverse l) new ∙ reverse-append front (s ∷ drop e.rows rows) ∙ ap (λ (l : List Row). l ++ reverse front) (reverse-cons s (drop e.rows rows))
+    in let new : set rows (e.rows - 1) s ≡ front ++ s ∷ drop e.rows rows = ap (λ (l : List PackedRow). set l (e.rows - 1) s) parts ∙ set-there front (drop e.rows rows) r s (e.rows - 1) count
+    in ap (λ (l : List PackedRow). reverse l) new ∙ reverse-append front (s ∷ drop e.rows rows) ∙ ap (λ (l : List PackedRow). l ++ reverse front) (reverse-cons s (drop e.rows rows))
     ∙ append_assoc (reverse (drop e.rows rows)) (s ∷ []) (reverse front)
 
-pub ArePacked-replaced : (rows : List Row) (ls ms : Lists) (e : End) (r s : Row) → IsEnd rows ls e → last_row rows e r → IsLast rows ls e r → IsOwn s ms → IsOver s ms.items ms.bytes
+pub ArePacked-replaced : (rows : List PackedRow) (ls ms : Lists) (e : End) (r s : PackedRow) → IsEnd rows ls e → last_row rows e r → IsLast rows ls e r → IsOwn s ms → IsOver s ms.items ms.bytes
     → ArePacked (reverse (set rows (e.rows - 1) s)) (replaced ls e r ms)
 ArePacked-replaced rows ls ms e r s h last k own_is over =
     rw (rows-replaced rows e r s last k.has.rows h.within.rows)
     (h.rest_packed (s ∷ reverse (take (e.rows - 1) rows)) (joined (lists_to (end_before e r) ls) ms)
     (ArePacked-joined s (reverse (take (e.rows - 1) rows)) (lists_to (end_before e r) ls) ms own_is over k.before.packed))
 
-pub changes-replaced : (rows : List Row) (ls ms : Lists) (e : End) (r s : Row) → IsEnd rows ls e → last_row rows e r → IsLast rows ls e r → IsOwn s ms
+pub changes-replaced : (rows : List PackedRow) (ls ms : Lists) (e : End) (r s : PackedRow) → IsEnd rows ls e → last_row rows e r → IsLast rows ls e r → IsOwn s ms
     → changes_of_rows (set rows (e.rows - 1) s) (replaced ls e r ms) ≡ set (changes_of_rows rows ls) (e.rows - 1) (change_of_row s ms)
 changes-replaced rows ls ms e r s h last k own_is =
     let all : List Change = unpacked (reverse rows) ls
@@ -264,7 +264,7 @@ changes-replaced rows ls ms e r s h last k own_is =
     in ap (λ l. reverse l) new ∙ turned y ∙ sym (ap (λ l. set l (e.rows - 1) y) old ∙ set-there (reverse rest) (reverse (take n all)) x y (e.rows - 1) count)
 
 -- the last of the first changes
-pub change-there : (rows : List Row) (ls : Lists) (e : End) (r : Row) → IsEnd rows ls e → last_row rows e r → IsLast rows ls e r
+pub change-there : (rows : List PackedRow) (ls : Lists) (e : End) (r : PackedRow) → IsEnd rows ls e → last_row rows e r → IsLast rows ls e r
     → slice_get (changes_of_rows rows ls) (e.rows - 1) ≡ Some (change_of_row r (own r (lists_to e ls)))
 change-there rows ls e r h last k =
     let all : List Change = unpacked (reverse rows) ls
@@ -295,21 +295,21 @@ bytes-few (Run a n ∷ is) bs e =
     in omega (arith, e, bytes-few is (drop n bs) (omega (arith, e, length-drop n bs)), length-append (byte_cells a (take n bs)) (cells_of_items is (drop n bs)), length-byte_cells a (take n bs), front, length-drop n bs)
 
 -- a row that has all but its bytes within itself
-within-items : (r : Row) → HasNoMore r → items_of_row r ≡ 0
+within-items : (r : PackedRow) → HasNoMore r → items_of_row r ≡ 0
 within-items (More beside items bytes count) h = absurd h
 within-items r h = refl
 
-pub within-beside : (r : Row) → HasNoMore r → beside_of_row r ≡ 0
+pub within-beside : (r : PackedRow) → HasNoMore r → beside_of_row r ≡ 0
 within-beside (More beside items bytes count) h = absurd h
 within-beside r h = refl
 
 -- a change that has all but its bytes within its row is one change more
-within-bytes : (row : Row) (bs : List ℕ) → HasNoMore row → IsOver row [] bs → length bs ≡ bytes_of_row row
+within-bytes : (row : PackedRow) (bs : List ℕ) → HasNoMore row → IsOver row [] bs → length bs ≡ bytes_of_row row
 within-bytes (Bytes count address psw) bs h o = o.1
 within-bytes (More beside items bytes count) bs h o = absurd h
 within-bytes row bs h o = ap length o.1
 
-pub appended-row : (old : Lists) (new : List ℕ) (cells : List Cell) (b : Beside) (row : Row) (bytes : List ℕ) → IsRowOf cells row bytes → IsNothing b → new ≡ old.bytes ++ bytes
+pub appended-row : (old : Lists) (new : List ℕ) (cells : List Cell) (b : Beside) (row : PackedRow) (bytes : List ℕ) → IsRowOf cells row bytes → IsNothing b → new ≡ old.bytes ++ bytes
     → IsAppended old (lists old.items new old.beside) row (change_of cells b)
 appended-row old new cells b row bytes h nothing e = record {
   own_lists = lists [] bytes [];
@@ -361,16 +361,16 @@ appended-full oi ni ob nb ol nl cells b false items bytes count a fit some none 
     }
 
 -- what is appended is one change more
-pub packed-appended : (rows : List Row) (old new : Lists) (r : Row) (x : Change) → ArePacked (reverse rows) old → IsAppended old new r x → ArePacked (reverse (rows ++ r ∷ [])) new
+pub packed-appended : (rows : List PackedRow) (old new : Lists) (r : PackedRow) (x : Change) → ArePacked (reverse rows) old → IsAppended old new r x → ArePacked (reverse (rows ++ r ∷ [])) new
 packed-appended rows old new r x h a =
-    subst (λ (rs : List Row). ArePacked rs new) (sym (reverse-append rows (r ∷ [])))
+    subst (λ (rs : List PackedRow). ArePacked rs new) (sym (reverse-append rows (r ∷ [])))
     (subst (λ ls. ArePacked (r ∷ reverse rows) ls) (sym a.lists_are)
     (ArePacked-joined r (reverse rows) old a.own_lists (record { items = a.items; bytes = a.bytes; beside = a.beside }) a.over h))
 
-pub changes-appended : (rows : List Row) (old new : Lists) (r : Row) (x : Change) → IsAppended old new r x → changes_of_rows (rows ++ r ∷ []) new ≡ changes_of_rows rows old ++ x ∷ []
+pub changes-appended : (rows : List PackedRow) (old new : Lists) (r : PackedRow) (x : Change) → IsAppended old new r x → changes_of_rows (rows ++ r ∷ []) new ≡ changes_of_rows rows old ++ x ∷ []
 changes-appended rows old new r x a =
     let newest_first : unpacked (reverse (rows ++ r ∷ [])) new ≡ x ∷ unpacked (reverse rows) old
-    = ap (λ (rs : List Row). unpacked rs new) (reverse-append rows (r ∷ [])) ∙ ap (λ ls. unpacked (r ∷ reverse rows) ls) a.lists_are
+    = ap (λ (rs : List PackedRow). unpacked rs new) (reverse-append rows (r ∷ [])) ∙ ap (λ ls. unpacked (r ∷ reverse rows) ls) a.lists_are
     ∙ unpacked-joined r (reverse rows) old a.own_lists (record { items = a.items; bytes = a.bytes; beside = a.beside }) ∙ ap (λ y. y ∷ unpacked (reverse rows) old) a.change
     in ap (λ xs. reverse xs) newest_first ∙ reverse-cons x (unpacked (reverse rows) old)
 
@@ -389,17 +389,17 @@ slices ls s e = record {
   beside = take (e.beside - s.beside) (drop s.beside ls.beside);
 }
 
-pub slices-own : (rows : List Row) (ls : Lists) (e : End) (r : Row) → IsWithin rows ls e → HasBefore e r → slices ls (end_before e r) e ≡ own r (lists_to e ls)
+pub slices-own : (rows : List PackedRow) (ls : Lists) (e : End) (r : PackedRow) → IsWithin rows ls e → HasBefore e r → slices ls (end_before e r) e ≡ own r (lists_to e ls)
 slices-own rows ls e r w h =
     same-lists (slices ls (end_before e r) e) (own r (lists_to e ls)) (slice-own (items_of_row r) e.items ls.items h.items w.items) (slice-own (bytes_of_row r) e.bytes ls.bytes h.bytes w.bytes)
     (slice-own (beside_of_row r) e.beside ls.beside h.beside w.beside)
 
-pub record There (rows : List Row) (ls : Lists) (r : Row) (ms : Lists) (number : ℕ) : Type 0 where
+pub record There (rows : List PackedRow) (ls : Lists) (r : PackedRow) (ms : Lists) (number : ℕ) : Type 0 where
   pub over : IsOver r ms.items ms.bytes
   pub beside : length ms.beside ≡ beside_of_row r
   pub change : slice_get (changes_of_rows rows ls) (number - 1) ≡ Some (change_of_row r ms)
 
-pub own-there : (rows : List Row) (ls ms : Lists) (e s : End) (r : Row) (number : ℕ) → IsEnd rows ls e → e.rows ≡ number → 0 < number → r ≡ get_or rows (e.rows - 1) r
+pub own-there : (rows : List PackedRow) (ls ms : Lists) (e s : End) (r : PackedRow) (number : ℕ) → IsEnd rows ls e → e.rows ≡ number → 0 < number → r ≡ get_or rows (e.rows - 1) r
     → s ≡ end_before e r → ms ≡ ls → There rows ls r (slices ms s e) number
 own-there rows ls ms e s r number h n some is before same =
     let more : 0 < e.rows = omega (arith, n, some)
@@ -444,11 +444,11 @@ counted : {X : Type 0} (n k e : ℕ) (lent old new after : List X) → k ≤ e �
 counted n k e lent old new after m l h =
     h.as_many ∙ ap (λ xs. length (take (e - (e - k)) (drop (e - k) xs))) h.same ∙ length-take-le (e - (e - k)) (drop (e - k) old) (omega (arith, length-drop (e - k) old, m, l)) ∙ omega (arith, m)
 
-pub record Swapped (rows : List Row) (ls after : Lists) (e : End) (s : Row) (ms : Lists) : Type 0 where
+pub record Swapped (rows : List PackedRow) (ls after : Lists) (e : End) (s : PackedRow) (ms : Lists) : Type 0 where
   pub packed : ArePacked (reverse (set rows (e.rows - 1) s)) after
   pub changes : changes_of_rows (set rows (e.rows - 1) s) after ≡ set (changes_of_rows rows ls) (e.rows - 1) (change_of_row s ms)
 
-pub swapped-there : (rows : List Row) (lent ls ms after : Lists) (e b : End) (r s : Row) (n m k : ℕ) → IsEnd rows ls e → 0 < e.rows → r ≡ get_or rows (e.rows - 1) r → b ≡ end_before e r
+pub swapped-there : (rows : List PackedRow) (lent ls ms after : Lists) (e b : End) (r s : PackedRow) (n m k : ℕ) → IsEnd rows ls e → 0 < e.rows → r ≡ get_or rows (e.rows - 1) r → b ≡ end_before e r
     → HasSameCounts r s → IsOver s ms.items ms.bytes
     → Patched n b.items e.items lent.items ls.items ms.items after.items → Patched m b.bytes e.bytes lent.bytes ls.bytes ms.bytes after.bytes
     → Patched k b.beside e.beside lent.beside ls.beside ms.beside after.beside → Swapped rows ls after e s ms
@@ -479,17 +479,17 @@ swap-there w v x y can ev ey fit =
     in record { machine = ev; again = back.again; restores_machine = back.whole; restores_change = back.change }
 
 -- one row stands there
-pub same-got : (rows : List Row) (n : ℕ) (r s : Row) → n < length rows → r ≡ get_or rows n r → s ≡ get_or rows n s → r ≡ s
+pub same-got : (rows : List PackedRow) (n : ℕ) (r s : PackedRow) → n < length rows → r ≡ get_or rows n r → s ≡ get_or rows n s → r ≡ s
 same-got [] n r s l a b = absurd (omega (arith, l))
 same-got (x ∷ rows) zero r s l a b = a ∙ sym b
 same-got (x ∷ rows) (suc n) r s l a b = same-got rows n r s (omega (arith, l)) a b
 
 -- what is so of the last of the changes
-pub of-last : (rows : List Row) (ls : Lists) (xs : List Change) (P : Change → Type 0) (y : Change) → changes_of_rows rows ls ≡ xs → slice_get (changes_of_rows rows ls) (length rows - 1) ≡ Some y → P y
+pub of-last : (rows : List PackedRow) (ls : Lists) (xs : List Change) (P : Change → Type 0) (y : Change) → changes_of_rows rows ls ≡ xs → slice_get (changes_of_rows rows ls) (length rows - 1) ≡ Some y → P y
     → IfSome (slice_get xs (length xs - 1)) P
 of-last rows ls xs P y e h p = rw (← e, length-changes rows ls, h) p
 
-pub at-last : (rows : List Row) (ls : Lists) (xs : List Change) (P : Change → Type 0) (y : Change) → changes_of_rows rows ls ≡ xs → slice_get (changes_of_rows rows ls) (length rows - 1) ≡ Some y
+pub at-last : (rows : List PackedRow) (ls : Lists) (xs : List Change) (P : Change → Type 0) (y : Change) → changes_of_rows rows ls ≡ xs → slice_get (changes_of_rows rows ls) (length rows - 1) ≡ Some y
     → IfSome (slice_get xs (length xs - 1)) P → P y
 at-last rows ls xs P y e h p = rw h at (rw (length-changes rows ls) at (rw (← e) at p))
 
@@ -508,7 +508,7 @@ written-behind n start lent old new e same l count =
     ∙ append-nil (take start old ++ new))
 
 -- the lists end there of all changes
-abbrev pub end_of_all : List Row → Lists → End
+abbrev pub end_of_all : List PackedRow → Lists → End
 end_of_all rows ls = record { rows = length rows; items = length ls.items; bytes = length ls.bytes; beside = length ls.beside }
 
 none-behind : {X : Type 0} (xs : List X) → drop (length xs) xs ≡ []
@@ -517,7 +517,7 @@ none-behind xs = drop_all (length xs) xs (omega arith)
 all-before : {X : Type 0} (xs : List X) → take (length xs) xs ≡ xs
 all-before xs = take_all (length xs) xs (omega arith)
 
-pub IsEnd-all : (rows : List Row) (ls : Lists) → ArePacked (reverse rows) ls → IsEnd rows ls (end_of_all rows ls)
+pub IsEnd-all : (rows : List PackedRow) (ls : Lists) → ArePacked (reverse rows) ls → IsEnd rows ls (end_of_all rows ls)
 IsEnd-all rows ls h =
     let e : End = end_of_all rows ls
     in let to : lists_to e ls ≡ ls = same-lists (lists_to e ls) ls (all-before ls.items) (all-before ls.bytes) (all-before ls.beside)
@@ -526,13 +526,13 @@ IsEnd-all rows ls h =
     in let alone : (ms : Lists) → joined ms (lists [] [] []) ≡ ms = λ ms. same-lists (joined ms (lists [] [] [])) ms (append-nil ms.items) (append-nil ms.bytes) (append-nil ms.beside)
     in record {
       within = record { rows = omega arith; items = omega arith; bytes = omega arith; beside = omega arith };
-      packed = subst (λ (l : List Row). ArePacked (reverse l) (lists_to e ls)) (sym (all-before rows)) (subst (λ k. ArePacked (reverse rows) k) (sym to) h);
-      changes = ap (λ (l : List Row). unpacked (reverse l) (lists_to e ls)) (all-before rows) ∙ ap (λ k. unpacked (reverse rows) k) to ∙ sym (ap (λ n. drop n (unpacked (reverse rows) ls)) none);
+      packed = subst (λ (l : List PackedRow). ArePacked (reverse l) (lists_to e ls)) (sym (all-before rows)) (subst (λ k. ArePacked (reverse rows) k) (sym to) h);
+      changes = ap (λ (l : List PackedRow). unpacked (reverse l) (lists_to e ls)) (all-before rows) ∙ ap (λ k. unpacked (reverse rows) k) to ∙ sym (ap (λ n. drop n (unpacked (reverse rows) ls)) none);
       rest = λ rs ms.
-          ap (λ (l : List Row). unpacked (reverse l ++ rs) (joined ms (lists_from e ls))) (none-behind rows) ∙ ap (λ k. unpacked rs (joined ms k)) from ∙ ap (λ k. unpacked rs k) (alone ms)
+          ap (λ (l : List PackedRow). unpacked (reverse l ++ rs) (joined ms (lists_from e ls))) (none-behind rows) ∙ ap (λ k. unpacked rs (joined ms k)) from ∙ ap (λ k. unpacked rs k) (alone ms)
           ∙ sym (ap (λ n. take n (unpacked (reverse rows) ls) ++ unpacked rs ms) none);
       rest_packed = λ rs ms k.
-          subst (λ (l : List Row). ArePacked (reverse l ++ rs) (joined ms (lists_from e ls))) (sym (none-behind rows)) (subst (λ j. ArePacked rs (joined ms j)) (sym from) (subst (λ j. ArePacked rs j) (sym (alone ms)) k));
+          subst (λ (l : List PackedRow). ArePacked (reverse l ++ rs) (joined ms (lists_from e ls))) (sym (none-behind rows)) (subst (λ j. ArePacked rs (joined ms j)) (sym from) (subst (λ j. ArePacked rs j) (sym (alone ms)) k));
     }
 
 newest-none : {X : Type 0} (n : ℕ) (xs : List X) → n ≡ 0 → newest n (take (length xs) xs) ≡ []
@@ -546,20 +546,20 @@ unchanged n xs z =
     sym (ap (λ ys. (take (length xs - n) xs ++ []) ++ ys) (none-behind xs) ∙ append-nil (take (length xs - n) xs ++ []) ∙ append-nil (take (length xs - n) xs) ∙ kept-whole n xs z)
 
 -- what the lists have of the last change, whose row is such a one
-abbrev pub last_own : Row → Lists → Lists
+abbrev pub last_own : PackedRow → Lists → Lists
 last_own r ls = lists [] (newest (bytes_of_row r) ls.bytes) []
 
-own-last : (rows : List Row) (ls : Lists) (r : Row) → HasNoMore r → own r (lists_to (end_of_all rows ls) ls) ≡ last_own r ls
+own-last : (rows : List PackedRow) (ls : Lists) (r : PackedRow) → HasNoMore r → own r (lists_to (end_of_all rows ls) ls) ≡ last_own r ls
 own-last rows ls r h =
     same-lists (own r (lists_to (end_of_all rows ls) ls)) (last_own r ls) (newest-none (items_of_row r) ls.items (within-items r h))
     (ap (λ xs. newest (bytes_of_row r) xs) (all-before ls.bytes)) (newest-none (beside_of_row r) ls.beside (within-beside r h))
 
-pub record LastThere (rows : List Row) (ls : Lists) (r : Row) : Type 0 where
+pub record LastThere (rows : List PackedRow) (ls : Lists) (r : PackedRow) : Type 0 where
   pub has : bytes_of_row r ≤ length ls.bytes
   pub over : IsOver r [] (newest (bytes_of_row r) ls.bytes)
   pub change : slice_get (changes_of_rows rows ls) (length rows - 1) ≡ Some (change_of_core (cells_of_row r [] (newest (bytes_of_row r) ls.bytes)))
 
-pub last-there : (rows : List Row) (ls : Lists) (r : Row) → ArePacked (reverse rows) ls → 0 < length rows → r ≡ get_or rows (length rows - 1) r → HasNoMore r → LastThere rows ls r
+pub last-there : (rows : List PackedRow) (ls : Lists) (r : PackedRow) → ArePacked (reverse rows) ls → 0 < length rows → r ≡ get_or rows (length rows - 1) r → HasNoMore r → LastThere rows ls r
 last-there rows ls r h some is within =
     let e : End = end_of_all rows ls
     in let end : IsEnd rows ls e = IsEnd-all rows ls h
@@ -572,16 +572,16 @@ last-there rows ls r h some is within =
       change = change-there rows ls e r end last here ∙ ap (λ k. Some (change_of_row r k)) same;
     }
 
-pub record LastIs (rows : List Row) (ls : Lists) (r : Row) (number : ℕ) : Type 0 where
+pub record LastIs (rows : List PackedRow) (ls : Lists) (r : PackedRow) (number : ℕ) : Type 0 where
   pub count : number ≡ length rows
   pub some : 0 < length rows
   pub is : r ≡ get_or rows (length rows - 1) r
   pub there : LastThere rows ls r
 
-pub some-rows : (rows lent : List Row) (ls : Lists) (xs : List Change) → changes_of_rows rows ls ≡ xs → 0 < length xs → lent ≡ rows → 0 < length lent
+pub some-rows : (rows lent : List PackedRow) (ls : Lists) (xs : List Change) → changes_of_rows rows ls ≡ xs → 0 < length xs → lent ≡ rows → 0 < length lent
 some-rows rows lent ls xs e some same = omega (arith, some, ap length (sym e), length-changes rows ls, ap length same)
 
-pub last-is : (rows lent : List Row) (ls : Lists) (xs : List Change) (r : Row) → changes_of_rows rows ls ≡ xs → ArePacked (reverse rows) ls → 0 < length xs → lent ≡ rows
+pub last-is : (rows lent : List PackedRow) (ls : Lists) (xs : List Change) (r : PackedRow) → changes_of_rows rows ls ≡ xs → ArePacked (reverse rows) ls → 0 < length xs → lent ≡ rows
     → r ≡ get_or rows (length lent - 1) r → HasNoMore r → LastIs rows ls r (length lent)
 last-is rows lent ls xs r e h some same is within =
     let many : length lent ≡ length rows = ap length same
@@ -590,7 +590,7 @@ last-is rows lent ls xs r e h some same is within =
     in record { count = many; some = more; is = here; there = last-there rows ls r h more here within }
 
 -- an exchange of it leaves all else
-pub swapped-last : (rows : List Row) (ls : Lists) (r s : Row) (bs : List ℕ) → ArePacked (reverse rows) ls → 0 < length rows → r ≡ get_or rows (length rows - 1) r → HasNoMore r
+pub swapped-last : (rows : List PackedRow) (ls : Lists) (r s : PackedRow) (bs : List ℕ) → ArePacked (reverse rows) ls → 0 < length rows → r ≡ get_or rows (length rows - 1) r → HasNoMore r
     → HasSameCounts r s → IsOver s [] bs → length bs ≡ bytes_of_row r
     → Swapped rows ls (lists ls.items (older (bytes_of_row r) ls.bytes ++ bs) ls.beside) (end_of_all rows ls) s (lists [] bs [])
 swapped-last rows ls r s bs h some is within same over count =
@@ -611,11 +611,11 @@ swapped-last rows ls r s bs h some is within same over count =
     }
 
 -- and all but it stay where it is dropped
-pub record Dropped (rows : List Row) (ls : Lists) (r : Row) : Type 0 where
+pub record Dropped (rows : List PackedRow) (ls : Lists) (r : PackedRow) : Type 0 where
   pub packed : ArePacked (reverse (take (length rows - 1) rows)) (lists ls.items (older (bytes_of_row r) ls.bytes) ls.beside)
   pub changes : changes_of_rows (take (length rows - 1) rows) (lists ls.items (older (bytes_of_row r) ls.bytes) ls.beside) ≡ take (length rows - 1) (changes_of_rows rows ls)
 
-pub dropped-last : (rows : List Row) (ls : Lists) (r : Row) → ArePacked (reverse rows) ls → 0 < length rows → r ≡ get_or rows (length rows - 1) r → HasNoMore r → Dropped rows ls r
+pub dropped-last : (rows : List PackedRow) (ls : Lists) (r : PackedRow) → ArePacked (reverse rows) ls → 0 < length rows → r ≡ get_or rows (length rows - 1) r → HasNoMore r → Dropped rows ls r
 dropped-last rows ls r h some is within =
     let e : End = end_of_all rows ls
     in let end : IsEnd rows ls e = IsEnd-all rows ls h
@@ -658,7 +658,7 @@ values-of-items (Run a n ∷ is) bs h e f =
     ∙ ap (λ l. take n bs ++ l) (values-of-items is (drop n bs) h.1 (omega (arith, e, length-drop n bs)) (fit-right (byte_cells a (take n bs)) (cells_of_items is (drop n bs)) f))
     ∙ take-append-drop n bs
 
-values-of-row : (r : Row) (is : List Item) (bs : List ℕ) → IsOver r is bs → byte_values (cells_of_row r is bs) ≡ bs
+values-of-row : (r : PackedRow) (is : List Item) (bs : List ℕ) → IsOver r is bs → byte_values (cells_of_row r is bs) ≡ bs
 values-of-row (Bytes count address psw) is bs h = values-of-bytes address bs
 values-of-row (More beside items bytes count) is bs h = values-of-items is bs h.3.whole h.3.all h.3.fit
 values-of-row r is bs h = sym h.1
@@ -671,7 +671,7 @@ bytes-push : (xs : List Change) (x : Change) → bytes_of_changes (xs ++ x ∷ [
 bytes-push [] x = append-nil (byte_values x.cells)
 bytes-push (y ∷ xs) x = ap (λ l. byte_values y.cells ++ l) (bytes-push xs x) ∙ sym (append_assoc (byte_values y.cells) (bytes_of_changes xs) (byte_values x.cells))
 
-bytes-unpacked : (rs : List Row) (ls : Lists) → ArePacked rs ls → bytes_of_changes (reverse (unpacked rs ls)) ≡ ls.bytes
+bytes-unpacked : (rs : List PackedRow) (ls : Lists) → ArePacked rs ls → bytes_of_changes (reverse (unpacked rs ls)) ≡ ls.bytes
 bytes-unpacked [] ls h = sym h.1
 bytes-unpacked (r ∷ rs) ls h =
     let x : Change = change_of_row r (own r ls)
@@ -680,7 +680,7 @@ bytes-unpacked (r ∷ rs) ls h =
     ∙ ap (λ l. (others r ls).bytes ++ l) (ap (λ cs. byte_values cs) (cells-with (cells_of_row r (own r ls).items (own r ls).bytes) (slice_get (own r ls).beside 0)) ∙ values-of-row r (own r ls).items (own r ls).bytes h.1)
     ∙ older-newest (bytes_of_row r) ls.bytes
 
-pub bytes-of-rows : (rows : List Row) (ls : Lists) → ArePacked (reverse rows) ls → bytes_of_changes (changes_of_rows rows ls) ≡ ls.bytes
+pub bytes-of-rows : (rows : List PackedRow) (ls : Lists) → ArePacked (reverse rows) ls → bytes_of_changes (changes_of_rows rows ls) ≡ ls.bytes
 bytes-of-rows rows ls h = bytes-unpacked (reverse rows) ls h
 
 -- a change of the PSW and of one run has the row of a run

@@ -13,8 +13,8 @@ use Rattle.s360_store.specs.Items.{AreItems, bytes_of_item, bytes_of_items, cell
 use Rattle.s360_store.specs.Spans.{AreSpans, byte_places, places_of_span, places_of_spans, span_of_item}
 use Rattle.s360_store.proofs.SpanLemmas.{places-of-bytes, places-of-run}
 use Rattle.s360_machine.specs.declared.beside.Beside.{Beside}
-use Rattle.s360_machine.specs.declared.row.Row.{Row}
-use Rattle.s360_machine.specs.declared.row.Row.TheVariants.{Nothing, Psw, Register, Bytes, More}
+use Rattle.s360_machine.specs.declared.row.PackedRow.{PackedRow}
+use Rattle.s360_machine.specs.declared.row.PackedRow.TheVariants.{Nothing, Psw, Register, Bytes, More}
 use Rattle.s360_machine.specs.Beside.{places_of_beside}
 use Rattle.s360_machine.specs.Change.{Change}
 use Rattle.s360_machine.specs.ChangeSpans.{AreSpansOf, spans_beside, spans_of_row}
@@ -59,12 +59,12 @@ places-of-places : (ps : List Place) → places_of_spans (map (λ p. OnePlace p)
 places-of-places [] = refl
 places-of-places (p ∷ ps) = ap (λ (qs : List Place). p ∷ qs) (places-of-places ps)
 
-pub no-more : (r : Row) → ((beside : Bool) (items bytes count : ℕ) → r ≡ More beside items bytes count → ⊥) → HasNoMore r
+pub no-more : (r : PackedRow) → ((beside : Bool) (items bytes count : ℕ) → r ≡ More beside items bytes count → ⊥) → HasNoMore r
 no-more (More beside items bytes count) h = absurd (h beside items bytes count refl)
 no-more r h = tt
 
 -- those of a change that stands within its row
-pub within-own : (r : Row) (is : List Item) (bs : List ℕ) (xs : List Beside) (x : Change) → HasNoMore r → IsOver r is bs → length xs ≡ beside_of_row r → change_of_row r (lists is bs xs) ≡ x → AreSpansOf (spans_of_row r) x
+pub within-own : (r : PackedRow) (is : List Item) (bs : List ℕ) (xs : List Beside) (x : Change) → HasNoMore r → IsOver r is bs → length xs ≡ beside_of_row r → change_of_row r (lists is bs xs) ≡ x → AreSpansOf (spans_of_row r) x
 within-own Nothing is bs [] x w h n e = rw (← e) (record { whole = tt; places = refl })
 within-own (Psw psw) is bs [] x w h n e = rw (← e) (record { whole = (tt, tt); places = refl })
 within-own (Register number word psw) is bs [] x w h n e = rw (← e) (record { whole = (tt, (tt, tt)); places = refl })

@@ -10,13 +10,13 @@ use Rattle.s360_machine.specs.declared.change_spans.ChangeSpans.TheVariants.{Wit
 use Rattle.s360_machine.specs.declared.change_spans.SpansApart.{SpansApart}
 use Rattle.s360_machine.specs.declared.change_spans.SpansWithin.{SpansWithin}
 use Rattle.s360_machine.specs.declared.change_spans.SpansWithin.TheVariants as within
-use Rattle.s360_machine.specs.declared.row.Row.{Row}
-use Rattle.s360_machine.specs.declared.row.Row.TheVariants.{Nothing, Psw, Register, Bytes, More}
+use Rattle.s360_machine.specs.declared.row.PackedRow.{PackedRow}
+use Rattle.s360_machine.specs.declared.row.PackedRow.TheVariants.{Nothing, Psw, Register, Bytes, More}
 use Rattle.s360_machine.specs.Beside.{places_of_beside}
 use Rattle.s360_machine.specs.Change.{Change, places_of_change}
 
 -- those of a row, but for those of items that stand apart
-abbrev pub spans_of_row : Row → List Span
+abbrev pub spans_of_row : PackedRow → List Span
 spans_of_row Nothing = []
 spans_of_row (Psw psw) = OnePlace psw_place ∷ []
 spans_of_row (Register r word psw) = OnePlace psw_place ∷ (OnePlace (register_place r) ∷ [])

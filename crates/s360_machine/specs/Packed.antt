@@ -8,7 +8,7 @@ use Rattle.s360_store.specs.declared.place.Place.TheVariants.{Byte}
 use Rattle.s360_store.specs.Cells.{places_of_cells}
 use Rattle.s360_store.specs.CoreChanges.{CoreChange, cells_of_change}
 use Rattle.s360_store.specs.Places.{is_among}
-use Rattle.s360_machine.specs.declared.row.Row.{Row}
+use Rattle.s360_machine.specs.declared.row.PackedRow.{PackedRow}
 use Rattle.s360_machine.specs.declared.beside.Beside.{Beside}
 use Rattle.s360_machine.specs.declared.packed.End.{End}
 use Rattle.s360_machine.specs.declared.packed.Own.{Own}
@@ -37,39 +37,39 @@ abbrev pub older : {X : Type 0} → ℕ → List X → List X
 older n xs = take (length xs - n) xs
 
 -- what the lists have of the change of the newest row, and what they have before it
-abbrev pub own : Row → Lists → Lists
+abbrev pub own : PackedRow → Lists → Lists
 own r ls = record { items = newest (items_of_row r) ls.items; bytes = newest (bytes_of_row r) ls.bytes; beside = newest (beside_of_row r) ls.beside }
 
-abbrev pub others : Row → Lists → Lists
+abbrev pub others : PackedRow → Lists → Lists
 others r ls = record { items = older (items_of_row r) ls.items; bytes = older (bytes_of_row r) ls.bytes; beside = older (beside_of_row r) ls.beside }
 
 -- the change of a row with what the lists have of it
-abbrev pub change_of_row : Row → Lists → Change
+abbrev pub change_of_row : PackedRow → Lists → Change
 change_of_row r ls = change_with (cells_of_row r ls.items ls.bytes) (slice_get ls.beside 0)
 
 -- the same over what three lists have
-abbrev pub row_over : Row → List Item → List ℕ → List Beside → Change
+abbrev pub row_over : PackedRow → List Item → List ℕ → List Beside → Change
 row_over r items bytes beside = change_of_row r (lists items bytes beside)
 
 -- the change of a row that has all but its bytes within it
-abbrev pub change_within : Row → List ℕ → Change
+abbrev pub change_within : PackedRow → List ℕ → Change
 change_within r bytes = change_of_core (cells_of_row r [] bytes)
 
 -- the changes, the newest first
-abbrev pub unpacked : List Row → Lists → List Change
+abbrev pub unpacked : List PackedRow → Lists → List Change
 unpacked [] ls = []
 unpacked (r ∷ rs) ls = change_of_row r (own r ls) ∷ unpacked rs (others r ls)
 
 -- each row stands over what the lists have of it, and they have nothing else
-abbrev pub HasOwn : Row → Lists → Type 0
+abbrev pub HasOwn : PackedRow → Lists → Type 0
 HasOwn r ls = (items_of_row r ≤ length ls.items) × (bytes_of_row r ≤ length ls.bytes) × (beside_of_row r ≤ length ls.beside)
 
-abbrev pub ArePacked : List Row → Lists → Type 0
+abbrev pub ArePacked : List PackedRow → Lists → Type 0
 ArePacked [] ls = (ls.items ≡ []) × (ls.bytes ≡ []) × (ls.beside ≡ [])
 ArePacked (r ∷ rs) ls = HasOwn r ls × IsOver r (own r ls).items (own r ls).bytes × ArePacked rs (others r ls)
 
 -- the changes of rows in their order
-abbrev pub changes_of_rows : List Row → Lists → List Change
+abbrev pub changes_of_rows : List PackedRow → Lists → List Change
 changes_of_rows rows ls = reverse (unpacked (reverse rows) ls)
 
 -- lists with more at their ends, and lists up to where they end of first changes, and from there on
@@ -83,18 +83,18 @@ abbrev pub lists_from : End → Lists → Lists
 lists_from e ls = record { items = drop e.items ls.items; bytes = drop e.bytes ls.bytes; beside = drop e.beside ls.beside }
 
 -- the lists end there for some of the rows
-pub record IsWithin (list : List Row) (ls : Lists) (e : End) : Type 0 where
+pub record IsWithin (list : List PackedRow) (ls : Lists) (e : End) : Type 0 where
   pub rows : e.rows ≤ length list
   pub items : e.items ≤ length ls.items
   pub bytes : e.bytes ≤ length ls.bytes
   pub beside : e.beside ≤ length ls.beside
 
 -- where the lists end before the last of the changes
-abbrev pub end_before : End → Row → End
+abbrev pub end_before : End → PackedRow → End
 end_before e r = record { rows = e.rows - 1; items = e.items - items_of_row r; bytes = e.bytes - bytes_of_row r; beside = e.beside - beside_of_row r }
 
 -- the lists have what the row has of them
-pub record HasBefore (e : End) (r : Row) : Type 0 where
+pub record HasBefore (e : End) (r : PackedRow) : Type 0 where
   pub rows : 0 < e.rows
   pub items : items_of_row r ≤ e.items
   pub bytes : bytes_of_row r ≤ e.bytes
@@ -102,13 +102,13 @@ pub record HasBefore (e : End) (r : Row) : Type 0 where
 
 -- the lists end there of the first changes: these stand over the lists up to there, and all others over the rest, whatever
 -- the first ones are
-pub record IsEnd (rows : List Row) (ls : Lists) (e : End) : Type 0 where
+pub record IsEnd (rows : List PackedRow) (ls : Lists) (e : End) : Type 0 where
   pub within : IsWithin rows ls e
   pub packed : ArePacked (reverse (take e.rows rows)) (lists_to e ls)
   pub changes : unpacked (reverse (take e.rows rows)) (lists_to e ls) ≡ drop (length rows - e.rows) (unpacked (reverse rows) ls)
-  pub rest : (rs : List Row) (ms : Lists)
+  pub rest : (rs : List PackedRow) (ms : Lists)
       → unpacked (reverse (drop e.rows rows) ++ rs) (joined ms (lists_from e ls)) ≡ take (length rows - e.rows) (unpacked (reverse rows) ls) ++ unpacked rs ms
-  pub rest_packed : (rs : List Row) (ms : Lists) → ArePacked rs ms → ArePacked (reverse (drop e.rows rows) ++ rs) (joined ms (lists_from e ls))
+  pub rest_packed : (rs : List PackedRow) (ms : Lists) → ArePacked rs ms → ArePacked (reverse (drop e.rows rows) ++ rs) (joined ms (lists_from e ls))
 
 -- the change as it stands in the lists
 abbrev pub change_of_own : Own → Change
@@ -120,7 +120,7 @@ pub record IsOwnOf (o : Own) (x : Change) : Type 0 where
   pub change : change_of_own o ≡ x
 
 -- lists that have more at their ends: what a row has of a change
-pub record IsAppended (old new : Lists) (r : Row) (x : Change) : Type 0 where
+pub record IsAppended (old new : Lists) (r : PackedRow) (x : Change) : Type 0 where
   pub own_lists : Lists
   pub lists_are : new ≡ joined old own_lists
   pub items : length own_lists.items ≡ items_of_row r
@@ -130,7 +130,7 @@ pub record IsAppended (old new : Lists) (r : Row) (x : Change) : Type 0 where
   pub change : change_of_row r own_lists ≡ x
 
 -- what a row has of a change of the core and of what is beside it
-abbrev pub AppendsRow : Lists → Lists → CoreChange → Beside → Row → Type 0
+abbrev pub AppendsRow : Lists → Lists → CoreChange → Beside → PackedRow → Type 0
 AppendsRow old new core beside r = IsAppended old new r (change_of (cells_of_change core) beside)
 
 -- of the last of the changes, if there is one

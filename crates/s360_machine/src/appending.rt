@@ -15,7 +15,7 @@ use crate::changes::Changes;
 use crate::event::Event;
 use crate::machine::Machine;
 use crate::packed::Packed;
-use crate::row::Row;
+use crate::row::PackedRow;
 use s360_store::{CoreChange, Item, append_bytes};
 use std::alloc::AllocError;
 use std::mem;
@@ -42,7 +42,7 @@ fn append_full(
     items: &mut Vec<Item>,
     bytes: &mut Vec<u8>,
     list: &mut Vec<Beside>,
-) -> Result<Row, AllocError>
+) -> Result<PackedRow, AllocError>
     requires { AllFit true (cells_of_change core.now) }
     ensures ok { IfOk result (AppendsRow (lists_in items.old bytes.old list.old) (lists_in items.new bytes.new list.new) core.now beside.old) }
     ensures err_items { OnErr result (items.new.items ≡ items.old.items) }
@@ -53,7 +53,7 @@ fn append_full(
     list.reserve(1)?;
     core.append_to(items, bytes)?;
     let beside = push_if_any(list, beside);
-    Ok(Row::More {
+    Ok(PackedRow::More {
         beside,
         items: (items.as_slice().len() - items_before) as u32,
         bytes: (bytes.as_slice().len() - bytes_before) as u32,
@@ -69,7 +69,7 @@ pub(crate) fn append_parts(
     items: &mut Vec<Item>,
     bytes: &mut Vec<u8>,
     list: &mut Vec<Beside>,
-) -> Result<Row, AllocError>
+) -> Result<PackedRow, AllocError>
     requires { AllFit true (cells_of_change core.now) }
     ensures ok { IfOk result (AppendsRow (lists_in items.old bytes.old list.old) (lists_in items.new bytes.new list.new) core.now beside.old) }
     ensures err_items { OnErr result (items.new.items ≡ items.old.items) }
@@ -77,7 +77,7 @@ pub(crate) fn append_parts(
     ensures err_list { OnErr result (list.new.items ≡ list.old.items) }
 {
     if beside.is_empty() {
-        if let Some((row, run)) = Row::within(core) {
+        if let Some((row, run)) = PackedRow::within(core) {
             if run.is_empty() {
                 return Ok(row);
             }

@@ -23,7 +23,7 @@ use crate::changes::Changes;
 use crate::control::Control;
 use crate::external::ExternalConditions;
 use crate::media::{Devices, MediaChange};
-use crate::row::Row;
+use crate::row::PackedRow;
 use crate::run_state::RunState;
 use s360_channel::{ConfiguredUnit, UnitChange, UnitState, Units};
 use s360_device::{Deck, Punch, Reader};
@@ -299,7 +299,7 @@ impl Machine {
     /// and what is beside the core, if anything is.
     pub(crate) fn exchange_row(
         &mut self,
-        row: &mut Row,
+        row: &mut PackedRow,
         items: &mut [Item],
         bytes: &mut [u8],
         beside: &mut [Beside],
@@ -322,7 +322,7 @@ impl Machine {
 
     /// Exchanges the values at the places of a row that has all but its bytes within itself with its own.
     #[inline(always)]
-    pub(crate) fn exchange_within(&mut self, row: &mut Row, bytes: &mut [u8])
+    pub(crate) fn exchange_within(&mut self, row: &mut PackedRow, bytes: &mut [u8])
         requires over { IsOver row.old [] bytes.old }
         requires can { CanSwap self.old.whole (change_within row.old bytes.old) }
         ensures machine { self.new.whole ≡ after_swap self.old.whole (change_within row.old bytes.old) }

@@ -12,14 +12,14 @@ use crate::beside::Beside;
 use crate::change_spans::{ChangeSpans, SpansApart};
 use crate::changes::Changes;
 use crate::machine::Machine;
-use crate::row::Row;
+use crate::row::PackedRow;
 use s360_store::{Item, Place};
 use std::alloc::{AllocError, Global};
 use std::marker::Model;
 
 /// A list of changes, the newest at its end.
 pub struct Packed {
-    pub(crate) rows: Vec<Row>,
+    pub(crate) rows: Vec<PackedRow>,
     /// Single cells and runs, of the rows that have them apart.
     pub(crate) items: Vec<Item>,
     /// All bytes of storage that the changes alter, and nothing else.
@@ -63,7 +63,7 @@ struct End {
 /// A change as it stands in the lists.
 #[derive(Clone, Copy)]
 struct Own<'a> {
-    row: Row,
+    row: PackedRow,
     items: &'a [Item],
     bytes: &'a [u8],
     beside: &'a [Beside],
@@ -100,7 +100,7 @@ impl<'a> Own<'a> {
         ensures { (x : Change) → IsOwnOf self.now x → AreSpansOf (spans_of result) x }
     {
         match self.row {
-            Row::More { .. } => {
+            PackedRow::More { .. } => {
                 ChangeSpans::Apart(SpansApart::of(self.items, self.beside.first()))
             }
             row => ChangeSpans::Within(row.spans()),
@@ -110,7 +110,7 @@ impl<'a> Own<'a> {
 
 impl End {
     /// Where the lists end before the last of these changes, whose row is given.
-    fn before(&self, row: &Row) -> End
+    fn before(&self, row: &PackedRow) -> End
         requires { HasBefore self.now row.now }
         ensures { result ≡ end_before self.now row.now }
     {
@@ -124,7 +124,7 @@ impl End {
 }
 
 /// Where the lists end of the first changes, so many.
-fn end_of(rows: &[Row], items: &[Item], bytes: &[u8], beside: &[Beside], count: usize) -> End
+fn end_of(rows: &[PackedRow], items: &[Item], bytes: &[u8], beside: &[Beside], count: usize) -> End
     requires packed { ArePacked (reverse rows.now) (lists items.now bytes.now beside.now) }
     requires inside { count ≤ length rows.now }
     ensures end { IsEnd rows.now (lists items.now bytes.now beside.now) result }

@@ -16,7 +16,7 @@ use s360_word::{RegisterNumber, Word};
 
 /// What an event alters. Each variant has its smallest fields first, so that none takes more than 16 bytes.
 #[derive(Clone, Copy)]
-pub(crate) enum Row {
+pub(crate) enum PackedRow {
     /// Nothing.
     Nothing,
     /// The PSW.
@@ -43,20 +43,20 @@ pub(crate) enum Row {
     },
 }
 
-impl Row {
+impl PackedRow {
     /// The row of a change of the core that has all but its bytes within it, and these bytes.
     #[inline(always)]
-    pub(crate) fn within(core: &CoreChange) -> Option<(Row, &[u8])>
+    pub(crate) fn within(core: &CoreChange) -> Option<(PackedRow, &[u8])>
         requires { AllFit true (cells_of_change core.now) }
         ensures { IfSome result (λ r. IsRowOf (cells_of_change core.now) r.0 r.1.now) }
     {
         let psw = core.altered_psw();
         match core.beside_psw() {
-            BesidePsw::Nothing => Some((psw.map_or(Row::Nothing, Row::Psw), &[])),
+            BesidePsw::Nothing => Some((psw.map_or(PackedRow::Nothing, PackedRow::Psw), &[])),
             BesidePsw::Register(register, word) => {
                 let psw = psw?;
                 Some((
-                    Row::Register {
+                    PackedRow::Register {
                         register,
                         word,
                         psw,
@@ -68,7 +68,7 @@ impl Row {
                 let psw = psw?;
                 let count = u16::try_from(bytes.len()).ok()?;
                 Some((
-                    Row::Bytes {
+                    PackedRow::Bytes {
                         count,
                         address,
                         psw,
@@ -85,7 +85,7 @@ impl Row {
     pub(crate) fn is_within(&self) -> bool
         ensures within { IsTrue result → HasNoMore self.now }
     {
-        !matches!(self, Row::More { .. })
+        !matches!(self, PackedRow::More { .. })
     }
 
     /// Its places.
@@ -95,14 +95,14 @@ impl Row {
         ensures { spans_within result ≡ spans_of_row self.now }
     {
         match self {
-            Row::Nothing => SpansWithin::Nothing,
-            Row::Psw(_) => SpansWithin::Psw,
-            Row::Register { register, .. } => SpansWithin::Register(register.number()),
-            Row::Bytes { count, address, .. } => SpansWithin::Bytes {
+            PackedRow::Nothing => SpansWithin::Nothing,
+            PackedRow::Psw(_) => SpansWithin::Psw,
+            PackedRow::Register { register, .. } => SpansWithin::Register(register.number()),
+            PackedRow::Bytes { count, address, .. } => SpansWithin::Bytes {
                 address: *address,
                 count: u32::from(*count),
             },
-            Row::More { .. } => unreachable!(),
+            PackedRow::More { .. } => unreachable!(),
         }
     }
 
@@ -118,9 +118,9 @@ impl Row {
         ensures fit { AllFit core.new.storage.fetch_protection (cells_of_row self.new items.new bytes.new) }
     {
         match self {
-            Row::Nothing => {}
-            Row::Psw(psw) => core.exchange_psw(psw),
-            Row::Register {
+            PackedRow::Nothing => {}
+            PackedRow::Psw(psw) => core.exchange_psw(psw),
+            PackedRow::Register {
                 register,
                 word,
                 psw,
@@ -128,11 +128,11 @@ impl Row {
                 core.exchange_psw(psw);
                 core.exchange_register(*register, word);
             }
-            Row::Bytes { address, psw, .. } => {
+            PackedRow::Bytes { address, psw, .. } => {
                 core.exchange_psw(psw);
                 core.exchange_run(bytes, *address);
             }
-            Row::More { .. } => core.exchange_items(items, bytes),
+            PackedRow::More { .. } => core.exchange_items(items, bytes),
         }
     }
 
@@ -141,8 +141,11 @@ impl Row {
         ensures { result ≡ items_of_row self.now }
     {
         match self {
-            Row::More { items, .. } => *items as usize,
-            Row::Nothing | Row::Psw(_) | Row::Register { .. } | Row::Bytes { .. } => 0,
+            PackedRow::More { items, .. } => *items as usize,
+            PackedRow::Nothing
+            | PackedRow::Psw(_)
+            | PackedRow::Register { .. }
+            | PackedRow::Bytes { .. } => 0,
         }
     }
 
@@ -151,9 +154,9 @@ impl Row {
         ensures { result ≡ bytes_of_row self.now }
     {
         match self {
-            Row::Bytes { count, .. } => usize::from(*count),
-            Row::More { bytes, .. } => *bytes as usize,
-            Row::Nothing | Row::Psw(_) | Row::Register { .. } => 0,
+            PackedRow::Bytes { count, .. } => usize::from(*count),
+            PackedRow::More { bytes, .. } => *bytes as usize,
+            PackedRow::Nothing | PackedRow::Psw(_) | PackedRow::Register { .. } => 0,
         }
     }
 
@@ -162,8 +165,11 @@ impl Row {
         ensures { result ≡ beside_of_row self.now }
     {
         match self {
-            Row::More { beside, .. } => usize::from(*beside),
-            Row::Nothing | Row::Psw(_) | Row::Register { .. } | Row::Bytes { .. } => 0,
+            PackedRow::More { beside, .. } => usize::from(*beside),
+            PackedRow::Nothing
+            | PackedRow::Psw(_)
+            | PackedRow::Register { .. }
+            | PackedRow::Bytes { .. } => 0,
         }
     }
 
@@ -173,11 +179,11 @@ impl Row {
         ensures len { (is : List AnItem) (bs : List ℕ) → IsOver self.now is bs → result ≡ length (cells_of_row self.now is bs) }
     {
         match self {
-            Row::Nothing => 0,
-            Row::Psw(_) => 1,
-            Row::Register { .. } => 2,
-            Row::Bytes { count, .. } => 1 + u32::from(*count),
-            Row::More { count, .. } => *count,
+            PackedRow::Nothing => 0,
+            PackedRow::Psw(_) => 1,
+            PackedRow::Register { .. } => 2,
+            PackedRow::Bytes { count, .. } => 1 + u32::from(*count),
+            PackedRow::More { count, .. } => *count,
         }
     }
 
@@ -188,10 +194,13 @@ impl Row {
         ensures { slice_get (places_of_cells (cells_of_row self.now items.now bytes.now)) i ≡ Some result }
     {
         match self {
-            Row::More { .. } => part_at(items, bytes, i).first(),
-            Row::Register { register, .. } if i == 1 => Place::Register(register.number()),
-            Row::Bytes { address, .. } if i > 0 => Place::Byte(*address + (i - 1)),
-            Row::Nothing | Row::Psw(_) | Row::Register { .. } | Row::Bytes { .. } => Place::Psw,
+            PackedRow::More { .. } => part_at(items, bytes, i).first(),
+            PackedRow::Register { register, .. } if i == 1 => Place::Register(register.number()),
+            PackedRow::Bytes { address, .. } if i > 0 => Place::Byte(*address + (i - 1)),
+            PackedRow::Nothing
+            | PackedRow::Psw(_)
+            | PackedRow::Register { .. }
+            | PackedRow::Bytes { .. } => Place::Psw,
         }
     }
 
@@ -201,9 +210,9 @@ impl Row {
         ensures { result ≡ stretches None (places_of_cells (cells_of_row self.now items.now bytes.now)) }
     {
         match self {
-            Row::Nothing | Row::Psw(_) | Row::Register { .. } => 0,
-            Row::Bytes { .. } => 1,
-            Row::More { .. } => stretches_of(items, bytes),
+            PackedRow::Nothing | PackedRow::Psw(_) | PackedRow::Register { .. } => 0,
+            PackedRow::Bytes { .. } => 1,
+            PackedRow::More { .. } => stretches_of(items, bytes),
         }
     }
 }

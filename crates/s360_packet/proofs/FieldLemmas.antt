@@ -11,7 +11,7 @@ use Rattle.std.specs.Str.Parse.{digits_value_after}
 use Rattle.s360_packet.specs.Hexadecimal.{number_text, word_text}
 use Rattle.s360_packet.proofs.DigitLemmas.{digit_read, not_true}
 use Rattle.s360_packet.specs.RequestTexts.{two_texts}
-use Rattle.s360_packet.specs.Requests.{Part, is_text, number_in, word_in, parted, two_numbers}
+use Rattle.s360_packet.specs.Requests.{Parsed, is_text, number_in, word_in, parted, two_numbers}
 use Rattle.s360_packet.specs.declared.request.RequestFault.TheVariants.{Malformed}
 
 -- the digits of a number before others: what passes each digit passes them, and the value goes on from the number
@@ -172,7 +172,7 @@ eight_digits a b c d e f g h low_a low_b low_c low_d low_e low_f low_g low_h =
     )
     refl
 
-abbrev found : ℕ → Part ℕ
+abbrev found : ℕ → Parsed ℕ
 found n = Ok n
 
 pub word_read : (word : ℕ) → word < 2 ^ 32 → word_in (word_text word) ≡ Ok word

@@ -21,14 +21,14 @@ use Rattle.s360_packet.specs.declared.request.RequestFault.{RequestFault}
 use Rattle.s360_packet.specs.declared.request.RequestFault.TheVariants.{Unknown, Malformed, Memory}
 
 -- a part of the data that is read, or why it isn't
-abbrev pub Part : Type 0 → Type 0
-Part V = Result V RequestFault
+abbrev pub Parsed : Type 0 → Type 0
+Parsed V = Result V RequestFault
 
 abbrev pub Reading : Type 0
-Reading = Part Request
+Reading = Parsed Request
 
 -- what follows a part that is right
-abbrev pub and_then : {V W : Type 0} → Part V → (V → Part W) → Part W
+abbrev pub and_then : {V W : Type 0} → Parsed V → (V → Parsed W) → Parsed W
 and_then (Ok v) next = next v
 and_then (Err f) next = Err f
 
@@ -40,30 +40,30 @@ abbrev pub behind : List ℕ → List ℕ → Option (List ℕ)
 behind name text = if is_text (take (length name) text) name then Some (drop (length name) text) else None
 
 -- what stands before and after the first such byte
-abbrev pub parted : ℕ → List ℕ → Part (List ℕ × List ℕ)
+abbrev pub parted : ℕ → List ℕ → Parsed (List ℕ × List ℕ)
 parted separator text = ok_or (option_map (λ n. (take n text, drop (n + 1) text)) (position (λ b. nat_eq b separator) text)) Malformed
 
 -- a number of 1 to 8 hexadecimal digits
-abbrev pub number_in : List ℕ → Part ℕ
+abbrev pub number_in : List ℕ → Parsed ℕ
 number_in text = ok_or (number_of_digits 16 8 text) Malformed
 
 -- a word in 8 hexadecimal digits
-abbrev pub word_in : List ℕ → Part ℕ
+abbrev pub word_in : List ℕ → Parsed ℕ
 word_in text = if nat_eq (length text) 8 then number_in text else Err Malformed
 
 -- two numbers, parted by `,`
-abbrev pub two_numbers : List ℕ → Part (ℕ × ℕ)
+abbrev pub two_numbers : List ℕ → Parsed (ℕ × ℕ)
 two_numbers text = and_then (parted 0x2C text) (λ parts. and_then (number_in parts.0) (λ first. and_then (number_in parts.1) (λ second. Ok (first, second))))
 
 -- bytes of two hexadecimal digits each
-abbrev pub bytes_in : List ℕ → Part (List ℕ)
+abbrev pub bytes_in : List ℕ → Parsed (List ℕ)
 bytes_in text = ok_or (result_ok (decode_of text)) Malformed
 
 -- `-1` for all threads, `0` for any, else the number of one
 abbrev pub thread_numbered : ℕ → Thread
 thread_numbered n = if nat_eq n 0 then Any else Numbered n
 
-abbrev pub thread_in : List ℕ → Part Thread
+abbrev pub thread_in : List ℕ → Parsed Thread
 thread_in text = if is_text text (codes "-1") then Ok Every else and_then (number_in text) (λ n. Ok (thread_numbered n))
 
 -- a query of nothing but its name; `qSupported` may have what gdb can do behind it
@@ -97,7 +97,7 @@ abbrev pub storage_reading : List ℕ → Reading
 storage_reading text = and_then (two_numbers text) (λ field. Ok (Storage field.0 field.1))
 
 -- address `,` count `:` and as many bytes, which `M` has in two digits each, and `X` as they are
-abbrev pub write_reading : ℕ → (List ℕ → Part (List ℕ)) → List ℕ → Reading
+abbrev pub write_reading : ℕ → (List ℕ → Parsed (List ℕ)) → List ℕ → Reading
 write_reading width bytes_of text =
     and_then (parted 0x3A text) (λ parts.
     and_then (two_numbers parts.0) (λ field.
@@ -125,7 +125,7 @@ abbrev pub insert_reading : Point → List ℕ → Reading
 insert_reading point text = and_then (two_numbers text) (λ field. Ok (Insert point field.0 field.1))
 
 -- `Z` of a breakpoint may have `;` and conditions behind it, which are taken as they stand
-abbrev pub breakpoint_parted : Breakpoint → List ℕ → Part (List ℕ × List ℕ) → Reading
+abbrev pub breakpoint_parted : Breakpoint → List ℕ → Parsed (List ℕ × List ℕ) → Reading
 breakpoint_parted point text (Ok parts) = and_then (two_numbers parts.0) (λ field. Ok (InsertIf point field.0 field.1 parts.1))
 breakpoint_parted point text (Err f) = insert_reading (Break point) text
 
@@ -143,7 +143,7 @@ abbrev pub alive_reading : List ℕ → Reading
 alive_reading text = and_then (thread_in text) (λ thread. Ok (IsAlive thread))
 
 -- annex `:` offset `,` count, of the one annex that there is
-abbrev pub extent_in : List ℕ → List ℕ → Part (ℕ × ℕ)
+abbrev pub extent_in : List ℕ → List ℕ → Parsed (ℕ × ℕ)
 extent_in annex text = and_then (ok_or (behind annex text) Malformed) two_numbers
 
 -- `qXfer:features:read:`, where the annex is `target.xml`, and `qXfer:memory-map:read:`, where it is empty
@@ -230,6 +230,6 @@ Reads (Err f) result = result ≡ Err f
 Reads (Ok r) result = (result ≡ Ok r) ⊎ (TakesMemory r × (result ≡ Err Memory))
 
 -- and what may answer the reading of bytes
-abbrev pub ReadsBytes : Part (List ℕ) → Part (List ℕ) → Type 0
+abbrev pub ReadsBytes : Parsed (List ℕ) → Parsed (List ℕ) → Type 0
 ReadsBytes (Err f) result = result ≡ Err f
 ReadsBytes (Ok bytes) result = (result ≡ Ok bytes) ⊎ (result ≡ Err Memory)

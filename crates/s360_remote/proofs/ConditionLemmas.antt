@@ -3,7 +3,7 @@ use Rattle.std.proofs.Common.{◌≡◌, ◌<◌, ◌≤◌, ◌+◌, ◌-◌, �
 use Rattle.s360_condition.specs.Reading.{reading_of}
 use Rattle.s360_condition.specs.declared.instruction.Placed.{Placed}
 use Rattle.s360_packet.specs.Conditions.{condition_in}
-use Rattle.s360_packet.specs.Requests.{Part, and_then}
+use Rattle.s360_packet.specs.Requests.{Parsed, and_then}
 use Rattle.s360_packet.specs.declared.request.RequestFault.{RequestFault}
 use Rattle.s360_packet.specs.declared.request.RequestFault.TheVariants.{Memory}
 use Rattle.s360_remote.specs.Conditions.{conditions_from, conditions_in, part_of_reading}
@@ -19,7 +19,7 @@ pub record IsReadSoFar (text : List ℕ) (read : List Condition) (rest : List �
 pub IsReadSoFar-start : (text : List ℕ) → IsReadSoFar text [] text
 IsReadSoFar-start text =
     let all : length text - 0 ≡ length text = omega arith
-    in let same : (p : Part (List Condition)) → p ≡ and_then p (λ others. Ok ([] ++ others)) = λ p. elim p as (λ q. q ≡ and_then q (λ others. Ok ([] ++ others))) [ Ok x ↦ refl | Err f ↦ refl ]
+    in let same : (p : Parsed (List Condition)) → p ≡ and_then p (λ others. Ok ([] ++ others)) = λ p. elim p as (λ q. q ≡ and_then q (λ others. Ok ([] ++ others))) [ Ok x ↦ refl | Err f ↦ refl ]
     in record { few = omega arith; whole = same (conditions_in text) ∙ ap (λ n. and_then (conditions_from n text) (λ others. Ok ([] ++ others))) (sym all) }
 
 one-more : (n : ℕ) (rest : List ℕ) → 0 < length rest
@@ -36,7 +36,7 @@ IsReadSoFar-next text read rest bytes behind condition h some less is right =
     let n : ℕ = length text - length read - 1
     in let more : length (read ++ condition ∷ []) ≡ length read + 1 = length-append read (condition ∷ [])
     in let left : length text - length (read ++ condition ∷ []) ≡ n = omega (arith, more)
-    in let joined : (p : Part (List Condition)) → and_then (and_then p (λ others. Ok (condition ∷ others))) (λ others. Ok (read ++ others)) ≡ and_then p (λ others. Ok ((read ++ condition ∷ []) ++ others))
+    in let joined : (p : Parsed (List Condition)) → and_then (and_then p (λ others. Ok (condition ∷ others))) (λ others. Ok (read ++ others)) ≡ and_then p (λ others. Ok ((read ++ condition ∷ []) ++ others))
     = λ p. elim p as (λ q. and_then (and_then q (λ others. Ok (condition ∷ others))) (λ others. Ok (read ++ others)) ≡ and_then q (λ others. Ok ((read ++ condition ∷ []) ++ others)))
     [ Ok x ↦ ap (λ l. Ok l) (sym (append_assoc read (condition ∷ []) x)) | Err f ↦ refl ]
     in record {

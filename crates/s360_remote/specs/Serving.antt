@@ -10,7 +10,7 @@ use Rattle.s360_journal.specs.Standing.{last_kind_of, machine_of}
 use Rattle.s360_language.specs.declared.command.LineFault.{LineFault}
 use Rattle.s360_packet.specs.Answers.{answer_text, registers_text}
 use Rattle.s360_packet.specs.Framing.{framed}
-use Rattle.s360_packet.specs.Requests.{Part}
+use Rattle.s360_packet.specs.Requests.{Parsed}
 use Rattle.s360_packet.specs.declared.answer.Answer.{Answer}
 use Rattle.s360_packet.specs.declared.answer.Answer.TheVariants as answer
 use Rattle.s360_packet.specs.declared.answer.Stop.{Stop}
@@ -172,13 +172,13 @@ points_without write at count d = if nat_lt (at + count) (2 ^ 32) then watching 
 points_without other at count d = without_break d.points at
 
 -- a breakpoint with conditions, if they are right
-abbrev pub IsInsertedIf : Part (List (List Placed)) → ℕ → Driven → Driven → Then → List ℕ → Type 0
+abbrev pub IsInsertedIf : Parsed (List (List Placed)) → ℕ → Driven → Driven → Then → List ℕ → Type 0
 IsInsertedIf (Ok conditions) at d t next packets =
     IsSet (with_points d (with_break d.points at conditions)) t next packets (set_if (has_room_for d.points.breaks at))
 IsInsertedIf (Err f) at d t next packets = IsSet d t next packets (error_of Malformed)
 
 -- after want of memory
-abbrev pub IsInsertIfBegun : Part (List (List Placed)) → ℕ → Driven → Driven → Type 0
+abbrev pub IsInsertIfBegun : Parsed (List (List Placed)) → ℕ → Driven → Driven → Type 0
 IsInsertIfBegun (Ok conditions) at d t = (t ≡ d) ⊎ (t ≡ record d { points = with_break d.points at conditions })
 IsInsertIfBegun (Err f) at d t = t ≡ d
 

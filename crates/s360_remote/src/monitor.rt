@@ -51,6 +51,9 @@ why P, why P N: what made its value, and what that was made of, 5 or N changes d
 goto N, goto start, goto end, goto last: goes to just after change N, to either end, to where one stood before
 changes P, changes P N: the last 10 or N changes of a place
 history, history N: the last 10 or N changes
+visits A, visits A N: the last 10 or N events that executed what is at an address
+jumps, jumps N: the last 10 or N branches and interruptions
+calls: the calls that have not returned, the innermost first
 dump A N: bytes of storage with their signs
 units: all units with their media
 where: how far the recording stands, and what the CPU does next

@@ -11,7 +11,7 @@ use crate::registers::{patch_of_psw, patch_of_word, words_of_machine};
 use crate::target::Target;
 use s360_machine::{Event, Patch};
 use s360_packet::REGISTERS;
-use s360_store::Bytes;
+use s360_store::{Bytes, GREATEST_SIZE};
 use s360_word::RegisterNumber;
 
 /// So many bytes has a patch at most.
@@ -142,9 +142,9 @@ impl Target {
         ensures limit { self.new.recorded.limit ≡ self.old.recorded.limit }
         ensures start { self.new.recorded.start ≡ self.old.recorded.start }
     {
-        // Both are looked at, since their clauses have that storage is as large as at the start, and that what stands is recorded.
-        let _machine = self.machine();
-        let _standing = self.standing();
+        // Storage is as large as at the start, and what stands is recorded.
+        prove!(self.machine().storage().size() <= GREATEST_SIZE);
+        prove!(self.standing() <= self.session.recorded());
         self.session.advance(Event::Patch(patch))?;
         Ok(())
     }

@@ -7,7 +7,7 @@ ghost use Rattle.s360_setup.specs.Failures.{IsSetUpFailure};
 ghost use Rattle.s360_setup.specs.declared.failure.Failure.TheVariants.{StorageSize};
 
 use crate::arguments::Options;
-use crate::failure::{Failure, Part};
+use crate::failure::{Failure, Stream};
 use crate::images::{read_deck, read_tape};
 use s360_machine::Machine;
 use std::alloc::Global;
@@ -20,8 +20,8 @@ pub fn set_up(rt: &HostRuntime, alloc: Global, options: Options<'_>) -> Result<M
     ensures no_size { result ≡ Err StorageSize → is_storage_size options.entry.storage ≡ false }
 {
     let deck = read_deck(rt, alloc, options.reader)?;
-    let tape0 = read_tape(rt, alloc, Part::Tape0, options.tape0)?;
-    let tape1 = read_tape(rt, alloc, Part::Tape1, options.tape1)?;
+    let tape0 = read_tape(rt, alloc, Stream::Tape0, options.tape0)?;
+    let tape1 = read_tape(rt, alloc, Stream::Tape1, options.tape1)?;
     let size = options.storage;
     if options.fetch {
         return Ok(Machine::new_with_fetch(alloc, size, deck, tape0, tape1)?);

@@ -1,6 +1,6 @@
 //! Why a program did not do all that it was asked for.
 ghost use Rattle.std.specs.Prelude.{◌≡◌};
-ghost use Rattle.s360_setup.specs.Ending.{part_name, fault_name, offset_digits, ending_status};
+ghost use Rattle.s360_setup.specs.Ending.{stream_name, fault_name, offset_digits, ending_status};
 ghost use Rattle.s360_setup.specs.Failures.{failure_of_storage, failure_of_deck, failure_of_tape, failure_of_read, failure_of_script};
 ghost use Rattle.s360_setup.specs.declared.failure.Failure.TheVariants.{Memory};
 
@@ -13,7 +13,7 @@ use std::alloc::AllocError;
 
 /// What a fault is of.
 #[derive(Clone, Copy, PartialEq, Eq)]
-pub enum Part {
+pub enum Stream {
     /// The file of the card reader's deck.
     Reader,
     /// The file of the tape of unit 180.
@@ -26,7 +26,7 @@ pub enum Part {
     Connection,
 }
 
-/// What went wrong with a part. Offsets are bytes from the start of the file; those of a tape's file
+/// What went wrong with a stream. Offsets are bytes from the start of the file; those of a tape's file
 /// are of the header at which the fault was found.
 #[derive(Clone, Copy)]
 pub enum Fault {
@@ -61,49 +61,49 @@ pub enum Fault {
 pub enum Failure {
     /// A word of the command line is not UTF-8.
     Word,
-    /// A part has a fault.
-    Part(Part, Fault),
+    /// A stream has a fault.
+    Stream(Stream, Fault),
     /// No storage has the size that was asked for.
     StorageSize,
     /// A growth was refused.
     Memory,
 }
 
-impl Part {
+impl Stream {
     /// The name by which an ending tells of it.
     pub fn name(self) -> &'static str
-        ensures { result.now ≡ part_name self }
+        ensures { result.now ≡ stream_name self }
     {
         match self {
-            Part::Reader => "reader",
-            Part::Tape0 => "tape0",
-            Part::Tape1 => "tape1",
-            Part::Script => "script",
-            Part::Connection => "gdb",
+            Stream::Reader => "reader",
+            Stream::Tape0 => "tape0",
+            Stream::Tape1 => "tape1",
+            Stream::Script => "script",
+            Stream::Connection => "gdb",
         }
     }
 
-    /// What a fault of reading a file is where the file is of this part.
+    /// What a fault of reading a file is where the file is of this stream.
     pub fn failure(self, fault: ReadFault) -> Failure
         ensures { result ≡ failure_of_read self fault }
     {
         match fault {
-            ReadFault::Failed => Failure::Part(self, Fault::CannotRead),
-            ReadFault::TooLong => Failure::Part(self, Fault::FileTooLong),
+            ReadFault::Failed => Failure::Stream(self, Fault::CannotRead),
+            ReadFault::TooLong => Failure::Stream(self, Fault::FileTooLong),
             ReadFault::Memory => Failure::Memory,
         }
     }
 
-    /// What a fault of a tape's file is where the file is of this part.
+    /// What a fault of a tape's file is where the file is of this stream.
     pub fn tape_failure(self, fault: TapeFault) -> Failure
         ensures { result ≡ failure_of_tape self fault }
     {
         match fault {
-            TapeFault::ShortHeader(at) => Failure::Part(self, Fault::ShortHeader(at)),
-            TapeFault::BadFlags(at) => Failure::Part(self, Fault::BadFlags(at)),
-            TapeFault::PartOutOfPlace(at) => Failure::Part(self, Fault::PartOutOfPlace(at)),
-            TapeFault::ShortBlock(at) => Failure::Part(self, Fault::ShortBlock(at)),
-            TapeFault::BlockTooLong(at) => Failure::Part(self, Fault::BlockTooLong(at)),
+            TapeFault::ShortHeader(at) => Failure::Stream(self, Fault::ShortHeader(at)),
+            TapeFault::BadFlags(at) => Failure::Stream(self, Fault::BadFlags(at)),
+            TapeFault::PartOutOfPlace(at) => Failure::Stream(self, Fault::PartOutOfPlace(at)),
+            TapeFault::ShortBlock(at) => Failure::Stream(self, Fault::ShortBlock(at)),
+            TapeFault::BlockTooLong(at) => Failure::Stream(self, Fault::BlockTooLong(at)),
             TapeFault::Memory => Failure::Memory,
         }
     }
@@ -152,7 +152,7 @@ impl Failure {
     {
         match self {
             Failure::Word | Failure::StorageSize => 2,
-            Failure::Part(..) | Failure::Memory => 1,
+            Failure::Stream(..) | Failure::Memory => 1,
         }
     }
 }
@@ -181,7 +181,7 @@ impl From<DeckFault> for Failure {
 
     fn from(fault: DeckFault) -> Failure {
         match fault {
-            DeckFault::ShortCard(at) => Failure::Part(Part::Reader, Fault::ShortCard(at)),
+            DeckFault::ShortCard(at) => Failure::Stream(Stream::Reader, Fault::ShortCard(at)),
             DeckFault::Memory => Failure::Memory,
         }
     }
@@ -192,9 +192,9 @@ impl From<ScriptFault> for Failure {
 
     fn from(fault: ScriptFault) -> Failure {
         match fault {
-            ScriptFault::Read => Failure::Part(Part::Script, Fault::ReadFailed),
-            ScriptFault::TooLong => Failure::Part(Part::Script, Fault::ScriptTooLong),
-            ScriptFault::Write => Failure::Part(Part::Script, Fault::WriteFailed),
+            ScriptFault::Read => Failure::Stream(Stream::Script, Fault::ReadFailed),
+            ScriptFault::TooLong => Failure::Stream(Stream::Script, Fault::ScriptTooLong),
+            ScriptFault::Write => Failure::Stream(Stream::Script, Fault::WriteFailed),
             ScriptFault::Memory => Failure::Memory,
         }
     }

@@ -14,7 +14,7 @@ mod telling;
 pub use arguments::{Options, TapeOptions};
 pub use beginning::set_up;
 pub use command_line::options;
-pub use failure::{Failure, Fault, Part};
+pub use failure::{Failure, Fault, Stream};
 pub use images::open;
 pub use program::Program;
 pub use starting::start;

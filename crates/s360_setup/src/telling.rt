@@ -34,10 +34,14 @@ fn tell_failure<W: Write>(program: Program, failure: Failure, writer: &mut W) ->
             &["a word of the command line is not UTF-8"],
             writer,
         ),
-        Failure::Part(part, fault) => {
+        Failure::Stream(stream, fault) => {
             let mut digits = Buffer::new();
             let offset = fault.offset(&mut digits);
-            tell(program, &[part.name(), ": ", fault.name(), offset], writer)
+            tell(
+                program,
+                &[stream.name(), ": ", fault.name(), offset],
+                writer,
+            )
         }
         Failure::StorageSize => tell(
             program,

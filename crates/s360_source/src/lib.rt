@@ -31,4 +31,4 @@ pub use laws::{
     instructions_follow_their_sources,
 };
 pub use location::Location;
-pub use shape::{InstructionShape, Operands, Performance};
+pub use shape::{InstructionShape, Operands, Performance, instruction_shape, operation_of};

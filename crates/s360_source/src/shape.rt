@@ -168,10 +168,7 @@ fn fetched_shape(
 }
 
 /// The shape of the instruction at the instruction address.
-pub(crate) fn instruction_shape(
-    alloc: Global,
-    machine: &Machine,
-) -> Result<InstructionShape, AllocError>
+pub fn instruction_shape(alloc: Global, machine: &Machine) -> Result<InstructionShape, AllocError>
     ensures { IfOk result (λ shape. shape ≡ instruction_shape machine.now.whole.core) }
 {
     match machine.fetch() {
@@ -186,7 +183,7 @@ pub(crate) fn instruction_shape(
 }
 
 /// The operation of an instruction.
-pub(crate) fn operation_of(form: &Form) -> Operation
+pub fn operation_of(form: &Form) -> Operation
     ensures { result ≡ operation_of form.now }
 {
     match *form {

@@ -14,7 +14,7 @@ use Rattle.s360_store.specs.declared.place.Place.TheVariants.{Byte}
 use Rattle.s360_store.specs.declared.place.Cell.{Cell}
 use Rattle.s360_store.specs.declared.items.Item.{Item}
 use Rattle.s360_store.specs.declared.items.Item.TheVariants.{Single, Run}
-use Rattle.s360_store.specs.declared.items.Part.TheVariants.{Cell as OfCell}
+use Rattle.s360_store.specs.declared.items.CellPart.TheVariants.{Cell as OfCell}
 use Rattle.s360_store.specs.Cells.{HasEachOnce, IsFresh, byte_cells, places_of_cells}
 use Rattle.s360_store.specs.Order.{IsAscending, IsBefore, IsBeforeAll}
 use Rattle.s360_store.specs.Items.{AddsRun, AllMiss, AreItems, IsItem, IsJoined, IsPartAt, IsReplaced, IsRunBefore, IsRunOf, IsSingle, MissesBytes, bytes_of_item, bytes_of_items, cells_of_item, cells_of_items, count_of_item, first_place, has_place, is_in_run, last_place}

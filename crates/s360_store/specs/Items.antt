@@ -9,8 +9,8 @@ use Rattle.s360_store.specs.declared.place.Place.TheVariants.{Byte}
 use Rattle.s360_store.specs.declared.place.Cell.{Cell}
 use Rattle.s360_store.specs.declared.items.Item.{Item}
 use Rattle.s360_store.specs.declared.items.Item.TheVariants.{Single, Run}
-use Rattle.s360_store.specs.declared.items.Part.{Part}
-use Rattle.s360_store.specs.declared.items.Part.TheVariants.{Cell as OfCell, Bytes as OfBytes}
+use Rattle.s360_store.specs.declared.items.CellPart.{CellPart}
+use Rattle.s360_store.specs.declared.items.CellPart.TheVariants.{Cell as OfCell, Bytes as OfBytes}
 use Rattle.s360_store.specs.Cells.{byte_cells}
 use Rattle.s360_store.specs.Places.{same_place}
 
@@ -112,17 +112,17 @@ pub record AreItemsOver (items : List Item) (bytes : List ℕ) (count : ℕ) : T
   pub few : count ≤ 1000000
 
 -- a part of cells: one, or those of successive bytes
-abbrev pub cells_of_part : Part → List Cell
+abbrev pub cells_of_part : CellPart → List Cell
 cells_of_part (OfCell c) = c ∷ []
 cells_of_part (OfBytes address bytes) = byte_cells address bytes.now
 
 -- its addresses have 32 bits
-abbrev pub HasAddresses : Part → Type 0
+abbrev pub HasAddresses : CellPart → Type 0
 HasAddresses (OfCell c) = Unit {0}
 HasAddresses (OfBytes address bytes) = address + length bytes.now ≤ 2 ^ 32
 
 -- the part is that of the cells which begins with the one at an index
-pub record IsPartAt (cs : List Cell) (i : ℕ) (part : Part) : Type 0 where
+pub record IsPartAt (cs : List Cell) (i : ℕ) (part : CellPart) : Type 0 where
   pub some : 0 < length (cells_of_part part)
   pub is : drop i cs ≡ cells_of_part part ++ drop (i + length (cells_of_part part)) cs
   pub small : HasAddresses part

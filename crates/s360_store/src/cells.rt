@@ -11,7 +11,7 @@ ghost use Rattle.s360_store.specs.Plans.{after_put, after_put_if, planned_value}
 use crate::bytes::append_bytes;
 use crate::exchange::exchange_items;
 use crate::items::{
-    Item, Part, all_miss, byte_cell, find, joined, one_has, part_at, replace, value_at,
+    CellPart, Item, all_miss, byte_cell, find, joined, one_has, part_at, replace, value_at,
 };
 use crate::place::{Cell, Place};
 use crate::storage::Storage;
@@ -150,7 +150,7 @@ impl Cells {
     }
 
     /// The part that begins with the cell at `i`, counted from 0.
-    pub fn part_at(&self, i: u32) -> Part<'_>
+    pub fn part_at(&self, i: u32) -> CellPart<'_>
         requires { i < length self.now }
         ensures { IsPartAt self.now i result }
     {
@@ -178,8 +178,8 @@ impl Cells {
         ensures { slice_get self.now i ≡ Some result }
     {
         match self.part_at(i) {
-            Part::Cell(cell) => cell,
-            Part::Bytes(address, bytes) => byte_cell(address, bytes[0]),
+            CellPart::Cell(cell) => cell,
+            CellPart::Bytes(address, bytes) => byte_cell(address, bytes[0]),
         }
     }
 

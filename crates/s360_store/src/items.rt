@@ -29,21 +29,21 @@ impl Default for Item {
 
 /// A part of cells: one, or those of successive bytes of storage.
 #[derive(Clone, Copy)]
-pub enum Part<'a> {
+pub enum CellPart<'a> {
     /// A cell.
     Cell(Cell),
     /// The cells of bytes from an address on.
     Bytes(u32, &'a [u8]),
 }
 
-impl Part<'_> {
+impl CellPart<'_> {
     /// The number of its cells.
     pub fn len(self) -> usize
         ensures { result ≡ length (cells_of_part self.entry) }
     {
         match self {
-            Part::Cell(_) => 1,
-            Part::Bytes(_, bytes) => bytes.len(),
+            CellPart::Cell(_) => 1,
+            CellPart::Bytes(_, bytes) => bytes.len(),
         }
     }
 
@@ -53,8 +53,8 @@ impl Part<'_> {
         ensures { slice_get (places_of_cells (cells_of_part self.entry)) 0 ≡ Some result }
     {
         match self {
-            Part::Cell(cell) => cell.place,
-            Part::Bytes(address, _) => Place::Byte(address),
+            CellPart::Cell(cell) => cell.place,
+            CellPart::Bytes(address, _) => Place::Byte(address),
         }
     }
 }
@@ -158,7 +158,7 @@ pub(crate) fn byte_cell(address: u32, byte: u8) -> Cell
 }
 
 /// The cells of an item from one of them on. The bytes are those from its own on.
-fn part_of(item: Item, within: u32, bytes: &[u8]) -> Part<'_>
+fn part_of(item: Item, within: u32, bytes: &[u8]) -> CellPart<'_>
     requires within { within < count_of_item item }
     requires item { IsItem item }
     requires all { bytes_of_item item ≤ length bytes.now }
@@ -166,15 +166,15 @@ fn part_of(item: Item, within: u32, bytes: &[u8]) -> Part<'_>
     ensures small { HasAddresses result }
 {
     match item {
-        Item::Single(cell) => Part::Cell(cell),
+        Item::Single(cell) => CellPart::Cell(cell),
         Item::Run { address, count } => {
-            Part::Bytes(address + within, &bytes[within as usize..count as usize])
+            CellPart::Bytes(address + within, &bytes[within as usize..count as usize])
         }
     }
 }
 
 /// The part that begins with the cell at `i` of items, counted from 0.
-pub fn part_at<'a>(items: &[Item], bytes: &'a [u8], i: u32) -> Part<'a>
+pub fn part_at<'a>(items: &[Item], bytes: &'a [u8], i: u32) -> CellPart<'a>
     requires items { AreItems items.now }
     requires all { bytes_of_items items.now ≤ length bytes.now }
     requires inside { i < length (cells_of_items items.now bytes.now) }

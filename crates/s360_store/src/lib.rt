@@ -29,7 +29,7 @@ pub use core_change::CoreChange;
 pub use core_state::Core;
 pub use differing::{first_other, next_run};
 pub use fault::StoreFault;
-pub use items::{Item, Part, part_at};
+pub use items::{CellPart, Item, part_at};
 pub use place::{Cell, Place};
 pub use plan::Plan;
 pub use protection::{Access, Checked};

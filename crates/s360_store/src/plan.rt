@@ -17,7 +17,7 @@ ghost use Rattle.s360_store.specs.declared.place.Place.TheVariants.{Key, Psw as 
 
 use crate::block_key::BlockKey;
 use crate::cells::Cells;
-use crate::items::Part;
+use crate::items::CellPart;
 use crate::place::{Cell, Place};
 use indexmap::IndexMap;
 use s360_psw::{InstructionLength, Psw};
@@ -181,13 +181,13 @@ impl Plan {
     }
 
     /// The part that begins with the cell at `i`, counted from 0 in the order of the first puts.
-    pub fn part_at(&self, i: u32) -> Part<'_>
+    pub fn part_at(&self, i: u32) -> CellPart<'_>
         requires { i < length self.now }
         ensures { IsPartAt self.now i result }
     {
         match &self.planned {
             Planned::Cells(cells) => cells.part_at(i),
-            Planned::Map(map) => Part::Cell(entry(map, i)),
+            Planned::Map(map) => CellPart::Cell(entry(map, i)),
         }
     }
 

@@ -13,7 +13,7 @@ ghost use Rattle.s360_tape.specs.WholeTape.{seen};
 use crate::block::Block;
 use crate::fault::TapeFault;
 use crate::item::TapeItem;
-use crate::part::{HEADER_LENGTH, Part, part_at};
+use crate::part::{FilePart, HEADER_LENGTH, part_at};
 use crate::part_kind::PartKind;
 use crate::tape::{Tape, tape_with};
 use byteorder::{ByteOrder, LittleEndian};
@@ -37,7 +37,7 @@ fn check_file(file: &[u8]) -> Result<(), TapeFault>
 /// Keeps a part: the item that it ends, or its bytes until a later part ends their block.
 fn keep_part(
     alloc: Global,
-    part: &Part<'_>,
+    part: &FilePart<'_>,
     items: &mut Vec<TapeItem>,
     block: &mut Vec<u8>,
 ) -> Result<(), AllocError>

@@ -15,14 +15,14 @@ pub(crate) const HEADER_LENGTH: usize = 6;
 
 /// A part of a file.
 #[derive(Clone, Copy)]
-pub(crate) struct Part<'a> {
+pub(crate) struct FilePart<'a> {
     /// What it is of a tape.
     pub(crate) kind: PartKind,
     /// Its bytes.
     pub(crate) bytes: &'a [u8],
 }
 
-impl Part<'_> {
+impl FilePart<'_> {
     /// The number of bytes of a block that came before the end of the part, if it is inside of one.
     pub(crate) fn count_after(&self, inside: Option<usize>) -> Option<usize>
         requires fits { option_map_or (λ n. n) inside 0 + length self.now.bytes.now ≤ block_limit }
@@ -43,7 +43,7 @@ pub(crate) fn part_at(
     file: &[u8],
     offset: usize,
     inside: Option<usize>,
-) -> Result<Option<Part<'_>>, TapeFault>
+) -> Result<Option<FilePart<'_>>, TapeFault>
     requires within { offset ≤ length file.now }
     requires short { IfSome inside (λ count. count ≤ block_limit) }
     ensures part { IfOk result (λ part. IfSome part (λ p. IsNextPart inside (drop offset file.now) p.kind p.bytes.now)) }
@@ -63,7 +63,7 @@ pub(crate) fn part_at(
 }
 
 /// The part with which the rest of a file goes on.
-fn next_part(rest: &[u8], offset: usize, inside: Option<usize>) -> Result<Part<'_>, TapeFault>
+fn next_part(rest: &[u8], offset: usize, inside: Option<usize>) -> Result<FilePart<'_>, TapeFault>
     requires some { 0 < length rest.now }
     requires short { IfSome inside (λ count. count ≤ block_limit) }
     ensures part { IfOk result (λ p. IsNextPart inside rest.now p.kind p.bytes.now) }
@@ -87,7 +87,7 @@ fn next_part(rest: &[u8], offset: usize, inside: Option<usize>) -> Result<Part<'
     if inside.unwrap_or(0) + count > BLOCK_LIMIT {
         return Err(TapeFault::BlockTooLong(offset));
     }
-    Ok(Part {
+    Ok(FilePart {
         kind,
         bytes: &bytes[..count],
     })

@@ -8,7 +8,7 @@ ghost use Rattle.s360_setup.specs.declared.failure.Failure.TheVariants.{StorageS
 
 use s360_debug::carry_out;
 use s360_journal::Session;
-use s360_setup::{Failure, LIMIT, Options, Part, Program, open, set_up, tell};
+use s360_setup::{Failure, LIMIT, Options, Program, Stream, open, set_up, tell};
 use std::alloc::Global;
 use std::io::{self, Input, IsTerminal, Read, Write};
 
@@ -35,7 +35,7 @@ fn answer_script(rt: &HostRuntime, session: &mut Session, name: Option<&str>) ->
 {
     match name {
         Some(name) => {
-            let mut file = open(rt, Part::Script, name)?;
+            let mut file = open(rt, Stream::Script, name)?;
             let _writer = answer(rt.alloc(), session, &mut file, io::writer(rt))?;
         }
         None => {

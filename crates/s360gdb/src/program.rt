@@ -20,7 +20,7 @@ use s360_debug::carry_out;
 use s360_journal::Session;
 use s360_machine::Machine;
 use s360_remote::{Connection, Errand, Target, push_written};
-use s360_setup::{Failure, Fault, LIMIT, Options, Part, Program, open, set_up, tell};
+use s360_setup::{Failure, Fault, LIMIT, Options, Program, Stream, open, set_up, tell};
 use s360_text::{Text, Untaken, write_whole};
 use std::alloc::AllocError;
 use std::io::{self, Input, Read, Write};
@@ -36,7 +36,7 @@ pub(crate) fn run(rt: &HostRuntime, options: Options<'_>) -> Result<(), Failure>
 {
     let machine = set_up(rt, rt.alloc(), options)?;
     match options.script {
-        Some(name) => serve_on_output(rt, machine, &mut open(rt, Part::Script, name)?),
+        Some(name) => serve_on_output(rt, machine, &mut open(rt, Stream::Script, name)?),
         None => serve_on_output(rt, machine, &mut io::empty()),
     }
 }
@@ -111,7 +111,7 @@ fn serve<F: Opening, N: Write, R: Read, W: Write>(
             break;
         }
         let Ok(len) = reader.read(&mut chunk) else {
-            return Err(Failure::Part(Part::Connection, Fault::ReadFailed));
+            return Err(Failure::Stream(Stream::Connection, Fault::ReadFailed));
         };
         if len == 0 {
             break;
@@ -122,7 +122,7 @@ fn serve<F: Opening, N: Write, R: Read, W: Write>(
         let written = write_whole(writer, replies.as_bytes());
         taken?;
         let Ok(()) = written else {
-            return Err(Failure::Part(Part::Connection, Fault::WriteFailed));
+            return Err(Failure::Stream(Stream::Connection, Fault::WriteFailed));
         };
     }
     Ok(())

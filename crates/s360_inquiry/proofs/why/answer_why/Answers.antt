@@ -1,14 +1,10 @@
-use Rattle.std.proofs.Common.{◌≡◌, ◌∙◌, [], ℕ, List, Result, Ok, Err, IfOk, ap, refl}
+use Rattle.std.proofs.Common.{◌≡◌, ◌∙◌, [], ℕ, List, ap, refl}
 use Rattle.s360_journal.specs.Recorded.{Recorded, with_standing}
 use Rattle.s360_inquiry.specs.declared.cause.Cause.{Cause}
 use Rattle.s360_inquiry.specs.Causes.{cause_lines, first_cause, told_lines, why_text}
+use Rattle.s360_inquiry.proofs.InquiryLemmas.{if_ok}
 use Rattle.s360_inquiry.proofs.WhyLemmas.{same-record}
 use Rattle.s360_inquiry.proofs.why.answer_why.Goals as goal
-
--- what holds of any answer that is one
-if_ok : {A E : Type 0} {P Q : A → Type 0} (r : Result A E) → IfOk r P → ((x : A) → P x → Q x) → IfOk r Q
-if_ok (Ok x) p more = more x p
-if_ok (Err e) p more = p
 
 pub returns-clause-text : goal.returns-clause-text
 returns-clause-text c =

@@ -1,5 +1,5 @@
 use Rattle.std.proofs.Common.{◌≡◌, ◌-◌, ◌∙◌, List, sym, ap, subst, arith, length, take, reverse, length-append, option_to_list}
-use Rattle.s360_machine.specs.declared.row.Row.{Row}
+use Rattle.s360_machine.specs.declared.row.PackedRow.{PackedRow}
 use Rattle.s360_machine.specs.Change.{Change}
 use Rattle.s360_machine.specs.Packed.{ArePacked, Lists, changes_of_rows, lists, older}
 use Rattle.s360_machine.specs.Rows.{HasNoMore, bytes_of_row}
@@ -12,9 +12,9 @@ index-requires c = omega (arith, c.as_slice-number.ensures.len, some-rows c.self
 
 pub overflow_sub-start : goal.overflow_sub-start
 overflow_sub-start c =
-    let rows : List Row = c.self.inside.rows.items
+    let rows : List PackedRow = c.self.inside.rows.items
     in let ls : Lists = lists c.self.inside.items.items c.self.inside.bytes.items c.self.inside.beside.items
-    in let r : Row = c.index.result.now
+    in let r : PackedRow = c.index.result.now
     in let within : HasNoMore r = c.is_within.ensures.within c.if-is_within.true
     in let here : LastIs rows ls r (length c.as_slice-number.result.now)
     = last-is rows c.as_slice-number.result.now ls c.args.self.now r c.self.view_is c.self.invariant.0 c.requires c.as_slice-number.ensures.value c.index.ensures within
@@ -24,9 +24,9 @@ overflow_sub-start c =
 dropped : (c : After-pop) → ArePacked (reverse c.pop.new.self.items) (lists c.self.inside.items.items c.truncate.new.self.items c.self.inside.beside.items)
     × (changes_of_rows c.pop.new.self.items (lists c.self.inside.items.items c.truncate.new.self.items c.self.inside.beside.items) ≡ take (length c.args.self.now - 1) c.args.self.now)
 dropped c =
-    let rows : List Row = c.self.inside.rows.items
+    let rows : List PackedRow = c.self.inside.rows.items
     in let ls : Lists = lists c.self.inside.items.items c.self.inside.bytes.items c.self.inside.beside.items
-    in let r : Row = c.index.result.now
+    in let r : PackedRow = c.index.result.now
     in let within : HasNoMore r = c.is_within.ensures.within c.if-is_within.true
     in let here : LastIs rows ls r (length c.as_slice-number.result.now)
     = last-is rows c.as_slice-number.result.now ls c.args.self.now r c.self.view_is c.self.invariant.0 c.requires c.as_slice-number.ensures.value c.index.ensures within
@@ -35,9 +35,9 @@ dropped c =
     in let fewer : c.truncate.new.self.items ≡ older (bytes_of_row r) ls.bytes
     = c.truncate.ensures.items ∙ ap (λ n. take n ls.bytes) (omega (arith, c.bytes.ensures, ap length c.as_slice.ensures.value))
     in (
-      subst (λ (l : List Row). ArePacked (reverse l) (lists c.self.inside.items.items c.truncate.new.self.items c.self.inside.beside.items)) (sym kept)
+      subst (λ (l : List PackedRow). ArePacked (reverse l) (lists c.self.inside.items.items c.truncate.new.self.items c.self.inside.beside.items)) (sym kept)
           (subst (λ bs. ArePacked (reverse (take (length rows - 1) rows)) (lists c.self.inside.items.items bs c.self.inside.beside.items)) (sym fewer) left.packed),
-      ap (λ (l : List Row). changes_of_rows l (lists c.self.inside.items.items c.truncate.new.self.items c.self.inside.beside.items)) kept
+      ap (λ (l : List PackedRow). changes_of_rows l (lists c.self.inside.items.items c.truncate.new.self.items c.self.inside.beside.items)) kept
           ∙ ap (λ bs. changes_of_rows (take (length rows - 1) rows) (lists c.self.inside.items.items bs c.self.inside.beside.items)) fewer
           ∙ left.changes ∙ ap (λ n. take (n - 1) (changes_of_rows rows ls)) (sym (length-changes rows ls)) ∙ ap (λ (xs : List Change). take (length xs - 1) xs) c.self.view_is,
     )

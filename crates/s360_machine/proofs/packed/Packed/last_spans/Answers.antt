@@ -1,5 +1,5 @@
 use Rattle.std.proofs.Common.{◌≡◌, ◌-◌, [], List, refl, sym, ap, subst, arith, length, slice_get, IfSome}
-use Rattle.s360_machine.specs.declared.row.Row.{Row}
+use Rattle.s360_machine.specs.declared.row.PackedRow.{PackedRow}
 use Rattle.s360_machine.specs.ChangeSpans.{AreSpansOf, spans_of, spans_within}
 use Rattle.s360_machine.specs.Changes.{change_of_core}
 use Rattle.s360_machine.specs.Packed.{Lists, lists, newest}
@@ -13,9 +13,9 @@ index-row-requires c = omega (arith, c.as_slice-number.ensures.len, some-rows c.
 
 pub returns-then-is_within : goal.returns-then-is_within
 returns-then-is_within c =
-    let rows : List Row = c.self.inside.rows.items
+    let rows : List PackedRow = c.self.inside.rows.items
     in let ls : Lists = lists c.self.inside.items.items c.self.inside.bytes.items c.self.inside.beside.items
-    in let r : Row = c.index-row.result.now
+    in let r : PackedRow = c.index-row.result.now
     in let within : HasNoMore r = c.is_within.ensures.within c.if-is_within.true
     in let here : LastIs rows ls r (length c.as_slice-number.result.now)
     = last-is rows c.as_slice-number.result.now ls c.args.self.now r c.self.view_is c.self.invariant.0 c.requires.some c.as_slice-number.ensures.value c.index-row.ensures within

@@ -1,5 +1,5 @@
 use Rattle.std.proofs.Common.{◌≡◌, ◌-◌, ◌++◌, ◌∙◌, ℕ, [], List, sym, ap, subst, arith, length, take, drop, set, reverse, length-set, slice_get, IfSome}
-use Rattle.s360_machine.specs.declared.row.Row.{Row}
+use Rattle.s360_machine.specs.declared.row.PackedRow.{PackedRow}
 use Rattle.s360_machine.specs.Change.{CanSwap, Change, HasRoom, change_after_swap}
 use Rattle.s360_machine.specs.Changes.{change_of_core}
 use Rattle.s360_machine.specs.Packed.{ArePacked, IsSwapOf, Lists, changes_of_rows, lists, newest, older}
@@ -16,9 +16,9 @@ index_mut-row-requires c = omega (arith, c.as_slice-number.ensures.len, some-row
 
 pub overflow_sub-start : goal.overflow_sub-start
 overflow_sub-start c =
-    let rows : List Row = c.self.inside.rows.items
+    let rows : List PackedRow = c.self.inside.rows.items
     in let ls : Lists = lists c.self.inside.items.items c.self.inside.bytes.items c.self.inside.beside.items
-    in let r : Row = c.index_mut-row.result.now
+    in let r : PackedRow = c.index_mut-row.result.now
     in let within : HasNoMore r
     = subst HasNoMore (same-got rows (length c.as_slice-number.result.now - 1) c.index.result.now r (omega (arith, some-rows rows c.as_slice-number.result.now ls c.args.self.now c.self.view_is c.requires.some c.as_slice-number.ensures.value, ap length c.as_slice-number.ensures.value)) c.index.ensures c.index_mut-row.ensures.value) (c.is_within.ensures.within c.if-is_within.true)
     in let here : LastIs rows ls r (length c.as_slice-number.result.now)
@@ -27,9 +27,9 @@ overflow_sub-start c =
 
 pub exchange_within-requires-clause-over : goal.exchange_within-requires-clause-over
 exchange_within-requires-clause-over c =
-    let rows : List Row = c.self.inside.rows.items
+    let rows : List PackedRow = c.self.inside.rows.items
     in let ls : Lists = lists c.self.inside.items.items c.self.inside.bytes.items c.self.inside.beside.items
-    in let r : Row = c.index_mut-row.result.now
+    in let r : PackedRow = c.index_mut-row.result.now
     in let within : HasNoMore r
     = subst HasNoMore (same-got rows (length c.as_slice-number.result.now - 1) c.index.result.now r (omega (arith, some-rows rows c.as_slice-number.result.now ls c.args.self.now c.self.view_is c.requires.some c.as_slice-number.ensures.value, ap length c.as_slice-number.ensures.value)) c.index.ensures c.index_mut-row.ensures.value) (c.is_within.ensures.within c.if-is_within.true)
     in let here : LastIs rows ls r (length c.as_slice-number.result.now)
@@ -38,9 +38,9 @@ exchange_within-requires-clause-over c =
 
 pub exchange_within-requires-clause-can : goal.exchange_within-requires-clause-can
 exchange_within-requires-clause-can c =
-    let rows : List Row = c.self.inside.rows.items
+    let rows : List PackedRow = c.self.inside.rows.items
     in let ls : Lists = lists c.self.inside.items.items c.self.inside.bytes.items c.self.inside.beside.items
-    in let r : Row = c.index_mut-row.result.now
+    in let r : PackedRow = c.index_mut-row.result.now
     in let within : HasNoMore r
     = subst HasNoMore (same-got rows (length c.as_slice-number.result.now - 1) c.index.result.now r (omega (arith, some-rows rows c.as_slice-number.result.now ls c.args.self.now c.self.view_is c.requires.some c.as_slice-number.ensures.value, ap length c.as_slice-number.ensures.value)) c.index.ensures c.index_mut-row.ensures.value) (c.is_within.ensures.within c.if-is_within.true)
     in let here : LastIs rows ls r (length c.as_slice-number.result.now)
@@ -53,9 +53,9 @@ exchange_within-requires-clause-can c =
 before : (c : After-exchange_within) → (LastIs c.self.inside.rows.items (lists c.self.inside.items.items c.self.inside.bytes.items c.self.inside.beside.items) c.index_mut-row.result.now (length c.as_slice-number.result.now))
     × (take (length c.deref_mut.result.now - (length c.as_slice.result.now - c.bytes.result)) (drop (length c.as_slice.result.now - c.bytes.result) c.deref_mut.result.now) ≡ newest (bytes_of_row c.index_mut-row.result.now) c.self.inside.bytes.items)
 before c =
-    let rows : List Row = c.self.inside.rows.items
+    let rows : List PackedRow = c.self.inside.rows.items
     in let ls : Lists = lists c.self.inside.items.items c.self.inside.bytes.items c.self.inside.beside.items
-    in let r : Row = c.index_mut-row.result.now
+    in let r : PackedRow = c.index_mut-row.result.now
     in let within : HasNoMore r
     = subst HasNoMore (same-got rows (length c.as_slice-number.result.now - 1) c.index.result.now r (omega (arith, some-rows rows c.as_slice-number.result.now ls c.args.self.now c.self.view_is c.requires.some c.as_slice-number.ensures.value, ap length c.as_slice-number.ensures.value)) c.index.ensures c.index_mut-row.ensures.value) (c.is_within.ensures.within c.if-is_within.true)
     in let here : LastIs rows ls r (length c.as_slice-number.result.now)
@@ -77,9 +77,9 @@ record After (c : After-exchange_within) : Type 0 where
 
 after : (c : After-exchange_within) → After c
 after c =
-    let rows : List Row = c.self.inside.rows.items
+    let rows : List PackedRow = c.self.inside.rows.items
     in let ls : Lists = lists c.self.inside.items.items c.self.inside.bytes.items c.self.inside.beside.items
-    in let r : Row = c.index_mut-row.result.now
+    in let r : PackedRow = c.index_mut-row.result.now
     in let within : HasNoMore r
     = subst HasNoMore (same-got rows (length c.as_slice-number.result.now - 1) c.index.result.now r (omega (arith, some-rows rows c.as_slice-number.result.now ls c.args.self.now c.self.view_is c.requires.some c.as_slice-number.ensures.value, ap length c.as_slice-number.ensures.value)) c.index.ensures c.index_mut-row.ensures.value) (c.is_within.ensures.within c.if-is_within.true)
     in let here : LastIs rows ls r (length c.as_slice-number.result.now)
@@ -107,9 +107,9 @@ invariant_of-self c =
 
 pub returns-then-is_within-clause-machine : goal.returns-then-is_within-clause-machine
 returns-then-is_within-clause-machine c =
-    let rows : List Row = c.self.inside.rows.items
+    let rows : List PackedRow = c.self.inside.rows.items
     in let ls : Lists = lists c.self.inside.items.items c.self.inside.bytes.items c.self.inside.beside.items
-    in let r : Row = c.index_mut-row.result.now
+    in let r : PackedRow = c.index_mut-row.result.now
     in let x : Change = change_of_core (cells_of_row r [] (newest (bytes_of_row r) ls.bytes))
     in let here = before (goal.at.returns-then-is_within-clause-machine c).After-exchange_within
     in let can : CanSwap c.args.machine.now.whole x = at-last rows ls c.args.self.now (λ y. CanSwap c.args.machine.now.whole y) x c.self.view_is here.0.there.change c.requires.can
@@ -119,10 +119,10 @@ returns-then-is_within-clause-machine c =
 
 pub returns-then-is_within-clause-changes : goal.returns-then-is_within-clause-changes
 returns-then-is_within-clause-changes c =
-    let rows : List Row = c.self.inside.rows.items
+    let rows : List PackedRow = c.self.inside.rows.items
     in let ls : Lists = lists c.self.inside.items.items c.self.inside.bytes.items c.self.inside.beside.items
-    in let r : Row = c.index_mut-row.result.now
-    in let s : Row = c.exchange_within.new.row
+    in let r : PackedRow = c.index_mut-row.result.now
+    in let s : PackedRow = c.exchange_within.new.row
     in let x : Change = change_of_core (cells_of_row r [] (newest (bytes_of_row r) ls.bytes))
     in let w = (goal.at.returns-then-is_within-clause-changes c).After-exchange_within
     in let here = before w

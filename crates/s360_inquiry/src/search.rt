@@ -1,0 +1,100 @@
+//! Looks back for the last changes that are sought.
+ghost use Rattle.std.specs.Prelude.{◌≡◌, ◌≤◌, ◌<◌, IfOk, OnErr, OnOk, reverse};
+ghost use Rattle.s360_journal.specs.Recorded.{with_standing};
+ghost use Rattle.s360_journal.specs.Returning.{one_back};
+ghost use Rattle.s360_inquiry.specs.Changes.{last_of};
+ghost use Rattle.s360_inquiry.specs.Searches.{IsLastFrom, numbers_up_to};
+ghost use Rattle.s360_inquiry.specs.Sought.{is_sought};
+
+use crate::code_setting::sets_code;
+use crate::interruption::is_interruption;
+use crate::jump::jump_of;
+use crate::visit::is_visit;
+use s360_journal::Session;
+use std::alloc::{AllocError, Global};
+
+/// Which changes are sought.
+#[derive(Clone, Copy)]
+pub(crate) enum Sought {
+    /// Those whose events execute what is at an address.
+    Visits(u32),
+    /// Those that lead the program elsewhere, or might.
+    Jumps,
+    /// Those that set the condition code.
+    CodeSettings,
+    /// Interruptions.
+    Interruptions,
+}
+
+/// Takes the last change back, and answers whether it is sought.
+fn take_back(alloc: Global, recording: &mut Session, sought: Sought) -> Result<bool, AllocError>
+    ensures sought { IfOk result (λ found. found ≡ is_sought sought recording.old recording.old.standing) }
+    ensures state { recording.new ≡ one_back recording.old }
+{
+    let kind = recording.last_event();
+    let after = recording.machine().psw();
+    let _taken = recording.step_back();
+    match sought {
+        Sought::Visits(at) => Ok(is_visit(at, recording.machine(), kind)),
+        Sought::Jumps => match jump_of(alloc, recording.machine(), kind) {
+            Ok(jump) => Ok(jump.is_some()),
+            Err(error) => Err(error),
+        },
+        Sought::Interruptions => match jump_of(alloc, recording.machine(), kind) {
+            Ok(jump) => Ok(is_interruption(jump)),
+            Err(error) => Err(error),
+        },
+        Sought::CodeSettings => sets_code(alloc, recording.machine(), after, kind),
+    }
+}
+
+/// Numbers from the last one to the first.
+fn turned(mut numbers: Vec<u32>) -> Vec<u32>
+    ensures { result.items ≡ reverse numbers.items }
+{
+    numbers.reverse();
+    numbers
+}
+
+/// The numbers of the last changes that are sought, so many at most, ascending. The recording goes back no further than to just
+/// before the first of them.
+pub(crate) fn last_numbers(
+    alloc: Global,
+    recording: &mut Session,
+    sought: Sought,
+    most: usize,
+) -> Result<Vec<u32>, AllocError>
+    ensures numbers { IfOk result (λ numbers. numbers.items ≡ last_of most (numbers_up_to (is_sought sought recording.old) recording.old.standing)) }
+    ensures state { recording.new ≡ with_standing recording.old recording.new.standing }
+{
+    let mut found = Vec::new(alloc);
+    for before in (0..recording.standing()).rev() {
+        if found.len() == most {
+            return Ok(turned(found));
+        }
+        if take_back(alloc, recording, sought)? {
+            found.push(before + 1)?;
+        }
+    }
+    Ok(turned(found))
+}
+
+/// The number of the last change that is sought, if one after the first so many is. The recording goes back no further than to
+/// just before it, or to these.
+pub(crate) fn last_number(
+    alloc: Global,
+    recording: &mut Session,
+    sought: Sought,
+    least: u32,
+) -> Result<Option<u32>, AllocError>
+    requires least { least ≤ recording.old.standing }
+    ensures number { IfOk result (λ number. IsLastFrom (is_sought sought recording.old) least recording.old.standing number) }
+    ensures state { recording.new ≡ with_standing recording.old recording.new.standing }
+{
+    for before in (least..recording.standing()).rev() {
+        if take_back(alloc, recording, sought)? {
+            return Ok(Some(before + 1));
+        }
+    }
+    Ok(None)
+}
