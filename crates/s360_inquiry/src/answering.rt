@@ -11,6 +11,7 @@ use crate::change::{answer_changes, answer_who};
 use crate::going::answer_goto;
 use crate::history::answer_history;
 use crate::inquiry::Inquiry;
+use crate::item::{answer_who_item, whole_item};
 use crate::jumping::answer_jumps;
 use crate::situation::{units_of, where_of};
 use crate::visit::answer_visits;
@@ -97,6 +98,7 @@ fn told_answer(
 {
     match inquiry {
         Inquiry::Who(place) => answer_who(alloc, recording, place),
+        Inquiry::WhoItem { unit, number } => answer_who_item(alloc, recording, unit, number),
         Inquiry::Why { place, depth } => answer_why(alloc, recording, place, depth),
         Inquiry::Goto(mark) => answer_goto(alloc, recording, stood, mark),
         Inquiry::Changes { place, most } => answer_changes(alloc, recording, place, most),
@@ -105,6 +107,7 @@ fn told_answer(
         Inquiry::Jumps { most } => answer_jumps(alloc, recording, most),
         Inquiry::Calls => answer_calls(alloc, recording),
         Inquiry::Dump { at, count } => dump_of(alloc, recording.machine().storage(), at, count),
+        Inquiry::DumpItem { unit, number } => whole_item(alloc, recording.machine(), unit, number),
         Inquiry::Units => units_of(alloc, recording.machine()),
         Inquiry::Where => where_of(alloc, recording),
     }
