@@ -4,8 +4,10 @@ use Rattle.std.specs.Prelude.{ℕ, Bool, false, not, nat_eq, nat_lt, if◌then�
 use Rattle.s360_model.specs.Storage.{Storage}
 use Rattle.s360_store.specs.declared.place.Place.{Place}
 use Rattle.s360_store.specs.declared.place.Place.TheVariants.{Byte, Key}
+use Rattle.s360_language.specs.declared.command.LineFault.TheVariants.{Argument}
 use Rattle.s360_language.specs.declared.show_bytes.RowForm.TheVariants.{Signs}
 use Rattle.s360_language.specs.ShownBytes.{storage_rows}
+use Rattle.s360_debug.specs.Answers.{fault_text}
 use Rattle.s360_journal.specs.Standing.{machine_of}
 use Rattle.s360_journal.specs.Recorded.{Recorded, session_of, with_standing}
 use Rattle.s360_inquiry.specs.declared.inquiry.Inquiry.{Inquiry}
@@ -59,7 +61,7 @@ abbrev pub asked_storage : Inquired → Storage
 asked_storage i = (machine_of (session_of i.recorded)).core.storage
 
 abbrev pub answer_to : Inquired → Inquiry → List ℕ
-answer_to i inquiry = if asks_outside (asked_storage i) inquiry then codes "? argument 2" ++ codes "\n" else told_answer i inquiry
+answer_to i inquiry = if asks_outside (asked_storage i) inquiry then fault_text (Argument 2) else told_answer i inquiry
 
 -- how many changes stand then: `who` goes to just before the change that it tells, `goto` to its mark, and any other stays
 unfoldable pub stands_after_told : Inquired → Inquiry → ℕ

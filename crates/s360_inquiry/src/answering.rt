@@ -16,9 +16,9 @@ use crate::jumping::answer_jumps;
 use crate::situation::{units_of, where_of};
 use crate::visit::answer_visits;
 use crate::why::answer_why;
-use s360_debug::text_of_line;
+use s360_debug::text_of_fault;
 use s360_journal::Session;
-use s360_language::{RowForm, push_storage};
+use s360_language::{LineFault, RowForm, push_storage};
 use s360_store::{BLOCK_SIZE, Place, Storage};
 use s360_text::Text;
 use std::alloc::{AllocError, Global};
@@ -56,7 +56,7 @@ fn text_of_inquiry(
     ensures memory { OnErr result (recording.new ≡ with_standing recording.old recording.new.standing) }
 {
     if asks_outside(recording.machine().storage(), inquiry) {
-        return text_of_line(alloc, "? argument 2");
+        return text_of_fault(alloc, LineFault::Argument(2));
     }
     told_answer(alloc, recording, stood, inquiry)
 }

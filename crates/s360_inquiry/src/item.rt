@@ -3,7 +3,7 @@ ghost use Rattle.std.specs.Prelude.{◌≡◌, ◌++◌, IfOk, OnErr, OnOk, code
 ghost use Rattle.s360_machine.specs.Machine.{seen};
 ghost use Rattle.s360_journal.specs.Recorded.{with_standing};
 ghost use Rattle.s360_inquiry.specs.Changes.{just_before, stands_after_who};
-ghost use Rattle.s360_inquiry.specs.ItemChanges.{item_change_text, last_change_of_item, whole_item, who_item_text};
+ghost use Rattle.s360_inquiry.specs.ItemChanges.{alters_item, item_change_text, last_change_of_item, whole_item, who_item_text};
 
 use crate::change::{go_before, push_event_of};
 use crate::going::go_to;
@@ -30,8 +30,26 @@ pub(crate) fn whole_item(
     Ok(text)
 }
 
-/// The number of the last change of an item. Only changes of the unit's media are looked at. The recording goes back to just before
-/// it, or to some change.
+/// Whether the change of a number alters an item. The recording goes to just before it, or to some change.
+fn alters_item(
+    alloc: Global,
+    recording: &mut Session,
+    unit: Unit,
+    item: u32,
+    number: u32,
+) -> Result<bool, AllocError>
+    ensures alters { IfOk result (λ alters. alters ≡ alters_item recording.old unit item number) }
+    ensures state { recording.new ≡ with_standing recording.old recording.new.standing }
+{
+    go_to(recording, number)?;
+    let after = whole_item(alloc, recording.machine(), unit, item)?;
+    let _before = recording.back_to(number.saturating_sub(1));
+    let before = whole_item(alloc, recording.machine(), unit, item)?;
+    Ok(before.as_bytes() != after.as_bytes())
+}
+
+/// The number of the last change of an item, of those that alter the unit's media. The recording goes to just before it, or to some
+/// change.
 fn last_change(
     alloc: Global,
     recording: &mut Session,
@@ -41,11 +59,10 @@ fn last_change(
     ensures number { IfOk result (λ number. number ≡ last_change_of_item recording.old unit item) }
     ensures state { recording.new ≡ with_standing recording.old recording.new.standing }
 {
-    let now = whole_item(alloc, recording.machine(), unit, item)?;
-    while let Some(number) = recording.last_change(Place::UnitMedia(unit)) {
-        let _kind = go_before(recording, number)?;
-        let before = whole_item(alloc, recording.machine(), unit, item)?;
-        if before.as_bytes() != now.as_bytes() {
+    let numbers = recording.changes_of(Place::UnitMedia(unit)).to_vec(alloc)?;
+    for index in (0..numbers.len()).rev() {
+        let number = numbers[index];
+        if alters_item(alloc, recording, unit, item, number)? {
             return Ok(Some(number));
         }
     }
