@@ -11,7 +11,8 @@ use Rattle.s360_debug.specs.Answers.{fault_text}
 use Rattle.s360_journal.specs.Standing.{machine_of}
 use Rattle.s360_journal.specs.Recorded.{Recorded, session_of, with_standing}
 use Rattle.s360_inquiry.specs.declared.inquiry.Inquiry.{Inquiry}
-use Rattle.s360_inquiry.specs.declared.inquiry.Inquiry.TheVariants.{Who, WhoItem, Why, Goto, Changes, History, Visits, Jumps, Calls, Dump, DumpItem, Units, Where}
+use Rattle.s360_inquiry.specs.declared.inquiry.Inquiry.TheVariants.{Who, WhoItem, Why, Goto, Changes, History, Visits, Jumps, Calls}
+use Rattle.s360_inquiry.specs.declared.inquiry.Inquiry.TheVariants.{Dump, DumpItem, Units, Where}
 use Rattle.s360_inquiry.specs.Calls.{calls_text}
 use Rattle.s360_inquiry.specs.Causes.{why_text}
 use Rattle.s360_inquiry.specs.Changes.{changes_text, last_change_in, stands_after_who, who_text}

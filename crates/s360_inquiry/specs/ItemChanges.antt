@@ -1,4 +1,4 @@
--- The last change of an item of a unit's media (own profile): after it what `dump` tells of the item is something else than before.
+-- The last change of an item of a unit's media (own profile).
 use Rattle.std.specs.Prelude.{ℕ, ◌-◌, Bool, not, nat_eq, if◌then◌else◌, Option, Some, None, List, [], ◌∷◌, ◌++◌, codes}
 use Rattle.std.specs.Cmp.Lexicographic.{pointwise}
 use Rattle.s360_model.specs.Text.{decimal, hex_text}
@@ -15,7 +15,7 @@ use Rattle.s360_inquiry.specs.Changes.{machine_after, words_of_change}
 abbrev pub whole_item : Machine → Unit → ℕ → List ℕ
 whole_item m unit item = item_text InRows m unit item
 
--- the change of a number alters it
+-- the change of a number alters it: after it `dump` tells something else of the item than before
 abbrev pub alters_item : Recorded → Unit → ℕ → ℕ → Bool
 alters_item r unit item number =
     not (pointwise nat_eq (whole_item (machine_after r (number - 1)) unit item) (whole_item (machine_after r number) unit item))

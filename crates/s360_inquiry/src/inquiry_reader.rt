@@ -1,10 +1,10 @@
 //! The lines of an inquiry.
-ghost use Rattle.std.specs.Prelude.{◌≡◌, codes};
+ghost use Rattle.std.specs.Prelude.{◌≡◌};
 ghost use Rattle.std.specs.Option.{option_map};
 ghost use Rattle.s360_language.specs.Digits.{count_of};
-ghost use Rattle.s360_language.specs.Lines.{if_word, makes, named, part, two};
-ghost use Rattle.s360_language.specs.Reading.{address, most_count, places, unit};
-ghost use Rattle.s360_inquiry.specs.Reading.{inquiries, inquiry_of, mark_of, most_dumped};
+ghost use Rattle.s360_language.specs.Lines.{makes, named, part, two};
+ghost use Rattle.s360_language.specs.Reading.{address, places};
+ghost use Rattle.s360_inquiry.specs.Reading.{inquiries, inquiry_of, item_or, mark_of, most_dumped};
 
 use crate::inquiry::{Inquiry, Mark};
 use crate::why::MOST_DEPTH;
@@ -56,7 +56,7 @@ fn read_words(mut words: Words<'_>) -> Result<Inquiry, LineFault>
 
 /// `who`, of an item or a place.
 fn read_who(mut words: Words<'_>) -> Result<Inquiry, LineFault>
-    ensures { result ≡ if_word (codes "m") (two unit (count_of most_count) (λ u n. Inquiry.WhoItem u n)) (part places (λ place. makes (Inquiry.Who place))) 1 words.entry }
+    ensures { result ≡ item_or (λ u n. Inquiry.WhoItem u n) (part places (λ place. makes (Inquiry.Who place))) 1 words.entry }
 {
     if takes_word(&mut words, "m") {
         return read_arguments! { words, 2, finish, (unit: unit_in, number: count_in(MOST_COUNT)) => Inquiry::WhoItem { unit, number } };
@@ -66,7 +66,7 @@ fn read_who(mut words: Words<'_>) -> Result<Inquiry, LineFault>
 
 /// `dump`, of an item or of storage.
 fn read_dump(mut words: Words<'_>) -> Result<Inquiry, LineFault>
-    ensures { result ≡ if_word (codes "m") (two unit (count_of most_count) (λ u n. Inquiry.DumpItem u n)) (two address (count_of most_dumped) (λ at count. Inquiry.Dump at count)) 1 words.entry }
+    ensures { result ≡ item_or (λ u n. Inquiry.DumpItem u n) (two address (count_of most_dumped) (λ at count. Inquiry.Dump at count)) 1 words.entry }
 {
     if takes_word(&mut words, "m") {
         return read_arguments! { words, 2, finish, (unit: unit_in, number: count_in(MOST_COUNT)) => Inquiry::DumpItem { unit, number } };
