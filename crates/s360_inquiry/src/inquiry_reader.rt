@@ -3,7 +3,7 @@ ghost use Rattle.std.specs.Prelude.{◌≡◌};
 ghost use Rattle.std.specs.Option.{option_map};
 ghost use Rattle.s360_language.specs.Digits.{count_of};
 ghost use Rattle.s360_language.specs.Lines.{makes, named, part, two};
-ghost use Rattle.s360_language.specs.Reading.{address, places};
+ghost use Rattle.s360_language.specs.Reading.{address, most_count, places};
 ghost use Rattle.s360_inquiry.specs.Reading.{inquiries, inquiry_of, item_or, mark_of, most_dumped};
 
 use crate::inquiry::{Inquiry, Mark};
