@@ -43,7 +43,7 @@ fn alters_item(
 {
     go_to(recording, number)?;
     let after = whole_item(alloc, recording.machine(), unit, item)?;
-    let _before = recording.back_to(number.saturating_sub(1));
+    let _kind = go_before(recording, number)?;
     let before = whole_item(alloc, recording.machine(), unit, item)?;
     Ok(before.as_bytes() != after.as_bytes())
 }

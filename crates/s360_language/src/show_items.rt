@@ -236,12 +236,7 @@ fn name_of_stacker(stacker: PunchStacker) -> &'static str
 }
 
 /// Adds an item: what or where it is, and its bytes.
-fn push_told(
-    text: &mut Text,
-    begun: &str,
-    bytes: &[u8],
-    form: ItemForm,
-) -> Result<(), AllocError>
+fn push_told(text: &mut Text, begun: &str, bytes: &[u8], form: ItemForm) -> Result<(), AllocError>
     ensures { OnOk result (text.new ≡ text.old ++ item_told form begun.now bytes.now) }
 {
     text.push_text(begun)?;
