@@ -15,6 +15,7 @@ LANGUAGES = {"s360_language": "commands", "s360_inquiry": "inquiries", "s360_sav
 KINDS = {"address": "A", "bytes_in": "BYTES", "register": "R", "word_of": "W", "storage_key": "K", "bit_of": "D"}
 KINDS |= {"doubleword_of": "Q", "unit": "U", "count_of": "N", "ebcdic_text": "TEXT", "file_name": "FILE"}
 ROW = re.compile(r'line \(codes "(\S+)"\) \((.*)\) ∷')
+ITEM_OR = re.compile(r"item_or \(.*?\) \((.*)\)")
 WORD = re.compile(r'\(codes "(\w+)", ')
 # Where lines are told: as a help tells them, in rows of a table, and the media that a line saves.
 HELPS = {"s360_remote/src/monitor.rt": [*LANGUAGES], "s360_setup/src/program.rt": ["s360_language"]}
@@ -40,6 +41,8 @@ def values(kind):
 
 def ends_of(form):
     """How a line of this form may go on behind its name."""
+    if found := ITEM_OR.fullmatch(form):
+        return [["m", "U", "N"], *ends_of(found[1])]
     sort, *words = re.findall(r"\w+", form)
     if sort in ("kind", "part"):
         rest = form.partition(". ")[2]

@@ -171,7 +171,9 @@ class Requests(random.Random):
         places = [b"who %s" % place, b"changes %s" % place, b"changes %s %d" % (place, number)]
         numbers = [b"goto %d" % number, b"history %d" % number, b"dump %X %d" % (at, number)]
         visits = [b"visits %X" % self.code(), b"visits %X %d" % (at, number), b"jumps %d" % number]
-        return places * 3 + numbers * 2 + visits * 2
+        item = b"%s %d" % (self.choice([b"00C", b"00E", b"00E", b"01F", b"180", b"999"]), number % 4)
+        items = [b"who m %s" % item, b"dump m %s" % item]
+        return places * 3 + numbers * 2 + visits * 2 + items
 
     def why(self):
         """Of a place that a change altered, most of them by the CPU, or of any that has a name."""

@@ -48,6 +48,9 @@ dump TEXT
 dump 0x388 16
 dump s 388 16
 dump &RDCCW
+who m 00E 4
+goto last
+dump m 00E 4
 units
 save printer list
 save printer list

@@ -13,6 +13,10 @@ dump 0x200 0
 dump TOTL 4
 changes COUNT 0
 why COUNT 101
+who *(char*)0xFFFFFF
+who m 00E
+who m 00E 0
+visits 208
 history none
 goto
 goto nowhere

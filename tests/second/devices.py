@@ -29,6 +29,11 @@ def with_text(name, line):
     return f"{name} {''.join(map(SHOWN.__getitem__, line))}".rstrip(" ")
 
 
+def told_items(device):
+    """The items of a device's media, each on its line."""
+    return [with_text(*whole) for whole in device.wholes()]
+
+
 class DeckFault(Exception):
     """The fault of a file that is no deck's."""
 
@@ -65,10 +70,13 @@ class Reader(NamedTuple):
         end = "on" if self.has_end else "off"
         return f"next {len(self.stackers)} of {len(self.cards)} eof {end}"
 
-    def items(self):
+    def wholes(self):
+        """What has each item or where it is, and its bytes."""
         fed = [READ_STACKERS[stacker] for stacker in self.stackers]
         places = fed + ["hopper"] * (len(self.cards) - len(fed))
-        return [with_text(place, card) for place, card in zip(places, self.cards)]
+        return list(zip(places, self.cards))
+
+    items = told_items
 
 
 class Punch(NamedTuple):
@@ -84,8 +92,10 @@ class Punch(NamedTuple):
     def shown(self):
         return f"cards {len(self.cards)}"
 
-    def items(self):
-        return [with_text(PUNCH_STACKERS[command >> 6], card) for command, card in self.cards]
+    def wholes(self):
+        return [(PUNCH_STACKERS[command >> 6], card) for command, card in self.cards]
+
+    items = told_items
 
 
 class Carriage(NamedTuple):
@@ -142,8 +152,10 @@ class Printer(NamedTuple):
     def shown(self):
         return f"page {self.carriage.page} line {self.carriage.line} records {len(self.records)}"
 
-    def items(self):
-        return [with_text(f"page {at.page} line {at.line}", line) for at, line in self.records]
+    def wholes(self):
+        return [(f"page {at.page} line {at.line}", line) for at, line in self.records]
+
+    items = told_items
 
 
 class Console(NamedTuple):
@@ -172,8 +184,10 @@ class Console(NamedTuple):
     def shown(self):
         return f"typed {len(self.typed)} entered {len(self.entered)} taken {self.taken}"
 
-    def items(self):
-        return [with_text(name, line) for name, line in self.typed]
+    def wholes(self):
+        return list(self.typed)
+
+    items = told_items
 
 
 def begun(device, command):

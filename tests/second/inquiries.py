@@ -10,7 +10,7 @@ from .channels import LOAD, UNITS, Program
 from .core import ADDRESSES, BLOCK
 from .devices import SHOWN
 from .jumps import Jumps
-from .lines import ADDRESS, COUNT, PLACES, TOO_LONG, UNKNOWN, count_up_to, fault_of
+from .lines import ADDRESS, COUNT, PLACES, TOO_LONG, UNIT, UNKNOWN, count_up_to, fault_of
 from .machine import OPERATING
 
 CHANGES_TOLD, DEPTH_TOLD = b"10", b"5"
@@ -40,7 +40,8 @@ ABOUT_A_PLACE = (b"who", b"why", b"changes")
 MEANT = {b"changes": CHANGES_TOLD, b"why": DEPTH_TOLD}
 
 
-FORMS = {b"who": PLACES, b"units": (), b"where": (), b"history": (COUNT,), b"jumps": (count_up_to(MOST_TOLD),)}
+ITEM = {b"m": (UNIT, COUNT)}
+FORMS = {b"who": PLACES | ITEM, b"units": (), b"where": (), b"history": (COUNT,), b"jumps": (count_up_to(MOST_TOLD),)}
 FORMS |= {b"calls": ()}
 FORMS |= {b"goto": (lambda word: word in NAMED_MARKS or COUNT(word),)}
 FORMS |= {b"changes": {kind: (*form, COUNT) for kind, form in PLACES.items()}}
@@ -80,7 +81,8 @@ class Inquiries:
     def answers(self, line):
         """The lines that answer a line, or nothing if it is no inquiry."""
         words = words_of(line)
-        fault = fault_of(b" ".join(words), FORMS) if words else UNKNOWN
+        forms = FORMS | {b"dump": ITEM} if words[:2] == [b"dump", b"m"] else FORMS
+        fault = fault_of(b" ".join(words), forms) if words else UNKNOWN
         if fault == UNKNOWN or fault_of(line, FORMS) == TOO_LONG:
             return None
         if fault:
@@ -128,7 +130,32 @@ class Inquiries:
         values = f"{self.value(place)} -> {after}"
         return [f"{number} {self.happening(event)}", f"{place} {values}"]
 
-    def answer_who(self, *words):
+    def answer_who(self, kind, *words):
+        return self.who_item(*words) if kind == "m" else self.who_place(kind, *words)
+
+    def who_item(self, unit, count):
+        """Goes back until the item is another one."""
+        stands, number, item = self.standing, int(unit, 16), int(count)
+        now = self.whole(number, item)
+        while self.standing and self.whole(number, item) == now:
+            self.go_to(self.standing - 1)
+        if self.whole(number, item) == now:
+            self.go_to(stands)
+            return ["who none"]
+        before = self.standing
+        event = self.recording.later[-1].event[0]
+        told = f"{before + 1} {self.happening(event)}"
+        self.go_to(before + 1)
+        (line,) = self.recording.show_m(unit, count)
+        self.go_to(before)
+        return [told, f"m {number:03X} {item} {line}"]
+
+    def whole(self, number, item):
+        """What an item is, and its bytes; or nothing."""
+        wholes = self.machine.device(number).wholes() if number in UNITS else []
+        return wholes[item - 1] if item <= len(wholes) else None
+
+    def who_place(self, *words):
         place = self.recording.place_of(*words)
         numbers = self.numbers_of(place)
         return self.told(place, numbers[-1]) if numbers else ["who none"]
@@ -268,11 +295,26 @@ class Inquiries:
 
     # What is shown.
 
-    def answer_dump(self, address, count):
+    def answer_dump(self, *words):
+        return self.dump_item(*words[1:]) if words[0] == "m" else self.dump_storage(*words)
+
+    def dump_item(self, unit, count):
+        if int(unit, 16) not in UNITS:
+            return self.recording.show_m(unit, count)
+        whole = self.whole(int(unit, 16), int(count))
+        if whole is None:
+            return ["none"]
+        begun, run = whole
+        return [begun, *(self.row(first, run[first : first + 16]) for first in range(0, len(run), 16))]
+
+    def dump_storage(self, address, count):
         return self.recording.lines_of_storage(address, count, self.dumped)
 
     def dumped(self, first, end):
-        run = self.machine.run_of_bytes(first, end - first)
+        return self.row(first, self.machine.run_of_bytes(first, end - first))
+
+    @staticmethod
+    def row(first, run):
         signs = "".join(SHOWN[byte] for byte in run)
         return f"{first:06X} {run.hex(' ', -4).upper()} *{signs}*"
 

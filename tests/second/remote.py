@@ -63,6 +63,7 @@ LINES = [
 HELP = [
     *LINES,
     "who P: goes to just before the last change of a place, as `last` names places, and tells it",
+    "who m U N: goes to just before the last change of an item of a unit's media, and tells it",
     "why P, why P N: what made its value, and what that was made of, 5 or N changes deep",
     "goto N, goto start, goto end, goto last: goes to just after change N, to either end, to where"
     " one stood before",
@@ -72,6 +73,7 @@ HELP = [
     "jumps, jumps N: the last 10 or N branches and interruptions",
     "calls: the calls that have not returned, the innermost first",
     "dump A N: bytes of storage with their signs",
+    "dump m U N: an item of a unit's media with its signs",
     "units: all units with their media",
     "where: how far the recording stands, and what the CPU does next",
     "save printer FILE: saves the pages that were printed in a file that is not there yet",

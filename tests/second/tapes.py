@@ -152,3 +152,7 @@ class Tape(NamedTuple):
 
     def items(self):
         return [shown_item(item) for item in self.recorded]
+
+    def wholes(self):
+        """What each item is, and its bytes."""
+        return [("mark", b"") if item is MARK else (f"block {len(item)}", item) for item in self.recorded]

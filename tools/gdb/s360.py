@@ -15,7 +15,7 @@ gdb.execute(f"source {FOLDER / 's360.gdb'}")
 from s360_command import Command, refuse  # noqa: E402
 from s360_machine import machine, show, standing, told  # noqa: E402
 from s360_over import Out, Over, ReverseOut, ReverseOver  # noqa: E402
-from s360_places import Change, bytes_of, changes_of, places_of, places_of_value, show_change, with_count  # noqa: E402
+from s360_places import MONITOR_ITEM, Change, bytes_of, changes_of, places_of, places_of_value, show_change, with_count  # noqa: E402
 from s360_printed import MOST_CHANGES, print_of  # noqa: E402
 
 DUMPED, FOLLOWED, TOLD = 64, 5, 10
@@ -37,17 +37,22 @@ class Who(Command):
     """Go to just before the last change of a place, and tell it.
 Usage: who EXPRESSION
        who line LINE column COLUMN [page PAGE]
+       who m UNIT ITEM
 
 The place is any expression of gdb that names one: a label is its field, a number
 one byte at this address, and $r5 a register. Without symbols: who *(char[4]*)0x388.
 `s 388`, `r 5`, `u 00C`, `d 00C`, `k 800`, `run` and `ext` are places as monitor
 names them.
 A line and a column are those of the printer, and of its last page if none is named.
+An item is a card, a line, a block or a mark of the unit, counted from 1.
 Said again it goes one change further back. `goto last` goes back to where it stood."""
 
     def carry_out(self, words: str) -> None:
         if printed := PRINTED.fullmatch(words):
             self.tell_print(*print_of(*(part and int(part) for part in printed.groups())))
+        elif MONITOR_ITEM.fullmatch(words):
+            show(told(f"who {words}"))
+            gdb.execute("s360-renew")
         elif changes := changes_of(places_of(words), 1):
             go_before(changes[-1])
         else:
@@ -115,7 +120,9 @@ Behind each stand the registers that were altered since the one before."""
         if not expression:
             raise gdb.GdbError("Argument required (an address).")
         address, _ = bytes_of(expression)
-        show(told(f"visits {address:X} {TOLD if count is None else count}"))
+        text = told(f"visits {address:X} {TOLD if count is None else count}")
+        # In gdb a number is decimal: which address was asked for is said where nothing is told of it.
+        show(text.replace("none", f"none at {address:06X}"))
 
 
 class Jumps(Command):
@@ -144,12 +151,16 @@ Each BAL, BALR and SVC, with where it goes on and its link."""
 
 
 class Dump(Command):
-    """Show storage in digits and in EBCDIC signs.
+    """Show storage, or an item of a unit's media, in digits and in EBCDIC signs.
 Usage: dump EXPRESSION [COUNT]
+       dump m UNIT ITEM
 
 Shows the bytes of a field, 64 bytes of an address, or as many as told."""
 
     def carry_out(self, words: str) -> None:
+        if MONITOR_ITEM.fullmatch(words):
+            gdb.write(told(f"dump {words}"))
+            return
         expression, count = with_count(words)
         if not expression:
             raise gdb.GdbError("Argument required (a place).")

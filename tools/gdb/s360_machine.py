@@ -8,12 +8,14 @@ import gdb
 import listing
 import listing_symbols
 
-# In an answer: a byte or successive bytes; where a jump or a call leads to; what an event met, and where.
+# In an answer: a byte or successive bytes; where a jump or a call leads to; what an event met, and where. In a line: a place in storage.
 BYTES = re.compile(r"\bs([0-9A-F]{6})(-[0-9A-F]{6})?")
 LED_TO = re.compile(r"\bto ([0-9A-F]{6})\b(?! [0-9A-F]{16})")
 MET = re.compile(
     r"\b(?P<who>cpu|channel \w+) at (?P<address>[0-9A-F]{6})(?: (?P<happening>(?:[A-Z]+ )?(?P<digits>[0-9A-F]{2,})\b))?"
 )
+OUTSIDE = re.compile(r"\w+ ([sk]) ([0-9A-Fa-f]+)\b")
+KINDS = {"s": "byte", "k": "block"}
 REFUSALS = ("refused", "no such change", "not saved")
 SECTION_TABLE, SECTION_COUNT = 32, 46
 PROGBITS, ALLOC = 1, 2
@@ -39,6 +41,8 @@ def answer(line: str) -> str:
 def told(line: str) -> str:
     """The answer to a line that the machine takes."""
     text = answer(line)
+    if text.startswith("? argument 2") and (place := OUTSIDE.match(line)):
+        raise gdb.GdbError(f"Storage has no {KINDS[place[1]]} at {place[2]}.")
     if text.startswith("?"):
         raise gdb.GdbError(f'The machine does not take "{line}".')
     if text.startswith(REFUSALS):

@@ -10,8 +10,9 @@ ADDRESS_BITS = 0xFFFFFF
 MOST_BYTES = 256
 REGISTER = re.compile(r"\$r(\d|1[0-5])")
 PSW = ("$pc", "$pswa", "$pswm", "$cc")
-# A place as monitor names it, and a byte of storage.
+# A place, an item of a unit and a byte of storage as monitor names them.
 MONITOR_PLACE = re.compile(r"[srudk] [0-9A-Fa-f]+|ext|run|p")
+MONITOR_ITEM = re.compile(r"m\s+\w.*")
 MONITOR_BYTE = re.compile(r"s ([0-9A-Fa-f]+)")
 LABEL = re.compile(r"(?P<quote>'?)(?P<name>[A-Za-z_.@#][\w.@#$]*)(?P=quote)\s*(?P<offset>[-+].*)?")
 # A number behind an expression: what is before it is not to be continued.

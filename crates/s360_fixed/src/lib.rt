@@ -41,7 +41,7 @@ pub use operation::Operation;
 pub use planner::{is_fixed, plan_fixed, put_combined_at, put_fixed, put_pair_at};
 pub use program_code::ProgramCode;
 pub use puts::put_next_psw;
-pub use row::{Branch, Combination, IndexBranch, PairCombination, Shift};
+pub use row::{Branch, Combination, IndexBranch, OperationRow, PairCombination, Shift};
 pub use second_operand::{SecondOperand, Width};
 pub use setting::{CodeSetting, psw_with};
 pub use shifts::{put_pair_shift, put_shift};

@@ -88,7 +88,7 @@ pub enum IndexBranch {
 
 /// What an operation does.
 #[derive(Clone, Copy)]
-pub(crate) enum OperationRow {
+pub enum OperationRow {
     /// R1 becomes something of it and the second operand, or the two are compared. In the format RX
     /// the second operand is where this says.
     Combine(SecondOperand, Combination),
@@ -129,7 +129,7 @@ fn on_halfword(combination: Combination) -> Option<OperationRow>
 impl Operation {
     /// The row of the operation, where it is one of these chapters.
     #[inline(always)]
-    pub(crate) fn row(self) -> Option<OperationRow>
+    pub fn row(self) -> Option<OperationRow>
         ensures { result ≡ row_of self }
     {
         match self {

@@ -15,7 +15,7 @@ pub enum Width {
 
 impl Width {
     /// The number of bytes.
-    pub(crate) fn bytes(self) -> u32
+    pub fn bytes(self) -> u32
         ensures bytes { result ≡ bytes_of_width self }
         ensures some { 0 < result }
     {

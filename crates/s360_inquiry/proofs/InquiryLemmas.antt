@@ -31,7 +31,7 @@ pushed-thrice old first second third s t u begun more last = pushed old second t
 
 -- ---- the last change of a place is one that stands
 
-numbered-below : (o : Option ℕ) (b : Bool) (k n top : ℕ) → ((j : ℕ) → o ≡ Some j → j < top) → k < top → or_else o (if b then Some k else None) ≡ Some n → n < top
+pub numbered-below : (o : Option ℕ) (b : Bool) (k n top : ℕ) → ((j : ℕ) → o ≡ Some j → j < top) → k < top → or_else o (if b then Some k else None) ≡ Some n → n < top
 numbered-below (Some j) b k n top later this h = let same : j ≡ n = cc in omega (arith, same, later j refl)
 numbered-below None true k n top later this h = let same : k ≡ n = cc in omega (arith, same, this)
 numbered-below None false k n top later this h = absurd (cc)

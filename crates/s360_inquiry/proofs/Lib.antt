@@ -1,4 +1,5 @@
 pub mod InquiryLemmas
+pub mod ItemLemmas
 pub mod CallLemmas
 pub mod SearchLemmas
 pub mod JumpLemmas

@@ -4,17 +4,21 @@ use Rattle.std.specs.Prelude.{ℕ, Bool, false, not, nat_eq, nat_lt, if◌then�
 use Rattle.s360_model.specs.Storage.{Storage}
 use Rattle.s360_store.specs.declared.place.Place.{Place}
 use Rattle.s360_store.specs.declared.place.Place.TheVariants.{Byte, Key}
+use Rattle.s360_language.specs.declared.command.LineFault.TheVariants.{Argument}
 use Rattle.s360_language.specs.declared.show_bytes.RowForm.TheVariants.{Signs}
 use Rattle.s360_language.specs.ShownBytes.{storage_rows}
+use Rattle.s360_debug.specs.Answers.{fault_text}
 use Rattle.s360_journal.specs.Standing.{machine_of}
 use Rattle.s360_journal.specs.Recorded.{Recorded, session_of, with_standing}
 use Rattle.s360_inquiry.specs.declared.inquiry.Inquiry.{Inquiry}
-use Rattle.s360_inquiry.specs.declared.inquiry.Inquiry.TheVariants.{Who, Why, Goto, Changes, History, Visits, Jumps, Calls, Dump, Units, Where}
+use Rattle.s360_inquiry.specs.declared.inquiry.Inquiry.TheVariants.{Who, WhoItem, Why, Goto, Changes, History, Visits, Jumps, Calls}
+use Rattle.s360_inquiry.specs.declared.inquiry.Inquiry.TheVariants.{Dump, DumpItem, Units, Where}
 use Rattle.s360_inquiry.specs.Calls.{calls_text}
 use Rattle.s360_inquiry.specs.Causes.{why_text}
 use Rattle.s360_inquiry.specs.Changes.{changes_text, last_change_in, stands_after_who, who_text}
 use Rattle.s360_inquiry.specs.Going.{goto_number, goto_text, stands_after_goto}
 use Rattle.s360_inquiry.specs.Histories.{history_text}
+use Rattle.s360_inquiry.specs.ItemChanges.{last_change_of_item, who_item_text, whole_item}
 use Rattle.s360_inquiry.specs.Jumps.{jumps_text}
 use Rattle.s360_inquiry.specs.Situations.{units_text, where_text}
 use Rattle.s360_inquiry.specs.Visits.{visits_text}
@@ -41,6 +45,7 @@ asks_outside s inquiry = false
 
 unfoldable pub told_answer : Inquired → Inquiry → List ℕ
 told_answer i (Who place) = who_text i.recorded place (last_change_in i.recorded place)
+told_answer i (WhoItem unit item) = who_item_text i.recorded unit item (last_change_of_item i.recorded unit item)
 told_answer i (Why place depth) = why_text i.recorded place depth
 told_answer i (Goto mark) = goto_text i.recorded (goto_number i.recorded i.stood mark)
 told_answer i (Changes place most) = changes_text i.recorded place most
@@ -49,6 +54,7 @@ told_answer i (Visits at most) = visits_text i.recorded at most
 told_answer i (Jumps most) = jumps_text i.recorded most
 told_answer i Calls = calls_text i.recorded
 told_answer i (Dump at count) = storage_rows Signs (machine_of (session_of i.recorded)).core.storage at count
+told_answer i (DumpItem unit item) = whole_item (machine_of (session_of i.recorded)) unit item
 told_answer i Units = units_text (machine_of (session_of i.recorded))
 told_answer i Where = where_text i.recorded
 
@@ -56,11 +62,12 @@ abbrev pub asked_storage : Inquired → Storage
 asked_storage i = (machine_of (session_of i.recorded)).core.storage
 
 abbrev pub answer_to : Inquired → Inquiry → List ℕ
-answer_to i inquiry = if asks_outside (asked_storage i) inquiry then codes "? argument 2" ++ codes "\n" else told_answer i inquiry
+answer_to i inquiry = if asks_outside (asked_storage i) inquiry then fault_text (Argument 2) else told_answer i inquiry
 
 -- how many changes stand then: `who` goes to just before the change that it tells, `goto` to its mark, and any other stays
 unfoldable pub stands_after_told : Inquired → Inquiry → ℕ
 stands_after_told i (Who place) = stands_after_who i.recorded (last_change_in i.recorded place)
+stands_after_told i (WhoItem unit item) = stands_after_who i.recorded (last_change_of_item i.recorded unit item)
 stands_after_told i (Goto mark) = stands_after_goto i.recorded (goto_number i.recorded i.stood mark)
 stands_after_told i inquiry = i.recorded.standing
 

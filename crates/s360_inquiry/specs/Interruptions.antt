@@ -1,14 +1,12 @@
 -- The last interruption (own profile), and what its program code means in words (GA22-6821, "Interruptions", program interruption).
 use Rattle.std.specs.Prelude.{ℕ, Bool, true, false, Option, Some, None, List, [], ◌++◌, codes}
-use Rattle.s360_model.specs.Psw.{instruction_address_of}
 use Rattle.s360_fixed.specs.declared.program_code.ProgramCode.{ProgramCode}
 use Rattle.s360_fixed.specs.declared.program_code.ProgramCode.TheVariants.{Operation, Privileged, Execute, Protection, Addressing, Specification}
 use Rattle.s360_fixed.specs.declared.program_code.ProgramCode.TheVariants.{Data, FixedPointOverflow, FixedPointDivide}
 use Rattle.s360_journal.specs.Recorded.{Recorded}
 use Rattle.s360_inquiry.specs.declared.jump.Jump.{Jump}
 use Rattle.s360_inquiry.specs.declared.jump.Jump.TheVariants.{Interruption, Program, SupervisorCall}
-use Rattle.s360_inquiry.specs.Changes.{machine_after, words_of_change}
-use Rattle.s360_inquiry.specs.Jumps.{jump_of_change, jump_words}
+use Rattle.s360_inquiry.specs.Jumps.{jump_of_change, led_words}
 use Rattle.s360_inquiry.specs.Searches.{last_up_to}
 
 -- a jump is one unless it is a branch or loads a PSW
@@ -45,8 +43,7 @@ exception_words other = []
 abbrev pub interruption_words : Recorded → ℕ → Option Jump → List ℕ
 interruption_words r number None = []
 interruption_words r number (Some jump) =
-    (codes "last interruption " ++ words_of_change r number)
-    ++ jump_words jump (instruction_address_of (machine_after r number).core.psw) ++ exception_words jump ++ codes "\n"
+    (codes "last interruption " ++ led_words r number jump) ++ exception_words jump ++ codes "\n"
 
 -- a line of the last one, if there was one
 abbrev pub interruption_line : Recorded → Option ℕ → List ℕ

@@ -112,10 +112,18 @@ decided_words jump code setter = if is_decided jump then (codes ", CC " ++ decim
 
 -- ---- the line of a jump, and the last ones, so many at most, the oldest first
 
+-- its event, and where it led
+abbrev pub led_words : Recorded → ℕ → Jump → List ℕ
+led_words r number jump = words_of_change r number ++ jump_words jump (instruction_address_of (machine_after r number).core.psw)
+
+abbrev pub led_if : List ℕ → Recorded → ℕ → Option Jump → List ℕ
+led_if begun r number None = []
+led_if begun r number (Some jump) = begun ++ led_words r number jump
+
 abbrev pub line_of_jump : Recorded → ℕ → Jump → List ℕ
 line_of_jump r number jump =
-    words_of_change r number ++ jump_words jump (instruction_address_of (machine_after r number).core.psw)
-    ++ decided_words jump (condition_code_of (machine_after r (number - 1)).core.psw) (setter_in (just_before r number)) ++ codes "\n"
+    led_words r number jump ++ decided_words jump (condition_code_of (machine_after r (number - 1)).core.psw) (setter_in (just_before r number))
+    ++ codes "\n"
 
 abbrev pub line_if_jump : Recorded → ℕ → Option Jump → List ℕ
 line_if_jump r number None = []

@@ -9,6 +9,7 @@ pub mod Visits
 pub mod CodeSettings
 pub mod Jumps
 pub mod Interruptions
+pub mod ItemChanges
 pub mod Sought
 pub mod Extents
 pub mod Causes

@@ -1,13 +1,15 @@
 -- The lines of an inquiry (own profile). Their arguments are those of the script language.
 use Rattle.std.specs.Prelude.{ℕ, Option, Result, List, [], ◌∷◌, codes}
 use Rattle.std.specs.Option.{option_map, option_or}
+use Rattle.s360_word.specs.declared.unit.Unit.{Unit}
 use Rattle.s360_language.specs.declared.command.LineFault.{LineFault}
 use Rattle.s360_language.specs.Digits.{count_of}
-use Rattle.s360_language.specs.Lines.{Line, if_known, judged, line, makes, may_take, one, one_of, part, takes, two}
-use Rattle.s360_language.specs.Reading.{address, most_count, places}
+use Rattle.s360_language.specs.Lines.{Form, Line, if_known, if_word, judged, line, makes, may_take, one, one_of, part, takes, two}
+use Rattle.s360_language.specs.Reading.{address, most_count, places, unit}
 use Rattle.s360_inquiry.specs.Causes.{most_depth}
 use Rattle.s360_inquiry.specs.declared.inquiry.Inquiry.{Inquiry}
-use Rattle.s360_inquiry.specs.declared.inquiry.Inquiry.TheVariants.{Who, Why, Goto, Changes, History, Visits, Jumps, Calls, Dump, Units, Where}
+use Rattle.s360_inquiry.specs.declared.inquiry.Inquiry.TheVariants.{Who, WhoItem, Why, Goto, Changes, History, Visits, Jumps, Calls}
+use Rattle.s360_inquiry.specs.declared.inquiry.Inquiry.TheVariants.{Dump, DumpItem, Units, Where}
 use Rattle.s360_inquiry.specs.declared.inquiry.Mark.{Mark}
 use Rattle.s360_inquiry.specs.declared.inquiry.Mark.TheVariants.{Change, Start, End, Last}
 
@@ -34,9 +36,13 @@ mark_of word =
     option_or (one_of ((codes "start", Start) ∷ (codes "end", End) ∷ (codes "last", Last) ∷ []) word)
     (option_map (λ number. Change number) (count_of most_count word))
 
+-- an item of a unit's media, behind `m`, or something else
+abbrev pub item_or : (Unit → ℕ → Inquiry) → Form Inquiry → Form Inquiry
+item_or asks other = if_word (codes "m") (two unit (count_of most_count) asks) other
+
 abbrev pub inquiries : List (Line Inquiry)
 inquiries =
-    line (codes "who") (part places (λ place. makes (Who place))) ∷
+    line (codes "who") (item_or (λ u n. WhoItem u n) (part places (λ place. makes (Who place)))) ∷
     line (codes "why") (part places (λ place. may_take (count_of most_depth) depth_told (λ depth. makes (Why place depth)))) ∷
     line (codes "goto") (one mark_of (λ mark. Goto mark)) ∷
     line (codes "changes") (part places (λ place. may_take (count_of most_count) changes_told (λ most. makes (Changes place most)))) ∷
@@ -44,7 +50,7 @@ inquiries =
     line (codes "visits") (takes address (λ at. may_take (count_of most_told) changes_told (λ most. makes (Visits at most)))) ∷
     line (codes "jumps") (may_take (count_of most_told) changes_told (λ most. makes (Jumps most))) ∷
     line (codes "calls") (makes Calls) ∷
-    line (codes "dump") (two address (count_of most_dumped) (λ at count. Dump at count)) ∷
+    line (codes "dump") (item_or (λ u n. DumpItem u n) (two address (count_of most_dumped) (λ at count. Dump at count))) ∷
     line (codes "units") (makes Units) ∷
     line (codes "where") (makes Where) ∷
     []

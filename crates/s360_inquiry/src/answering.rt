@@ -11,13 +11,14 @@ use crate::change::{answer_changes, answer_who};
 use crate::going::answer_goto;
 use crate::history::answer_history;
 use crate::inquiry::Inquiry;
+use crate::item::{answer_who_item, whole_item};
 use crate::jumping::answer_jumps;
 use crate::situation::{units_of, where_of};
 use crate::visit::answer_visits;
 use crate::why::answer_why;
-use s360_debug::text_of_line;
+use s360_debug::text_of_fault;
 use s360_journal::Session;
-use s360_language::{RowForm, push_storage};
+use s360_language::{LineFault, RowForm, push_storage};
 use s360_store::{BLOCK_SIZE, Place, Storage};
 use s360_text::Text;
 use std::alloc::{AllocError, Global};
@@ -55,7 +56,7 @@ fn text_of_inquiry(
     ensures memory { OnErr result (recording.new ≡ with_standing recording.old recording.new.standing) }
 {
     if asks_outside(recording.machine().storage(), inquiry) {
-        return text_of_line(alloc, "? argument 2");
+        return text_of_fault(alloc, LineFault::Argument(2));
     }
     told_answer(alloc, recording, stood, inquiry)
 }
@@ -97,6 +98,7 @@ fn told_answer(
 {
     match inquiry {
         Inquiry::Who(place) => answer_who(alloc, recording, place),
+        Inquiry::WhoItem { unit, number } => answer_who_item(alloc, recording, unit, number),
         Inquiry::Why { place, depth } => answer_why(alloc, recording, place, depth),
         Inquiry::Goto(mark) => answer_goto(alloc, recording, stood, mark),
         Inquiry::Changes { place, most } => answer_changes(alloc, recording, place, most),
@@ -105,6 +107,7 @@ fn told_answer(
         Inquiry::Jumps { most } => answer_jumps(alloc, recording, most),
         Inquiry::Calls => answer_calls(alloc, recording),
         Inquiry::Dump { at, count } => dump_of(alloc, recording.machine().storage(), at, count),
+        Inquiry::DumpItem { unit, number } => whole_item(alloc, recording.machine(), unit, number),
         Inquiry::Units => units_of(alloc, recording.machine()),
         Inquiry::Where => where_of(alloc, recording),
     }

@@ -1,5 +1,6 @@
 //! What is asked, one a line.
 use s360_store::Place;
+use s360_word::Unit;
 
 /// Where to go in what was recorded.
 #[derive(Clone, Copy)]
@@ -19,6 +20,8 @@ pub enum Mark {
 pub enum Inquiry {
     /// `who`: goes to just before the last change of a place, and tells it.
     Who(Place),
+    /// `who m U N`: goes to just before the last change of an item of a unit's media, and tells it.
+    WhoItem { unit: Unit, number: u32 },
     /// `why`: tells what a place had its value from, and so on, so deep.
     Why { place: Place, depth: u32 },
     /// `goto`: goes to a mark.
@@ -35,6 +38,8 @@ pub enum Inquiry {
     Calls,
     /// `dump A N`: so many bytes of storage from an address on, with their signs.
     Dump { at: u32, count: u32 },
+    /// `dump m U N`: an item of a unit's media, with its signs.
+    DumpItem { unit: Unit, number: u32 },
     /// `units`: how each unit stands, with its device.
     Units,
     /// `where`: how far the recording stands, and what the CPU does next.

@@ -2,15 +2,15 @@
 ghost use Rattle.std.specs.Prelude.{◌≡◌};
 ghost use Rattle.std.specs.Option.{option_map};
 ghost use Rattle.s360_language.specs.Digits.{count_of};
-ghost use Rattle.s360_language.specs.Lines.{named};
-ghost use Rattle.s360_language.specs.Reading.{most_count};
-ghost use Rattle.s360_inquiry.specs.Reading.{inquiries, inquiry_of, mark_of};
+ghost use Rattle.s360_language.specs.Lines.{makes, named, part, two};
+ghost use Rattle.s360_language.specs.Reading.{address, most_count, places};
+ghost use Rattle.s360_inquiry.specs.Reading.{inquiries, inquiry_of, item_or, mark_of, most_dumped};
 
 use crate::inquiry::{Inquiry, Mark};
 use crate::why::MOST_DEPTH;
 use s360_language::{
-    LineFault, MOST_COUNT, Words, address_in, count_in, finish, if_known, next_place, read_line,
-    read_word, words_in,
+    LineFault, MOST_COUNT, Words, address_in, count_in, finish, if_known, next_place,
+    read_arguments, read_line, read_word, takes_word, unit_in, words_in,
 };
 use s360_store::GREATEST_SIZE;
 
@@ -40,7 +40,7 @@ fn read_words(mut words: Words<'_>) -> Result<Inquiry, LineFault>
     ensures { result ≡ named LineFault.Unknown inquiries 0 words.entry }
 {
     read_line! { words, 0, finish, LineFault::Unknown;
-        "who" (place: [next_place]) => Inquiry::Who(place);
+        "who" [read_who(words)];
         "why" (place: [next_place], depth: count_in(MOST_DEPTH) or DEPTH) => Inquiry::Why { place, depth };
         "goto" (mark: mark_in) => Inquiry::Goto(mark);
         "changes" (place: [next_place], most: count_in(MOST_COUNT) or CHANGES) => Inquiry::Changes { place, most };
@@ -48,10 +48,30 @@ fn read_words(mut words: Words<'_>) -> Result<Inquiry, LineFault>
         "visits" (at: address_in, most: count_in(MOST_TOLD) or CHANGES) => Inquiry::Visits { at, most };
         "jumps" (most: count_in(MOST_TOLD) or CHANGES) => Inquiry::Jumps { most };
         "calls" () => Inquiry::Calls;
-        "dump" (at: address_in, count: count_in(GREATEST_SIZE)) => Inquiry::Dump { at, count };
+        "dump" [read_dump(words)];
         "units" () => Inquiry::Units;
         "where" () => Inquiry::Where;
     }
+}
+
+/// `who`, of an item or a place.
+fn read_who(mut words: Words<'_>) -> Result<Inquiry, LineFault>
+    ensures { result ≡ item_or (λ u n. Inquiry.WhoItem u n) (part places (λ place. makes (Inquiry.Who place))) 1 words.entry }
+{
+    if takes_word(&mut words, "m") {
+        return read_arguments! { words, 2, finish, (unit: unit_in, number: count_in(MOST_COUNT)) => Inquiry::WhoItem { unit, number } };
+    }
+    read_arguments! { words, 1, finish, (place: [next_place]) => Inquiry::Who(place) }
+}
+
+/// `dump`, of an item or of storage.
+fn read_dump(mut words: Words<'_>) -> Result<Inquiry, LineFault>
+    ensures { result ≡ item_or (λ u n. Inquiry.DumpItem u n) (two address (count_of most_dumped) (λ at count. Inquiry.Dump at count)) 1 words.entry }
+{
+    if takes_word(&mut words, "m") {
+        return read_arguments! { words, 2, finish, (unit: unit_in, number: count_in(MOST_COUNT)) => Inquiry::DumpItem { unit, number } };
+    }
+    read_arguments! { words, 1, finish, (at: address_in, count: count_in(GREATEST_SIZE)) => Inquiry::Dump { at, count } }
 }
 
 /// The mark of a word.

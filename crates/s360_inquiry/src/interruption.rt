@@ -4,9 +4,8 @@ ghost use Rattle.s360_journal.specs.Recorded.{with_standing};
 ghost use Rattle.s360_inquiry.specs.Interruptions.{exception_name, exception_words, interruption_line, is_interruption};
 ghost use Rattle.s360_inquiry.specs.Interruptions.{last_interruption_in};
 
-use crate::change::{go_before, push_event_of};
-use crate::going::go_to;
-use crate::jump::{Jump, jump_of, push_jump_words};
+use crate::jump::Jump;
+use crate::jumping::push_led;
 use crate::search::{Sought, last_number};
 use s360_fixed::ProgramCode;
 use s360_journal::Session;
@@ -62,14 +61,9 @@ fn push_interruption(
     ensures text { OnOk result (text.new ≡ text.old ++ interruption_line recording.old (some number)) }
     ensures state { recording.new ≡ with_standing recording.old recording.new.standing }
 {
-    let kind = go_before(recording, number)?;
-    let Some(jump) = jump_of(alloc, recording.machine(), kind)? else {
+    let Some(jump) = push_led(alloc, text, recording, number, "last interruption ")? else {
         return Ok(());
     };
-    text.push_text("last interruption ")?;
-    push_event_of(text, number, recording.machine(), kind)?;
-    go_to(recording, number)?;
-    push_jump_words(text, jump, recording.machine().psw().instruction_address())?;
     push_exception(text, jump)?;
     text.push_text("\n")?;
     Ok(())

@@ -2,11 +2,11 @@
 ghost use Rattle.std.specs.Prelude.{◌≡◌, ◌≤◌, ◌++◌, ◌-◌, IfOk, OnErr, OnOk, length, min};
 ghost use Rattle.s360_journal.specs.Recorded.{Recorded, with_standing};
 ghost use Rattle.s360_inquiry.specs.Changes.{just_before, words_of_change};
-ghost use Rattle.s360_inquiry.specs.Jumps.{IsSetter, jump_line, jumps_text, told_jumps};
+ghost use Rattle.s360_inquiry.specs.Jumps.{IsSetter, jump_line, jump_of_change, jumps_text, led_if, told_jumps};
 
 use crate::change::{go_before, push_event_of};
 use crate::going::go_to;
-use crate::jump::{jump_of, push_decided, push_jump_words};
+use crate::jump::{Jump, jump_of, push_decided, push_jump_words};
 use crate::search::{Sought, last_number, last_numbers};
 use s360_debug::text_of_line;
 use s360_journal::Session;
@@ -75,6 +75,30 @@ fn setter_from(
     }
 }
 
+/// Adds, behind what it begins with, the event of a jump and where it led, if the change of a number is one; and answers the jump. The
+/// recording is left at some change.
+pub(crate) fn push_led(
+    alloc: Global,
+    text: &mut Text,
+    recording: &mut Session,
+    number: u32,
+    begun: &str,
+) -> Result<Option<Jump>, AllocError>
+    ensures jump { IfOk result (λ jump. jump ≡ jump_of_change recording.old number) }
+    ensures text { OnOk result (text.new ≡ text.old ++ led_if begun.now recording.old number (jump_of_change recording.old number)) }
+    ensures state { recording.new ≡ with_standing recording.old recording.new.standing }
+{
+    let kind = go_before(recording, number)?;
+    let Some(jump) = jump_of(alloc, recording.machine(), kind)? else {
+        return Ok(None);
+    };
+    text.push_text(begun)?;
+    push_event_of(text, number, recording.machine(), kind)?;
+    go_to(recording, number)?;
+    push_jump_words(text, jump, recording.machine().psw().instruction_address())?;
+    Ok(Some(jump))
+}
+
 /// Adds the line of a jump. Want of memory leaves the recording at some change.
 fn push_jump(
     alloc: Global,
@@ -88,14 +112,11 @@ fn push_jump(
     ensures text { OnOk result (text.new ≡ text.old ++ jump_line recording.old number) }
     ensures state { recording.new ≡ with_standing recording.old recording.new.standing }
 {
-    let kind = go_before(recording, number)?;
-    let Some(jump) = jump_of(alloc, recording.machine(), kind)? else {
+    let _kind = go_before(recording, number)?;
+    let code = recording.machine().psw().condition_code();
+    let Some(jump) = push_led(alloc, text, recording, number, "")? else {
         return Ok(());
     };
-    push_event_of(text, number, recording.machine(), kind)?;
-    let code = recording.machine().psw().condition_code();
-    go_to(recording, number)?;
-    push_jump_words(text, jump, recording.machine().psw().instruction_address())?;
     push_decided(text, jump, code, &setter.words)?;
     text.push_text("\n")?;
     Ok(())

@@ -15,6 +15,7 @@ mod history;
 mod inquiry;
 mod inquiry_reader;
 mod interruption;
+mod item;
 mod jump;
 mod jumping;
 mod mnemonic;

@@ -1,6 +1,6 @@
 -- The form in which a language of lines is written down, and the judge of a line (own profile). Words are judged from left to
 -- right, and the first that is wrong, missing or too many is named by its number, the first word of a line being 0.
-use Rattle.std.specs.Prelude.{◌-◌, ◌+◌, ℕ, Bool, nat_eq, nat_lt, if◌then◌else◌, Option, None, Some, Result, Ok, Err, List, [], ◌∷◌, drop, length, ok_or}
+use Rattle.std.specs.Prelude.{◌-◌, ◌+◌, ℕ, Bool, false, nat_eq, nat_lt, if◌then◌else◌, Option, None, Some, Result, Ok, Err, List, [], ◌∷◌, drop, length, ok_or}
 use Rattle.std.specs.Cmp.Lexicographic.{pointwise}
 use Rattle.std.specs.Map.{lookup}
 use Rattle.s360_language.specs.declared.command.LineFault.{LineFault}
@@ -81,6 +81,14 @@ named fault (l ∷ lines) number (word ∷ words) = if is_word word l.name then 
 -- a word of a line that names one of several
 abbrev pub kind : {C : Type 0} → List (Line C) → Form C
 kind lines number words = named (Argument number) lines number words
+
+-- a line that is of one form if its next word is this, which is taken, and else of another
+abbrev pub begins_with : List ℕ → List (List ℕ) → Bool
+begins_with name [] = false
+begins_with name (word ∷ words) = is_word word name
+
+abbrev pub if_word : {C : Type 0} → List ℕ → Form C → Form C → Form C
+if_word name form other number words = if begins_with name words then form (number + 1) (drop 1 words) else other number words
 
 -- a part that several lines have, and what the words behind it say
 abbrev pub part : {V C : Type 0} → List (Line (V × ℕ)) → (V → Form C) → Form C

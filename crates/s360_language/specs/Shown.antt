@@ -15,6 +15,7 @@ use Rattle.s360_language.specs.declared.show_bytes.RowForm.TheVariants.{Digits}
 use Rattle.s360_language.specs.Names.{refused_text}
 use Rattle.s360_language.specs.ShownBytes.{storage_rows}
 use Rattle.s360_language.specs.ShownImages.{image_text}
+use Rattle.s360_language.specs.declared.show_items.ItemForm.TheVariants.{OnItsLine}
 use Rattle.s360_language.specs.ShownItems.{item_text}
 use Rattle.s360_language.specs.Values.{value_words}
 
@@ -53,5 +54,5 @@ shown_text m (StorageKey at) = key_text m at
 shown_text m External = value_line (codes "ext") m places.External
 shown_text m (UnitState unit) = text_of_unit m unit (places.UnitState unit) (unit_at unit.0)
 shown_text m (Device unit) = text_of_unit m unit (places.UnitMedia unit) (unit_at unit.0)
-shown_text m (Item unit number) = item_text m unit number
+shown_text m (Item unit number) = item_text OnItsLine m unit number
 shown_text m (Image unit) = image_text m unit

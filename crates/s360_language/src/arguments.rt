@@ -70,7 +70,7 @@ pub(crate) fn storage_key_in(word: &[u8]) -> Option<ProtectionKey>
 }
 
 /// A unit, by its address.
-pub(crate) fn unit_in(word: &[u8]) -> Option<Unit>
+pub fn unit_in(word: &[u8]) -> Option<Unit>
     ensures { result ≡ unit word.now }
 {
     let address = hexadecimal_in(word, 3)?;

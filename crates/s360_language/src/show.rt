@@ -8,7 +8,7 @@ use crate::command::Shown;
 use crate::names::push_refusal;
 use crate::show_bytes::{RowForm, push_storage};
 use crate::show_image::push_image;
-use crate::show_items::push_item;
+use crate::show_items::{ItemForm, push_item};
 use crate::value::push_value;
 use s360_machine::{ConfiguredUnit, Machine, Refusal};
 use s360_store::{BLOCK_SIZE, Place};
@@ -30,7 +30,13 @@ pub fn push_shown(text: &mut Text, machine: &Machine, shown: Shown) -> Result<()
         Shown::External => push_line(text, "ext", machine, Place::External),
         Shown::UnitState(unit) => push_unit(text, machine, unit, Place::UnitState(unit)),
         Shown::Device(unit) => push_unit(text, machine, unit, Place::UnitMedia(unit)),
-        Shown::Item { unit, number } => push_item(text, machine, unit, number as usize),
+        Shown::Item { unit, number } => push_item(
+            text,
+            machine,
+            unit,
+            number as usize,
+            ItemForm::OnItsLine,
+        ),
         Shown::Image(unit) => push_image(text, machine, unit),
     }
 }

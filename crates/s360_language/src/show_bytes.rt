@@ -13,7 +13,7 @@ use s360_text::Text;
 use std::alloc::AllocError;
 
 /// A row of storage has so many bytes.
-const BYTES_A_ROW: usize = 16;
+pub(crate) const BYTES_A_ROW: usize = 16;
 
 /// A word has so many.
 const BYTES_A_WORD: usize = 4;

@@ -1,7 +1,7 @@
 //! The words of a line: what stands between its blanks.
-ghost use Rattle.std.specs.Prelude.{◌≡◌, ◌≤◌, ◌+◌, ◌∷◌, [], MatchOption, IfSome, length, nat_eq, not};
+ghost use Rattle.std.specs.Prelude.{◌≡◌, ◌≤◌, ◌+◌, ◌∷◌, [], MatchOption, IfSome, drop, if◌then◌else◌, length, nat_eq, not};
 ghost use Rattle.std.specs.List.{position};
-ghost use Rattle.s360_language.specs.Lines.{is_word};
+ghost use Rattle.s360_language.specs.Lines.{begins_with, is_word};
 ghost use Rattle.s360_language.specs.Words.{behind_word, from_word, text_behind, words_of};
 
 use std::marker::Model;
@@ -40,6 +40,20 @@ impl<'a> Words<'a> {
         let (word, rest) = split_word(self.rest)?;
         self.rest = rest;
         Some(word)
+    }
+}
+
+/// Whether the next word is this; then it is taken.
+pub fn takes_word(words: &mut Words<'_>, name: &str) -> bool
+    ensures taken { result ≡ begins_with name.now words.old }
+    ensures rest { words.new ≡ (if begins_with name.now words.old then drop 1 words.old else words.old) }
+{
+    match split_word(words.rest) {
+        Some((word, rest)) if is_word(word, name) => {
+            words.rest = rest;
+            true
+        }
+        _ => false,
     }
 }
 

@@ -10,7 +10,7 @@ use s360_store::{Access, Checked};
 
 /// An operand in storage.
 #[derive(Clone, Copy)]
-pub(crate) struct Field {
+pub struct Field {
     /// The address of its leftmost byte.
     pub address: u32,
     /// The number of its bytes.
@@ -27,7 +27,7 @@ pub(crate) fn check(view: &View, kind: Access, field: Field) -> Checked
 
 /// What keeps two operands from being used, of which the second is fetched: one is outside storage,
 /// or one is protected, found in this order.
-pub(crate) fn fields_exception(
+pub fn fields_exception(
     view: &View,
     kind: Access,
     first: Field,

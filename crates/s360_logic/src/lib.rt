@@ -22,6 +22,11 @@ mod row;
 mod status;
 
 pub use cpu::{FetchedInstruction, PlannedInstruction, fetch, plan_instruction, put_instruction};
+pub use field::{Field, fields_exception};
 pub use laws::digits_of_apart_operands;
 pub use logic::{plan_logic, put_logic, subject_of, with_ored_byte};
-pub use row::DigitRow;
+pub use row::{
+    ByteCombination, Conversion, DigitRow, ImmediateRow, KeyRow, RegisterStatus, StorageRow,
+    StorageStatus, conversion_of, immediate_row_of, register_status_of, storage_row_of,
+    storage_status_of,
+};

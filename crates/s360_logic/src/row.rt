@@ -10,7 +10,7 @@ use s360_fixed::{IoOperation, Operation};
 
 /// What a byte of the first operand becomes with a byte of the second.
 #[derive(Clone, Copy, PartialEq, Eq)]
-pub(crate) enum ByteCombination {
+pub enum ByteCombination {
     /// The second byte.
     Second,
     /// The first with the low half of the second.
@@ -27,7 +27,7 @@ pub(crate) enum ByteCombination {
 
 /// What is done with a byte in storage and the byte of the instruction.
 #[derive(Clone, Copy)]
-pub(crate) enum ImmediateRow {
+pub enum ImmediateRow {
     /// The byte in storage becomes something of both.
     Combine(ByteCombination),
     /// The two are compared.
@@ -51,7 +51,7 @@ pub enum DigitRow {
 
 /// What is done with two operands in storage.
 #[derive(Clone, Copy)]
-pub(crate) enum StorageRow {
+pub enum StorageRow {
     /// The bytes of the first become something of both.
     Combine(ByteCombination),
     /// The two are compared.
@@ -66,7 +66,7 @@ pub(crate) enum StorageRow {
 
 /// A conversion between a word in a register and a packed decimal number in storage.
 #[derive(Clone, Copy, PartialEq, Eq)]
-pub(crate) enum Conversion {
+pub enum Conversion {
     /// The word becomes the number.
     ToBinary,
     /// The number becomes the word.
@@ -76,7 +76,7 @@ pub(crate) enum Conversion {
 /// What is done with the storage key of the block that R2 names, and with its fetch bit if fetches are
 /// protected. Both are privileged.
 #[derive(Clone, Copy, PartialEq, Eq)]
-pub(crate) enum KeyRow {
+pub enum KeyRow {
     /// It becomes the key in R1.
     Set,
     /// It is put into R1.
@@ -85,7 +85,7 @@ pub(crate) enum KeyRow {
 
 /// What is done by registers, or by the second byte of the instruction.
 #[derive(Clone, Copy)]
-pub(crate) enum RegisterStatus {
+pub enum RegisterStatus {
     /// The condition code and the program mask become those in R1.
     SetProgramMask,
     /// A supervisor call interruption follows.
@@ -96,7 +96,7 @@ pub(crate) enum RegisterStatus {
 
 /// What is done with an operand in storage, or with a unit. All are privileged.
 #[derive(Clone, Copy)]
-pub(crate) enum StorageStatus {
+pub enum StorageStatus {
     /// The system mask becomes the byte.
     SetSystemMask,
     /// The PSW becomes the doubleword.
@@ -107,7 +107,7 @@ pub(crate) enum StorageStatus {
 
 /// The row of an operation with an immediate byte, where it is one of these chapters.
 #[inline(always)]
-pub(crate) fn immediate_row_of(operation: Operation) -> Option<ImmediateRow>
+pub fn immediate_row_of(operation: Operation) -> Option<ImmediateRow>
     ensures { result ≡ immediate_row_of operation }
 {
     match operation {
@@ -126,7 +126,7 @@ pub(crate) fn immediate_row_of(operation: Operation) -> Option<ImmediateRow>
 
 /// The row of an operation with two operands in storage, where it is one of these chapters.
 #[inline(always)]
-pub(crate) fn storage_row_of(operation: Operation) -> Option<StorageRow>
+pub fn storage_row_of(operation: Operation) -> Option<StorageRow>
     ensures { result ≡ storage_row_of operation }
 {
     match operation {
@@ -148,7 +148,7 @@ pub(crate) fn storage_row_of(operation: Operation) -> Option<StorageRow>
 
 /// The conversion that an operation is, if it is one.
 #[inline(always)]
-pub(crate) fn conversion_of(operation: Operation) -> Option<Conversion>
+pub fn conversion_of(operation: Operation) -> Option<Conversion>
     ensures { result ≡ conversion_of operation }
 {
     match operation {
@@ -160,7 +160,7 @@ pub(crate) fn conversion_of(operation: Operation) -> Option<Conversion>
 
 /// The row of an operation that switches status by registers, if it is one.
 #[inline(always)]
-pub(crate) fn register_status_of(operation: Operation) -> Option<RegisterStatus>
+pub fn register_status_of(operation: Operation) -> Option<RegisterStatus>
     ensures { result ≡ register_status_of operation }
 {
     match operation {
@@ -175,7 +175,7 @@ pub(crate) fn register_status_of(operation: Operation) -> Option<RegisterStatus>
 /// The row of an operation that switches status by an operand in storage, or of one of the channels,
 /// if it is one.
 #[inline(always)]
-pub(crate) fn storage_status_of(operation: Operation) -> Option<StorageStatus>
+pub fn storage_status_of(operation: Operation) -> Option<StorageStatus>
     ensures { result ≡ storage_status_of operation }
 {
     match operation {

@@ -1,10 +1,11 @@
 //! The file of what the console typed, and of the lines that were entered.
 ghost use Rattle.std.specs.Prelude.{◌≡◌, ◌++◌, IfOk, OnOk};
 ghost use Rattle.std.specs.List.{flat_map};
-ghost use Rattle.s360_language.specs.ShownItems.{typed_line};
+ghost use Rattle.s360_language.specs.declared.show_items.ItemForm.TheVariants.{OnItsLine};
+ghost use Rattle.s360_language.specs.ShownItems.{typed_told};
 ghost use Rattle.s360_saving.specs.ConsoleLines.{console_file, entered_line, line_count};
 
-use s360_language::{push_signs, push_typed};
+use s360_language::{ItemForm, push_signs, push_typed};
 use s360_print::{ConsoleMedia, Line};
 use s360_text::Text;
 use std::alloc::{AllocError, Global};
@@ -21,11 +22,11 @@ pub(crate) fn console_file_of(alloc: Global, media: &ConsoleMedia) -> Result<Tex
 
 /// Adds what was typed, as `show m` shows it.
 fn push_all_typed(text: &mut Text, media: &ConsoleMedia) -> Result<(), AllocError>
-    ensures { OnOk result (text.new ≡ text.old ++ flat_map typed_line media.now.media.typed) }
+    ensures { OnOk result (text.new ≡ text.old ++ flat_map (typed_told OnItsLine) media.now.media.typed) }
 {
     for index in 0..media.typed_count() {
         if let Some(item) = media.typed(index + 1) {
-            push_typed(text, item)?;
+            push_typed(text, item, ItemForm::OnItsLine)?;
         }
     }
     Ok(())

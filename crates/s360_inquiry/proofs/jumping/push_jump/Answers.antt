@@ -1,31 +1,23 @@
-use Rattle.std.proofs.Common.{◌≡◌, ◌-◌, ℕ, Option, Some, ap, ◌∙◌, sym}
-use Rattle.s360_model.specs.Psw.{condition_code_of, instruction_address_of}
-use Rattle.s360_machine.specs.declared.event_kind.EventKind.{EventKind}
+use Rattle.std.proofs.Common.{◌≡◌, ◌-◌, ◌++◌, ℕ, [], Some, ap, ◌∙◌, sym}
+use Rattle.s360_model.specs.Psw.{condition_code_of}
 use Rattle.s360_machine.specs.Machine.{Machine, seen}
 use Rattle.s360_journal.specs.Recorded.{Recorded, with_standing}
-use Rattle.s360_inquiry.specs.Changes.{event_words, kind_of_change, machine_after, words_of_change}
+use Rattle.s360_inquiry.specs.Changes.{just_before, machine_after}
 use Rattle.s360_inquiry.specs.CodeSettings.{setter_in}
-use Rattle.s360_inquiry.specs.Jumps.{jump_if, jump_of_change}
-use Rattle.s360_inquiry.proofs.JumpLemmas.{gone-on, jump-told, machine-there}
+use Rattle.s360_inquiry.specs.Jumps.{jump_of_change, led_if}
+use Rattle.s360_inquiry.proofs.JumpLemmas.{jump-told, machine-there}
 use Rattle.s360_inquiry.proofs.jumping.push_jump.Goals as goal
 
 pub returns-clause-text : goal.returns-clause-text
 returns-clause-text c =
     let r : Recorded = c.args.recording.now
-    in let before : Recorded = c.go_before.new.recording
     in let number : ℕ = c.args.number
-    in let is : c.in_ok-kind.kind ≡ kind_of_change r number = c.in_ok-kind.ensures.kind
-    in let m : seen c.machine.result.now.whole ≡ machine_after r (number - 1) = machine-there r before (number - 1) _ c.in_ok-kind.ensures.state c.machine.ensures.rerun
-    in let m2 : seen c.machine-2.result.now.whole ≡ machine_after r (number - 1) = machine-there r before (number - 1) _ c.in_ok-kind.ensures.state c.machine-2.ensures.rerun
-    in let m3 : seen c.machine-3.result.now.whole ≡ machine_after r (number - 1) = machine-there r before (number - 1) _ c.in_ok-kind.ensures.state c.machine-3.ensures.rerun
-    in let gone = gone-on r before c.go_to.new.recording number c.in_ok-kind.ensures.state c.in_ok-go_to.ensures.state
-    in let m4 : seen c.machine-4.result.now.whole ≡ machine_after r number = machine-there r c.go_to.new.recording number _ gone c.machine-4.ensures.rerun
-    in let jump : Some c.in-Some.jump ≡ jump_of_change r number
-    = sym c.in-Some.is ∙ c.in_ok-jump.ensures ∙ ap (λ (x : Machine). jump_if x c.in_ok-kind.kind) m ∙ ap (λ (k : Option EventKind). jump_if (machine_after r (number - 1)) k) is
-    in let words : event_words number (seen c.machine-2.result.now.whole) c.in_ok-kind.kind ≡ words_of_change r number
-    = ap (λ (x : Machine). event_words number x c.in_ok-kind.kind) m2 ∙ ap (λ (k : Option EventKind). event_words number (machine_after r (number - 1)) k) is
-    in jump-told r number _ _ c.in-Some.jump c.args.setter.now.words c.args.text.now _ _ _ _ _ jump words
-    (c.instruction_address.ensures.value ∙ ap (λ (p : ℕ). instruction_address_of p) c.psw-2.ensures ∙ ap (λ (x : Machine). instruction_address_of x.core.psw) m4)
-    (c.condition_code-code.ensures ∙ ap (λ (p : ℕ). condition_code_of p) c.psw.ensures ∙ ap (λ (x : Machine). condition_code_of x.core.psw) m3)
+    in let before : c.go_before.new.recording ≡ just_before r number = c.in_ok-_kind.ensures.state
+    in let m : seen c.machine.result.now.whole ≡ machine_after r (number - 1)
+    = machine-there r c.go_before.new.recording (number - 1) _ c.in_ok-_kind.ensures.state c.machine.ensures.rerun
+    in jump-told r number _ c.in-Some.jump c.args.setter.now.words c.args.text.now _ _ _
+    (sym c.in-Some.is ∙ c.in_ok-jump.ensures.jump ∙ ap (λ (x : Recorded). jump_of_change x number) before)
+    (c.in_ok-jump.ensures.text ∙ ap (λ (x : Recorded). c.args.text.now ++ led_if [] x number (jump_of_change x number)) before)
+    (c.condition_code-code.ensures ∙ ap (λ (p : ℕ). condition_code_of p) c.psw.ensures ∙ ap (λ (x : Machine). condition_code_of x.core.psw) m)
     (c.requires.setter ∙ ap (λ (n : ℕ). setter_in (with_standing r n)) c.requires.before)
-    c.in_ok-push_event_of.ensures c.in_ok-push_jump_words.ensures c.in_ok-push_decided.ensures c.in_ok-push_text.ensures
+    c.in_ok-push_decided.ensures c.in_ok-push_text.ensures
