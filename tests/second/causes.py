@@ -9,6 +9,8 @@ from .sources import sources
 
 BYTES_SHOWN = 16
 PSW = "p"
+# The kinds of places in their order.
+KINDS = (PSW, "r", "s", "k", "run", "ext", "u", "d")
 
 
 class Cause(NamedTuple):
@@ -71,13 +73,14 @@ class Causes:
         name, fields = inquiries.recording.changes[-1].event
         inquiries.go_to(number - 1)
         found = sources(inquiries.machine, name, fields)
-        each = dict.fromkeys(source for place in places for source in found.get(place, [place]))
+        each = {source for place in places for source in found.get(place, [place])}
         decided = self.causes(deciders(inquiries.machine, name), number)
         decided = [cause.as_decider for cause in decided]
         return inquiries.happening(name), decided, self.causes(each, number)
 
     def causes(self, places, before):
-        return [self.cause(together, before) for together in self.runs(places, before)]
+        in_order = sorted(set(places), key=order_of)
+        return [self.cause(together, before) for together in self.runs(in_order, before)]
 
     def runs(self, places, before):
         """Bytes with rising addresses that one change, or none, made last before this one stand
@@ -113,6 +116,13 @@ class Causes:
         count = min(len(places), BYTES_SHOWN, max(machine.size - number, 0))
         shown = machine.run_of_bytes(number, count).hex().upper()
         return f"{shown}.." if count and len(places) > BYTES_SHOWN else shown
+
+
+def order_of(place):
+    """Places stand by their kind, and within a kind by their number."""
+    if place in KINDS:
+        return KINDS.index(place), 0
+    return KINDS.index(place[0]), int(place[1:], 16)
 
 
 def named(place):

@@ -1,7 +1,7 @@
 """What decides an event: the places that its shape comes from.
 
 They say which event happened, where its operands were, and how it ended; but no value that it
-moved. They stand in the order in which a machine comes to them.
+moved.
 
 Source: docs/DECISIONS.md, "Sources".
 """

@@ -2,11 +2,10 @@
 use Rattle.std.proofs.Common.{◌≡◌, ◌<◌, ◌≤◌, ◌+◌, ◌-◌, ◌++◌, ℕ, zero, suc, Bool, true, false, get_or, List, [], ◌∷◌, ap, sym, ◌∙◌, refl, arith, length, length-append, take, append_assoc, codes, flat_map, if◌then◌else◌, nat_eq, nat_lt, le-ltb, lt-ltb}
 use Rattle.std.proofs.lemmas.List.{append-nil, take-append-le, take_all, take_more}
 use Rattle.std.proofs.lemmas.Grind.{flat_map-append, fold-append}
-use Rattle.std.specs.List.{list_any}
-use Rattle.indexmap.specs.IndexSet.{insert_all, insert_key}
+use Rattle.std.specs.BTreeSet.{insert_key}
 use Rattle.s360_store.specs.declared.place.Place.{Place}
-use Rattle.s360_store.specs.Places.{same_place}
-use Rattle.s360_store.proofs.PlanPartLemmas.{equal, equal_is}
+use Rattle.s360_store.specs.declared.place.Place.TheVariants.{Psw, Register, Byte, Key, Run, External, UnitState, UnitMedia}
+use Rattle.s360_store.proofs.OrderOfPlaces.{compare}
 use Rattle.s360_journal.specs.Recorded.{Recorded, with_standing}
 use Rattle.s360_inquiry.specs.declared.cause.Cause.{Cause}
 use Rattle.s360_inquiry.specs.declared.cause.Origin.{Origin}
@@ -14,43 +13,55 @@ use Rattle.s360_inquiry.specs.declared.cause.Origin.TheVariants.{Change}
 use Rattle.s360_inquiry.specs.declared.cause.Making.{Making}
 use Rattle.s360_inquiry.specs.declared.extent.Extent.{Extent}
 use Rattle.s360_inquiry.specs.declared.why.Telling.{Telling}
-use Rattle.s360_inquiry.specs.Causes.{IsMaking, IsOf, IsTold, cause_line, cause_lines, causes_of, decided_line, decided_lines, decided_words, indent, told_lines}
+use Rattle.s360_inquiry.specs.Causes.{IsMaking, IsOf, IsTold, cause_line, cause_lines, causes_of, decided_line, decided_lines, decided_words, indent, order_of, told_lines, with_places}
 use Rattle.s360_inquiry.specs.Changes.{words_of_change}
 
 abbrev joined_lines : List (List ℕ) → List ℕ
 joined_lines lines = flat_map (λ line. line) lines
 
--- ---- places, each once
+-- ---- places in their order, each once
 
-among-same : (ks : List Place) (p : Place) → list_any (equal p) ks ≡ list_any (same_place p) ks
-among-same [] p = refl
-among-same (k ∷ ks) p = rw (equal_is p k, among-same ks p) refl
+-- the derived order is the one by kind and number
+derived-is : (p q : Place) → compare p q ≡ order_of p q
+derived-is Psw Psw = refl
+derived-is (Register n) (Register k) = refl
+derived-is (Byte n) (Byte k) = refl
+derived-is (Key n) (Key k) = refl
+derived-is Run Run = refl
+derived-is External External = refl
+derived-is (UnitState u) (UnitState v) = refl
+derived-is (UnitMedia u) (UnitMedia v) = refl
+derived-is p q = refl
+
+insert-same : (ks : List Place) (p : Place) → insert_key compare ks p ≡ insert_key order_of ks p
+insert-same [] p = refl
+insert-same (k ∷ ks) p = rw (derived-is p k, insert-same ks p) refl
 
 -- a place more of a list
 pub inserted-more : (old keys new ps : List Place) (i : ℕ) (p d : Place) → i < length ps → p ≡ get_or ps i d
-    → keys ≡ insert_all same_place old (take i ps) → new ≡ insert_key equal keys p → new ≡ insert_all same_place old (take (i + 1) ps)
+    → keys ≡ with_places old (take i ps) → new ≡ insert_key compare keys p → new ≡ with_places old (take (i + 1) ps)
 inserted-more old keys new ps i p d inside is before after =
     after
-    ∙ ap (λ (b : Bool). if b then keys else (keys ++ p ∷ [])) (among-same keys p)
-    ∙ ap (λ (ks : List Place). insert_key same_place ks p) before
-    ∙ ap (λ (x : Place). insert_key same_place (insert_all same_place old (take i ps)) x) is
-    ∙ sym (fold-append (insert_key same_place) old (take i ps) (get_or ps i d ∷ []))
-    ∙ ap (λ (xs : List Place). insert_all same_place old xs) (sym (take_more ps i d inside))
+    ∙ insert-same keys p
+    ∙ ap (λ (ks : List Place). insert_key order_of ks p) before
+    ∙ ap (λ (x : Place). insert_key order_of (with_places old (take i ps)) x) is
+    ∙ sym (fold-append (insert_key order_of) old (take i ps) (get_or ps i d ∷ []))
+    ∙ ap (λ (xs : List Place). with_places old xs) (sym (take_more ps i d inside))
 
 -- the sources of a place more
 pub sources-more : (sources : Place → List Place) (keys new ps : List Place) (i : ℕ) (p d : Place) → i < length ps → p ≡ get_or ps i d
-    → keys ≡ insert_all same_place [] (flat_map sources (take i ps)) → new ≡ insert_all same_place keys (sources p)
-    → new ≡ insert_all same_place [] (flat_map sources (take (i + 1) ps))
+    → keys ≡ with_places [] (flat_map sources (take i ps)) → new ≡ with_places keys (sources p)
+    → new ≡ with_places [] (flat_map sources (take (i + 1) ps))
 sources-more sources keys new ps i p d inside is before after =
     let more : flat_map sources (take (i + 1) ps) ≡ flat_map sources (take i ps) ++ sources (get_or ps i d) =
     ap (λ (xs : List Place). flat_map sources xs) (take_more ps i d inside)
     ∙ flat_map-append sources (take i ps) (get_or ps i d ∷ [])
     ∙ ap (λ (t : List Place). flat_map sources (take i ps) ++ t) (append-nil (sources (get_or ps i d)))
     in after
-    ∙ ap (λ (ks : List Place). insert_all same_place ks (sources p)) before
-    ∙ ap (λ (x : Place). insert_all same_place (insert_all same_place [] (flat_map sources (take i ps))) (sources x)) is
-    ∙ sym (fold-append (insert_key same_place) [] (flat_map sources (take i ps)) (sources (get_or ps i d)))
-    ∙ ap (λ (xs : List Place). insert_all same_place [] xs) (sym more)
+    ∙ ap (λ (ks : List Place). with_places ks (sources p)) before
+    ∙ ap (λ (x : Place). with_places (with_places [] (flat_map sources (take i ps))) (sources x)) is
+    ∙ sym (fold-append (insert_key order_of) [] (flat_map sources (take i ps)) (sources (get_or ps i d)))
+    ∙ ap (λ (xs : List Place). with_places [] xs) (sym more)
 
 -- ---- a level more
 

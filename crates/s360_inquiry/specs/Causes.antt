@@ -1,12 +1,15 @@
 -- The chain of causes of a value (own profile): the change that made it, the places that its event was decided by, those that it
 -- made the value of, with the values that they had, and so on with each of these.
 use Rattle.std.specs.Prelude.{◌≡◌, ℕ, zero, suc, ◌+◌, nat_lt, if◌then◌else◌, Option, Some, None, List, [], ◌∷◌, ◌++◌, codes, length, map, min, take}
-use Rattle.std.specs.Prelude.{flat_map, unwrap_or}
-use Rattle.indexmap.specs.IndexSet.{insert_all}
+use Rattle.std.specs.Prelude.{flat_map, fold, unwrap_or}
+use Rattle.std.specs.BTreeSet.{insert_key}
+use Rattle.std.specs.declared.cmp.Ordering.{Ordering}
+use Rattle.std.specs.declared.cmp.Ordering.TheVariants.{Less, Greater}
+use Rattle.std.specs.Ordering.{match_ordering, nat_cmp}
 use Rattle.s360_model.specs.Text.{decimal}
 use Rattle.s360_store.specs.declared.place.Place.{Place}
 use Rattle.s360_store.specs.declared.place.Place.TheVariants.{Psw}
-use Rattle.s360_store.specs.Places.{same_place}
+use Rattle.s360_store.specs.Order.{kind_of, number_of}
 use Rattle.s360_machine.specs.declared.event.Event.{Event}
 use Rattle.s360_machine.specs.Machine.{Machine}
 use Rattle.s360_journal.specs.Running.{next_event}
@@ -43,12 +46,20 @@ cause_with r extent origin = record { extent = extent; value = extent_words (mac
 abbrev pub cause_in : Recorded → Extent → Cause
 cause_in r extent = cause_with r extent (origin_in r extent)
 
--- the places that an event makes those of an extent of, each once; and those that decide the event
+-- two places by their kind, and within a kind by their number
+abbrev pub order_of : Place → Place → Ordering
+order_of p q = match_ordering (nat_cmp (kind_of p) (kind_of q)) Less (nat_cmp (number_of p) (number_of q)) Greater
+
+-- more places beside some, in their order, each once
+abbrev pub with_places : List Place → List Place → List Place
+with_places places more = fold (insert_key order_of) places more
+
+-- the places that an event makes those of an extent of; and those that decide the event
 unfoldable pub places_before : Machine → Event → Extent → List Place
-places_before m e extent = insert_all same_place [] (flat_map (sources m e) (places_of_extent extent))
+places_before m e extent = with_places [] (flat_map (sources m e) (places_of_extent extent))
 
 unfoldable pub places_deciding : Machine → Event → List Place
-places_deciding m e = insert_all same_place [] (deciders m e)
+places_deciding m e = with_places [] (deciders m e)
 
 -- the event that comes next in a record
 abbrev pub event_next : Recorded → Event

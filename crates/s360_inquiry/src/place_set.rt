@@ -1,16 +1,14 @@
-//! Places, each once: those that an event makes an extent of, and those that decide the event.
+//! Places in their order, each once: those that an event makes an extent of, and those that decide the event.
 ghost use Rattle.std.specs.Prelude.{◌≡◌, IfOk, OnOk};
-ghost use Rattle.indexmap.specs.IndexSet.{insert_all};
 ghost use Rattle.s360_machine.specs.Machine.{seen};
-ghost use Rattle.s360_store.specs.Places.{same_place};
-ghost use Rattle.s360_inquiry.specs.Causes.{places_before, places_deciding};
+ghost use Rattle.s360_inquiry.specs.Causes.{places_before, places_deciding, with_places};
 
 use crate::extent::{Extent, places_of};
-use indexmap::IndexSet;
 use s360_machine::{Event, Machine};
 use s360_source::{deciders, sources};
 use s360_store::Place;
 use std::alloc::{AllocError, Global};
+use std::collections::BTreeSet;
 
 /// The places that an event makes those of an extent of, each once.
 #[tactic(auto, unfolding(crate::specs::Causes::places_before))]
@@ -19,15 +17,15 @@ pub(crate) fn places_before(
     machine: &Machine,
     event: &Event,
     extent: Extent,
-) -> Result<IndexSet<Place>, AllocError>
-    ensures { IfOk result (λ places. places.keys ≡ places_before (seen machine.now.whole) event.now extent) }
+) -> Result<Vec<Place>, AllocError>
+    ensures { IfOk result (λ places. places.items ≡ places_before (seen machine.now.whole) event.now extent) }
 {
-    let mut places = IndexSet::new(alloc);
+    let mut places = BTreeSet::new(alloc);
     for place in places_of(alloc, extent)?.iter() {
         let sources = sources(alloc, machine, event, *place)?;
         insert_each(&mut places, sources.as_slice())?;
     }
-    Ok(places)
+    list_of(alloc, &places)
 }
 
 /// The places that an event is decided by, each once.
@@ -36,21 +34,32 @@ pub(crate) fn places_deciding(
     alloc: Global,
     machine: &Machine,
     event: &Event,
-) -> Result<IndexSet<Place>, AllocError>
-    ensures { IfOk result (λ places. places.keys ≡ places_deciding (seen machine.now.whole) event.now) }
+) -> Result<Vec<Place>, AllocError>
+    ensures { IfOk result (λ places. places.items ≡ places_deciding (seen machine.now.whole) event.now) }
 {
-    let mut places = IndexSet::new(alloc);
+    let mut places = BTreeSet::new(alloc);
     let deciders = deciders(alloc, machine, event)?;
     insert_each(&mut places, deciders.as_slice())?;
-    Ok(places)
+    list_of(alloc, &places)
 }
 
 /// Adds places, each once.
-fn insert_each(places: &mut IndexSet<Place>, more: &[Place]) -> Result<(), AllocError>
-    ensures { OnOk result (places.new.keys ≡ insert_all same_place places.old.keys more.now) }
+fn insert_each(places: &mut BTreeSet<Place>, more: &[Place]) -> Result<(), AllocError>
+    ensures { OnOk result (places.new.keys ≡ with_places places.old.keys more.now) }
 {
     for place in more {
         places.insert(*place)?;
     }
     Ok(())
+}
+
+/// Places as a list.
+fn list_of(alloc: Global, places: &BTreeSet<Place>) -> Result<Vec<Place>, AllocError>
+    ensures { IfOk result (λ list. list.items ≡ places.now.keys) }
+{
+    let mut list = Vec::new(alloc);
+    for place in places.iter() {
+        list.push(*place)?;
+    }
+    Ok(list)
 }
