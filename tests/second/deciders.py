@@ -38,8 +38,8 @@ def deciders(machine, name):
 
 
 def keys_of(machine, key, address, count, is_store):
-    """The keys that an access looks at."""
-    if count == 0 or key == 0 or not (is_store or machine.protects_fetches):
+    """The keys that an access looks at: outside storage it looks at none."""
+    if count == 0 or key == 0 or address + count > machine.size or not (is_store or machine.protects_fetches):
         return []
     blocks = range(address // BLOCK, (address + count - 1) // BLOCK + 1)
     return [machine.key_name(block) for block in blocks]
@@ -89,10 +89,25 @@ def of_instruction(machine):
 
 
 def fetched(machine, at):
-    """The bytes of an instruction, and the keys that its fetch looks at."""
+    """The bytes of an instruction, and the keys that its fetch looks at. Its first halfword is looked at before the whole, and of what
+    is not fetched no more than the byte that says how long it is."""
+    key = machine.psw_field(52, 4)
+    keys = keys_of(machine, key, at, 2, is_store=False)
+    if not is_clear(machine, at, 2):
+        return keys
     count = (2, 4, 4, 6)[machine.byte(at) >> 6]
-    keys = keys_of(machine, machine.psw_field(52, 4), at, count, is_store=False)
-    return [*bytes_at(at, count), *keys]
+    keys += keys_of(machine, key, at, count, is_store=False)
+    is_fetched = at % 2 == 0 and is_clear(machine, at, count)
+    return [*bytes_at(at, count if is_fetched else 1), *keys]
+
+
+def is_clear(machine, at, count):
+    """Whether bytes can be fetched, wherever they lie."""
+    try:
+        machine.check(at, count, 1, is_store=False)
+    except Interruption:
+        return False
+    return True
 
 
 def how_it_ends(machine, instruction):

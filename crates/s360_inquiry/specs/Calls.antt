@@ -24,16 +24,15 @@ use Rattle.s360_machine.specs.Machine.{Machine}
 use Rattle.s360_journal.specs.Standing.{machine_of}
 use Rattle.s360_journal.specs.Recorded.{Recorded, session_of}
 use Rattle.s360_language.specs.Names.{place_name}
-use Rattle.s360_source.specs.declared.shape.InstructionShape.{InstructionShape}
-use Rattle.s360_source.specs.declared.shape.Performance.{Performance}
-use Rattle.s360_source.specs.Shapes.{instruction_shape}
 use Rattle.s360_inquiry.specs.declared.call.Call.{Call}
 use Rattle.s360_inquiry.specs.declared.call.Calling.{Calling}
 use Rattle.s360_inquiry.specs.declared.calling.OpenCall.{OpenCall}
 use Rattle.s360_inquiry.specs.declared.call.Link.{Link}
+use Rattle.s360_inquiry.specs.declared.executed.Executed.{Executed}
 use Rattle.s360_inquiry.specs.declared.call.Link.TheVariants.{Register, OldPsw}
 use Rattle.s360_inquiry.specs.Causes.{told_lines}
 use Rattle.s360_inquiry.specs.Changes.{kind_of_change, machine_after, words_of_change}
+use Rattle.s360_inquiry.specs.Executed.{executed}
 
 -- ---- which events call
 
@@ -43,22 +42,22 @@ link_of_form (Rr BranchAndLink r1 r2) = Some (Register r1)
 link_of_form (Rx BranchAndLink r1 x2 b2 d2) = Some (Register r1)
 link_of_form form = None
 
-abbrev pub link_of_performed : Option Performance → Option Link
+abbrev pub link_of_performed : Option Form → Option Link
 link_of_performed None = None
-link_of_performed (Some p) = link_of_form p.form
+link_of_performed (Some form) = link_of_form form
 
 -- that of a supervisor call is the old PSW
-abbrev pub link_of_ended : Ended → Option Performance → Option Link
+abbrev pub link_of_ended : Ended → Option Form → Option Link
 link_of_ended (Svc code) performed = Some OldPsw
 link_of_ended Done performed = link_of_performed performed
 link_of_ended other performed = None
 
 -- an instruction with a link, and the address of the next instruction
-abbrev pub calling_of_shape : InstructionShape → Option Calling
-calling_of_shape s = option_map (λ link. record { link = link; next = s.next_address }) (link_of_ended s.ended s.performed)
+abbrev pub calling_of_executed : Executed → Option Calling
+calling_of_executed e = option_map (λ link. record { link = link; next = e.next_address }) (link_of_ended e.ended e.performed)
 
 abbrev pub calling_of_case : CpuCase → Core → Option Calling
-calling_of_case Executing m = calling_of_shape (instruction_shape m)
+calling_of_case Executing m = calling_of_executed (executed m)
 calling_of_case other m = None
 
 unfoldable pub calling_of : Machine → EventKind → Option Calling

@@ -15,7 +15,7 @@ use Rattle.s360_machine.specs.Machine.{Machine}
 use Rattle.s360_journal.specs.Running.{next_event}
 use Rattle.s360_journal.specs.Standing.{machine_of}
 use Rattle.s360_journal.specs.Recorded.{Recorded, next_recorded, session_of, with_standing}
-use Rattle.s360_source.specs.Events.{deciders, sources}
+use Rattle.s360_footprint.specs.EventRows.{deciders, sources}
 use Rattle.s360_inquiry.specs.declared.cause.Cause.{Cause}
 use Rattle.s360_inquiry.specs.declared.cause.Making.{Making}
 use Rattle.s360_inquiry.specs.declared.cause.Origin.{Origin}

@@ -5,6 +5,7 @@ use Rattle.std.specs.Option.{option_map}
 use Rattle.s360_model.specs.Core.{Core}
 use Rattle.s360_fixed.specs.declared.ended.Ended.{Ended}
 use Rattle.s360_fixed.specs.declared.ended.Ended.TheVariants.{Done}
+use Rattle.s360_fixed.specs.declared.form.Form.{Form}
 use Rattle.s360_fixed.specs.declared.operation.Operation.{Operation}
 use Rattle.s360_fixed.specs.declared.operation.Operation.TheVariants as operation
 use Rattle.s360_machine.specs.declared.cpu.CpuCase.{CpuCase}
@@ -14,10 +15,9 @@ use Rattle.s360_machine.specs.declared.event_kind.EventKind.TheVariants.{Cpu}
 use Rattle.s360_machine.specs.Cpu.{cpu_case}
 use Rattle.s360_machine.specs.Machine.{Machine}
 use Rattle.s360_journal.specs.Recorded.{Recorded}
-use Rattle.s360_source.specs.declared.shape.InstructionShape.{InstructionShape}
-use Rattle.s360_source.specs.declared.shape.Performance.{Performance}
-use Rattle.s360_source.specs.Shapes.{instruction_shape, operation_of}
+use Rattle.s360_inquiry.specs.declared.executed.Executed.{Executed}
 use Rattle.s360_inquiry.specs.Changes.{kind_of_change, machine_after, words_of_change}
+use Rattle.s360_inquiry.specs.Executed.{executed, operation_of}
 use Rattle.s360_inquiry.specs.Searches.{last_up_to}
 
 -- an operation that is completed sets it
@@ -50,21 +50,18 @@ operation_sets_code operation.LoadPsw = true
 operation_sets_code other = false
 
 -- what is performed is the instruction, or the subject of an execute
-abbrev pub performed_sets_code : Option Performance → Bool
+abbrev pub performed_sets_code : Option Form → Bool
 performed_sets_code None = false
-performed_sets_code (Some p) = operation_sets_code (operation_of p.form)
+performed_sets_code (Some form) = operation_sets_code (operation_of form)
 
 -- an input/output instruction sets it, and an interruption loads another PSW
-abbrev pub ended_sets_code : Ended → Option Performance → Bool
+abbrev pub ended_sets_code : Ended → Option Form → Bool
 ended_sets_code Done performed = performed_sets_code performed
 ended_sets_code other performed = true
 
-abbrev pub shape_sets_code : InstructionShape → Bool
-shape_sets_code s = ended_sets_code s.ended s.performed
-
 abbrev pub case_sets_code : CpuCase → Core → Bool
 case_sets_code (Interrupted class) m = true
-case_sets_code Executing m = shape_sets_code (instruction_shape m)
+case_sets_code Executing m = ended_sets_code (executed m).ended (executed m).performed
 case_sets_code other m = false
 
 -- any other event than one of the CPU sets it if it alters the PSW, which is the second of these after it

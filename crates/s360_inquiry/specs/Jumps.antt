@@ -20,14 +20,13 @@ use Rattle.s360_machine.specs.declared.event_kind.EventKind.TheVariants.{Cpu}
 use Rattle.s360_machine.specs.Cpu.{cpu_case}
 use Rattle.s360_machine.specs.Machine.{Machine}
 use Rattle.s360_journal.specs.Recorded.{Recorded, with_standing}
-use Rattle.s360_source.specs.declared.shape.InstructionShape.{InstructionShape}
-use Rattle.s360_source.specs.declared.shape.Performance.{Performance}
-use Rattle.s360_source.specs.Shapes.{instruction_shape, operation_of}
+use Rattle.s360_inquiry.specs.declared.executed.Executed.{Executed}
 use Rattle.s360_inquiry.specs.declared.jump.Jump.{Jump}
 use Rattle.s360_inquiry.specs.declared.jump.Jump.TheVariants.{OnCondition, Branch, LoadedPsw, Interruption, Program, SupervisorCall}
 use Rattle.s360_inquiry.specs.declared.jumping.Setter.{Setter}
 use Rattle.s360_inquiry.specs.Changes.{just_before, kind_of_change, last_of, machine_after, words_of_change}
 use Rattle.s360_inquiry.specs.CodeSettings.{setter_in}
+use Rattle.s360_inquiry.specs.Executed.{executed, operation_of}
 use Rattle.s360_inquiry.specs.Searches.{numbers_up_to}
 
 -- an operation that branches or loads a PSW, before the instruction at this address comes
@@ -46,22 +45,19 @@ jump_of_form (Rx BranchOnCondition r1 x2 b2 d2) next = Some (OnCondition r1 next
 jump_of_form form next = jump_of_operation (operation_of form) next
 
 -- what is performed is the instruction, or the subject of an execute
-abbrev pub jump_of_performed : Option Performance → ℕ → Option Jump
+abbrev pub jump_of_performed : Option Form → ℕ → Option Jump
 jump_of_performed None next = None
-jump_of_performed (Some p) next = jump_of_form p.form next
+jump_of_performed (Some form) next = jump_of_form form next
 
-abbrev pub jump_of_ended : Ended → InstructionShape → Option Jump
-jump_of_ended (program code) s = Some (Program code)
-jump_of_ended (Svc code) s = Some (SupervisorCall code)
-jump_of_ended Done s = jump_of_performed s.performed s.next_address
-jump_of_ended other s = None
-
-abbrev pub jump_of_shape : InstructionShape → Option Jump
-jump_of_shape s = jump_of_ended s.ended s
+abbrev pub jump_of_ended : Ended → Executed → Option Jump
+jump_of_ended (program code) e = Some (Program code)
+jump_of_ended (Svc code) e = Some (SupervisorCall code)
+jump_of_ended Done e = jump_of_performed e.performed e.next_address
+jump_of_ended other e = None
 
 abbrev pub jump_of_case : CpuCase → Core → Option Jump
 jump_of_case (Interrupted class) m = Some Interruption
-jump_of_case Executing m = jump_of_shape (instruction_shape m)
+jump_of_case Executing m = jump_of_ended (executed m).ended (executed m)
 jump_of_case other m = None
 
 -- the jump that an event of this kind is to the machine that it meets

@@ -3,6 +3,7 @@ pub mod Mnemonics
 pub mod Happenings
 pub mod Going
 pub mod Changes
+pub mod Executed
 pub mod Histories
 pub mod Searches
 pub mod Visits

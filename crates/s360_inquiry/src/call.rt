@@ -6,15 +6,15 @@ ghost use Rattle.s360_machine.specs.Machine.{seen};
 ghost use Rattle.s360_journal.specs.Recorded.{with_standing};
 ghost use Rattle.s360_inquiry.specs.Changes.{kind_of_change};
 ghost use Rattle.s360_inquiry.specs.Calls.{call_by, calls_after, calls_after_change, calling_if, calling_of, calling_of_case};
-ghost use Rattle.s360_inquiry.specs.Calls.{calling_of_shape, led_to, link_of_ended};
+ghost use Rattle.s360_inquiry.specs.Calls.{calling_of_executed, led_to, link_of_ended};
 ghost use Rattle.s360_inquiry.specs.Calls.{link_of_form, link_of_performed, link_place, outside_of, link_value, overwritten_words};
 ghost use Rattle.s360_inquiry.specs.Calls.{returning_words, value_words_of};
 
+use crate::executed::{Executed, executed_in};
 use s360_fixed::{Ended, Form, Operation};
 use s360_journal::Session;
 use s360_language::push_place;
 use s360_machine::{CpuCase, EventKind, Machine};
-use s360_source::{InstructionShape, Performance, instruction_shape};
 use s360_store::{LEAST_SIZE, Place};
 use s360_text::Text;
 use s360_word::RegisterNumber;
@@ -75,34 +75,34 @@ fn link_of_form(form: &Form) -> Option<Link>
 }
 
 /// That of what is performed.
-fn link_of_performed(performed: &Option<Performance>) -> Option<Link>
+fn link_of_performed(performed: &Option<Form>) -> Option<Link>
     ensures { result ≡ link_of_performed performed.now }
 {
     match performed {
-        Some(performance) => link_of_form(&performance.form),
+        Some(form) => link_of_form(form),
         None => None,
     }
 }
 
-/// That of an instruction of this shape.
-fn link_of_shape(shape: &InstructionShape) -> Option<Link>
-    ensures { result ≡ link_of_ended shape.now.ended shape.now.performed }
+/// That of an instruction that is executed.
+fn link_of_executed(executed: &Executed) -> Option<Link>
+    ensures { result ≡ link_of_ended executed.now.ended executed.now.performed }
 {
-    match shape.ended {
+    match executed.ended {
         Ended::Svc(_) => Some(Link::OldPsw),
-        Ended::Done => link_of_performed(&shape.performed),
+        Ended::Done => link_of_performed(&executed.performed),
         Ended::Program(_) | Ended::Io(..) => None,
     }
 }
 
-/// An instruction of this shape, if it has a link.
-fn calling_of_shape(shape: &InstructionShape) -> Option<Calling>
-    ensures { result ≡ calling_of_shape shape.now }
+/// An instruction that is executed, if it has a link.
+fn calling_of_executed(executed: &Executed) -> Option<Calling>
+    ensures { result ≡ calling_of_executed executed.now }
 {
-    match link_of_shape(shape) {
+    match link_of_executed(executed) {
         Some(link) => Some(Calling {
             link,
-            next: shape.next_address,
+            next: executed.next_address,
         }),
         None => None,
     }
@@ -113,9 +113,9 @@ fn calling_of_cpu(alloc: Global, machine: &Machine) -> Result<Option<Calling>, A
     ensures { IfOk result (λ calling. calling ≡ calling_of_case (cpu_case (seen machine.now.whole)) machine.now.whole.core) }
 {
     match machine.cpu_case() {
-        // Matched, since the checker does not follow a shape through `?`.
-        CpuCase::Executing => match instruction_shape(alloc, machine) {
-            Ok(shape) => Ok(calling_of_shape(&shape)),
+        // Matched, since the checker does not follow it through `?`.
+        CpuCase::Executing => match executed_in(alloc, machine) {
+            Ok(executed) => Ok(calling_of_executed(&executed)),
             Err(error) => Err(error),
         },
         CpuCase::Interrupted(_) | CpuCase::Halted | CpuCase::Waiting => Ok(None),

@@ -3,13 +3,13 @@
 ghost use Rattle.std.specs.Prelude.{◌≡◌, IfOk};
 ghost use Rattle.s360_machine.specs.Cpu.{cpu_case};
 ghost use Rattle.s360_machine.specs.Machine.{seen};
-ghost use Rattle.s360_inquiry.specs.CodeSettings.{case_sets_code, event_sets_code, operation_sets_code, performed_sets_code};
-ghost use Rattle.s360_inquiry.specs.CodeSettings.{sets_code_if, shape_sets_code};
+ghost use Rattle.s360_inquiry.specs.CodeSettings.{case_sets_code, ended_sets_code, event_sets_code, operation_sets_code};
+ghost use Rattle.s360_inquiry.specs.CodeSettings.{performed_sets_code, sets_code_if};
 
-use s360_fixed::{Ended, Operation};
+use crate::executed::{Executed, executed_in, operation_of};
+use s360_fixed::{Ended, Form, Operation};
 use s360_machine::{CpuCase, EventKind, Machine};
 use s360_psw::Psw;
-use s360_source::{InstructionShape, Performance, instruction_shape, operation_of};
 use std::alloc::{AllocError, Global};
 
 /// Whether an operation that is completed sets it.
@@ -47,21 +47,21 @@ fn operation_sets_code(operation: Operation) -> bool
 }
 
 /// Whether what is performed sets it.
-fn performed_sets_code(performed: &Option<Performance>) -> bool
+fn performed_sets_code(performed: &Option<Form>) -> bool
     ensures { result ≡ performed_sets_code performed.now }
 {
     match performed {
-        Some(performance) => operation_sets_code(operation_of(&performance.form)),
+        Some(form) => operation_sets_code(operation_of(form)),
         None => false,
     }
 }
 
-/// Whether an instruction of this shape does, or the interruption that follows it.
-fn shape_sets_code(shape: &InstructionShape) -> bool
-    ensures { result ≡ shape_sets_code shape.now }
+/// Whether an instruction that is executed does, or the interruption that follows it.
+fn executed_sets_code(executed: &Executed) -> bool
+    ensures { result ≡ ended_sets_code executed.now.ended executed.now.performed }
 {
-    match shape.ended {
-        Ended::Done => performed_sets_code(&shape.performed),
+    match executed.ended {
+        Ended::Done => performed_sets_code(&executed.performed),
         Ended::Program(_) | Ended::Svc(_) | Ended::Io(..) => true,
     }
 }
@@ -72,9 +72,9 @@ fn cpu_sets_code(alloc: Global, machine: &Machine) -> Result<bool, AllocError>
 {
     match machine.cpu_case() {
         CpuCase::Interrupted(_) => Ok(true),
-        // Matched, since the checker does not follow a shape through `?`.
-        CpuCase::Executing => match instruction_shape(alloc, machine) {
-            Ok(shape) => Ok(shape_sets_code(&shape)),
+        // Matched, since the checker does not follow it through `?`.
+        CpuCase::Executing => match executed_in(alloc, machine) {
+            Ok(executed) => Ok(executed_sets_code(&executed)),
             Err(error) => Err(error),
         },
         CpuCase::Halted | CpuCase::Waiting => Ok(false),

@@ -4,11 +4,11 @@ ghost use Rattle.std.specs.Prelude.{◌≡◌, ◌++◌, IfOk, OnOk};
 ghost use Rattle.s360_machine.specs.Cpu.{cpu_case};
 ghost use Rattle.s360_machine.specs.Machine.{seen};
 ghost use Rattle.s360_inquiry.specs.Jumps.{branch_words, decided_words, is_decided, jump_if, jump_of, jump_of_case, jump_of_form};
-ghost use Rattle.s360_inquiry.specs.Jumps.{jump_of_operation, jump_of_performed, jump_of_shape, jump_words, setter_words, to_words};
+ghost use Rattle.s360_inquiry.specs.Jumps.{jump_of_operation, jump_of_ended, jump_of_performed, jump_words, setter_words, to_words};
 
+use crate::executed::{Executed, executed_in, operation_of};
 use s360_fixed::{Ended, Form, Operation, ProgramCode};
 use s360_machine::{CpuCase, EventKind, Machine};
-use s360_source::{InstructionShape, Performance, instruction_shape, operation_of};
 use s360_text::Text;
 use s360_word::Cc;
 use std::alloc::{AllocError, Global};
@@ -67,23 +67,23 @@ fn jump_of_form(form: &Form, next: u32) -> Option<Jump>
 }
 
 /// That of what is performed.
-fn jump_of_performed(performed: &Option<Performance>, next: u32) -> Option<Jump>
+fn jump_of_performed(performed: &Option<Form>, next: u32) -> Option<Jump>
     ensures { result ≡ jump_of_performed performed.now next }
 {
     match performed {
-        Some(performance) => jump_of_form(&performance.form, next),
+        Some(form) => jump_of_form(form, next),
         None => None,
     }
 }
 
-/// That of an instruction of this shape.
-fn jump_of_shape(shape: &InstructionShape) -> Option<Jump>
-    ensures { result ≡ jump_of_shape shape.now }
+/// That of an instruction that is executed.
+fn jump_of_executed(executed: &Executed) -> Option<Jump>
+    ensures { result ≡ jump_of_ended executed.now.ended executed.now }
 {
-    match shape.ended {
+    match executed.ended {
         Ended::Program(code) => Some(Jump::Program(code)),
         Ended::Svc(code) => Some(Jump::SupervisorCall(code)),
-        Ended::Done => jump_of_performed(&shape.performed, shape.next_address),
+        Ended::Done => jump_of_performed(&executed.performed, executed.next_address),
         Ended::Io(..) => None,
     }
 }
@@ -94,9 +94,9 @@ fn jump_of_cpu(alloc: Global, machine: &Machine) -> Result<Option<Jump>, AllocEr
 {
     match machine.cpu_case() {
         CpuCase::Interrupted(_) => Ok(Some(Jump::Interruption)),
-        // Matched, since the checker does not follow a shape through `?`.
-        CpuCase::Executing => match instruction_shape(alloc, machine) {
-            Ok(shape) => Ok(jump_of_shape(&shape)),
+        // Matched, since the checker does not follow it through `?`.
+        CpuCase::Executing => match executed_in(alloc, machine) {
+            Ok(executed) => Ok(jump_of_executed(&executed)),
             Err(error) => Err(error),
         },
         CpuCase::Halted | CpuCase::Waiting => Ok(None),

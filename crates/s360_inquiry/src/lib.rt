@@ -8,6 +8,7 @@ mod cause;
 mod change;
 mod code_setting;
 mod decider;
+mod executed;
 mod extent;
 mod going;
 mod happening;

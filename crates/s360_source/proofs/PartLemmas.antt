@@ -2,10 +2,10 @@
 use Rattle.std.proofs.Common.{◌≡◌, ◌<◌, ◌+◌, ◌∙◌, ◌++◌, ℕ, zero, suc, List, [], ◌∷◌, refl, ap, sym, arith, length, take, append_assoc, add-zero, slice_index_or}
 use Rattle.std.proofs.lemmas.List.{append-nil, take_more}
 use Rattle.s360_store.specs.declared.place.Place.{Place}
-use Rattle.s360_store.specs.declared.place.Place.TheVariants.{Byte}
+use Rattle.s360_store.specs.declared.place.Place.TheVariants.{Byte, Key}
 use Rattle.s360_store.specs.Spans.{byte_places}
 use Rattle.s360_source.specs.declared.part.Part.{Part}
-use Rattle.s360_source.specs.Parts.{places_of_part, places_of_parts}
+use Rattle.s360_source.specs.Parts.{keys_from, places_of_part, places_of_parts}
 
 -- one byte more, at the end
 byte_places-suc : (a n : ℕ) → byte_places a (suc n) ≡ byte_places a n ++ Byte (a + n) ∷ []
@@ -38,3 +38,16 @@ places-more parts i part ps qs l is e =
     let taken : take (i + 1) parts ≡ take i parts ++ part ∷ [] = take_more parts i part l ∙ ap (λ (x : Part). take i parts ++ x ∷ []) (sym is)
     in ap (λ (xs : List Place). xs ++ places_of_part part) e ∙ append_assoc qs (places_of_parts (take i parts)) (places_of_part part)
     ∙ ap (λ (xs : List Place). qs ++ xs) (sym (ap places_of_parts taken ∙ places-append (take i parts) (part ∷ [])))
+
+-- one block more, at the end
+keys_from-suc : (block n : ℕ) → keys_from block (suc n) ≡ keys_from block n ++ Key (block + n) ∷ []
+keys_from-suc block zero = rw add-zero refl
+keys_from-suc block (suc n) =
+    let next : block + 1 + n ≡ block + suc n = omega arith
+    in ap (λ (ps : List Place). Key block ∷ ps) (keys_from-suc (block + 1) n ∙ ap (λ (b : ℕ). keys_from (block + 1) n ++ Key b ∷ []) next)
+
+pub keys_from-more : (ps qs : List Place) (block n : ℕ) → ps ≡ qs ++ keys_from block n → ps ++ Key (block + n) ∷ [] ≡ qs ++ keys_from block (n + 1)
+keys_from-more ps qs block n e =
+    let one : suc n ≡ n + 1 = omega arith
+    in ap (λ (xs : List Place). xs ++ Key (block + n) ∷ []) e ∙ append_assoc qs (keys_from block n) (Key (block + n) ∷ [])
+    ∙ ap (λ (xs : List Place). qs ++ xs) (sym (keys_from-suc block n)) ∙ ap (λ (m : ℕ). qs ++ keys_from block m) one

@@ -1,175 +1,178 @@
--- TRANSLATE AND TEST follows its sources.
-use Rattle.std.proofs.Common.{◌≡◌, ◌≢◌, ◌+◌, ◌∙◌, ℕ, zero, suc, Bool, true, false, List, [], ◌∷◌, refl, ap, sym, arith, get_or, set, nat_eq, Option, Some, None, inl, inr, if◌then◌else◌, slice_index, get_or-set_other}
-use Rattle.std.proofs.lemmas.Bool.{cases_Bool, cases_eq, eq-eqb, ne_eqb}
-use Rattle.s360_model.specs.Core.{Core}
-use Rattle.s360_model.specs.Psw.{with_instruction_address}
-use Rattle.s360_model.specs.Storage.{Storage}
-use Rattle.s360_psw.specs.declared.instruction_length.InstructionLength.{InstructionLength}
+-- A search of a table is walked over byte by byte, up to the first function byte that is not zero.
+use Rattle.std.proofs.Common.{ℕ, suc, ◌+◌, ◌≡◌, ◌≢◌, ◌∙◌, ◌++◌, Bool, true, false, cond, nat_eq, Option, Some, None, List, [], ◌∷◌, refl, ap, sym, get_or}
+use Rattle.std.specs.Prelude.{is_some}
+use Rattle.std.proofs.lemmas.Bool.{eq-eqb, eqb-true}
+use Rattle.std.proofs.lemmas.List.{append_assoc, append-nil}
+use Rattle.s360_model.specs.Psw.{fixed_point_overflow_mask_of}
+use Rattle.s360_fixed.specs.declared.ended.Ended.{Ended}
 use Rattle.s360_store.specs.declared.place.Place.{Place}
-use Rattle.s360_store.specs.declared.place.Place.TheVariants.{Psw, Register, Byte, Key, Run, External, UnitState, UnitMedia}
-use Rattle.s360_fixed.specs.declared.operation.Operation.TheVariants.{TranslateAndTest}
-use Rattle.s360_fixed.specs.Alterations.{psw_with}
-use Rattle.s360_logic.specs.Bytes.{byte_at}
-use Rattle.s360_logic.specs.LeftToRight.{found_at, function_address, function_byte, search_conditions, search_outcome, translate_and_test_outcome, with_address, with_low_byte}
-use Rattle.s360_source.specs.Agreement.{AreAlike, HaveAllSame, HaveSame, KeepsSizes}
-use Rattle.s360_source.specs.InstructionSources.{search_sources}
-use Rattle.s360_source.specs.Laws.{FollowsSources}
-use Rattle.s360_source.specs.Shapes.{is_suppressed}
-use Rattle.s360_source.specs.StorageSources.{searched_places}
-use Rattle.s360_source.proofs.AgreementLemmas.{same-else, same-if}
-use Rattle.s360_source.proofs.BranchLemmas.{seen}
-use Rattle.s360_source.proofs.EffectLemmas.{pair-keeps, pair-same, psw-keeps}
-use Rattle.s360_source.proofs.SuppressionLemmas.{suppression-law}
+use Rattle.s360_store.specs.declared.place.Place.TheVariants.{Psw, Register, Byte}
+use Rattle.s360_store.specs.declared.protection.Checked.{Checked}
+use Rattle.s360_store.specs.Protection.{met_of_both}
+use Rattle.s360_logic.specs.{Bytes.byte_at, LeftToRight.function_address, LeftToRight.with_address, LeftToRight.with_low_byte}
+use Rattle.s360_machine.specs.Machine.{Machine}
+use Rattle.s360_footprint.specs.Altering.{altering_row, ended_altering, psw_store, register_stores}
+use Rattle.s360_footprint.specs.LeftToRightRows.{found_altering, found_code, found_register, found_registers, function_met, made_of_found, met_or, search_met}
+use Rattle.s360_footprint.specs.LeftToRightRows.{search_read, searched_row}
+use Rattle.s360_footprint.specs.Rows.{Store}
+use Rattle.s360_footprint.specs.OperandReadings.{Profile}
+use Rattle.s360_footprint.specs.Readings.{Reading, bind, done, places_read, read, run}
+use Rattle.s360_footprint.proofs.ReadingLemmas.{places-bind, run-bind}
+use Rattle.s360_source.specs.declared.question.Question.{Question}
+use Rattle.s360_source.specs.Made.{selecting_met}
+use Rattle.s360_source.specs.Walks.{found_walk, walked, with_decided, with_store, with_stores_of}
+use Rattle.s360_source.proofs.ReadingPlaces.{mapped}
+use Rattle.s360_source.proofs.TranslateLemmas.{met-three}
+use Rattle.s360_source.proofs.WalkLemmas.{bind-walked, decided_both, psw-places, stores-both, walked-bind, walked-done}
 
--- the function byte that a byte selects, where both are the same
-pub function-same : (m n : Core) (table a : ℕ) → byte_at m.storage a ≡ byte_at n.storage a
-    → byte_at m.storage (function_address table (byte_at m.storage a)) ≡ byte_at n.storage (function_address table (byte_at m.storage a)) → function_byte table a m.storage ≡ function_byte table a n.storage
-function-same m n table a h i = i ∙ ap (λ x. byte_at n.storage (function_address table x)) h
+-- one byte of the search, and what follows if its function byte is this
+abbrev selected_at : ℕ → ℕ → Machine → ℕ
+selected_at table a m = function_address table (byte_at m.core.storage a)
 
--- what is found
-found-if : (b c : Bool) (i : ℕ) (q r : Option ℕ) → b ≡ c → (b ≡ true → q ≡ r) → (if b then q else Some i) ≡ (if c then r else Some i)
-found-if true true i q r e h = h refl
-found-if false false i q r e h = refl
-found-if true false i q r e h = absurd (cc)
-found-if false true i q r e h = absurd (cc)
+read-first : (table first i n : ℕ) (m : Machine)
+    → places_read (search_read table first i (suc n)) m
+    ≡ Byte (first + i) ∷ (Byte (selected_at table (first + i) m)
+    ∷ cond (nat_eq (byte_at m.core.storage (selected_at table (first + i) m)) 0) (places_read (search_read table first (i + 1) n) m) [])
+read-first table first i n m =
+    ap (λ ps. Byte (first + i) ∷ (Byte (selected_at table (first + i) m) ∷ ps)) (by (byte_at m.core.storage (selected_at table (first + i) m)) _) where
+      by : (x : ℕ) (z : Bool)
+          → places_read (cond z (search_read table first (i + 1) n) (done (Some (i, x)))) m ≡ cond z (places_read (search_read table first (i + 1) n) m) []
+      by x true = refl
+      by x false = refl
 
-found-same : (m n : Core) (table first k i : ℕ) → HaveAllSame m n (searched_places table first i k m.storage) → found_at table first i k m.storage ≡ found_at table first i k n.storage
-found-same m n table first zero i h = refl
-found-same m n table first (suc k) i h =
-    let one : function_byte table (first + i) m.storage ≡ function_byte table (first + i) n.storage = function-same m n table (first + i) h.0 h.1.0
-    in found-if (nat_eq (function_byte table (first + i) m.storage) 0) (nat_eq (function_byte table (first + i) n.storage) 0) i
-    (found_at table first (i + 1) k m.storage) (found_at table first (i + 1) k n.storage) (ap (λ x. nat_eq x 0) one)
-    (λ e. found-same m n table first k (i + 1) (same-if (nat_eq (function_byte table (first + i) m.storage) 0) m n (searched_places table first (i + 1) k m.storage) [] h.1.1 e))
+found-first : (table first i n : ℕ) (m : Machine)
+    → is_some (run (search_read table first i (suc n)) m)
+    ≡ cond (nat_eq (byte_at m.core.storage (selected_at table (first + i) m)) 0) (is_some (run (search_read table first (i + 1) n) m)) true
+found-first table first i n m = by (byte_at m.core.storage (selected_at table (first + i) m)) _ where
+  by : (x : ℕ) (z : Bool)
+      → is_some (run (cond z (search_read table first (i + 1) n) (done (Some (i, x)))) m) ≡ cond z (is_some (run (search_read table first (i + 1) n) m)) true
+  by x true = refl
+  by x false = refl
 
--- the function byte at what is found
-byte-of-found : (m n : Core) (table first k i j : ℕ) → HaveAllSame m n (searched_places table first i k m.storage) → found_at table first i k m.storage ≡ Some j
-    → function_byte table (first + j) m.storage ≡ function_byte table (first + j) n.storage
-byte-of-found m n table first zero i j h e = absurd (cc)
-byte-of-found m n table first (suc k) i j h e =
-    let one : function_byte table (first + i) m.storage ≡ function_byte table (first + i) n.storage = function-same m n table (first + i) h.0 h.1.0
-    in elim (cases_Bool (nat_eq (function_byte table (first + i) m.storage) 0)) [
-      | inl none ↦ byte-of-found m n table first k (i + 1) j (same-if (nat_eq (function_byte table (first + i) m.storage) 0) m n (searched_places table first (i + 1) k m.storage) [] h.1.1 none) (rw none at e)
-      | inr some ↦
-          let here : Some i ≡ Some j = rw some at e
-          in let there : i ≡ j = cc
-          in rw (← there) one
-    ]
+met-places-first : (p : Profile) (table key first i n : ℕ) (m : Machine)
+    → places_read (search_met p table key first i (suc n)) m
+    ≡ places_read (selecting_met p table key (first + i)) m ++ (Byte (selected_at table (first + i) m)
+    ∷ cond (nat_eq (byte_at m.core.storage (selected_at table (first + i) m)) 0) (places_read (search_met p table key first (i + 1) n) m) [])
+met-places-first p table key first i n m =
+    ap (λ ps. Byte (first + i) ∷ ps)
+    (places-bind (function_met p table key (byte_at m.core.storage (first + i))) _ m
+    ∙ ap (λ ps. places_read (function_met p table key (byte_at m.core.storage (first + i))) m ++ (Byte (selected_at table (first + i) m) ∷ ps))
+    (by (run (function_met p table key (byte_at m.core.storage (first + i))) m) _)) where
+      by : (met : Checked) (z : Bool)
+          → places_read (cond z (bind (search_met p table key first (i + 1) n) (λ l. done (met_of_both met l))) (done (met_of_both met Checked.Clear))) m
+          ≡ cond z (places_read (search_met p table key first (i + 1) n) m) []
+      by met true = mapped (search_met p table key first (i + 1) n) (met_of_both met) m
+      by met false = refl
 
--- the condition code of what is found
-abbrev code_of : Option ℕ → ℕ → ℕ
-code_of None count = 0
-code_of (Some i) count = if nat_eq (i + 1) count then 2 else 1
+met-first : (p : Profile) (table key first i n : ℕ) (m : Machine)
+    → run (search_met p table key first i (suc n)) m
+    ≡ met_of_both (run (selecting_met p table key (first + i)) m)
+    (cond (nat_eq (byte_at m.core.storage (selected_at table (first + i) m)) 0) (run (search_met p table key first (i + 1) n) m) Checked.Clear)
+met-first p table key first i n m =
+    run-bind (function_met p table key (byte_at m.core.storage (first + i)))
+    (λ met. read (Byte (selected_at table (first + i) m)) (λ x. met_or met x (search_met p table key first (i + 1) n))) m
+    ∙ by (run (function_met p table key (byte_at m.core.storage (first + i))) m) (nat_eq (byte_at m.core.storage (selected_at table (first + i) m)) 0) where
+      by : (met : Checked) (z : Bool)
+          → run (cond z (bind (search_met p table key first (i + 1) n) (λ l. done (met_of_both met l))) (done (met_of_both met Checked.Clear))) m
+          ≡ met_of_both met (cond z (run (search_met p table key first (i + 1) n) m) Checked.Clear)
+      by met true = run-bind (search_met p table key first (i + 1) n) (λ l. done (met_of_both met l)) m
+      by met false = refl
 
-psw-of : (q : Option ℕ) (m : Core) (next : ℕ) (il : InstructionLength) (first table count : ℕ)
-    → (search_outcome q (seen m next il) first table count).core.psw ≡ with_instruction_address (psw_with (Some (code_of q count)) m.psw) next
-psw-of None m next il first table count = refl
-psw-of (Some i) m next il first table count = refl
+-- is it zero, or not
+pub is-zero : (x : ℕ) → x ≡ 0 → nat_eq x 0 ≡ true
+is-zero x e = eq-eqb x 0 e
 
-storage-of : (q : Option ℕ) (m : Core) (next : ℕ) (il : InstructionLength) (first table count : ℕ) → (search_outcome q (seen m next il) first table count).core.storage ≡ m.storage
-storage-of None m next il first table count = refl
-storage-of (Some i) m next il first table count = refl
+pub is-other : (x : ℕ) → x ≢ 0 → nat_eq x 0 ≡ false
+is-other x h = by (nat_eq x 0) refl where
+  by : (z : Bool) → nat_eq x 0 ≡ z → nat_eq x 0 ≡ false
+  by true e = absurd (h (eqb-true x 0 e))
+  by false e = e
 
-not-suppressed : (q : Option ℕ) (m : Core) (next : ℕ) (il : InstructionLength) (first table count : ℕ) → is_suppressed TranslateAndTest (search_outcome q (seen m next il) first table count).ended ≡ false
-not-suppressed None m next il first table count = refl
-not-suppressed (Some i) m next il first table count = refl
+-- what is read of the rest, by whether the search goes on
+pub read-rest : (table first i n rest at sel x : ℕ) (m : Machine) (found after target : List Place) (z : Bool) → at ≡ first + i → sel ≡ selected_at table at m
+    → x ≡ byte_at m.core.storage sel → rest ≡ suc n → nat_eq x 0 ≡ z → after ≡ (found ++ Byte at ∷ []) ++ Byte sel ∷ []
+    → found ++ places_read (search_read table first i rest) m ≡ target
+    → after ++ cond z (places_read (search_read table first (i + 1) n) m) [] ≡ target
+read-rest table first i n rest at sel x m found after target z e g k s h f t =
+    let rest-places : List Place = cond z (places_read (search_read table first (i + 1) n) m) []
+    in let step : Byte at ∷ (Byte sel ∷ rest-places) ≡ places_read (search_read table first i rest) m
+    = rw (sym h, k, g, e, s) (sym (read-first table first i n m))
+    in ap (λ ps. ps ++ rest-places) f ∙ append_assoc (found ++ Byte at ∷ []) (Byte sel ∷ []) rest-places
+    ∙ append_assoc found (Byte at ∷ []) (Byte sel ∷ rest-places) ∙ ap (λ ps. found ++ ps) step ∙ t
 
--- the sources of a register
-abbrev of_register : List Place → ℕ → List Place
-of_register searched r = if nat_eq 1 r then Register 1 ∷ searched else (if nat_eq 2 r then Register 2 ∷ searched else (Register r ∷ []))
+pub found-rest : (table first i n rest at sel x : ℕ) (m : Machine) (target z : Bool) → at ≡ first + i → sel ≡ selected_at table at m
+    → x ≡ byte_at m.core.storage sel → rest ≡ suc n → nat_eq x 0 ≡ z → is_some (run (search_read table first i rest) m) ≡ target
+    → cond z (is_some (run (search_read table first (i + 1) n) m)) true ≡ target
+found-rest table first i n rest at sel x m target z e g k s h t = rw (sym h, k, g, e) (sym (found-first table first i n m)) ∙ rw s at t
 
-of-first : (m n : Core) (searched : List Place) (r : ℕ) → HaveAllSame m n (of_register searched r) → r ≡ 1 → HaveAllSame m n (Register 1 ∷ searched)
-of-first m n searched r h e = same-if (nat_eq 1 r) m n (Register 1 ∷ searched) (if nat_eq 2 r then Register 2 ∷ searched else (Register r ∷ [])) h (eq-eqb 1 r (sym e))
+pub met-read-rest : (q : Question) (p : Profile) (table key first i n rest at sel x : ℕ) (m : Machine) (found now after target : List Place) (z : Bool)
+    → at ≡ first + i → sel ≡ selected_at table at m → x ≡ byte_at m.core.storage sel → rest ≡ suc n → nat_eq x 0 ≡ z
+    → now ≡ with_decided q (places_read (selecting_met p table key at) m) found → after ≡ with_decided q (Byte sel ∷ []) now
+    → with_decided q (places_read (search_met p table key first i rest) m) found ≡ target
+    → with_decided q (cond z (places_read (search_met p table key first (i + 1) n) m) []) after ≡ target
+met-read-rest q p table key first i n rest at sel x m found now after target z e g k s h f o t =
+    let rest-places : List Place = cond z (places_read (search_met p table key first (i + 1) n) m) []
+    in let one : List Place = places_read (selecting_met p table key at) m
+    in let step : one ++ (Byte sel ∷ rest-places) ≡ places_read (search_met p table key first i rest) m
+    = rw (sym h, k, g, e, s) (sym (met-places-first p table key first i n m))
+    in ap (with_decided q rest-places) (o ∙ ap (with_decided q (Byte sel ∷ [])) f ∙ decided_both q one (Byte sel ∷ []) found)
+    ∙ decided_both q (one ++ Byte sel ∷ []) rest-places found
+    ∙ ap (λ ps. with_decided q ps found) (append_assoc one (Byte sel ∷ []) rest-places ∙ step) ∙ t
 
-of-second : (m n : Core) (searched : List Place) (r : ℕ) → HaveAllSame m n (of_register searched r) → r ≡ 2 → HaveAllSame m n (Register 2 ∷ searched)
-of-second m n searched r h e =
-    same-if (nat_eq 2 r) m n (Register 2 ∷ searched) (Register r ∷ [])
-    (same-else (nat_eq 1 r) m n (Register 1 ∷ searched) (if nat_eq 2 r then Register 2 ∷ searched else (Register r ∷ [])) h (ne_eqb 1 r (λ f. omega arith))) (eq-eqb 2 r (sym e))
+pub met-rest : (p : Profile) (table key first i n rest at sel x : ℕ) (m : Machine) (met one after target : Checked) (z : Bool)
+    → at ≡ first + i → sel ≡ selected_at table at m → x ≡ byte_at m.core.storage sel → rest ≡ suc n → nat_eq x 0 ≡ z
+    → one ≡ run (selecting_met p table key at) m → after ≡ met_of_both met one
+    → met_of_both met (run (search_met p table key first i rest) m) ≡ target
+    → met_of_both after (cond z (run (search_met p table key first (i + 1) n) m) Checked.Clear) ≡ target
+met-rest p table key first i n rest at sel x m met one after target z e g k s h f o t =
+    let later : Checked = cond z (run (search_met p table key first (i + 1) n) m) Checked.Clear
+    in let step : met_of_both (run (selecting_met p table key at) m) later ≡ run (search_met p table key first i rest) m
+    = rw (sym h, k, g, e, s) (sym (met-first p table key first i n m))
+    in ap (λ c. met_of_both c later) (o ∙ ap (met_of_both met) f) ∙ sym (met-three met (run (selecting_met p table key at) m) later)
+    ∙ ap (met_of_both met) step ∙ t
 
-of-other : (m n : Core) (searched : List Place) (r : ℕ) → HaveAllSame m n (of_register searched r) → r ≢ 1 → r ≢ 2 → get_or m.registers r 0 ≡ get_or n.registers r 0
-of-other m n searched r h not_one not_two =
-    (same-else (nat_eq 2 r) m n (Register 2 ∷ searched) (Register r ∷ [])
-    (same-else (nat_eq 1 r) m n (Register 1 ∷ searched) (if nat_eq 2 r then Register 2 ∷ searched else (Register r ∷ [])) h (ne_eqb 1 r (λ f. not_one (sym f)))) (ne_eqb 2 r (λ f. not_two (sym f)))).0
+-- a search that is done
+plain-altering : (q : Question) (registers : List (ℕ × Reading ℕ)) (code : Reading (Option ℕ)) (next : ℕ) (m : Machine) (found : List Place)
+    → walked q (altering_row (record { registers = registers; code = code; overflow = done false; address = done next })) m found
+    ≡ with_store q Psw (Psw ∷ (places_read code m ++ [])) (with_stores_of q m (register_stores registers) (with_decided q (Psw ∷ []) found))
+plain-altering q registers code next m found =
+    let stores : List Store = register_stores registers ++ psw_store code (done next)
+    in walked-bind q (ended_altering (done false)) (λ ended. done (record { ended = ended; stores = stores })) m found
+    ∙ walked-done q (record { ended = run (ended_altering (done false)) m; stores = stores }) m (with_decided q (places_read (ended_altering
+    (done false)) m) found)
+    ∙ ap (λ ps. with_stores_of q m stores (with_decided q (Psw ∷ ps) found)) (by (fixed_point_overflow_mask_of m.core.psw))
+    ∙ stores-both q m (register_stores registers) (psw_store code (done next)) (with_decided q (Psw ∷ []) found)
+    ∙ psw-places code (done next) m (with_stores_of q m (register_stores registers) (with_decided q (Psw ∷ []) found)) q where
+      by : (mask : Bool) → places_read (cond mask (done Ended.Done) (done Ended.Done)) m ≡ []
+      by true = refl
+      by false = refl
 
-of-any : (m n : Core) (searched : List Place) (r : ℕ) → HaveAllSame m n (of_register searched r) → get_or m.registers r 0 ≡ get_or n.registers r 0
-of-any m n searched r h =
-    elim (cases_eq r 1) [
-      | inl e ↦ rw e ((of-first m n searched r h e).0)
-      | inr not_one ↦ elim (cases_eq r 2) [
-        | inl e ↦ rw e ((of-second m n searched r h e).0)
-        | inr not_two ↦ of-other m n searched r h not_one not_two
-      ]
-    ]
+searched-by : (q : Question) (search : Reading (Option (ℕ × ℕ))) (first count next : ℕ) (m : Machine) (found ps : List Place) (o : Option (ℕ × ℕ))
+    → places_read search m ≡ ps
+    → with_store q Psw (Psw ∷ ps) (found_walk q (is_some o) ps (with_decided q (Psw ∷ []) found))
+    ≡ walked q (altering_row (found_altering search first count next o)) m found
+searched-by q search first count next m found ps None e =
+    ap (λ xs. with_store q Psw (Psw ∷ xs) (with_decided q (Psw ∷ []) found)) (sym (append-nil _ ∙ mapped search _ m ∙ e))
+    ∙ sym (plain-altering q [] (bind search (λ f. done (Some (found_code count f)))) next m found)
+searched-by q search first count next m found ps (Some f) e =
+    let registers : List (ℕ × Reading ℕ) = found_registers search first (Some f)
+    in ap (λ xs. with_store q Psw (Psw ∷ ps) (with_store q (Register 2) (Register 2 ∷ ps) (with_store q (Register 1) (Register 1 ∷ xs) (with_decided q
+    (Psw ∷ []) found))))
+    (sym (mapped search (made_of_found (λ word (x : ℕ × ℕ). with_address word (first + x.0)) (get_or m.core.registers 1 0)) m ∙ e))
+    ∙ ap (λ xs. with_store q Psw (Psw ∷ ps) (with_store q (Register 2) (Register 2 ∷ xs)
+    (with_store q (Register 1) (places_read (found_register search 1 (λ word (x : ℕ × ℕ). with_address word (first + x.0))).1 m) (with_decided q
+    (Psw ∷ []) found))))
+    (sym (mapped search (made_of_found (λ word (x : ℕ × ℕ). with_low_byte word x.1) (get_or m.core.registers 2 0)) m ∙ e))
+    ∙ ap (λ xs. with_store q Psw (Psw ∷ xs) (with_stores_of q m (register_stores registers) (with_decided q (Psw ∷ []) found)))
+    (sym (append-nil _ ∙ mapped search _ m ∙ e))
+    ∙ sym (plain-altering q registers (bind search (λ x. done (Some (found_code count x)))) next m found)
 
--- registers beside 1 and 2 stay
-register-beside : (xs : List ℕ) (r v w : ℕ) → r ≢ 1 → r ≢ 2 → get_or (set (set xs 1 v) 2 w) r 0 ≡ get_or xs r 0
-register-beside xs r v w not_one not_two = get_or-set_other (set xs 1 v) 2 r w 0 not_two ∙ get_or-set_other xs 1 r v 0 not_one
-
-register-law : (q s : Option ℕ) (m n : Core) (next : ℕ) (il : InstructionLength) (first table count r : ℕ) (searched : List Place) → AreAlike m n
-    → (HaveAllSame m n searched → q ≡ s) → (HaveAllSame m n searched → (j : ℕ) → q ≡ Some j → function_byte table (first + j) m.storage ≡ function_byte table (first + j) n.storage)
-    → HaveAllSame m n (of_register searched r)
-    → get_or (search_outcome q (seen m next il) first table count).core.registers r 0 ≡ get_or (search_outcome s (seen n next il) first table count).core.registers r 0
-register-law None None m n next il first table count r searched alike same byte h = of-any m n searched r h
-register-law None (Some j) m n next il first table count r searched alike same byte h =
-    elim (cases_eq r 1) [
-      | inl e ↦ absurd (let not_one : None ≡ Some j = same (of-first m n searched r h e).1 in cc)
-      | inr not_one ↦ elim (cases_eq r 2) [
-        | inl e ↦ absurd (let none : None ≡ Some j = same (of-second m n searched r h e).1 in cc)
-        | inr not_two ↦ of-other m n searched r h not_one not_two ∙ sym (register-beside n.registers r _ _ not_one not_two)
-      ]
-    ]
-register-law (Some i) None m n next il first table count r searched alike same byte h =
-    elim (cases_eq r 1) [
-      | inl e ↦ absurd (let not_one : Some i ≡ None = same (of-first m n searched r h e).1 in cc)
-      | inr not_one ↦ elim (cases_eq r 2) [
-        | inl e ↦ absurd (let none : Some i ≡ None = same (of-second m n searched r h e).1 in cc)
-        | inr not_two ↦ register-beside m.registers r _ _ not_one not_two ∙ of-other m n searched r h not_one not_two
-      ]
-    ]
-register-law (Some i) (Some j) m n next il first table count r searched alike same byte h =
-    pair-same m.registers n.registers 1 r
-    (with_address (slice_index m.registers 1) (first + i)) (with_low_byte (slice_index m.registers 2) (function_byte table (first + i) m.storage))
-    (with_address (slice_index n.registers 1) (first + j)) (with_low_byte (slice_index n.registers 2) (function_byte table (first + j) n.storage))
-    (alike.first ∙ sym alike.second)
-    (λ e. let found : HaveAllSame m n (Register 1 ∷ searched) = of-first m n searched r h e
-    in let k : Some i ≡ Some j = same found.1
-    in let one : i ≡ j = cc
-    in ap (λ x. with_address x (first + i)) found.0 ∙ ap (λ x. with_address (slice_index n.registers 1) (first + x)) one)
-    (λ e. let found : HaveAllSame m n (Register 2 ∷ searched) = of-second m n searched r h e
-    in let k : Some i ≡ Some j = same found.1
-    in let one : i ≡ j = cc
-    in ap (λ x. with_low_byte x (function_byte table (first + i) m.storage)) found.0
-    ∙ ap (with_low_byte (slice_index n.registers 2)) (byte found.1 i refl ∙ ap (λ x. function_byte table (first + x) n.storage) one))
-    (λ not_one not_two. of-other m n searched r h not_one not_two)
-
-search-law : (m n : Core) (next : ℕ) (il : InstructionLength) (first table count : ℕ) (p : Place) → AreAlike m n
-    → HaveAllSame m n (search_sources (searched_places table first 0 count m.storage) p)
-    → HaveSame (search_outcome (found_at table first 0 count m.storage) (seen m next il) first table count).core (search_outcome (found_at table first 0 count n.storage) (seen n next il) first table count).core p
-search-law m n next il first table count Psw alike h =
-    let same : found_at table first 0 count m.storage ≡ found_at table first 0 count n.storage = found-same m n table first count 0 h.1
-    in psw-of (found_at table first 0 count m.storage) m next il first table count
-    ∙ ap (λ q. with_instruction_address (psw_with (Some (code_of q count)) m.psw) next) same
-    ∙ ap (λ x. with_instruction_address (psw_with (Some (code_of (found_at table first 0 count n.storage) count)) x) next) h.0
-    ∙ sym (psw-of (found_at table first 0 count n.storage) n next il first table count)
-search-law m n next il first table count (Register r) alike h =
-    register-law (found_at table first 0 count m.storage) (found_at table first 0 count n.storage) m n next il first table count r (searched_places table first 0 count m.storage) alike
-    (found-same m n table first count 0) (λ i j e. byte-of-found m n table first count 0 j i e) h
-search-law m n next il first table count (Byte a) alike h =
-    ap (λ (s : Storage). byte_at s a) (storage-of (found_at table first 0 count m.storage) m next il first table count) ∙ h.0 ∙ sym (ap (λ (s : Storage). byte_at s a) (storage-of (found_at table first 0 count n.storage) n next il first table count))
-search-law m n next il first table count (Key b) alike h =
-    ap (λ (s : Storage). slice_index s.keys b) (storage-of (found_at table first 0 count m.storage) m next il first table count) ∙ h.0 ∙ sym (ap (λ (s : Storage). slice_index s.keys b) (storage-of (found_at table first 0 count n.storage) n next il first table count))
-search-law m n next il first table count p alike h = refl
-
-search-keeps : (q : Option ℕ) (m : Core) (next : ℕ) (il : InstructionLength) (first table count : ℕ) → KeepsSizes m (search_outcome q (seen m next il) first table count).core
-search-keeps None m next il first table count = psw-keeps m _
-search-keeps (Some i) m next il first table count = pair-keeps m 1 (with_address (slice_index m.registers 1) (first + i)) (with_low_byte (slice_index m.registers 2) (function_byte table (first + i) m.storage)) _
-
-pub search-row : (m n : Core) (next : ℕ) (il : InstructionLength) (a1 a2 b1 b2 count : ℕ) (p : Place) → AreAlike m n → a1 ≡ b1 → a2 ≡ b2
-    → FollowsSources TranslateAndTest m n (translate_and_test_outcome (seen m next il) a1 a2 count) (translate_and_test_outcome (seen n next il) b1 b2 count) (search_sources (searched_places a2 a1 0 count m.storage)) p
-search-row m n next il a1 a2 b1 b2 count p alike d e =
-    rw (← d, ← e)
-    (suppression-law TranslateAndTest (search_conditions (seen m next il) a1 a2 count) (search_conditions (seen n next il) a1 a2 count) m n
-    (search_outcome (found_at a2 a1 0 count m.storage) (seen m next il) a1 a2 count) (search_outcome (found_at a2 a1 0 count n.storage) (seen n next il) a1 a2 count)
-    (search_sources (searched_places a2 a1 0 count m.storage)) p refl
-    (not-suppressed (found_at a2 a1 0 count m.storage) m next il a1 a2 count) (not-suppressed (found_at a2 a1 0 count n.storage) n next il a1 a2 count) alike
-    (λ f. search-keeps (found_at a2 a1 0 count m.storage) m next il a1 a2 count) (λ f. search-keeps (found_at a2 a1 0 count n.storage) n next il a1 a2 count)
-    (λ f g h. search-law m n next il a1 a2 count p alike h))
+pub searched-walked : (q : Question) (first table count next : ℕ) (m : Machine) (found now after : List Place)
+    → now ≡ with_decided q (places_read (search_read table first 0 count) m) found
+    → after ≡ with_store q Psw (Psw ∷ places_read (search_read table first 0 count) m)
+    (found_walk q (is_some (run (search_read table first 0 count) m)) (places_read (search_read table first 0 count) m) (with_decided q (Psw ∷ []) now))
+    → after ≡ walked q (searched_row first table count next) m found
+searched-walked q first table count next m found now after e h =
+    let search : Reading (Option (ℕ × ℕ)) = search_read table first 0 count
+    in bind-walked q search (λ o. altering_row (found_altering search first count next o)) m found now after (run search m) refl e
+    (h ∙ searched-by q search first count next m now (places_read search m) (run search m) refl)

@@ -1,135 +1,47 @@
-//! Where a channel event finds and puts bytes of storage. Source: GA22-6821, "Input/Output Operations", execution of
-//! input/output operations, and channel program.
-ghost use Rattle.std.specs.Prelude.{◌≡◌, ◌<◌, ◌-◌, ◌^◌, if◌then◌else◌};
-ghost use Rattle.s360_channel.specs.Execution.{input_transfer, lowest_address, moved_before};
+//! The bytes that a channel command word moves: how many, where they are in storage, and what they meet. Source: GA22-6821,
+//! "Input/Output Operations", execution of input/output operations.
+ghost use Rattle.std.specs.Prelude.{◌≡◌, ℕ, ◌-◌, if◌then◌else◌, length};
+ghost use Rattle.s360_channel.specs.Execution.{DeviceView, command_with, lowest_address, moved_before, word_at_hand};
 ghost use Rattle.s360_channel.specs.Words.{reads_backward};
-ghost use Rattle.s360_source.specs.ChannelShapes.{fetched_by, standing_at, target_of, word_of};
-ghost use Rattle.s360_source.specs.ChannelSources.{is_stored};
-ghost use Rattle.s360_source.specs.StoredRuns.{stored_by};
-ghost use Rattle.s360_store.specs.declared.place.Place.TheVariants.{Byte};
+ghost use Rattle.s360_source.specs.Channels.{extent_in, input_movement, moving_of, output_movement};
 
 use crate::location::Location;
-use s360_channel::{Ccw, Program, Progress, ccw_at, output_transfer};
-use s360_device::Begin;
-use s360_store::{GREATEST_SIZE, Storage};
+use s360_channel::{Ccw, Program, Progress, output_transfer};
+use s360_store::{Access, Checked, GREATEST_SIZE, Storage};
+use s360_word::ProtectionKey;
 
-/// Bytes of storage: where they are, and how many.
-pub(crate) type Extent = (Location, u16);
-
-/// Where a channel event finds and puts bytes of storage.
-#[derive(Drop)]
-pub(crate) struct ChannelMoves {
-    /// The channel command word with which the program goes on, if one stands there.
-    pub(crate) word: Option<Location>,
-    /// The one that a transfer in channel leads to.
-    pub(crate) target: Option<Location>,
-    /// The bytes that an output fetches.
-    pub(crate) fetches: Option<Extent>,
-    /// The bytes of an input that are stored.
-    pub(crate) stores: Option<Extent>,
+/// Bytes of storage.
+#[derive(Clone, Copy)]
+pub(crate) struct Extent {
+    /// Where the first is.
+    pub address: Location,
+    /// How many they are.
+    pub count: u16,
 }
 
-impl ChannelMoves {
-    /// Whether it stores a byte at an address.
-    pub(crate) fn stores_at(&self, address: u32) -> bool
-        ensures { result ≡ is_stored self.now.stores (Byte address) }
+/// The bytes that a word would store or fetch.
+#[derive(Clone, Copy)]
+pub(crate) struct Movement {
+    /// Whether it stores or fetches them.
+    pub kind: Access,
+    /// Their lowest address: none if they fall below address 0.
+    pub lowest: Option<u32>,
+    /// How many they are.
+    pub count: u16,
+    /// Whether the record goes on with the next word.
+    pub goes_on: bool,
+}
+
+impl Extent {
+    /// No bytes.
+    pub(crate) fn none() -> Extent
+        ensures { result ≡ record { address = 0; count = 0 } }
     {
-        match self.stores {
-            Some((first, count)) => {
-                first.number() <= address && address - first.number() < u32::from(count)
-            }
-            None => false,
+        Extent {
+            address: Location::new(0),
+            count: 0,
         }
     }
-}
-
-/// The address of a word, if one stands there.
-pub(crate) fn standing_at(storage: &Storage, address: u32) -> Option<Location>
-    ensures { result ≡ standing_at storage.now address }
-{
-    ccw_at(storage, address)?;
-    // So its address is below 2^24.
-    prove!(storage.size() <= GREATEST_SIZE);
-    Some(Location::new(address))
-}
-
-/// Where the word stands with which a program goes on: nowhere, while loading begins.
-pub(crate) fn word_of(storage: &Storage, program: &Program) -> Option<Location>
-    ensures { result ≡ word_of storage.now program.now }
-{
-    if program.progress.is_loading() {
-        return None;
-    }
-    standing_at(storage, program.address)
-}
-
-/// Where the word stands that it leads to, if it is a transfer in channel.
-pub(crate) fn target_of(storage: &Storage, program: &Program) -> Option<Location>
-    ensures { result ≡ target_of storage.now program.now }
-{
-    if program.progress.is_loading() {
-        return None;
-    }
-    let word = ccw_at(storage, program.address)?;
-    if !word.is_transfer() {
-        return None;
-    }
-    standing_at(storage, word.address)
-}
-
-/// The bytes that a word of an output fetches: as many of its count as the device takes.
-pub(crate) fn fetched_by(progress: &Progress, ccw: &Ccw, begin: Begin) -> Option<Extent>
-    requires short { ccw.now.address < 2 ^ 24 }
-    ensures { result ≡ fetched_by progress.now ccw.now begin }
-{
-    match begin {
-        Begin::Output(limit) => {
-            let left = progress.left_within(limit);
-            let count = output_transfer(ccw, left).count;
-            Some((Location::new(ccw.address), count))
-        }
-        _ => None,
-    }
-}
-
-/// How many bytes a word of an input of so many stores: as many of its count as are left of the record. Under skip it stores none.
-pub(crate) fn stored_count(progress: &Progress, ccw: &Ccw, total: u32) -> u16
-    ensures { result ≡ (if ccw.now.flags.skip then 0 else (input_transfer ccw.now (total - moved_before progress.now)).count) }
-{
-    if ccw.flags.skip {
-        return 0;
-    }
-    let left = total.saturating_sub(moved_before(progress));
-    left.min(u32::from(ccw.count)) as u16
-}
-
-/// The lowest address of so many bytes of a word, which rise from the data address, or fall from it: none if they fall below 0.
-pub(crate) fn lowest_address(command: u8, ccw: &Ccw, count: u16) -> Option<Location>
-    requires short { ccw.now.address < 2 ^ 24 }
-    ensures { result ≡ lowest_address (reads_backward command) ccw.now.address count }
-{
-    let lowest = if reads_backward(command) {
-        ccw.address.checked_sub(u32::from(count.saturating_sub(1)))?
-    } else {
-        ccw.address
-    };
-    Some(Location::new(lowest))
-}
-
-/// The bytes that a word of an input stores. They begin at address 0 if they fall below it.
-pub(crate) fn stored_by(progress: &Progress, ccw: &Ccw, begin: Begin) -> Option<Extent>
-    requires short { ccw.now.address < 2 ^ 24 }
-    ensures { result ≡ stored_by progress.now ccw.now begin }
-{
-    let Begin::Input(total) = begin else {
-        return None;
-    };
-    let count = stored_count(progress, ccw, total);
-    if count == 0 {
-        return None;
-    }
-    let lowest = lowest_address(progress.command_with(ccw), ccw, count);
-    Some((lowest.unwrap_or(Location::new(0)), count))
 }
 
 /// How many bytes of the record were moved by the words before.
@@ -142,9 +54,79 @@ fn moved_before(progress: &Progress) -> u32
     }
 }
 
-/// Whether a command is read backward.
-fn reads_backward(command: u8) -> bool
-    ensures { result ≡ reads_backward command }
+/// The lowest address of so many bytes, which rise from an address, or fall from it if the command is read backward.
+fn lowest_address(command: u8, address: u32, count: u16) -> Option<u32>
+    ensures { result ≡ lowest_address (reads_backward command) address count }
 {
-    command % 16 == 0xC
+    if command % 16 == 0xC {
+        address.checked_sub(u32::from(count.saturating_sub(1)))
+    } else {
+        Some(address)
+    }
+}
+
+impl Movement {
+    /// What a word of an input of so many bytes stores. Under skip it stores none.
+    pub(crate) fn of_input(program: &Program, ccw: &Ccw, total: u32) -> Movement
+        ensures { (d : DeviceView) → (at : ℕ) → length (d.input (command_with program.now.progress ccw.now)) ≡ total
+            → result ≡ input_movement (word_at_hand d program.now at ccw.now) total }
+    {
+        let progress = &program.progress;
+        let left = total.saturating_sub(moved_before(progress));
+        let transfer = output_transfer(ccw, left);
+        let count = if ccw.flags.skip { 0 } else { transfer.count };
+        Movement {
+            kind: Access::Store,
+            lowest: lowest_address(progress.command_with(ccw), ccw.address, count),
+            count,
+            goes_on: transfer.goes_on,
+        }
+    }
+
+    /// What a word of an output of at most so many bytes fetches.
+    pub(crate) fn of_output(program: &Program, ccw: &Ccw, limit: u32) -> Movement
+        ensures { (d : DeviceView) → (at : ℕ) → result ≡ output_movement (word_at_hand d program.now at ccw.now) limit }
+    {
+        let transfer = output_transfer(ccw, program.progress.left_within(limit));
+        Movement {
+            kind: Access::Fetch,
+            lowest: Some(ccw.address),
+            count: transfer.count,
+            goes_on: transfer.goes_on,
+        }
+    }
+
+    /// Where its bytes are, if they are in storage.
+    pub(crate) fn extent(self, storage: &Storage) -> Extent
+        ensures { result ≡ extent_in (length storage.now.bytes) self.lowest self.count }
+    {
+        // So an address of a byte is below 2^24.
+        prove!(storage.size() <= GREATEST_SIZE);
+        match self.lowest {
+            Some(address)
+                if self.count != 0
+                    && u64::from(address) + u64::from(self.count) <= u64::from(storage.size()) => {
+                Extent {
+                    address: Location::new(address),
+                    count: self.count,
+                }
+            }
+            _ => Extent::none(),
+        }
+    }
+
+    /// Where its bytes are, unless they meet a check under a key.
+    pub(crate) fn moving(self, storage: &Storage, key: ProtectionKey) -> Option<Extent>
+        ensures { result ≡ moving_of storage.now key self }
+    {
+        let met = match self.lowest {
+            None => Checked::Addressing,
+            Some(_) if self.count == 0 => Checked::Clear,
+            Some(address) => storage.check(address, u32::from(self.count), self.kind, key),
+        };
+        match met {
+            Checked::Clear => Some(self.extent(storage)),
+            Checked::Addressing | Checked::Protection => None,
+        }
+    }
 }

@@ -1,211 +1,180 @@
-//! The sources of an event of the CPU: of an interruption, or of an instruction with the interruption that it causes. Source:
-//! GA22-6821, "Interruptions", "System Structure", program execution, and "Input/Output Operations".
-ghost use Rattle.std.specs.Prelude.{◌≡◌, ◌++◌, OnOk};
-ghost use Rattle.s360_machine.specs.Machine.{seen};
-ghost use Rattle.s360_machine.specs.declared.cpu.CpuCase.TheVariants.{Executing, Interrupted};
-ghost use Rattle.s360_source.specs.EventShapes.{cpu_shape, interrupting};
-ghost use Rattle.s360_source.specs.EventSources.{case_sources, cpu_sources, csw_sources, external_sources, input_output_sources, is_of_core, shape_sources_in};
-ghost use Rattle.s360_source.specs.EventSources.{unit_and_address_word, unit_sources};
-ghost use Rattle.s360_source.specs.InstructionSources.{instruction_sources};
-ghost use Rattle.s360_source.specs.InterruptionSources.{followed_by, interruption_sources};
-ghost use Rattle.s360_source.specs.Sources.{itself};
+//! An event of the CPU: an interruption, or an instruction with the interruption that follows it. Source: GA22-6821,
+//! "Interruptions", "Status Switching" and "System Structure", program execution.
+ghost use Rattle.std.specs.Prelude.{◌≡◌, IfOk, OnOk};
+ghost use Rattle.s360_channel.specs.ConfiguredUnits.{interrupting_unit};
+ghost use Rattle.s360_machine.specs.Machine.{Machine as Machines, seen};
+ghost use Rattle.s360_footprint.specs.CpuRows.{cpu_row, executing_row, external_comes, external_row, running_row, unit_or_instruction};
+ghost use Rattle.s360_footprint.specs.InstructionLaws.{row_in};
+ghost use Rattle.s360_footprint.specs.OperandReadings.{profile_of};
+ghost use Rattle.s360_footprint.specs.Readings.{places_read, run};
+ghost use Rattle.s360_source.specs.EventWalks.{IsBegun, asked_walk};
+ghost use Rattle.s360_source.specs.Walks.{walked, with_decided};
 
-use crate::instruction::push_instruction_sources;
-use crate::interruption::push_interruption_sources;
-use crate::location::Location;
-use crate::made_of::{push_bytes_made_of, push_itself};
+use crate::instruction::{instruction_ending, push_instruction};
+use crate::interruption::{Before, push_interrupted, push_interruption};
+use crate::io::push_io;
 use crate::part::Part;
-use crate::shape::{InstructionShape, instruction_shape};
-use s360_channel::CswStore;
+use crate::question::Question;
 use s360_fixed::Ended;
-use s360_machine::{ConfiguredUnit, CpuCase, Machine};
-use s360_psw::Class;
-use s360_store::{Place, Storage};
-use s360_word::Unit;
-use std::alloc::{AllocError, Global};
+use s360_machine::{ConfiguredUnit, Machine};
+use s360_psw::{Class, Psw};
+use s360_store::Place;
+use std::alloc::AllocError;
 
-/// The address of the channel status word.
-const CSW: u32 = 64;
+/// Walks over an external interruption, which takes all external conditions.
+fn push_external(question: Question, found: &mut Vec<Place>) -> Result<(), AllocError>
+    ensures { (m : Machines) → OnOk result (found.new.items ≡ walked question external_row m found.old.items) }
+{
+    question.decide(found, &[Part::Place(Place::External)])?;
+    push_interruption(question, found, Class::External)?;
+    question.store(found, Place::External, &[])
+}
 
-/// The address of its bits 32 to 47.
-const STATUS: u32 = 68;
-
-/// The address of the channel address word.
-const CAW: u32 = 72;
-
-/// Adds the sources of a place, as an event of the CPU made what stands there.
-pub(crate) fn push_cpu_sources(
-    alloc: Global,
+/// Walks over the external conditions, which are looked at if their mask is one, and returns whether one is pending.
+fn push_external_conditions(
+    question: Question,
     found: &mut Vec<Place>,
     machine: &Machine,
-    place: Place,
-) -> Result<(), AllocError>
-    ensures { OnOk result (found.new.items ≡ found.old.items ++ cpu_sources (cpu_shape (seen machine.now.whole)) machine.now.whole.core.storage place) }
+) -> Result<bool, AllocError>
+    ensures comes { IfOk result (λ comes. comes ≡ run (external_comes machine.now.whole.core.psw) (seen machine.now.whole)) }
+    ensures read { OnOk result (found.new.items ≡ with_decided question
+        (places_read (external_comes machine.now.whole.core.psw) (seen machine.now.whole)) found.old.items) }
 {
-    match machine.cpu_case() {
-        CpuCase::Halted | CpuCase::Waiting => push_itself(found, place),
-        CpuCase::Interrupted(class) => push_taken_sources(alloc, found, machine, class, place),
-        CpuCase::Executing => push_executed_sources(alloc, found, machine, place),
+    if !machine.psw().external_mask() {
+        return Ok(false);
     }
+    question.decide(found, &[Part::Place(Place::External)])?;
+    let external = machine.external();
+    Ok(external.timer || external.key)
 }
 
-/// Adds those of an interruption that the CPU takes. No other class waits for its mask.
-fn push_taken_sources(
-    alloc: Global,
-    found: &mut Vec<Place>,
-    machine: &Machine,
-    class: Class,
-    place: Place,
-) -> Result<(), AllocError>
-    ensures { OnOk result (found.new.items ≡ found.old.items ++ case_sources (Interrupted class) (seen machine.now.whole) place) }
+/// Walks over the units of the channels that may interrupt.
+fn push_units_asked(question: Question, found: &mut Vec<Place>, psw: Psw) -> Result<(), AllocError>
+    ensures { OnOk result (found.new.items ≡ asked_walk question psw found.old.items) }
 {
-    match class {
-        Class::External => push_external_sources(found, place),
-        Class::InputOutput => push_input_output_sources(alloc, found, machine, place),
-        Class::Supervisor | Class::Program | Class::MachineCheck => push_itself(found, place),
+    if psw.channel_mask(0) {
+        let units = [
+            Part::state(ConfiguredUnit::Reader),
+            Part::state(ConfiguredUnit::Punch),
+            Part::state(ConfiguredUnit::Printer),
+            Part::state(ConfiguredUnit::Console),
+        ];
+        question.decide(found, &units)?;
     }
-}
-
-/// Adds those of an external interruption, which takes all external conditions.
-fn push_external_sources(found: &mut Vec<Place>, place: Place) -> Result<(), AllocError>
-    ensures { OnOk result (found.new.items ≡ found.old.items ++ external_sources place) }
-{
-    if Place::External.is(place) {
-        return Ok(());
-    }
-    push_interruption_sources(found, Class::External, place)
-}
-
-/// Adds those of an interruption of the unit that interrupts.
-fn push_input_output_sources(
-    alloc: Global,
-    found: &mut Vec<Place>,
-    machine: &Machine,
-    place: Place,
-) -> Result<(), AllocError>
-    ensures { OnOk result (found.new.items ≡ found.old.items ++ input_output_sources (interrupting (seen machine.now.whole)) place) }
-{
-    match machine.interrupting_unit() {
-        Some(unit) => push_unit_sources(alloc, found, unit, place),
-        None => push_itself(found, place),
-    }
-}
-
-/// Adds those of an interruption of a unit: its status word is stored, and then the interruption happens.
-fn push_unit_sources(
-    alloc: Global,
-    found: &mut Vec<Place>,
-    unit: ConfiguredUnit,
-    place: Place,
-) -> Result<(), AllocError>
-    ensures { OnOk result (found.new.items ≡ found.old.items ++ unit_sources unit place) }
-{
-    let mut between = Vec::new(alloc);
-    push_interruption_sources(&mut between, Class::InputOutput, place)?;
-    let parts = [Part::Place(Place::UnitState(unit.unit()))];
-    for source in between.as_slice() {
-        push_bytes_made_of(found, *source, Location::new(CSW), 8, &parts)?;
+    if psw.channel_mask(1) {
+        let tapes = [
+            Part::state(ConfiguredUnit::Tape0),
+            Part::state(ConfiguredUnit::Tape1),
+        ];
+        question.decide(found, &tapes)?;
     }
     Ok(())
 }
 
-/// Adds those of an instruction. It alters no place beside the core but a unit, which is made of how it stood.
-fn push_executed_sources(
-    alloc: Global,
+/// Walks over what is looked at of an instruction that the channels do.
+fn push_instruction_deciders(
+    question: Question,
     found: &mut Vec<Place>,
     machine: &Machine,
-    place: Place,
 ) -> Result<(), AllocError>
-    ensures { OnOk result (found.new.items ≡ found.old.items ++ case_sources Executing (seen machine.now.whole) place) }
+    ensures { OnOk result (found.new.items ≡ with_decided question (places_read (row_in (seen machine.now.whole)) (seen machine.now.whole)) found.old.items) }
 {
-    if !is_of_core(place) {
-        return push_itself(found, place);
-    }
-    // Matched, since the checker does not follow a shape through `?`.
-    match instruction_shape(alloc, machine) {
-        Ok(shape) => push_ended_sources(alloc, found, machine, &shape, place),
-        Err(error) => Err(error),
+    match question {
+        Question::Deciders => {
+            push_instruction(question, found, machine)?;
+            Ok(())
+        }
+        Question::Stored | Question::Sources(_) => Ok(()),
     }
 }
 
-/// Adds those of an instruction of this shape, with the interruption that follows it, or with what the channels store.
-fn push_ended_sources(
-    alloc: Global,
+/// Walks over an instruction with the interruption that follows it.
+fn push_executing(
+    question: Question,
     found: &mut Vec<Place>,
     machine: &Machine,
-    shape: &InstructionShape,
-    place: Place,
 ) -> Result<(), AllocError>
-    ensures { OnOk result (found.new.items ≡ found.old.items ++ shape_sources_in shape.now (seen machine.now.whole) place) }
+    requires begun { IsBegun question found.old.items }
+    ensures { OnOk result (found.new.items ≡ walked question (executing_row (profile_of machine.now.whole.core)) (seen machine.now.whole) found.old.items) }
 {
-    let storage = machine.storage();
-    match shape.ended {
-        Ended::Done => push_instruction_sources(found, shape, storage, place),
+    let ended = instruction_ending(*found.allocator(), machine)?;
+    let before = Before::Instruction;
+    match ended {
+        Ended::Done => {
+            push_instruction(question, found, machine)?;
+            Ok(())
+        }
         Ended::Program(_) => {
-            push_interrupted_sources(alloc, found, shape, storage, Class::Program, place)
+            push_interrupted(question, found, machine, before, Class::Program)?;
+            Ok(())
         }
         Ended::Svc(_) => {
-            push_interrupted_sources(alloc, found, shape, storage, Class::Supervisor, place)
+            push_interrupted(question, found, machine, before, Class::Supervisor)?;
+            Ok(())
         }
         Ended::Io(operation, unit) => {
-            push_csw_sources(
-                found,
-                &machine.io_result(operation, unit).stores,
-                unit,
-                place,
-            )
+            push_instruction_deciders(question, found, machine)?;
+            push_io(question, found, machine, operation, unit)?;
+            Ok(())
         }
     }
 }
 
-/// Whether a place is one of the core.
-fn is_of_core(place: Place) -> bool
-    ensures { result ≡ is_of_core place }
+/// Walks over what the CPU does, if no external interruption comes.
+fn push_unit_or_instruction(
+    question: Question,
+    found: &mut Vec<Place>,
+    machine: &Machine,
+) -> Result<(), AllocError>
+    requires begun { IsBegun question found.old.items }
+    ensures { OnOk result (found.new.items ≡ walked question
+        (unit_or_instruction (profile_of machine.now.whole.core) machine.now.whole.core.psw
+        (interrupting_unit machine.now.whole.core.psw machine.now.whole.units)) (seen machine.now.whole) found.old.items) }
 {
-    match place {
-        Place::Psw | Place::Register(_) | Place::Byte(_) | Place::Key(_) => true,
-        Place::Run | Place::External | Place::UnitState(_) | Place::UnitMedia(_) => false,
+    match machine.interrupting_unit() {
+        Some(unit) => {
+            let before = Before::Status(unit);
+            push_interrupted(question, found, machine, before, Class::InputOutput)?;
+            Ok(())
+        }
+        None if machine.psw().wait() => Ok(()),
+        None => push_executing(question, found, machine),
     }
 }
 
-/// Adds those of an instruction that an interruption of a class follows.
-fn push_interrupted_sources(
-    alloc: Global,
+/// Walks over what the CPU does while the machine operates.
+fn push_running(
+    question: Question,
     found: &mut Vec<Place>,
-    shape: &InstructionShape,
-    storage: &Storage,
-    class: Class,
-    place: Place,
+    machine: &Machine,
 ) -> Result<(), AllocError>
-    ensures { OnOk result (found.new.items ≡ found.old.items ++ followed_by (instruction_sources shape.now storage.now) (interruption_sources class) place) }
+    requires begun { IsBegun question found.old.items }
+    ensures { OnOk result (found.new.items ≡ walked question (running_row (profile_of machine.now.whole.core) machine.now.whole.core.psw)
+        (seen machine.now.whole) found.old.items) }
 {
-    let mut between = Vec::new(alloc);
-    push_interruption_sources(&mut between, class, place)?;
-    for source in between.as_slice() {
-        push_instruction_sources(found, shape, storage, *source)?;
+    if push_external_conditions(question, found, machine)? {
+        push_external(question, found)?;
+        return Ok(());
     }
+    push_units_asked(question, found, machine.psw())?;
+    push_unit_or_instruction(question, found, machine)?;
     Ok(())
 }
 
-/// Adds those of what an instruction of the channels stores, which is made of how the unit stands, and of the channel address
-/// word.
-fn push_csw_sources(
+/// Walks over an event of the CPU.
+pub(crate) fn push_cpu(
+    question: Question,
     found: &mut Vec<Place>,
-    stores: &CswStore,
-    unit: Unit,
-    place: Place,
+    machine: &Machine,
 ) -> Result<(), AllocError>
-    ensures { OnOk result (found.new.items ≡ found.old.items ++ csw_sources stores.now (unit_and_address_word unit) itself place) }
+    requires begun { IsBegun question found.old.items }
+    ensures { OnOk result (found.new.items ≡ walked question (cpu_row (profile_of machine.now.whole.core)) (seen machine.now.whole) found.old.items) }
 {
-    let parts = [
-        Part::Place(Place::UnitState(unit)),
-        Part::Bytes(Location::new(CAW), 4),
-    ];
-    match stores {
-        CswStore::Nothing => push_itself(found, place),
-        CswStore::Status(..) => {
-            push_bytes_made_of(found, place, Location::new(STATUS), 2, &parts)
-        }
-        CswStore::Csw(_) => push_bytes_made_of(found, place, Location::new(CSW), 8, &parts),
+    question.decide(found, &[Part::Place(Place::Run)])?;
+    if !machine.run().is_operating() {
+        return Ok(());
     }
+    question.decide(found, &[Part::Place(Place::Psw)])?;
+    push_running(question, found, machine)?;
+    Ok(())
 }

@@ -1,23 +1,50 @@
-//! The sources of an event: what stands at a place after it was made of what stood at these places before it. And its deciders:
-//! what it does, and where, comes from these. Source: GA22-6821, "System Structure", interval timer, and "System Control Panel".
-ghost use Rattle.std.specs.Prelude.{◌≡◌, ◌++◌, IfOk, OnOk, if◌then◌else◌, [], ◌∷◌};
+//! An event of the machine: its deciders, the places that it stores into, and the sources of a place.
+ghost use Rattle.std.specs.Prelude.{◌≡◌, IfOk, OnOk, is_some};
 ghost use Rattle.s360_machine.specs.Machine.{seen};
-ghost use Rattle.s360_source.specs.Events.{deciders, sources};
-ghost use Rattle.s360_source.specs.EventSources.{key_sources, patch_sources, tick_sources};
+ghost use Rattle.s360_footprint.specs.EventRows.{deciders, row_in, sources, stored};
+ghost use Rattle.s360_source.specs.Answers.{is_of_unit};
+ghost use Rattle.s360_source.specs.EventWalks.{IsAddressed, IsBegun};
+ghost use Rattle.s360_source.specs.Walks.{walked};
+ghost use Rattle.s360_source.specs.declared.question.Question.TheVariants.{Stored};
 
-use crate::channel::push_channel_sources;
-use crate::channel_deciding::push_channel_deciders;
-use crate::cpu::push_cpu_sources;
-use crate::cpu_deciding::push_cpu_deciders;
-use crate::location::Location;
-use crate::made_of::{push_bytes_made_of, push_itself};
-use crate::part::{Part, push_parts};
-use s360_machine::{Event, Key, Machine, Patch};
+use crate::channel::push_channel_event;
+use crate::cpu::push_cpu;
+use crate::operator::{push_key, push_patch, push_tick};
+use crate::question::Question;
+use s360_machine::{ConfiguredUnit, Event, Machine};
 use s360_store::Place;
 use std::alloc::{AllocError, Global};
 
-/// The address of the timer.
-const TIMER: u32 = 80;
+/// Walks over an event.
+fn push_event(
+    question: Question,
+    found: &mut Vec<Place>,
+    machine: &Machine,
+    event: &Event,
+) -> Result<(), AllocError>
+    requires begun { IsBegun question found.old.items }
+    requires addressed { IsAddressed question event.now }
+    ensures { OnOk result (found.new.items ≡ walked question (row_in (seen machine.now.whole) event.now) (seen machine.now.whole) found.old.items) }
+{
+    match event {
+        Event::Cpu => push_cpu(question, found, machine)?,
+        Event::Channel(unit) => push_channel_event(question, found, machine, *unit)?,
+        Event::Tick => push_tick(question, found, machine)?,
+        Event::Key(key) => push_key(question, found, machine, key)?,
+        Event::Patch(patch) => push_patch(question, found, machine, patch)?,
+    }
+    Ok(())
+}
+
+/// Whether a place is no device of a unit that the machine lacks.
+fn is_of_unit(place: Place) -> bool
+    ensures { result ≡ is_of_unit place }
+{
+    match place {
+        Place::UnitMedia(unit) => ConfiguredUnit::at(unit).is_some(),
+        _ => true,
+    }
+}
 
 /// The places that what stands at a place after an event was made of, as they stood before it, in the machine that meets the
 /// event. The machine is only read. What comes from outside is made of nothing. A place may be found more than once, and where
@@ -31,86 +58,33 @@ pub fn sources(
     ensures { IfOk result (λ found. found.items ≡ sources (seen machine.now.whole) event.now place) }
 {
     let mut found = Vec::new(alloc);
-    match event {
-        Event::Cpu => push_cpu_sources(alloc, &mut found, machine, place)?,
-        Event::Channel(unit) => push_channel_sources(alloc, &mut found, machine, *unit, place)?,
-        Event::Tick => push_tick_sources(&mut found, machine.run().is_operating(), place)?,
-        Event::Key(key) => push_key_sources(&mut found, key, place)?,
-        Event::Patch(patch) => push_patch_sources(&mut found, patch, place)?,
+    found.push(place)?;
+    if !is_of_unit(place) {
+        return Ok(found);
     }
+    push_event(Question::Sources(place), &mut found, machine, event)?;
     Ok(found)
 }
 
 /// The places that the shape of an event comes from, in the machine that meets it: what the event does, and where, but not the
 /// values that it moves. In a machine of that size and profile that has the same at each of them the event has the same shape. What
-/// an operator does comes from outside, and so from no place. The machine is only read. A place may be found more than once, and so
-/// may a key that would not matter. The one error is want of memory.
+/// an operator does comes from outside, and so from no place. The machine is only read. A place may be found more than once. The one
+/// error is want of memory.
 pub fn deciders(alloc: Global, machine: &Machine, event: &Event) -> Result<Vec<Place>, AllocError>
     ensures { IfOk result (λ found. found.items ≡ deciders (seen machine.now.whole) event.now) }
 {
     let mut found = Vec::new(alloc);
-    match event {
-        Event::Cpu => push_cpu_deciders(alloc, &mut found, machine)?,
-        Event::Channel(unit) => push_channel_deciders(&mut found, machine, *unit)?,
-        Event::Tick => found.push(Place::Run)?,
-        Event::Key(_) | Event::Patch(_) => (),
-    }
+    push_event(Question::Deciders, &mut found, machine, event)?;
     Ok(found)
 }
 
-/// Adds the sources of a place, as a tick made what stands there.
-fn push_tick_sources(
-    found: &mut Vec<Place>,
-    operating: bool,
-    place: Place,
-) -> Result<(), AllocError>
-    ensures { OnOk result (found.new.items ≡ found.old.items ++ tick_sources operating place) }
+/// The places that an event stores into, in the machine that meets it, whether or not their values alter. The machine is only
+/// read. A place may be found more than once. The one error is want of memory.
+pub fn stored(alloc: Global, machine: &Machine, event: &Event) -> Result<Vec<Place>, AllocError>
+    requires addressed { IsAddressed Stored event.now }
+    ensures { IfOk result (λ found. found.items ≡ stored (seen machine.now.whole) event.now) }
 {
-    if !operating {
-        return push_itself(found, place);
-    }
-    let timer = Location::new(TIMER);
-    if Place::External.is(place) {
-        return push_parts(
-            found,
-            &[Part::Place(Place::External), Part::Bytes(timer, 4)],
-        );
-    }
-    push_bytes_made_of(found, place, timer, 4, &[Part::Bytes(timer, 4)])
-}
-
-/// Adds those of a key of the operator. What it puts somewhere comes from outside.
-fn push_key_sources(found: &mut Vec<Place>, key: &Key, place: Place) -> Result<(), AllocError>
-    ensures { OnOk result (found.new.items ≡ found.old.items ++ key_sources key.now place) }
-{
-    match (key, place) {
-        (Key::Reset | Key::Load(_), Place::Run | Place::External | Place::UnitState(_)) => Ok(()),
-        _ => push_itself(found, place),
-    }
-}
-
-/// Adds those of a patch. What it puts somewhere comes from outside.
-fn push_patch_sources(found: &mut Vec<Place>, patch: &Patch, place: Place) -> Result<(), AllocError>
-    ensures { OnOk result (found.new.items ≡ found.old.items ++ patch_sources patch.now place) }
-{
-    if is_put(patch, place) {
-        return Ok(());
-    }
-    push_itself(found, place)
-}
-
-/// Whether a patch puts all that stands at a place: a storage key leaves the fetch bit beside it, and a fetch bit the key.
-fn is_put(patch: &Patch, place: Place) -> bool
-    ensures { patch_sources patch.now place ≡ (if result then [] else (place ∷ [])) }
-{
-    match patch {
-        Patch::Bytes { at, bytes } => match place {
-            Place::Byte(address) => *at <= address
-                && ((address - *at) as usize) < bytes.as_slice().len(),
-            _ => false,
-        },
-        Patch::Register(register, _) => Place::Register(register.number()).is(place),
-        Patch::Psw(_) => Place::Psw.is(place),
-        Patch::StorageKey { .. } | Patch::FetchBit { .. } => false,
-    }
+    let mut found = Vec::new(alloc);
+    push_event(Question::Stored, &mut found, machine, event)?;
+    Ok(found)
 }

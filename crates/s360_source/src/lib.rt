@@ -1,34 +1,43 @@
-//! Where a value came from: of a place that an event altered, the places that its value was made of. And what decided an event:
-//! the places that its shape came from.
-//!
-//! Sources, shapes and deciders are words of ours; the rows of instructions follow GA22-6821, "System Structure",
-//! "Fixed-Point Arithmetic", "Logical Operations", "Decimal Arithmetic", "Branching" and "Status Switching".
+//! What an event stores, and what it reads: the places that it stores into, the places that what stands at a place afterwards was
+//! made of, and the places that decide what it does. One walk over the event's row, as the footprint has it, answers what is asked.
 #![tactic(auto)]
 
-mod access_keys;
+mod access;
+mod address;
+mod altering;
+mod branch;
 mod channel;
-mod channel_deciding;
 mod channel_moves;
+mod channel_word;
+mod combination;
+mod converting;
 mod cpu;
-mod cpu_deciding;
-mod deciding;
 mod digits;
 mod event;
-mod executed;
+mod fetching;
+mod fields;
+mod form;
+mod immediate;
 mod instruction;
 mod interruption;
+mod io;
 mod laws;
+mod left_to_right;
+mod loading;
 mod location;
-mod made_of;
+mod operator;
+mod pair;
 mod part;
-mod registers;
-mod shape;
-mod storage;
+mod question;
+mod search;
+mod second;
+mod several;
+mod shift;
+mod status;
+mod storing;
+mod translating;
 
-pub use event::{deciders, sources};
-pub use laws::{
-    deciders_decide_the_event, deciders_decide_the_instruction, events_follow_their_sources,
-    instructions_follow_their_sources,
-};
+pub use event::{deciders, sources, stored};
+pub use laws::walks_answer;
 pub use location::Location;
-pub use shape::{InstructionShape, Operands, Performance, instruction_shape, operation_of};
+pub use question::Question;

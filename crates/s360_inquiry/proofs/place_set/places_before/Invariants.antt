@@ -1,6 +1,6 @@
 use Rattle.std.proofs.Common.{◌≡◌, [], take, flat_map}
 use Rattle.s360_machine.specs.Machine.{seen}
-use Rattle.s360_source.specs.Events.{sources}
+use Rattle.s360_footprint.specs.EventRows.{sources}
 use Rattle.s360_inquiry.specs.Causes.{with_places}
 use Rattle.s360_inquiry.proofs.place_set.places_before.Given as goal
 

@@ -1,0 +1,25 @@
+pub mod ValueLemmas
+pub mod ReadingLemmas
+pub mod RowLemmas
+pub mod SequenceLemmas
+pub mod OperandLemmas
+pub mod AlteringLemmas
+pub mod RegisterRowLemmas
+pub mod InstructionRowLemmas
+pub mod PairRowLemmas
+pub mod StoringRowLemmas
+pub mod LeftToRightLemmas
+pub mod LeftToRightRowLemmas
+pub mod TranslateRowLemmas
+pub mod StatusRowLemmas
+pub mod DigitRowLemmas
+pub mod FormRowLemmas
+pub mod InstructionLawLemmas
+pub mod InterruptionRowLemmas
+mod KnownFootprints
+pub mod ChannelReadingLemmas
+pub mod ChannelRowLemmas
+pub mod IoRowLemmas
+pub mod CpuRowLemmas
+pub mod LoadingRowLemmas
+pub mod EventLawLemmas

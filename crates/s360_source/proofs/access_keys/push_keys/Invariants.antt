@@ -1,6 +1,0 @@
-use Rattle.std.proofs.Common.{◌≡◌, ◌++◌}
-use Rattle.s360_source.specs.Deciders.{keys_from}
-use Rattle.s360_source.proofs.access_keys.push_keys.Given as goal
-
-abbrev pub invariant-loop-i : goal.invariant-loop-i
-invariant-loop-i l = l.found.items ≡ l.initial.found.items ++ keys_from l.block l.i

@@ -1,0 +1,10 @@
+use Rattle.std.proofs.Common.{◌≡◌, ◌++◌, ◌-◌}
+use Rattle.s360_machine.specs.Machine.{seen}
+use Rattle.s360_footprint.specs.LeftToRightRows.{search_read}
+use Rattle.s360_footprint.specs.Readings.{places_read}
+use Rattle.s360_source.proofs.search.Search.push_places.Given as goal
+
+abbrev pub invariant-loop-i : goal.invariant-loop-i
+invariant-loop-i l =
+    l.found.items ++ places_read (search_read l.self.table l.self.first l.i (l.self.count - l.i)) (seen l.machine.whole)
+    ≡ l.initial.found.items ++ places_read (search_read l.self.table l.self.first 0 l.self.count) (seen l.machine.whole)

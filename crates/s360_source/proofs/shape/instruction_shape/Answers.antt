@@ -1,9 +1,0 @@
-use Rattle.std.proofs.Common.{◌≡◌, ◌∙◌, ap}
-use Rattle.s360_model.specs.Psw.{instruction_address_of}
-use Rattle.s360_source.proofs.ShapeLemmas.{shape-of-refused}
-use Rattle.s360_source.proofs.shape.instruction_shape.Goals as goal
-
-pub returns-in-Err : goal.returns-in-Err
-returns-in-Err c =
-    let next : c.instruction_address.result ≡ instruction_address_of c.args.machine.now.whole.core.psw = c.instruction_address.ensures.value ∙ ap instruction_address_of c.psw.ensures
-    in rw next (shape-of-refused c.args.machine.now.whole.core c.in-Err.code c.in-Err.ensures.err)
