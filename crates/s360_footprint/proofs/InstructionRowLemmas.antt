@@ -93,7 +93,7 @@ execute-is v (Form.Rs operation r1 r3 b2 d2) = refl
 execute-is v (Form.Si operation i2 b1 d1) = refl
 execute-is v (Form.Ss operation l b1 d1 b2 d2) = refl
 
-ored-is : (r1 : ℕ) (bytes : List ℕ) (v : View) (m : Machine) → v.core ≡ m.core → run (ored_read r1 bytes) m ≡ with_ored_byte v r1 bytes
+pub ored-is : (r1 : ℕ) (bytes : List ℕ) (v : View) (m : Machine) → v.core ≡ m.core → run (ored_read r1 bytes) m ≡ with_ored_byte v r1 bytes
 ored-is r1 bytes v m e = by (nat_eq r1 0) where
   by : (z : Bool) → run (cond z (done bytes) (read (Register r1) (λ word. done (set bytes 1 (bit_or (slice_index bytes 1) (word % 256)))))) m
       ≡ cond z bytes (set bytes 1 (bit_or (slice_index bytes 1) (get_or v.core.registers r1 0 % 256)))

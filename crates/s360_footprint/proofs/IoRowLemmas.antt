@@ -106,7 +106,7 @@ of-unit-is result expected (Some u) m h =
     ∙ ap (λ other. run (result u (control_of m.units u) other) m) (beside-is u m)
     ∙ h u
 
-result-is : (operation : IoOperation) (unit : UnitAddress) (m : Machine)
+pub result-is : (operation : IoOperation) (unit : UnitAddress) (m : Machine)
     → run (io_result_read (profile_of m.core) operation unit) m ≡ io_result operation unit m
 result-is IoOperation.Start unit m =
     of-unit-is (λ u c other. start_read (profile_of m.core) (is_some other) u c)

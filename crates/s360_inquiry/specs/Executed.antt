@@ -1,6 +1,6 @@
 -- The instruction that the CPU executes: what is performed of it, which comes next, and how it ends (GA22-6821, "System
 -- Structure", program execution; "Branching", EXECUTE).
-use Rattle.std.specs.Prelude.{ℕ, ◌×◌, if◌then◌else◌, is_none, Option, Some, None}
+use Rattle.std.specs.Prelude.{ℕ, if◌then◌else◌, is_none, Option, Some, None}
 use Rattle.s360_model.specs.Core.{Core}
 use Rattle.s360_model.specs.Psw.{instruction_address_of, protection_key_of}
 use Rattle.s360_fixed.specs.declared.form.Form.{Form}

@@ -25,7 +25,7 @@ use Rattle.s360_footprint.proofs.{OperandLemmas.access-is, OperandLemmas.address
 use Rattle.s360_source.specs.declared.question.Question.{Question}
 use Rattle.s360_source.specs.Parts.{key_places, register_part, address_parts}
 use Rattle.s360_source.specs.Walks.{looks_at_keys, walked, with_decided, with_stores_of}
-use Rattle.s360_source.proofs.FromFootprint.{ored-is}
+use Rattle.s360_footprint.proofs.InstructionRowLemmas.{ored-is}
 use Rattle.s360_source.proofs.ReadingPlaces.{access-places, bytes-places, mapped, address-places}
 use Rattle.s360_source.proofs.WalkLemmas.{decided_both, decided_none, done-walked, refused-walked, walked-bind}
 

@@ -24,7 +24,8 @@ use Rattle.s360_source.specs.declared.question.Question.{Question}
 use Rattle.s360_source.specs.EventWalks.{is_unavailable, units_named}
 use Rattle.s360_source.specs.Walks.{walked, with_decided, with_store, with_stores_of}
 use Rattle.s360_source.proofs.WalkLemmas.{decided_both, decided_none, stores-both, walked-bind}
-use Rattle.s360_source.proofs.{FromFootprint.result-is, ReadingPlaces.mapped}
+use Rattle.s360_footprint.proofs.IoRowLemmas.{result-is}
+use Rattle.s360_source.proofs.ReadingPlaces.{mapped}
 
 -- an instruction of a unit
 of-unit-places : (result : ConfiguredUnit → UnitControl → Option ConfiguredUnit → Reading IoResult) (u : ConfiguredUnit) (m : Machine)

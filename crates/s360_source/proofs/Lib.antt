@@ -14,7 +14,6 @@ pub mod FormLemmas
 pub mod AnswerLemmas
 pub mod SequenceWalkLemmas
 pub mod ThroughLemmas
-pub mod FromFootprint
 pub mod InstructionLemmas
 pub mod IoLemmas
 pub mod EventLemmas
