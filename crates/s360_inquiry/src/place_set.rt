@@ -57,9 +57,5 @@ fn insert_each(places: &mut BTreeSet<Place>, more: &[Place]) -> Result<(), Alloc
 fn list_of(alloc: Global, places: &BTreeSet<Place>) -> Result<Vec<Place>, AllocError>
     ensures { IfOk result (λ list. list.items ≡ places.now.keys) }
 {
-    let mut list = Vec::new(alloc);
-    for place in places.iter() {
-        list.push(*place)?;
-    }
-    Ok(list)
+    places.iter().copied().collect(alloc)
 }
