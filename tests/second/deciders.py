@@ -5,7 +5,7 @@ moved.
 
 Source: docs/DECISIONS.md, "Sources".
 """
-from .channels import CAW, DATA_CHAIN, LOAD, START, TAPES, TEST_CHANNEL, UNITS
+from .channels import CAW, DATA_CHAIN, LOAD, SIO, START, TAPES, TEST_CHANNEL, UNITS
 from .channels import Program, device_name, state_name
 from .core import ADDRESSES, BLOCK, Interruption
 from .devices import INPUT, OUTPUT, begun
@@ -69,15 +69,16 @@ def of_instruction(machine):
         instruction = machine.instruction_at(at)
     except Interruption:
         return
+    number, index = instruction[1] >> 4, instruction[1] & 15
     if instruction[0] == EXECUTE:
-        number, index = instruction[1] >> 4, instruction[1] & 15
         yield from registers_of(instruction)
-        yield from part(number)
         yield from fetched(machine, machine.address(instruction[2:4], index))
     try:
         performed = performed_at(machine, at)
     except Interruption:
         return
+    if instruction[0] == EXECUTE:
+        yield from part(number)
     with trial(machine) as put:
         code = how_it_ends(machine, performed)
     if performed[0] == EXECUTE or code == 1:
@@ -101,10 +102,10 @@ def fetched(machine, at):
     return [*bytes_at(at, count if is_fetched else 1), *keys]
 
 
-def is_clear(machine, at, count):
-    """Whether bytes can be fetched, wherever they lie."""
+def is_clear(machine, at, count, boundary=1):
+    """Whether bytes that have to lie on a boundary can be fetched."""
     try:
-        machine.check(at, count, 1, is_store=False)
+        machine.check(at, count, boundary, is_store=False)
     except Interruption:
         return False
     return True
@@ -140,7 +141,7 @@ def operands(machine, instruction, put):
     # A pair that begins with an odd register is refused.
     is_refused = code in PAIRS_BY_RESULT and second >> 4 & 1
     is_by_result = code in ALWAYS_BY_RESULT or code in MAY_OVERFLOW and machine.psw_field(27, 1)
-    if is_by_result and not is_refused:
+    if is_by_result and not is_refused and is_used(machine, instruction):
         yield from of_performed(machine, instruction, put).get(one, [one])
     if code < 0x40:
         return
@@ -152,6 +153,13 @@ def operands(machine, instruction, put):
     else:
         table = machine.address(instruction[4:6], 0)
         yield from of_runs(machine, key, code, second, address, table)
+
+
+def is_used(machine, instruction):
+    """Whether the second operand, if it is in storage, can be used: else no operand is looked at."""
+    code, second = instruction[:2]
+    count = bytes_of(code, second >> 4, second & 15) if 0x40 <= code < 0x80 else 0
+    return count == 0 or is_clear(machine, machine.address(instruction[2:4], second & 15), count, count)
 
 
 def bytes_of(code, r1, other):
@@ -226,7 +234,7 @@ def of_channel(machine, unit):
     ccw = machine.ccw_at(program.at) if program.after != LOAD else None
     if ccw:
         yield from bytes_at(program.at, 8)
-        if ccw.transfers and machine.ccw_at(ccw.data):
+        if ccw.transfers and program.after != SIO and machine.ccw_at(ccw.data):
             yield from bytes_at(ccw.data, 8)
     yield from keys_of_word(machine, unit, program)
 

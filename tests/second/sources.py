@@ -9,7 +9,7 @@ Source: docs/DECISIONS.md, "Sources".
 import contextlib
 
 from .channels import CAW, CSW, ENDED, PROGRAM_CHECK, PROTECTION_CHECK, UNITS
-from .channels import DATA_CHAIN, LOAD, Channels, Ended, Program, device_name, state_name
+from .channels import DATA_CHAIN, LOAD, SIO, Channels, Ended, Program, device_name, state_name
 from .core import ADDRESSES, BLOCK, Interruption
 from .devices import OUTPUT, begun
 from .machine import EXTERNAL, INPUT_OUTPUT, OPERATING, PROGRAM, SUPERVISOR, TIMER, Loading
@@ -333,7 +333,8 @@ def fetched(machine, program):
     ccw = machine.ccw_at(program.at) if program.after != LOAD else None
     if not ccw:
         return []
-    target = bytes_at(ccw.data, 8) if ccw.transfers and machine.ccw_at(ccw.data) else []
+    leads_on = ccw.transfers and program.after != SIO
+    target = bytes_at(ccw.data, 8) if leads_on and machine.ccw_at(ccw.data) else []
     return [*bytes_at(program.at, 8), *target]
 
 
