@@ -11,7 +11,7 @@ Source: docs/DECISIONS.md, "Sources".
 """
 from typing import NamedTuple
 
-from .channels import DATA_CHAIN, HALT, LOAD, START, TEST, TEST_CHANNEL, Ccw, Program
+from .channels import DATA_CHAIN, HALT, LOAD, SIO, START, TEST, TEST_CHANNEL, Ccw, Program
 from .core import ADDRESSES, BLOCK, Interruption
 from .devices import INPUT, begun
 from .machine import OPERATING
@@ -108,7 +108,9 @@ def operands(machine, instruction):
 def of_channel(machine, unit):
     program = machine.unit(unit)
     ccw = machine.ccw_at(program.at) if program.after != LOAD else None
-    target = machine.ccw_at(ccw.data) if ccw and ccw.transfers else None
+    # A transfer in channel that comes first leads nowhere.
+    leads_on = ccw and ccw.transfers and program.after != SIO
+    target = machine.ccw_at(ccw.data) if leads_on else None
     with trial(machine) as put:
         machine.channel(unit)
         state, run = machine.unit(unit), machine.value("run")
