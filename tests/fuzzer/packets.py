@@ -168,7 +168,7 @@ class Requests(random.Random):
     def inquiries(self):
         at, number = self.address() % (1 << 24), self.randrange(1, 30)
         place = self.choice([*PLACES, f"s {at:X}", f"k {at:X}", f"r {number % 4}"]).encode()
-        places = [b"who %s" % place, b"changes %s" % place, b"changes %s %d" % (place, number)]
+        places = [b"who %s" % place, b"changes %s" % place, b"changes %s %d" % (place, number), b"stores %s %d" % (place, number)]
         numbers = [b"goto %d" % number, b"history %d" % number, b"dump %X %d" % (at, number)]
         visits = [b"visits %X" % self.code(), b"visits %X %d" % (at, number), b"jumps %d" % number]
         item = b"%s %d" % (self.choice([b"00C", b"00E", b"00E", b"01F", b"180", b"999"]), number % 4)

@@ -36,8 +36,15 @@ MNEMONICS = {
 NO_INSTRUCTION = "stopped|loading|interrupted|waits"
 # What is meant where a line with a place has no number behind it.
 # Lines about a place.
-ABOUT_A_PLACE = (b"who", b"why", b"changes")
-MEANT = {b"changes": CHANGES_TOLD, b"why": DEPTH_TOLD}
+ABOUT_A_PLACE = (b"who", b"why", b"changes", b"stores")
+MEANT = {b"changes": CHANGES_TOLD, b"stores": CHANGES_TOLD, b"why": DEPTH_TOLD}
+
+
+
+def is_range(word):
+    """Whether a word names a byte, or bytes from one address to another that is not lower."""
+    first, dash, last = word.partition(b"-")
+    return ADDRESS(first) and (not dash or ADDRESS(last) and int(first, 16) <= int(last, 16))
 
 
 ITEM = {b"m": (UNIT, COUNT)}
@@ -46,6 +53,7 @@ FORMS |= {b"calls": ()}
 FORMS |= {b"goto": (lambda word: word in NAMED_MARKS or COUNT(word),)}
 FORMS |= {b"changes": {kind: (*form, COUNT) for kind, form in PLACES.items()}}
 FORMS |= {b"why": {kind: (*form, count_up_to(MOST_DEPTH)) for kind, form in PLACES.items()}}
+FORMS |= {b"stores": {kind: (*form, count_up_to(MOST_TOLD)) for kind, form in (PLACES | {b"s": (is_range,)}).items()}}
 FORMS |= {b"dump": (ADDRESS, count_up_to(MOST_DUMPED)), b"visits": (ADDRESS, count_up_to(MOST_TOLD))}
 
 
@@ -88,7 +96,7 @@ class Inquiries:
         if fault:
             return [fault]
         name, *rest = (word.decode() for word in words)
-        if words[0] in ABOUT_A_PLACE and words[1] in (b"s", b"k") and int(words[2], 16) >= self.machine.size:
+        if words[0] in ABOUT_A_PLACE and words[1] in (b"s", b"k") and int(words[2].split(b"-")[-1], 16) >= self.machine.size:
             return ["? argument 2"]
         stands = self.standing
         answers = getattr(self, f"answer_{name}")(*rest)
@@ -166,6 +174,42 @@ class Inquiries:
         lines = [line for number in numbers for line in self.told(place, number)]
         self.go_to(stands)
         return lines or ["changes none"]
+
+    # Stores, also of an equal value.
+
+    def answer_stores(self, kind, *words):
+        *place, most = words
+        asked, stands = self.asked(kind, *place), self.standing
+        changes = enumerate(self.recording.changes, 1)
+        numbers = [number for number, change in changes if not asked.isdisjoint(change.noted)]
+        lines = [line for number in numbers[-int(most) :] for line in self.stored(number, asked)]
+        self.go_to(stands)
+        return lines or ["stores none"]
+
+    def asked(self, kind, word=""):
+        """The places that words name."""
+        if kind != "s":
+            return {self.recording.place_of(kind, word)}
+        first, _, last = word.partition("-")
+        return {f"s{at:06X}" for at in range(int(first, 16), int(last or first, 16) + 1)}
+
+    def stored(self, number, asked):
+        """Both lines of a store: of bytes those from the first to the last."""
+        self.go_to(number)
+        change = self.recording.changes[-1]
+        places = sorted(asked & change.noted.keys())
+        after, sign = self.run_of(places), "=" if asked.isdisjoint(change.places) else "->"
+        self.go_to(number - 1)
+        name = places[0] if places[0] == places[-1] else f"{places[0]}-{places[-1][1:]}"
+        return [f"{number} {self.happening(change.event[0])}", f"{name} {self.run_of(places)} {sign} {after}"]
+
+    def run_of(self, places):
+        """The values from the first to the last of some bytes, of which sixteen are told, or of one place."""
+        if places[0] == places[-1]:
+            return self.value(places[0])
+        first, last = int(places[0][1:], 16), int(places[-1][1:], 16)
+        shown = self.machine.run_of_bytes(first, min(last + 1 - first, 16)).hex().upper()
+        return f"{shown}.." if last + 1 - first > 16 else shown
 
     def answer_why(self, *words):
         place, stands = self.recording.place_of(*words[:-1]), self.standing

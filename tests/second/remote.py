@@ -68,6 +68,7 @@ HELP = [
     "goto N, goto start, goto end, goto last: goes to just after change N, to either end, to where"
     " one stood before",
     "changes P, changes P N: the last 10 or N changes of a place",
+    "stores P, stores P N, stores s A-B, stores s A-B N: the last 10 or N stores into a place or bytes, also of an equal value",
     "history, history N: the last 10 or N changes",
     "visits A, visits A N: the last 10 or N events that executed what is at an address",
     "jumps, jumps N: the last 10 or N branches and interruptions",

@@ -96,6 +96,19 @@ Ten, or as many as told."""
             gdb.write("changes none\n")
 
 
+class Stores(Command):
+    """Tell the last stores into a place, the oldest first, also those of an equal value.
+Usage: stores EXPRESSION [COUNT]
+
+Ten, or as many as told. Between the values stands = where they are the same."""
+
+    def carry_out(self, words: str) -> None:
+        expression, count = with_count(words)
+        first, *_, last = (places := places_of(expression)) * 2
+        place = first if len(places) == 1 else f"{first}-{last.partition(' ')[2]}"
+        show(told(f"stores {place} {TOLD if count is None else count}"))
+
+
 class History(Command):
     """Tell the last changes of any place, the oldest first.
 Usage: history [COUNT]
@@ -341,7 +354,7 @@ def count_in_condition(point: gdb.Breakpoint) -> None:
         point.condition = COUNT.sub("$_changes()", point.condition)
 
 
-for command in (Who, Why, Changes, History, Visits, Jumps, Calls, Dump, Units):
+for command in (Who, Why, Changes, Stores, History, Visits, Jumps, Calls, Dump, Units):
     command()
 for command in (Key, Load, Enter, Tick, Withdraw, Marks, Mark, Goto, Over, ReverseOver, Out, ReverseOut):
     command()

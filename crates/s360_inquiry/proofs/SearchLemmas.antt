@@ -7,7 +7,7 @@ use Rattle.s360_inquiry.specs.Changes.{last_of}
 use Rattle.s360_inquiry.specs.Searches.{last_up_to, numbers_up_to}
 use Rattle.s360_inquiry.specs.Sought.{is_sought}
 use Rattle.s360_inquiry.specs.declared.search.Sought.{Sought}
-use Rattle.s360_inquiry.specs.declared.search.Sought.TheVariants.{Visits, Jumps, CodeSettings, Interruptions}
+use Rattle.s360_inquiry.specs.declared.search.Sought.TheVariants.{Visits, Jumps, CodeSettings, Interruptions, Stores}
 
 -- as many are found as there may be
 pub last-found : (most : ℕ) (all others found : List ℕ) → length found ≡ most → all ≡ others ++ reverse found → reverse found ≡ last_of most all
@@ -73,6 +73,7 @@ sought-same (Visits at) r n k = refl
 sought-same Jumps r n k = refl
 sought-same CodeSettings r n k = refl
 sought-same Interruptions r n k = refl
+sought-same (Stores extent) r n k = refl
 
 -- the last change that stands is the one that is looked at
 pub last-sought : (sought : Sought) (r x : Recorded) (m : ℕ) → x ≡ with_standing r m → is_sought sought x x.standing ≡ is_sought sought r m

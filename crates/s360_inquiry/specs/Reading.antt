@@ -1,14 +1,18 @@
 -- The lines of an inquiry (own profile). Their arguments are those of the script language.
-use Rattle.std.specs.Prelude.{ℕ, Option, Result, List, [], ◌∷◌, codes}
-use Rattle.std.specs.Option.{option_map, option_or}
+use Rattle.std.specs.Prelude.{ℕ, ◌+◌, nat_eq, nat_le, if◌then◌else◌, Option, Some, None, Result, List, [], ◌∷◌, codes, drop, take}
+use Rattle.std.specs.List.{position}
+use Rattle.std.specs.Option.{option_and_then, option_map, option_or}
 use Rattle.s360_word.specs.declared.unit.Unit.{Unit}
 use Rattle.s360_language.specs.declared.command.LineFault.{LineFault}
 use Rattle.s360_language.specs.Digits.{count_of}
 use Rattle.s360_language.specs.Lines.{Form, Line, if_known, if_word, judged, line, makes, may_take, one, one_of, part, takes, two}
 use Rattle.s360_language.specs.Reading.{address, most_count, places, unit}
 use Rattle.s360_inquiry.specs.Causes.{most_depth}
+use Rattle.s360_inquiry.specs.Extents.{extent_of}
+use Rattle.s360_inquiry.specs.declared.extent.Extent.{Extent}
+use Rattle.s360_inquiry.specs.declared.extent.Extent.TheVariants.{Bytes}
 use Rattle.s360_inquiry.specs.declared.inquiry.Inquiry.{Inquiry}
-use Rattle.s360_inquiry.specs.declared.inquiry.Inquiry.TheVariants.{Who, WhoItem, Why, Goto, Changes, History, Visits, Jumps, Calls}
+use Rattle.s360_inquiry.specs.declared.inquiry.Inquiry.TheVariants.{Who, WhoItem, Why, Goto, Changes, Stores, History, Visits, Jumps, Calls}
 use Rattle.s360_inquiry.specs.declared.inquiry.Inquiry.TheVariants.{Dump, DumpItem, Units, Where}
 use Rattle.s360_inquiry.specs.declared.inquiry.Mark.{Mark}
 use Rattle.s360_inquiry.specs.declared.inquiry.Mark.TheVariants.{Change, Start, End, Last}
@@ -40,12 +44,29 @@ mark_of word =
 abbrev pub item_or : (Unit → ℕ → Inquiry) → Form Inquiry → Form Inquiry
 item_or asks other = if_word (codes "m") (two unit (count_of most_count) asks) other
 
+-- the bytes of one address, or from one to another that is not lower, as `388-38B`
+abbrev pub bytes_between : ℕ → ℕ → Option Extent
+bytes_between first last = if nat_le first last then Some (Bytes first last) else None
+
+abbrev pub bytes_from : List ℕ → Option ℕ → Option Extent
+bytes_from word None = option_and_then (λ at. bytes_between at at) (address word)
+bytes_from word (Some dash) =
+    option_and_then (λ first. option_and_then (λ last. bytes_between first last) (address (drop (dash + 1) word))) (address (take dash word))
+
+abbrev pub bytes_of : List ℕ → Option Extent
+bytes_of word = bytes_from word (position (λ b. nat_eq b 45) word)
+
+-- bytes of storage or another place, and what the words behind them say
+abbrev pub extent_then : (Extent → Form Inquiry) → Form Inquiry
+extent_then next = if_word (codes "s") (takes bytes_of next) (part places (λ place. next (extent_of place)))
+
 abbrev pub inquiries : List (Line Inquiry)
 inquiries =
     line (codes "who") (item_or (λ u n. WhoItem u n) (part places (λ place. makes (Who place)))) ∷
     line (codes "why") (part places (λ place. may_take (count_of most_depth) depth_told (λ depth. makes (Why place depth)))) ∷
     line (codes "goto") (one mark_of (λ mark. Goto mark)) ∷
     line (codes "changes") (part places (λ place. may_take (count_of most_count) changes_told (λ most. makes (Changes place most)))) ∷
+    line (codes "stores") (extent_then (λ extent. may_take (count_of most_told) changes_told (λ most. makes (Stores extent most)))) ∷
     line (codes "history") (may_take (count_of most_count) changes_told (λ most. makes (History most))) ∷
     line (codes "visits") (takes address (λ at. may_take (count_of most_told) changes_told (λ most. makes (Visits at most)))) ∷
     line (codes "jumps") (may_take (count_of most_told) changes_told (λ most. makes (Jumps most))) ∷

@@ -2,10 +2,11 @@
 use Rattle.std.specs.Prelude.{ℕ, Bool}
 use Rattle.s360_journal.specs.Recorded.{Recorded}
 use Rattle.s360_inquiry.specs.declared.search.Sought.{Sought}
-use Rattle.s360_inquiry.specs.declared.search.Sought.TheVariants.{Visits, Jumps, CodeSettings, Interruptions}
+use Rattle.s360_inquiry.specs.declared.search.Sought.TheVariants.{Visits, Jumps, CodeSettings, Interruptions, Stores}
 use Rattle.s360_inquiry.specs.CodeSettings.{sets_code}
 use Rattle.s360_inquiry.specs.Interruptions.{interrupts}
 use Rattle.s360_inquiry.specs.Jumps.{is_jump}
+use Rattle.s360_inquiry.specs.Stores.{stores_into}
 use Rattle.s360_inquiry.specs.Visits.{is_visit}
 
 -- the change of a number is sought
@@ -14,3 +15,4 @@ is_sought (Visits at) r number = is_visit at r number
 is_sought Jumps r number = is_jump r number
 is_sought CodeSettings r number = sets_code r number
 is_sought Interruptions r number = interrupts r number
+is_sought (Stores extent) r number = stores_into extent r number

@@ -14,6 +14,7 @@ use crate::inquiry::Inquiry;
 use crate::item::{answer_who_item, whole_item};
 use crate::jumping::answer_jumps;
 use crate::situation::{units_of, where_of};
+use crate::storing::answer_stores;
 use crate::visit::answer_visits;
 use crate::why::answer_why;
 use s360_debug::text_of_fault;
@@ -80,6 +81,7 @@ fn asks_outside(storage: &Storage, inquiry: Inquiry) -> bool
         Inquiry::Who(place) | Inquiry::Why { place, .. } | Inquiry::Changes { place, .. } => {
             is_outside(storage, place)
         }
+        Inquiry::Stores { extent, .. } => is_outside(storage, extent.last()),
         _ => false,
     }
 }
@@ -102,6 +104,7 @@ fn told_answer(
         Inquiry::Why { place, depth } => answer_why(alloc, recording, place, depth),
         Inquiry::Goto(mark) => answer_goto(alloc, recording, stood, mark),
         Inquiry::Changes { place, most } => answer_changes(alloc, recording, place, most),
+        Inquiry::Stores { extent, most } => answer_stores(alloc, recording, extent, most),
         Inquiry::History { most } => answer_history(alloc, recording, most),
         Inquiry::Visits { at, most } => answer_visits(alloc, recording, at, most),
         Inquiry::Jumps { most } => answer_jumps(alloc, recording, most),

@@ -3,7 +3,7 @@ ghost use Rattle.std.specs.Prelude.{◌≡◌, ◌+◌, ◌-◌, ◌++◌, IfOk,
 ghost use Rattle.s360_store.specs.Spans.{byte_places};
 ghost use Rattle.s360_machine.specs.Machine.{seen};
 ghost use Rattle.s360_inquiry.specs.Extents.{extent_name, extent_of, extent_words, extents_of, first_place, joined};
-ghost use Rattle.s360_inquiry.specs.Extents.{is_joined, places_of_extent, run_words_of, same_change, with_place};
+ghost use Rattle.s360_inquiry.specs.Extents.{is_joined, last_place, places_of_extent, run_words_of, same_change, with_place};
 
 use s360_journal::Session;
 use s360_language::{push_digits, push_place, push_value};
@@ -17,7 +17,7 @@ const BYTES_SHOWN: u64 = 16;
 
 /// Places that are told together.
 #[derive(Clone, Copy, PartialEq, Eq)]
-pub(crate) enum Extent {
+pub enum Extent {
     /// The bytes of storage from one address to another.
     Bytes { first: u32, last: u32 },
     /// A place that is no byte.
@@ -44,6 +44,16 @@ impl Extent {
     {
         match self {
             Extent::Bytes { first, .. } => Place::Byte(first),
+            Extent::Place(place) => place,
+        }
+    }
+
+    /// Its last place.
+    pub(crate) fn last(self) -> Place
+        ensures { result ≡ last_place self }
+    {
+        match self {
+            Extent::Bytes { last, .. } => Place::Byte(last),
             Extent::Place(place) => place,
         }
     }

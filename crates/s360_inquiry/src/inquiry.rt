@@ -1,4 +1,5 @@
 //! What is asked, one a line.
+use crate::extent::Extent;
 use s360_store::Place;
 use s360_word::Unit;
 
@@ -28,6 +29,8 @@ pub enum Inquiry {
     Goto(Mark),
     /// `changes`: the last changes of a place, so many at most.
     Changes { place: Place, most: u32 },
+    /// `stores`: the last stores into places, so many at most, also where the value stayed.
+    Stores { extent: Extent, most: u32 },
     /// `history`: the last changes of any place, so many at most.
     History { most: u32 },
     /// `visits`: the last events that executed what is at an address, so many at most.

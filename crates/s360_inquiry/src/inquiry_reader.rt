@@ -2,10 +2,12 @@
 ghost use Rattle.std.specs.Prelude.{◌≡◌};
 ghost use Rattle.std.specs.Option.{option_map};
 ghost use Rattle.s360_language.specs.Digits.{count_of};
-ghost use Rattle.s360_language.specs.Lines.{makes, named, part, two};
+ghost use Rattle.s360_language.specs.Lines.{makes, may_take, named, part, two};
 ghost use Rattle.s360_language.specs.Reading.{address, most_count, places};
-ghost use Rattle.s360_inquiry.specs.Reading.{inquiries, inquiry_of, item_or, mark_of, most_dumped};
+ghost use Rattle.s360_inquiry.specs.Reading.{bytes_between, bytes_of, changes_told, extent_then, inquiries, inquiry_of, item_or};
+ghost use Rattle.s360_inquiry.specs.Reading.{mark_of, most_dumped, most_told};
 
+use crate::extent::Extent;
 use crate::inquiry::{Inquiry, Mark};
 use crate::why::MOST_DEPTH;
 use s360_language::{
@@ -44,6 +46,7 @@ fn read_words(mut words: Words<'_>) -> Result<Inquiry, LineFault>
         "why" (place: [next_place], depth: count_in(MOST_DEPTH) or DEPTH) => Inquiry::Why { place, depth };
         "goto" (mark: mark_in) => Inquiry::Goto(mark);
         "changes" (place: [next_place], most: count_in(MOST_COUNT) or CHANGES) => Inquiry::Changes { place, most };
+        "stores" [read_stores(words)];
         "history" (most: count_in(MOST_COUNT) or CHANGES) => Inquiry::History { most };
         "visits" (at: address_in, most: count_in(MOST_TOLD) or CHANGES) => Inquiry::Visits { at, most };
         "jumps" (most: count_in(MOST_TOLD) or CHANGES) => Inquiry::Jumps { most };
@@ -62,6 +65,43 @@ fn read_who(mut words: Words<'_>) -> Result<Inquiry, LineFault>
         return read_arguments! { words, 2, finish, (unit: unit_in, number: count_in(MOST_COUNT)) => Inquiry::WhoItem { unit, number } };
     }
     read_arguments! { words, 1, finish, (place: [next_place]) => Inquiry::Who(place) }
+}
+
+/// `stores`, of bytes of storage or of another place.
+fn read_stores(mut words: Words<'_>) -> Result<Inquiry, LineFault>
+    ensures { result ≡ extent_then (λ extent. may_take (count_of most_told) changes_told (λ most. makes (Inquiry.Stores extent most))) 1 words.entry }
+{
+    if takes_word(&mut words, "s") {
+        return read_arguments! { words, 2, finish, (extent: bytes_in, most: count_in(MOST_TOLD) or CHANGES) => Inquiry::Stores { extent, most } };
+    }
+    read_arguments! { words, 1, finish, (place: [next_place], most: count_in(MOST_TOLD) or CHANGES) => Inquiry::Stores { extent: Extent::of(place), most } }
+}
+
+/// The bytes of a word: of one address, or from one to another, as `388` or `388-38B`.
+fn bytes_in(word: &[u8]) -> Option<Extent>
+    ensures { result ≡ bytes_of word.now }
+{
+    match word.iter().position(|byte| *byte == b'-') {
+        Some(dash) => {
+            let (first, behind) = word.split_at(dash);
+            bytes_between(address_in(first)?, address_in(&behind[1..])?)
+        }
+        None => {
+            let at = address_in(word)?;
+            bytes_between(at, at)
+        }
+    }
+}
+
+/// The bytes from one address to another that is not lower.
+fn bytes_between(first: u32, last: u32) -> Option<Extent>
+    ensures { result ≡ bytes_between first last }
+{
+    if first <= last {
+        Some(Extent::Bytes { first, last })
+    } else {
+        None
+    }
 }
 
 /// `dump`, of an item or of storage.

@@ -23,10 +23,12 @@ mod mnemonic;
 mod place_set;
 mod search;
 mod situation;
+mod storing;
 mod unit;
 mod visit;
 mod why;
 
 pub use answering::answer_inquiry;
+pub use extent::Extent;
 pub use inquiry::{Inquiry, Mark};
 pub use inquiry_reader::read_inquiry;

@@ -7,8 +7,10 @@ ghost use Rattle.s360_inquiry.specs.Searches.{IsLastFrom, numbers_up_to};
 ghost use Rattle.s360_inquiry.specs.Sought.{is_sought};
 
 use crate::code_setting::sets_code;
+use crate::extent::Extent;
 use crate::interruption::is_interruption;
 use crate::jump::jump_of;
+use crate::storing::span_stored;
 use crate::visit::is_visit;
 use s360_journal::Session;
 use std::alloc::{AllocError, Global};
@@ -24,6 +26,8 @@ pub(crate) enum Sought {
     CodeSettings,
     /// Interruptions.
     Interruptions,
+    /// Those whose events store into an extent.
+    Stores(Extent),
 }
 
 /// Takes the last change back, and answers whether it is sought.
@@ -45,6 +49,10 @@ fn take_back(alloc: Global, recording: &mut Session, sought: Sought) -> Result<b
             Err(error) => Err(error),
         },
         Sought::CodeSettings => sets_code(alloc, recording.machine(), after, kind),
+        Sought::Stores(extent) => match span_stored(alloc, recording, extent) {
+            Ok(span) => Ok(span.is_some()),
+            Err(error) => Err(error),
+        },
     }
 }
 
