@@ -1,5 +1,6 @@
 pub mod InquiryLemmas
 pub mod ItemLemmas
+pub mod StoreLemmas
 pub mod ExecutedLemmas
 pub mod CallLemmas
 pub mod SearchLemmas

@@ -148,7 +148,10 @@ fn push_store(
     push_event_of(text, number, recording.machine(), kind)?;
     text.push_text("\n")?;
     match span_stored(alloc, recording, extent)? {
-        Some(span) => push_span(alloc, text, recording, number, span),
+        Some(span) => {
+            push_span(alloc, text, recording, number, span)?;
+            Ok(())
+        }
         None => Ok(()),
     }
 }
