@@ -27,8 +27,8 @@ stores $r3 1
 # what was made of them since: nothing yet of COUNT, and of the first blank a moment later a line of them
 readers COUNT
 goto 26
-readers LINE
-uses LINE 1
+readers LINE+0
+uses LINE+0 1
 readers $r3
 goto 25
 who k 0
