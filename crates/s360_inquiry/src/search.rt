@@ -3,8 +3,8 @@ ghost use Rattle.std.specs.Prelude.{◌≡◌, ◌≤◌, ◌<◌, ◌+◌, IfOk
 ghost use Rattle.s360_journal.specs.Recorded.{with_standing};
 ghost use Rattle.s360_journal.specs.Returning.{one_back};
 ghost use Rattle.s360_inquiry.specs.Changes.{last_of};
-ghost use Rattle.s360_inquiry.specs.Searches.{IsLastFrom, numbers_since};
-ghost use Rattle.s360_inquiry.specs.Sought.{ends, is_sought};
+ghost use Rattle.s360_inquiry.specs.Searches.{IsLastFrom};
+ghost use Rattle.s360_inquiry.specs.Sought.{ends, is_sought, numbers_sought};
 
 use crate::code_setting::sets_code;
 use crate::extent::Extent;
@@ -89,7 +89,7 @@ pub(crate) fn last_numbers(
     sought: Sought,
     most: usize,
 ) -> Result<Vec<u32>, AllocError>
-    ensures numbers { IfOk result (λ numbers. numbers.items ≡ last_of most (numbers_since (ends sought recording.old) (is_sought sought recording.old) recording.old.standing)) }
+    ensures numbers { IfOk result (λ numbers. numbers.items ≡ last_of most (numbers_sought sought recording.old)) }
     ensures state { recording.new ≡ with_standing recording.old recording.new.standing }
 {
     let mut found = Vec::new(alloc);
