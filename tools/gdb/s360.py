@@ -15,8 +15,9 @@ gdb.execute(f"source {FOLDER / 's360.gdb'}")
 from s360_command import Command, refuse  # noqa: E402
 from s360_machine import machine, show, standing, told  # noqa: E402
 from s360_over import Out, Over, ReverseOut, ReverseOver  # noqa: E402
-from s360_places import MONITOR_ITEM, Change, bytes_of, changes_of, places_of, places_of_value, show_change, with_count  # noqa: E402
-from s360_printed import MOST_CHANGES, print_of  # noqa: E402
+from s360_places import MONITOR_ITEM, MOST_TOLD, Change, bytes_of, changes_of, count_of, extent_of  # noqa: E402
+from s360_places import places_of, places_of_value, show_change, with_count  # noqa: E402
+from s360_printed import print_of  # noqa: E402
 
 DUMPED, FOLLOWED, TOLD = 64, 5, 10
 UNITS = ("00C", "00D", "00E", "01F", "180", "181")
@@ -85,15 +86,18 @@ class Changes(Command):
     """Tell the last changes of a place, the oldest first.
 Usage: changes EXPRESSION [COUNT]
 
-Ten, or as many as told."""
+Ten, or as many as told; of more than a thousand the last ones."""
 
     def carry_out(self, words: str) -> None:
         expression, count = with_count(words)
-        found = changes_of(places_of(expression), TOLD if count is None else count)
+        places = places_of(expression)
+        found = changes_of(places, TOLD if count is None else count)
         for change in found:
             show_change(change)
         if not found:
             gdb.write("changes none\n")
+        elif len(found) == MOST_TOLD != count and count_of(places) > MOST_TOLD:
+            gdb.write("and more\n")
 
 
 class Stores(Command):
@@ -104,9 +108,21 @@ Ten, or as many as told. Between the values stands = where they are the same."""
 
     def carry_out(self, words: str) -> None:
         expression, count = with_count(words)
-        first, *_, last = (places := places_of(expression)) * 2
-        place = first if len(places) == 1 else f"{first}-{last.partition(' ')[2]}"
-        show(told(f"stores {place} {TOLD if count is None else count}"))
+        line = type(self).__name__.lower()
+        show(told(f"{line} {extent_of(places_of(expression))} {TOLD if count is None else count}"))
+
+
+class Readers(Stores):
+    """Tell the last events that read a place since the last store there, the oldest first.
+Usage: readers EXPRESSION [COUNT]
+
+Ten, or as many as told: each with what it made of the place, or that the place decided
+what it does."""
+
+
+class Uses(Readers):
+    """Tell the last events that read a place since the last store there, as `readers` does.
+Usage: uses EXPRESSION [COUNT]"""
 
 
 class History(Command):
@@ -339,7 +355,7 @@ class ChangesOf(gdb.Function):
             places = places_of_value(value)
         else:
             raise gdb.GdbError('A register is named in quotes: $_changes("$r5").')
-        return len(changes_of(places, MOST_CHANGES))
+        return count_of(places)
 
 
 def keep_count(_event: gdb.Event | None = None) -> None:
@@ -354,7 +370,7 @@ def count_in_condition(point: gdb.Breakpoint) -> None:
         point.condition = COUNT.sub("$_changes()", point.condition)
 
 
-for command in (Who, Why, Changes, Stores, History, Visits, Jumps, Calls, Dump, Units):
+for command in (Who, Why, Changes, Stores, Readers, Uses, History, Visits, Jumps, Calls, Dump, Units):
     command()
 for command in (Key, Load, Enter, Tick, Withdraw, Marks, Mark, Goto, Over, ReverseOver, Out, ReverseOut):
     command()

@@ -1,6 +1,7 @@
 pub mod InquiryLemmas
 pub mod ItemLemmas
 pub mod StoreLemmas
+pub mod ReaderLemmas
 pub mod ExecutedLemmas
 pub mod CallLemmas
 pub mod SearchLemmas

@@ -8,11 +8,12 @@ use Rattle.s360_language.specs.Digits.{count_of}
 use Rattle.s360_language.specs.Lines.{Form, Line, if_known, if_word, judged, line, makes, may_take, one, one_of, part, takes, two}
 use Rattle.s360_language.specs.Reading.{address, most_count, places, unit}
 use Rattle.s360_inquiry.specs.Causes.{most_depth}
+use Rattle.s360_inquiry.specs.Changes.{most_told}
 use Rattle.s360_inquiry.specs.Extents.{extent_of}
 use Rattle.s360_inquiry.specs.declared.extent.Extent.{Extent}
 use Rattle.s360_inquiry.specs.declared.extent.Extent.TheVariants.{Bytes}
 use Rattle.s360_inquiry.specs.declared.inquiry.Inquiry.{Inquiry}
-use Rattle.s360_inquiry.specs.declared.inquiry.Inquiry.TheVariants.{Who, WhoItem, Why, Goto, Changes, Stores, History, Visits, Jumps, Calls}
+use Rattle.s360_inquiry.specs.declared.inquiry.Inquiry.TheVariants.{Who, WhoItem, Why, Goto, Changes, Stores, Readers, Count, History, Visits, Jumps, Calls}
 use Rattle.s360_inquiry.specs.declared.inquiry.Inquiry.TheVariants.{Dump, DumpItem, Units, Where}
 use Rattle.s360_inquiry.specs.declared.inquiry.Mark.{Mark}
 use Rattle.s360_inquiry.specs.declared.inquiry.Mark.TheVariants.{Change, Start, End, Last}
@@ -20,12 +21,9 @@ use Rattle.s360_inquiry.specs.declared.inquiry.Mark.TheVariants.{Change, Start, 
 abbrev pub Asked : Type 0
 Asked = Result Inquiry LineFault
 
--- so many changes are told where no number is given; so many visits and jumps at most; and so many bytes has the greatest storage
+-- so many changes are told where no number is given; and so many bytes has the greatest storage
 abbrev pub changes_told : ℕ
 changes_told = 10
-
-abbrev pub most_told : ℕ
-most_told = 1000
 
 abbrev pub most_dumped : ℕ
 most_dumped = 1048576
@@ -67,6 +65,9 @@ inquiries =
     line (codes "goto") (one mark_of (λ mark. Goto mark)) ∷
     line (codes "changes") (part places (λ place. may_take (count_of most_count) changes_told (λ most. makes (Changes place most)))) ∷
     line (codes "stores") (extent_then (λ extent. may_take (count_of most_told) changes_told (λ most. makes (Stores extent most)))) ∷
+    line (codes "readers") (extent_then (λ extent. may_take (count_of most_told) changes_told (λ most. makes (Readers extent most)))) ∷
+    line (codes "uses") (extent_then (λ extent. may_take (count_of most_told) changes_told (λ most. makes (Readers extent most)))) ∷
+    line (codes "count") (extent_then (λ extent. makes (Count extent))) ∷
     line (codes "history") (may_take (count_of most_count) changes_told (λ most. makes (History most))) ∷
     line (codes "visits") (takes address (λ at. may_take (count_of most_told) changes_told (λ most. makes (Visits at most)))) ∷
     line (codes "jumps") (may_take (count_of most_told) changes_told (λ most. makes (Jumps most))) ∷

@@ -5,8 +5,10 @@ ghost use Rattle.s360_language.specs.Digits.{count_of};
 ghost use Rattle.s360_language.specs.Lines.{makes, may_take, named, part, two};
 ghost use Rattle.s360_language.specs.Reading.{address, most_count, places};
 ghost use Rattle.s360_inquiry.specs.Reading.{bytes_between, bytes_of, changes_told, extent_then, inquiries, inquiry_of, item_or};
-ghost use Rattle.s360_inquiry.specs.Reading.{mark_of, most_dumped, most_told};
+ghost use Rattle.s360_inquiry.specs.Changes.{most_told};
+ghost use Rattle.s360_inquiry.specs.Reading.{mark_of, most_dumped};
 
+use crate::change::MOST_TOLD;
 use crate::extent::Extent;
 use crate::inquiry::{Inquiry, Mark};
 use crate::why::MOST_DEPTH;
@@ -18,9 +20,6 @@ use s360_store::GREATEST_SIZE;
 
 /// So many changes are told where no number is given.
 const CHANGES: u32 = 10;
-
-/// So many visits and jumps are told at most.
-const MOST_TOLD: u32 = 1000;
 
 /// So deep is a chain of causes followed where no depth is given.
 const DEPTH: u32 = 5;
@@ -47,6 +46,9 @@ fn read_words(mut words: Words<'_>) -> Result<Inquiry, LineFault>
         "goto" (mark: mark_in) => Inquiry::Goto(mark);
         "changes" (place: [next_place], most: count_in(MOST_COUNT) or CHANGES) => Inquiry::Changes { place, most };
         "stores" [read_stores(words)];
+        "readers" [read_readers(words)];
+        "uses" [read_readers(words)];
+        "count" [read_count(words)];
         "history" (most: count_in(MOST_COUNT) or CHANGES) => Inquiry::History { most };
         "visits" (at: address_in, most: count_in(MOST_TOLD) or CHANGES) => Inquiry::Visits { at, most };
         "jumps" (most: count_in(MOST_TOLD) or CHANGES) => Inquiry::Jumps { most };
@@ -75,6 +77,26 @@ fn read_stores(mut words: Words<'_>) -> Result<Inquiry, LineFault>
         return read_arguments! { words, 2, finish, (extent: bytes_in, most: count_in(MOST_TOLD) or CHANGES) => Inquiry::Stores { extent, most } };
     }
     read_arguments! { words, 1, finish, (place: [next_place], most: count_in(MOST_TOLD) or CHANGES) => Inquiry::Stores { extent: Extent::of(place), most } }
+}
+
+/// `readers`, of bytes of storage or of another place.
+fn read_readers(mut words: Words<'_>) -> Result<Inquiry, LineFault>
+    ensures { result ≡ extent_then (λ extent. may_take (count_of most_told) changes_told (λ most. makes (Inquiry.Readers extent most))) 1 words.entry }
+{
+    if takes_word(&mut words, "s") {
+        return read_arguments! { words, 2, finish, (extent: bytes_in, most: count_in(MOST_TOLD) or CHANGES) => Inquiry::Readers { extent, most } };
+    }
+    read_arguments! { words, 1, finish, (place: [next_place], most: count_in(MOST_TOLD) or CHANGES) => Inquiry::Readers { extent: Extent::of(place), most } }
+}
+
+/// `count`, of bytes of storage or of another place.
+fn read_count(mut words: Words<'_>) -> Result<Inquiry, LineFault>
+    ensures { result ≡ extent_then (λ extent. makes (Inquiry.Count extent)) 1 words.entry }
+{
+    if takes_word(&mut words, "s") {
+        return read_arguments! { words, 2, finish, (extent: bytes_in) => Inquiry::Count(extent) };
+    }
+    read_arguments! { words, 1, finish, (place: [next_place]) => Inquiry::Count(Extent::of(place)) }
 }
 
 /// The bytes of a word: of one address, or from one to another, as `388` or `388-38B`.
