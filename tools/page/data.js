@@ -48,7 +48,7 @@ class Run {
     }
     this.storesAt = positionsOf(this.place, this.places.length);
     this.parsed = new Map();
-    this.statementAt = new Map(this.source.statements.map(([address, line, text]) => [address, { line, text }]));
+    this.statementAt = new Map(this.program.statements.map(([address, line, text]) => [address, { line, text }]));
     this.runsAt = new Map(this.runs);
     this.makeExecutions();
   }
@@ -105,7 +105,7 @@ class Run {
 
   // The places that a store was made of: kinds of places, and of bytes the first and the last address.
   sourcesOf(store) {
-    const number = this.source_[store];
+    const number = this.source[store];
     if (!this.parsed.has(number)) this.parsed.set(number, extents(this.sources[number]));
     return this.parsed.get(number);
   }
@@ -114,7 +114,7 @@ class Run {
   readersOf(place) {
     const has = Uint8Array.from(this.sources, (text) => (holds(extents(text), place) ? 1 : 0));
     const found = [];
-    for (let store = 0; store < this.source_.length; store++) if (has[this.source_[store]]) found.push(store);
+    for (let store = 0; store < this.source.length; store++) if (has[this.source[store]]) found.push(store);
     return found;
   }
 

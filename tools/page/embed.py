@@ -51,7 +51,7 @@ def data_of(run):
         "lanes": run.lanes,
         "runs": sorted(trace.runs.items()),
         "labels": symbols.labels,
-        "source": {"file": symbols.file, "lines": symbols.lines, "statements": symbols.statements},
+        "program": {"file": symbols.file, "lines": symbols.lines, "statements": symbols.statements},
         "paper": run.paper,
         "holes": HOLES,
         "signs": signs(),
