@@ -1,6 +1,6 @@
-// Causes: the chain of what is chosen as a graph. Each event stands once; what it was made of is to the right of it.
+// Causes: the chain of what is chosen as a graph. Each event stands once; what it was made of is below it.
 
-const NODE = { width: 216, height: 66, across: 44, down: 12, margin: 10, most: 150 };
+const NODE = { width: 232, height: 66, across: 14, down: 26, margin: 10, most: 150 };
 
 class CausesView {
   constructor(run, state) {
@@ -40,13 +40,13 @@ class CausesView {
   }
 
   graph(shown) {
-    const rows = [], at = new Map();
+    const layers = [], at = new Map();
     for (const cause of shown) {
-      const row = (rows[cause.layer] = (rows[cause.layer] ?? 0) + 1) - 1;
-      at.set(cause.moment, { x: NODE.margin + cause.layer * (NODE.width + NODE.across), y: NODE.margin + row * (NODE.height + NODE.down) });
+      const column = (layers[cause.layer] = (layers[cause.layer] ?? 0) + 1) - 1;
+      at.set(cause.moment, { x: NODE.margin + column * (NODE.width + NODE.across), y: NODE.margin + cause.layer * (NODE.height + NODE.down) });
     }
-    const width = NODE.margin * 2 + rows.length * (NODE.width + NODE.across) - NODE.across;
-    const height = NODE.margin * 2 + Math.max(...rows.map((row) => row || 0)) * (NODE.height + NODE.down) - NODE.down;
+    const width = NODE.margin * 2 + Math.max(...layers.map((count) => count || 0)) * (NODE.width + NODE.across) - NODE.across;
+    const height = NODE.margin * 2 + layers.length * (NODE.height + NODE.down) - NODE.down;
     const svg = makeSvg("svg", { width, height, viewBox: `0 0 ${width} ${height}`, role: "group", "aria-label": "Causes" });
     for (const cause of shown) {
       for (const [moment, stores] of cause.below) if (at.has(moment)) svg.append(this.edge(at.get(cause.moment), at.get(moment), stores));
@@ -56,9 +56,9 @@ class CausesView {
   }
 
   edge(from, to, stores) {
-    const [x1, y1, x2, y2] = [from.x + NODE.width, from.y + NODE.height / 2, to.x, to.y + NODE.height / 2];
-    const bend = Math.max(24, (x2 - x1) / 2);
-    const path = makeSvg("path", { class: "edge", d: `M${x1} ${y1}C${x1 + bend} ${y1} ${x2 - bend} ${y2} ${x2} ${y2}` });
+    const [x1, y1, x2, y2] = [from.x + NODE.width / 2, from.y + NODE.height, to.x + NODE.width / 2, to.y];
+    const bend = NODE.down * 0.7;
+    const path = makeSvg("path", { class: "edge", d: `M${x1} ${y1}C${x1} ${y1 + bend} ${x2} ${y2 - bend} ${x2} ${y2}` });
     path.append(makeSvg("title", {}, runsOf(this.run, stores).map(nameOfRun).join(" ")));
     return path;
   }
@@ -70,7 +70,7 @@ class CausesView {
     group.dataset.moment = cause.moment;
     const texts = this.textsOf(cause);
     group.append(makeSvg("rect", { width: NODE.width, height: NODE.height, rx: 3 }), makeSvg("rect", { class: "actor", width: 4, height: NODE.height }));
-    texts.forEach(([kind, text], i) => group.append(makeSvg("text", { class: kind, x: 11, y: 15 + i * 15 }, short(text, 33))));
+    texts.forEach(([kind, text], i) => group.append(makeSvg("text", { class: kind, x: 11, y: 15 + i * 15 }, short(text, 31))));
     if (hasMore) group.append(makeSvg("text", { class: "more", x: NODE.width - 14, y: 15 }, "\u203a"));
     group.append(makeSvg("title", {}, texts.map(([, text]) => text).join("\n")));
     const store = [...cause.stores][0];

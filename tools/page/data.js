@@ -21,14 +21,14 @@ function lowerBound(sorted, value, key = (item) => item) {
   return low;
 }
 
-// Of each number the positions at which a column has it, in rising order.
+// Of each number the positions at which a column has it, in rising order: all of them, and where those of a number begin and end.
 function positionsOf(numbers, count) {
   const begins = new Uint32Array(count + 1);
   for (const number of numbers) begins[number + 1]++;
   for (let i = 0; i < count; i++) begins[i + 1] += begins[i];
   const order = new Uint32Array(numbers.length), next = begins.slice();
   for (let i = 0; i < numbers.length; i++) order[next[numbers[i]]++] = i;
-  return (number) => order.subarray(begins[number], begins[number + 1]);
+  return { order, spanAt: (number) => [begins[number], begins[number + 1]], at: (number) => order.subarray(begins[number], begins[number + 1]) };
 }
 
 const byteAt = (address) => `s${hex(address, 6)}`;
@@ -46,7 +46,7 @@ class Run {
     for (let moment = 0; moment < this.moments; moment++) {
       this.momentOfStore.fill(moment, this.begins[moment], this.begins[moment + 1]);
     }
-    this.storesAt = positionsOf(this.place, this.places.length);
+    ({ order: this.storeOrder, spanAt: this.spanAt, at: this.storesAt } = positionsOf(this.place, this.places.length));
     this.parsed = new Map();
     this.statementAt = new Map(this.program.statements.map(([address, line, text]) => [address, { line, text }]));
     this.runsAt = new Map(this.runs);
@@ -67,8 +67,8 @@ class Run {
       if (!numbers.has(address)) numbers.set(address, numbers.size);
       return numbers.get(address);
     });
-    const positions = positionsOf(numbered, numbers.size);
-    this.executions = (address) => (numbers.has(address + 1) ? positions(numbers.get(address + 1)) : []);
+    const { at } = positionsOf(numbered, numbers.size);
+    this.executions = (address) => (numbers.has(address + 1) ? at(numbers.get(address + 1)) : []);
   }
 
   // Numbers of events.

@@ -27,7 +27,7 @@ def packed(column):
     numbers = array(kind, column)
     if sys.byteorder == "big":
         numbers.byteswap()
-    return {"type": kind, "data": base64.b64encode(zlib.compress(numbers.tobytes(), 9)).decode()}
+    return {"type": kind, "data": base64.b64encode(zlib.compress(numbers.tobytes(), 6)).decode()}
 
 
 def signs():

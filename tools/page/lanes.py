@@ -11,11 +11,12 @@ from trace_file import CPU
 # Who causes events. Units have their lane each.
 ACTORS = ["CPU", "reader 00C", "punch 00D", "printer 00E", "console 01F", "tape 180", "tape 181", "operator"]
 OPERATOR = len(ACTORS) - 1
+FIRST_ROUTINE, LAST = len(ACTORS), 1 << 31
 CALLS = ("BAL", "BALR", "SVC", "LPSW")
 MOST_ROUTINES = 40
 # Two instructions with so many bytes between them are of two blocks.
 GAP = 16
-NO_INSTRUCTION = "waits, interrupted"
+NO_INSTRUCTION = "no instruction"
 
 
 def actor_of(kind):
@@ -47,28 +48,30 @@ def routines(trace, symbols):
     lengths, called = executed(trace)
     owners = {label[0]: label[1] for label in map(symbols.label, lengths) if label}
     if owners and len(owners) <= MOST_ROUTINES:
-        return owners, lengths
+        return owners
     starts, end = called, -GAP
     for address in sorted(lengths):
         if address >= end + GAP:
             starts.add(address)
         end = address + lengths[address]
-    return {start: symbols.named(start) or f"{start:06X}" for start in starts}, lengths
+    return {start: symbols.named(start) or f"{start:06X}" for start in starts}
 
 
 def of(trace, symbols):
-    """The lanes, each with its name and the number of its actor, and of each moment the number of its lane."""
-    named, _ = routines(trace, symbols)
+    """The lanes, each with its name and the number of its actor, and of each moment the number of its lane: first units and the
+    operator, then the routines, and last what is no instruction."""
+    named = routines(trace, symbols)
     starts = sorted(named)
-    lanes = [{"name": named[start], "actor": 0, "at": start} for start in starts]
-    others = {}
     actors = [actor_of(kind) for kind in trace.kinds]
-    numbers = array("I")
+    keys = array("I")
     for kind, address in zip(trace.kind, trace.address):
         actor = actors[kind]
         at = bisect.bisect_right(starts, address - 1) - 1 if actor == 0 and address else -1
-        numbers.append(at if at >= 0 else others.setdefault(actor, len(ACTORS) + actor) + len(starts))
-    order = sorted(others)
-    places = {len(ACTORS) + actor + len(starts): len(starts) + at for at, actor in enumerate(order)}
-    lanes += [{"name": ACTORS[actor] if actor else NO_INSTRUCTION, "actor": actor, "at": -1} for actor in order]
-    return lanes, array("I", (places.get(number, number) for number in numbers))
+        # Below the routines stand the numbers of the others.
+        keys.append(FIRST_ROUTINE + at if at >= 0 else actor or LAST)
+    order = sorted(set(keys))
+    numbers = {key: number for number, key in enumerate(order)}
+    names = {LAST: NO_INSTRUCTION, **dict(enumerate(ACTORS[1:], 1))}
+    names |= {FIRST_ROUTINE + at: named[start] for at, start in enumerate(starts)}
+    lanes = [{"name": names[key], "actor": key if key < FIRST_ROUTINE else 0} for key in order]
+    return lanes, array("I", map(numbers.__getitem__, keys))

@@ -156,6 +156,9 @@ class PaperView {
     for (const element of this.box.querySelectorAll(".printed, .card, .said pre, .block")) {
       if (element.made?.moment === state.moment) element.classList.add("here");
     }
+    const here = $(`.sheets:not([hidden]) .here`, this.box);
+    if (here && this.shown !== state.moment) scrollWithin(this.box, here);
+    this.shown = state.moment;
   }
 }
 

@@ -11,7 +11,7 @@ class SourceView {
     $("#file").textContent = file && lines.length ? file.split("/").at(-1) : "no listing: instructions as they ran";
     this.most = Math.max(1, ...run.runsAt.values());
     const rows = lines.length ? this.ofLines() : this.ofInstructions();
-    this.box.append(make("table", {}, make("thead", {}, headOf(["line", "ran", "", "made last"])), make("tbody", {}, ...rows)));
+    this.box.append(make("table", {}, make("thead", {}, headOf(["line", "ran", "at", "", "made last"])), make("tbody", {}, ...rows)));
   }
 
   ofLines() {
@@ -22,20 +22,21 @@ class SourceView {
 
   ofInstructions() {
     const addresses = [...this.run.runsAt.keys()].sort((a, b) => a - b);
-    if (!addresses.length) return [make("tr", {}, make("td", { colSpan: 4, className: "empty" }, "No instruction ran."))];
+    if (!addresses.length) return [make("tr", {}, make("td", { colSpan: 5, className: "empty" }, "No instruction ran."))];
     return addresses.map((address) => {
       const moments = this.run.executions(address);
-      return this.row(hex(address, 6), moments.length ? this.run.doing(moments[0]) : "", [address]);
+      return this.row("", moments.length ? this.run.doing(moments[0]) : "", [address]);
     });
   }
 
   row(number, text, addresses) {
     const ran = Math.max(0, ...addresses.map((address) => this.run.runsAt.get(address) ?? 0));
     const bar = make("i", { className: "bar", style: `width:${ran ? Math.max(3, (100 * Math.log1p(ran)) / Math.log1p(this.most)) : 0}%` });
-    const cells = [number, ran ? String(ran) : "", text, ""].map((cell) => make("td", {}, cell));
+    const at = addresses.length ? hex(Math.min(...addresses), 6) : "";
+    const cells = [number, ran ? String(ran) : "", at, text, ""].map((cell) => make("td", {}, cell));
     cells[1].append(bar);
     const row = make("tr", { className: addresses.length ? (ran ? "ran" : "idle") : "note" }, ...cells);
-    addresses.forEach((address) => this.rows.set(address, { row, made: cells[3] }));
+    addresses.forEach((address) => this.rows.set(address, { row, made: cells[4], last: -1 }));
     if (ran) row.onclick = () => this.goToNext(addresses[0]);
     return row;
   }
@@ -50,13 +51,14 @@ class SourceView {
 
   follow(state) {
     const { run } = this;
-    for (const [address, { row, made }] of this.rows) {
+    for (const [address, line] of this.rows) {
       const moments = run.executions(address);
-      const behind = lowerBound(moments, state.moment + 1);
-      made.textContent = behind ? madeBy(run, moments[behind - 1]) : "";
-      row.classList.remove("now");
+      const behind = lowerBound(moments, state.moment + 1), last = behind ? moments[behind - 1] : -1;
+      if (last !== line.last) line.made.textContent = last < 0 ? "" : madeBy(run, last);
+      line.last = last;
     }
-    const now = this.rows.get(run.address[state.moment] - 1);
+    this.now?.row.classList.remove("now");
+    const now = (this.now = this.rows.get(run.address[state.moment] - 1));
     if (!now) return;
     now.row.classList.add("now");
     scrollWithin(this.box, now.row);

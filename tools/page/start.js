@@ -9,6 +9,7 @@ async function start() {
   tellSummary(run);
   listenToKeys(state);
   $("#go").addEventListener("submit", (event) => { event.preventDefault(); goTo(state, $("#wanted").value); });
+  for (const button of document.querySelectorAll(".enlarge")) button.onclick = () => button.closest(".pane").classList.toggle("large");
   addEventListener("beforeprint", () => views.paper.openAll());
   if (!goTo(state, decodeURIComponent(location.hash.slice(1)))) state.tell();
   return { run, state, views, goTo: (text) => goTo(state, text) };

@@ -58,7 +58,7 @@ class State {
   move(from, span = this.to - this.from) {
     this.from = Math.max(0, Math.min(from, this.run.moments - span));
     this.to = this.from + span;
-    this.tell();
+    for (const view of this.views) view.followSpan?.();
   }
 
   tell() {

@@ -1,7 +1,7 @@
 // Storage over time: a row for each byte into which some event stored, over the events. A byte has the colour of the one who
 // stored it, pale as long as it stands. Below it is the chosen cell: its bytes, stores and readers.
 
-const MOST_LISTED = 100, DUMPED = 64, ROW = 12, TINT = 0.35;
+const MOST_LISTED = 40, DUMPED = 64, ROW = 12, TINT = 0.35;
 
 class StorageView {
   constructor(run, state) {
@@ -11,6 +11,8 @@ class StorageView {
     this.names = $("#storage .names");
     this.raster = new Raster($("canvas", this.plot));
     this.bytes = run.places.map((place, number) => [place, number]).filter(([place]) => isByte(place)).sort();
+    this.momentsAt = (number) => this.moments.subarray(...this.run.spanAt(number));
+    this.moments = run.storeOrder.map((store) => run.momentOfStore[store]);
     this.actors = Uint8Array.from(run.kind, (kind) => run.actorOfKind[kind]);
     this.makeAreas();
     this.makeLegend();
@@ -48,10 +50,14 @@ class StorageView {
     if (row) this.state.choose({ place: row[0], moment });
   }
 
-  follow(state) {
-    this.draw();
-    placeCursor(state, $(".cursor", this.plot));
+  follow() {
+    this.followSpan();
     this.showCell();
+  }
+
+  followSpan() {
+    this.draw();
+    placeCursor(this.state, $(".cursor", this.plot));
   }
 
   draw() {
@@ -62,9 +68,17 @@ class StorageView {
     const scale = raster.width / (state.to - state.from), high = raster.height / rows.length;
     const strong = this.run.actors.map((_, actor) => pixel(colour(`actor${actor}`)));
     const pale = this.run.actors.map((_, actor) => pixel(colour(`actor${actor}`), TINT));
+    let top = 0;
+    const line = new Uint32Array(raster.width);
     rows.forEach(([, number], row) => {
-      const top = Math.floor(row * high), bottom = Math.max(top + 1, Math.floor((row + 1) * high) - (high >= 6 ? 1 : 0));
-      this.drawRow(this.run.storesAt(number), top, bottom, scale, strong, pale);
+      this.drawRow(this.momentsAt(number), line, scale, strong, pale);
+      // Rows that share a pixel are drawn over one another.
+      const bottom = Math.floor((row + 1) * high);
+      if (bottom === top && row + 1 < rows.length) return;
+      const last = Math.max(top + 1, bottom - (high >= 6 ? 1 : 0));
+      for (let y = top; y < Math.min(last, raster.height); y++) raster.pixels.set(line, y * raster.width);
+      line.fill(0);
+      top = bottom;
     });
     this.markChosen(rows, high);
     raster.end();
@@ -72,18 +86,18 @@ class StorageView {
     this.milliseconds = performance.now() - began;
   }
 
-  drawRow(stores, top, bottom, scale, strong, pale) {
-    const { run, state, raster, actors } = this, moments = run.momentOfStore;
-    const first = Math.max(0, lowerBound(stores, Math.floor(state.from), (store) => moments[store]) - 1);
-    const end = lowerBound(stores, state.to, (store) => moments[store]);
+  // The pixels of a row: each store strong, and pale until the next one.
+  drawRow(moments, line, scale, strong, pale) {
+    const { state: { from, to }, actors } = this, width = line.length;
+    const first = Math.max(0, lowerBound(moments, Math.floor(from)) - 1), end = lowerBound(moments, to);
+    const wide = Math.max(1, Math.floor(scale));
     for (let at = first; at < end; at++) {
-      const moment = moments[stores[at]];
-      const x = Math.floor((moment - state.from) * scale);
-      const next = at + 1 < stores.length ? Math.floor((moments[stores[at + 1]] - state.from) * scale) : raster.width;
-      if (next <= x || next < 0) continue;
-      const mark = Math.min(next, x + Math.max(1, Math.floor(scale)));
-      raster.fill(mark, next, top, bottom, pale[actors[moment]]);
-      raster.fill(x, mark, top, bottom, strong[actors[moment]]);
+      const moment = moments[at], x = Math.max(0, Math.floor((moment - from) * scale));
+      const next = at + 1 < end ? Math.floor((moments[at + 1] - from) * scale) : width;
+      if (next <= x) continue;
+      const actor = actors[moment], mark = moment < from ? x : Math.min(next, x + wide);
+      for (let i = x; i < mark; i++) line[i] = strong[actor];
+      for (let i = mark; i < next; i++) line[i] = pale[actor];
     }
   }
 

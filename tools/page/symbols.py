@@ -4,7 +4,7 @@ import pathlib
 
 import elf
 from common import Fault, contents_of
-from listing import Unreadable, statements
+from listing import Unreadable, form_of, statements
 from listing_symbols import labels_of, placed
 
 
@@ -51,8 +51,16 @@ def of_listing(name, contents, columns):
         raise Fault(f"{name}: no statement of this listing has a location: give another file as --symbols")
     labels = [(label.address, label.name, label.size, label.element is None) for label in labels_of(found)]
     told = [(s.location, s.line, f"{s.operation} {s.operands}".strip()) for s in found if s.code or s.operation == "DS"]
-    lines = [line.rstrip("\r").replace("\f", "") for line in text.split("\n")]
-    return Symbols(name, lines, labels, told)
+    return Symbols(name, sources_of(text, columns), labels, told)
+
+
+def sources_of(text, columns):
+    """Of each line of a listing what stands in the columns of its source; all of a line that has none."""
+    lines = [line.rstrip("\r").replace("\f", "") for line in text.removesuffix("\n").split("\n")]
+    form = form_of([line.rstrip() for line in lines], columns)
+    longest = max(map(len, lines), default=0)
+    found = [form.match(line.ljust(longest + 1)) for line in lines]
+    return [match["source"].rstrip() if match else line.rstrip() for line, match in zip(lines, found)]
 
 
 def of_elf(name, contents):
@@ -67,7 +75,7 @@ def of_elf(name, contents):
     found = [path for path in (pathlib.Path(file), pathlib.Path(name).parent / pathlib.Path(file).name) if path.is_file()]
     if not found:
         return Symbols(name, (), labels)
-    lines = found[0].read_text(errors="replace").split("\n")
+    lines = found[0].read_text(errors="replace").removesuffix("\n").split("\n")
     told = [(address, line, lines[line - 1].strip()) for address, line in files[file] if line <= len(lines)]
     return Symbols(str(found[0]), lines, labels, told)
 

@@ -1,6 +1,6 @@
 // Time: a lane for each routine and unit over the events, and one with the stores into the chosen place.
 
-const LANE = 15, AXIS = 18;
+const LANE = 13, AXIS = 18;
 
 class TimeView {
   constructor(run, state) {
@@ -31,10 +31,17 @@ class TimeView {
     state.choose({ moment: behind < 0 ? first : behind });
   }
 
-  follow(state) {
-    const { run } = this;
+  followSpan() {
+    const { run, state } = this;
     this.draw();
     placeCursor(state, $(".cursor", this.plot));
+    const [first, last] = [run.number[Math.floor(state.from)], run.number[Math.ceil(state.to) - 1]];
+    $("#span").textContent = `events ${first} to ${last}`;
+  }
+
+  follow(state) {
+    const { run } = this;
+    this.followSpan();
     this.chosen.textContent = state.place ? `stores: ${run.placeName(state.place)}` : "no place chosen";
     [...this.names.children].slice(1).forEach((name, lane) => name.classList.toggle("now", run.lane[state.moment] === lane));
     const number = run.number[state.moment];
@@ -42,8 +49,6 @@ class TimeView {
     this.plot.ariaValueMin = run.first;
     this.plot.ariaValueMax = run.first + run.events - 1;
     this.plot.ariaValueText = `event ${number}, ${run.where(state.moment)}`;
-    const [first, last] = [run.number[Math.floor(state.from)], run.number[Math.ceil(state.to) - 1]];
-    $("#span").textContent = `events ${first} to ${last}`;
   }
 
   draw() {
@@ -71,7 +76,7 @@ class TimeView {
       for (let at = Math.max(x, 0); at < last; at++) counts[row + at]++;
     }
     const shades = run.lanes.map((lane) => shadesOf(colour(`actor${lane.actor}`)));
-    const high = Math.round((LANE - 3) * raster.ratio), full = Math.max(1, 0.6 / scale);
+    const high = Math.round((LANE - 2) * raster.ratio), full = Math.max(1, 0.6 / scale);
     for (let lane = 0; lane < run.lanes.length; lane++) {
       const top = Math.round((lane + 1) * LANE * raster.ratio) + 1;
       for (let x = 0; x < width; x++) {
@@ -87,7 +92,7 @@ class TimeView {
     const value = pixel(colour("accent")), wide = Math.max(Math.ceil(raster.ratio), Math.floor(scale));
     for (const store of run.storesOf(state.place)) {
       const x = Math.floor((run.momentOfStore[store] - state.from) * scale);
-      raster.fill(x, x + wide, 1, Math.round((LANE - 3) * raster.ratio), value);
+      raster.fill(x, x + wide, 1, Math.round((LANE - 2) * raster.ratio), value);
     }
   }
 

@@ -11,6 +11,9 @@ from common import Fault
 
 HEADER = "number,event,address,instruction,mnemonic,place,before,after,sources"
 FIELDS = HEADER.count(",") + 1
+STORE = ("place", "before", "after", "sources")
+NO_STORE = ["", "", "", "\n"]
+LONGEST_LINE = 1 << 20
 MOST_MOMENTS = 200_000
 PLACE = r"(?:p|r[0-9A-F]|s[0-9A-F]{6}|k[0-9A-F]{6}|run|ext|[ud][0-9A-F]{3})"
 SOURCE = rf"(?:s[0-9A-F]{{6}}-[0-9A-F]{{6}}|{PLACE})"
@@ -77,7 +80,7 @@ class Trace:
             self.place.append(self.places[place])
             self.before.append(self.values[before])
             self.after.append(self.values[after])
-            self.source.append(self.sources[sources])
+            self.source.append(self.sources[sources[:-1]])
         self.begins.append(len(self.place))
 
 
@@ -93,17 +96,18 @@ def lines_of(name):
 
 
 def span_of(name):
-    """The number of the first event, and how many there are."""
-    first = last = None
-    for number, line in lines_of(name):
-        digits = line.partition(",")[0]
-        if not digits.isdecimal():
-            raise Fault(f"{name}: line {number}: it begins with no number: save the trace again")
-        last = int(digits)
-        first = last if first is None else first
-    if first is None:
+    """The number of the first event, and how many there are, by the first and the last line."""
+    for _, first in lines_of(name):
+        break
+    else:
         raise Fault(f"{name}: line 1: no event follows: run something before you save the trace")
-    return first, last - first + 1
+    with open(name, "rb") as file:
+        file.seek(max(0, file.seek(0, 2) - LONGEST_LINE))
+        last = file.read().decode("ascii", "replace").rstrip("\n").rpartition("\n")[2]
+    numbers = [line.partition(",")[0] for line in (first, last)]
+    # What is wrong with a line is found when it is read.
+    first, last = (int(digits) if digits.isdecimal() else 1 for digits in numbers)
+    return first, max(last - first, 0) + 1
 
 
 def read(name):
@@ -113,10 +117,11 @@ def read(name):
     number = 1
     try:
         for number, line in lines_of(name):
-            reading.take(fields_of(line))
+            reading.take(line)
         reading.end()
     except ValueError as fault:
         raise Fault(f"{name}: line {number}: {fault}: save the trace again") from None
+    trace.events = reading.at - trace.first + 1
     return trace
 
 
@@ -125,35 +130,37 @@ class Reading:
 
     def __init__(self, trace):
         self.trace = trace
-        self.at, self.event = trace.first - 1, None
+        self.head, self.at, self.event = None, trace.first - 1, None
         self.stores, self.gathered = {}, 0
 
-    def take(self, fields):
-        at, event = int(fields[0]), (fields[1], fields[2], f"{fields[3]},{fields[4]}")
-        if at == self.at + 1:
-            if self.event and (self.gathered >= self.trace.step or fields[1] != CPU or self.event[0] != CPU):
-                self.end()
-            self.at, self.event, self.gathered = at, event, self.gathered + 1
-            if fields[2]:
-                address = int(fields[2], 16)
-                self.trace.runs[address] = self.trace.runs.get(address, 0) + 1
-        elif at != self.at:
-            raise ValueError(f"number {at} follows {self.at}")
-        elif event != self.event:
-            raise ValueError(f"change {at} has two events")
-        if fields[5]:
-            self.stores[fields[5]] = fields[5:]
+    def take(self, line):
+        """Takes a line: what is told of its event, and a store."""
+        head, *store = line.rsplit(",", len(STORE))
+        if head != self.head:
+            self.begin(head, line)
+        if store[0]:
+            self.stores[store[0]] = store
+        elif store != NO_STORE:
+            raise ValueError("there is a value and no place")
+
+    def begin(self, head, line):
+        """Begins an event."""
+        fields = head.split(",")
+        if len(fields) + len(STORE) != FIELDS or line[-1] != "\n":
+            raise ValueError(f"it has {line.count(',') + 1} fields of {FIELDS}, or was cut off")
+        number, name, address = fields[:3]
+        if not number.isdecimal() or int(number) != self.at + 1:
+            raise ValueError(f"number {number!a} follows {self.at}")
+        if not FORMS["address"].fullmatch(address):
+            raise ValueError(f"{address!a} is no address")
+        if self.event and (self.gathered >= self.trace.step or name != CPU or self.event[0] != CPU):
+            self.end()
+        self.head, self.at, self.gathered = head, int(number), self.gathered + 1
+        self.event = name, address, f"{fields[3]},{fields[4]}"
+        if address:
+            at = int(address, 16)
+            self.trace.runs[at] = self.trace.runs.get(at, 0) + 1
 
     def end(self):
         self.trace.add(self.at, self.event, self.stores.values())
         self.stores, self.gathered = {}, 0
-
-
-def fields_of(line):
-    """The fields of a line, which has to be whole."""
-    fields = line[:-1].split(",")
-    if len(fields) != FIELDS or line[-1] != "\n":
-        raise ValueError(f"it has {len(fields)} whole fields of {FIELDS}" if line[-1] == "\n" else "it was cut off")
-    if not FORMS["address"].fullmatch(fields[2]):
-        raise ValueError(f"{fields[2]!a} is no address")
-    return fields
