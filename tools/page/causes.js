@@ -10,6 +10,7 @@ class CausesView {
     this.depth = $("#depth");
     this.depth.oninput = () => this.draw();
     this.root = null;
+    this.draw();
   }
 
   follow(state) {
@@ -89,6 +90,7 @@ class CausesView {
     const made = cause.stores.size ? runsOf(run, cause.stores).map((part) => `${nameOfRun(part)} = ${part.value}`).join(", ") : this.root.item.text;
     const notes = [];
     if (statement) notes.push(`line ${statement.line}`);
+    if (run.itemAt.has(cause.moment)) notes.push(run.itemAt.get(cause.moment));
     if (cause.fromStart.size) notes.push(`from the start: ${namesOf([...cause.fromStart])}`);
     if (cause.isOfPsw) notes.push("PSW");
     return [["head", `${number} ${name === "cpu" ? where : `${name} ${where}`}`], ["doing", run.doing(cause.moment)], ["made", made], ["notes", notes.join(", ")]];

@@ -51,6 +51,7 @@ class Run {
     this.statementAt = new Map(this.program.statements.map(([address, line, text]) => [address, { line, text }]));
     this.runsAt = new Map(this.runs);
     this.makeExecutions();
+    this.itemAt = itemsOf(this.paper);
   }
 
   static async read() {
@@ -158,4 +159,19 @@ function holds(list, place) {
   if (!isByte(place)) return list.some((extent) => extent.place === place);
   const address = addressOf(place);
   return list.some((extent) => extent.first <= address && address <= extent.last);
+}
+
+// The items that events made or read, by their moments.
+function itemsOf(paper) {
+  const found = new Map();
+  paper.printer?.forEach((lines, page) => {
+    for (const { line, made } of lines) for (const { moment } of made) found.set(moment, `page ${page + 1} line ${line}`);
+  });
+  for (const medium of ["punch", "reader"]) {
+    paper[medium]?.forEach(({ made }, card) => made && found.set(made.moment, `card ${card + 1}`));
+  }
+  for (const tape of ["tape0", "tape1"]) {
+    paper[tape]?.forEach(({ events }, block) => events.forEach(({ moment }) => found.set(moment, `block ${block + 1}`)));
+  }
+  return found;
 }

@@ -14,13 +14,14 @@ class MomentView {
     const head = make("h2", {}, `${number} ${run.where(state.moment)}`);
     const doing = make("code", { className: "doing" }, run.doing(state.moment));
     const statement = run.statementAt.get(run.event(state.moment).address);
-    const line = make("span", { className: "quiet" }, statement ? `line ${statement.line}` : "");
+    const notes = [statement && `line ${statement.line}`, run.itemAt.get(state.moment)].filter(Boolean);
+    const line = make("span", { className: "quiet" }, notes.join(" \u00b7 "));
     const commands = make("span", { className: "commands" }, copying(state.command()), number > run.first ? copying(`goto ${number - 1}`, "just before it") : "");
     this.box.replaceChildren(make("div", { className: "bar" }, head, doing, line, commands), this.stores());
   }
 
   stores() {
-    const { run, state } = this, list = make("ul", { className: "stores" });
+    const { run, state } = this, list = make("ul", { className: "stored" });
     const first = run.begins[state.moment], all = range(first, run.begins[state.moment + 1]);
     const runs = runsOf(run, all.slice(0, MOST_STORES));
     for (const part of runs) {

@@ -190,17 +190,15 @@ def blocks_of(name, unit, units):
 
 
 def media_of(trace, files):
-    """All that a page shows as paper, by what it is: only what has something on it."""
+    """All that a page shows as paper, by what it is: only what has something on it. What was made comes before what was read."""
     units = Units(trace)
-    made = {}
-    if files.get("printer"):
-        made["printer"] = pages_of(files["printer"], units)
-    for what, unit in (("punch", PUNCH), ("reader", READER)):
-        if files.get(what):
-            made[what] = list(cards_of(files[what], unit, units))
-    if files.get("console"):
-        made["console"] = list(dialogue_of(files["console"], units))
-    for what, unit in TAPES.items():
-        if files.get(what):
-            made[what] = list(blocks_of(files[what], unit, units))
+    readers = {
+        "printer": lambda name: pages_of(name, units),
+        "punch": lambda name: cards_of(name, PUNCH, units),
+        "console": lambda name: dialogue_of(name, units),
+        "tape0": lambda name: blocks_of(name, TAPES["tape0"], units),
+        "tape1": lambda name: blocks_of(name, TAPES["tape1"], units),
+        "reader": lambda name: cards_of(name, READER, units),
+    }
+    made = {what: list(read(files[what])) for what, read in readers.items() if files.get(what)}
     return {what: items for what, items in made.items() if any(items)}

@@ -55,12 +55,16 @@ def of_listing(name, contents, columns):
 
 
 def sources_of(text, columns):
-    """Of each line of a listing what stands in the columns of its source; all of a line that has none."""
+    """Of each line of a listing what stands in the columns of its source; all of a line that has something else before them."""
     lines = [line.rstrip("\r").replace("\f", "") for line in text.removesuffix("\n").split("\n")]
     form = form_of([line.rstrip() for line in lines], columns)
     longest = max(map(len, lines), default=0)
-    found = [form.match(line.ljust(longest + 1)) for line in lines]
-    return [match["source"].rstrip() if match else line.rstrip() for line, match in zip(lines, found)]
+    return [source_of(form.match(line.ljust(longest + 1)), line) for line in lines]
+
+
+def source_of(found, line):
+    is_statement = found and not (found["location"] + (found["code"] or "")).strip(" 0123456789ABCDEF")
+    return (found["source"] if is_statement else line).rstrip()
 
 
 def of_elf(name, contents):
