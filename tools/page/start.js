@@ -12,7 +12,7 @@ async function start() {
   for (const button of document.querySelectorAll(".enlarge")) button.onclick = () => button.closest(".pane").classList.toggle("large");
   addEventListener("beforeprint", () => views.paper.openAll());
   if (!goTo(state, decodeURIComponent(location.hash.slice(1)))) state.tell();
-  return { run, state, views, Chain, goTo: (text) => goTo(state, text) };
+  return { run, state, views, Chain, partOf, goTo: (text) => goTo(state, text) };
 }
 
 function tellSummary(run) {
