@@ -8,7 +8,7 @@ import argparse
 import pathlib
 
 from .causes import is_next, named, order_of
-from .channels import LOAD, SIO, UNITS, Program
+from .channels import LOAD, UNITS, Program
 from .core import ADDRESSES, SIZE
 from .devices import CARD
 from .inquiries import MNEMONICS, Inquiries
@@ -72,14 +72,12 @@ class Trace:
         return [f"{at:06X}", machine.run_of_bytes(at, length).hex().upper(), *MNEMONICS.get(code, [""])]
 
     def command_word(self, unit):
-        """That which a unit's program executes: behind a transfer in channel the one that it leads to."""
+        """That which a unit's program executes: behind a transfer in channel the one that it leads to, if one stands there."""
         machine = self.machine
         program = machine.unit(unit) if unit in UNITS else None
         if not isinstance(program, Program) or program.after == LOAD:
             return ["", "", ""]
-        at, ccw = program.at, machine.ccw_at(program.at)
-        if ccw and ccw.transfers and program.after != SIO:
-            at = ccw.data
+        at, _ = machine.next_ccw(program)
         word = machine.run_of_bytes(at, 8).hex().upper() if machine.ccw_at(at) else ""
         return [f"{at % ADDRESSES:06X}", word, ""]
 
