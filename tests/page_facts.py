@@ -2,6 +2,7 @@
 
 A run is what a script does before its first line that takes changes back. Sources: docs/reference/page.md, gdb.md.
 """
+import bisect
 import pathlib
 import shlex
 
@@ -40,7 +41,6 @@ class Example:
         self.recording = recording_of(script, deck=self.deck, images=self.images)
         self.inquiries = Inquiries(self.recording)
         self.machine, self.changes = self.recording.machine, self.recording.changes
-        self.made = {}
         self.save()
 
     def script(self):
@@ -82,37 +82,29 @@ class Example:
     def events_of(self, name):
         return sum(change.event[0] == name for change in self.changes)
 
-    def sources_of(self, number):
-        """The sources of each place that a change stored into."""
-        if number not in self.made:
-            change = self.changes[number - 1]
+    def look_at_all(self):
+        """Finds what each change stored and what of, in one way forward, and the changes that stored into each place."""
+        self.changes, self.at, self.made = list(self.changes), {}, {}
+        for number, change in enumerate(self.changes, 1):
             self.inquiries.go_to(number - 1)
             found = sources(self.machine, *change.event)
-            self.inquiries.go_to(len(self.recording.changes) + len(self.recording.later))
             self.made[number] = {place: found.get(place, [place]) for place in change.noted}
-        return self.made[number]
-
-    def look_at_all(self):
-        """Finds the sources of all changes in one way forward, and the stores of each place."""
-        self.changes = list(self.changes)
-        self.at = {}
-        for number, change in enumerate(self.changes, 1):
             for place in change.noted:
                 self.at.setdefault(place, []).append(number)
-            self.sources_of(number)
+        self.inquiries.go_to(len(self.changes))
 
     def causes(self, place, number):
         """All that a place was made of after a change: each place with the number of the change that stored it. The PSW is not
         followed."""
-        found, left = set(), [(place, number + 1)]
+        found, left = set(), [(place, number)]
         while left:
-            place, before = left.pop()
-            earlier = [at for at in self.at.get(place, []) if at < before]
-            if not earlier or (place, earlier[-1]) in found:
+            place, last = left.pop()
+            numbers = self.at.get(place, [])
+            earlier = bisect.bisect_right(numbers, last)
+            if not earlier or (cause := (place, numbers[earlier - 1])) in found:
                 continue
-            found.add((place, earlier[-1]))
-            made = self.sources_of(earlier[-1])[place]
-            left += [(source, earlier[-1]) for source in made if source != "p"]
+            found.add(cause)
+            left += [(source, cause[1] - 1) for source in self.made[cause[1]][place] if source != "p"]
         return found
 
     def printed(self):

@@ -31,7 +31,7 @@ class CausesView {
     const all = chain.shown(Math.max(1, Number(this.depth.value) || 1)), shown = all.slice(0, NODE.most);
     const graph = this.graph(shown);
     const cut = chain.causes.size - shown.length;
-    const more = cut || chain.isCut ? `${shown.length} of ${chain.isCut ? "more than " : ""}${chain.causes.size} events: raise the depth for more` : `${shown.length} events`;
+    const more = cut || chain.isCut ? `${shown.length} of ${chain.isCut ? "more than " : ""}${chain.causes.size} events: raise the depth for more` : shown.length === 1 ? "1 event" : `${shown.length} events`;
     this.box.replaceChildren(graph, make("p", { className: "count" }, more));
   }
 
