@@ -45,6 +45,9 @@ License: Expat
 License: Apache-2.0
  On Debian systems it is in /usr/share/common-licenses/Apache-2.0.
 """
+# A program of the simulated machine is an example.
+TAGS_OF_ELF = ("arch-dependent-file-in-usr-share", "binary-from-other-architecture", "statically-linked-binary", "unstripped-binary-or-object")
+OVERRIDES = "".join(f"{NAME}: {tag} [usr/share/doc/{NAME}/examples/*.elf]\n" for tag in TAGS_OF_ELF)
 
 
 class Release(NamedTuple):

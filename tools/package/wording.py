@@ -38,16 +38,18 @@ SENTENCES = {
     "The tools in `tools/asm` and `tools/media` make what the machine reads.": "The tools make what the machine reads.",
     "`tools/setup asm` installs GNU binutils.": "They need GNU binutils, of Debian's package `binutils-s390x-linux-gnu`.",
     "| `./test` |": "| the tests in the repository |",
+    "; [definitions](docs/proof/definitions.md), [decisions](docs/DECISIONS.md), [style](docs/develop/style.md), "
+    "[layers](docs/develop/layers.md), [gate](docs/develop/gate.md), [performance](docs/develop/performance.md).": ".",
 }
 # A chapter that is of the repository alone.
 CHAPTER = re.compile(r"^## Run and test\n.*?(?=^## )", re.S | re.M)
-LINK = re.compile(r"\[([^]]*)\]\((?!http)([^)#]*)(?:#[^)]*)?\)")
+LINK = re.compile(r"\[([^]]*)\]\((?!http|#)([^)#]*)(?:#[^)]*)?\)")
 
 
 def renamed(text, names):
     """A text with the names that are those of what is installed."""
     either = "|".join(map(re.escape, names))
-    return re.sub(rf"(?<![.\w])(?:{either})", lambda found: names[found[0]], text)
+    return re.sub(rf"(?<![.$\w])(?:{either})", lambda found: names[found[0]], text)
 
 
 def said(sentence):
@@ -56,11 +58,11 @@ def said(sentence):
 
 
 def page(text, is_there):
-    """A page as it is installed. A link to what is not there is its words alone."""
+    """A page as it is installed. What a link leads to and is not there is in the repository."""
     text = CHAPTER.sub("", text)
     for sentence, true in SENTENCES.items():
         text = said(sentence).sub(lambda _: true, text)
-    text = LINK.sub(lambda found: found[0] if is_there(found[2]) else found[1], text)
+    text = LINK.sub(lambda found: found[0] if is_there(found[2]) else f"{found[1]} (in the repository)", text)
     return renamed(text, OF_PAGES)
 
 
