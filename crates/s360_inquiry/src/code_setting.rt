@@ -41,6 +41,12 @@ fn operation_sets_code(operation: Operation) -> bool
             | Operation::TestUnderMask
             | Operation::TestAndSet
             | Operation::TranslateAndTest
+            | Operation::Edit
+            | Operation::EditAndMark
+            | Operation::ZeroAndAdd
+            | Operation::CompareDecimal
+            | Operation::AddDecimal
+            | Operation::SubtractDecimal
             | Operation::SetProgramMask
             | Operation::LoadPsw
     )

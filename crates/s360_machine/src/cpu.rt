@@ -12,7 +12,7 @@ ghost use Rattle.s360_store.specs.Puts.{HasNoPuts};
 ghost use Rattle.s360_machine.specs.declared.cpu.CpuCase.TheVariants.{Interrupted};
 
 use crate::beside::Beside;
-use crate::interruption::put_interruption;
+use crate::interruption::{put_interruption, put_interruption_over};
 use crate::machine::Machine;
 use s360_fixed::{Ended, ProgramCode};
 use s360_logic::{FetchedInstruction, PlannedInstruction};
@@ -175,13 +175,11 @@ impl Machine {
         let psw = puts
             .psw(&self.core)
             .with_instruction_address(planned.next_address);
-        put_interruption(
-            &self.core,
-            class,
-            psw,
-            code,
-            planned.instruction_length,
-            puts,
-        )
+        let (core, length) = (&self.core, planned.instruction_length);
+        if planned.ended == Ended::Program(ProgramCode::DecimalOverflow) {
+            // Of all that an interruption follows this alone has put bytes of storage.
+            return put_interruption_over(core, class, psw, code, length, puts);
+        }
+        put_interruption(core, class, psw, code, length, puts)
     }
 }

@@ -32,6 +32,13 @@ core_with_psw_if (Some psw) m = core_with_psw psw m
 abbrev pub after_core_change : Core → CoreChange → Core
 after_core_change m x = core_with_psw_if x.psw (after_exchange m x.cells)
 
+-- the cells whose places come before one, and those whose places do not
+abbrev pub cells_before : Place → List Cell → List Cell
+cells_before p cs = filter (λ (c : Cell). precedes c.place p) cs
+
+abbrev pub cells_from : Place → List Cell → List Cell
+cells_from p cs = filter (λ (c : Cell). not (precedes c.place p)) cs
+
 -- each of the cells comes before the place
 abbrev pub AllBefore : List Cell → Place → Type 0
 AllBefore [] p = Unit {0}

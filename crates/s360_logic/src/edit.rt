@@ -1,0 +1,157 @@
+//! EDIT and EDIT AND MARK on operands in storage. Source: GA22-6821, "Decimal Arithmetic".
+ghost use Rattle.std.specs.Prelude.{◌≡◌, ◌<◌, ◌≤◌, ◌+◌, ◌^◌, IfOk, IfSome, OnOk, length};
+ghost use Rattle.s360_fixed.specs.Plans.{PutsNothing, PutsOutcome};
+ghost use Rattle.s360_logic.specs.Bytes.{operand_bytes};
+ghost use Rattle.s360_logic.specs.Edits.{edit_outcome, edit_stored, rules_of, source_met};
+ghost use Rattle.s360_logic.specs.Operands.{HasEdited, IsEdited, stored_in};
+
+use crate::field::{Field, check};
+use crate::first_operand::FirstOperand;
+use crate::left_to_right::{exception_of, with_address};
+use crate::row::EditRow;
+use s360_decimal::{EditRules, EditState};
+use s360_fixed::{Ended, ProgramCode, View, psw_with};
+use s360_store::{Access, Checked, Puts};
+use s360_word::RegisterNumber;
+use std::alloc::AllocError;
+
+/// Why an edit ends before its last byte.
+#[derive(Clone, Copy, PartialEq, Eq)]
+enum EditFault {
+    /// The next byte of the source is outside storage.
+    Outside,
+    /// Its left digit is none.
+    BadDigit,
+}
+
+/// An edit so far.
+#[derive(Clone, Copy)]
+struct Editing {
+    /// What is known between two bytes of the pattern.
+    state: EditState,
+    /// How many bytes of the source were used, with the one that ends it.
+    used: u32,
+    /// Which byte of the result was marked last, counted from 0 at the left.
+    mark: Option<u32>,
+    /// Why it ended, if it did.
+    fault: Option<EditFault>,
+}
+
+impl Editing {
+    /// Before the first byte.
+    fn start() -> Editing {
+        Editing {
+            state: EditState::start(),
+            used: 0,
+            mark: None,
+            fault: None,
+        }
+    }
+
+    /// The same edit, which ended with the next byte of the source.
+    fn ended_by(self, fault: EditFault) -> Editing {
+        Editing {
+            used: self.used + 1,
+            fault: Some(fault),
+            ..self
+        }
+    }
+
+    /// The edit with the byte of the pattern at `i`, which is replaced.
+    fn next(self, rules: EditRules, operand: &mut FirstOperand, i: u32, second: u32) -> Editing {
+        let pattern = operand.own_byte(i);
+        let fetched = self.state.fetches(pattern);
+        let address = second + self.used;
+        if fetched && address >= operand.storage_size() {
+            return self.ended_by(EditFault::Outside);
+        }
+        let source = if fetched { operand.byte(address) } else { 0 };
+        let Some(step) = self.state.step(rules, pattern, source) else {
+            return self.ended_by(EditFault::BadDigit);
+        };
+        operand.set(i, step.byte);
+        Editing {
+            state: step.state,
+            used: self.used + u32::from(fetched),
+            mark: if step.marked { Some(i) } else { self.mark },
+            fault: None,
+        }
+    }
+}
+
+/// Edits the operand, which is the pattern, with the source from `second` on, up to its end or to a fault.
+fn edit(rules: EditRules, operand: &mut FirstOperand, second: u32) -> Editing {
+    let mut editing = Editing::start();
+    for i in 0..operand.len() {
+        editing = editing.next(rules, operand, i, second);
+        if editing.fault.is_some() {
+            return editing;
+        }
+    }
+    editing
+}
+
+/// What the fetches of the source bytes that are used meet.
+fn source_met(view: &View, second: u32, used: u32) -> Checked
+    ensures { result ≡ source_met view.now second used }
+{
+    if used == 0 {
+        return Checked::Clear;
+    }
+    let source = Field {
+        address: second,
+        count: used,
+    };
+    check(view, Access::Fetch, source)
+}
+
+/// Puts an edit that came to its end.
+fn put_edited<P: Puts>(
+    view: &View,
+    row: EditRow,
+    operand: &FirstOperand,
+    editing: Editing,
+    puts: &mut P,
+) -> Result<Ended, AllocError> {
+    let code = Some(editing.state.condition_code());
+    let psw = psw_with(code, view.psw()).with_instruction_address(view.next_address());
+    puts.put_psw(view.core(), psw)?;
+    if let (EditRow::EditAndMark, Some(mark)) = (row, editing.mark) {
+        let one = RegisterNumber::new(1);
+        let word = with_address(view.register(one), operand.address() + mark);
+        puts.put_register(view.core(), one, word)?;
+    }
+    puts.put_bytes(view.core(), operand.address(), operand.bytes())?;
+    Ok(Ended::Done)
+}
+
+/// Puts an edit of a pattern.
+pub(crate) fn put_edit<P: Puts>(
+    view: &View,
+    row: EditRow,
+    first: Field,
+    second: u32,
+    puts: &mut P,
+) -> Result<Ended, AllocError>
+    requires some { 0 < first.count }
+    requires few { first.count ≤ 256 }
+    requires source { second < 2 ^ 24 }
+    requires none { PutsNothing P.Puts puts.old view.now }
+    ensures { IfOk result (PutsOutcome P.Puts puts.new view.now (edit_outcome row view.now first second)) }
+{
+    let checked = check(view, Access::Store, first);
+    if checked == Checked::Addressing {
+        return Ok(Ended::Program(ProgramCode::Addressing));
+    }
+    let mut operand = FirstOperand::new(view.storage(), first);
+    let rules = EditRules {
+        fill: operand.own_byte(0),
+        ascii: view.psw().ascii_mode(),
+    };
+    let editing = edit(rules, &mut operand, second);
+    match exception_of(checked, source_met(view, second, editing.used)) {
+        Some(code) => Ok(Ended::Program(code)),
+        None if editing.fault.is_some() => Ok(Ended::Program(ProgramCode::Data)),
+        None => put_edited(view, row, &operand, editing, puts),
+    }
+}
