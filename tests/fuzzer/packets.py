@@ -176,14 +176,14 @@ class Requests(random.Random):
         return places * 3 + numbers * 2 + visits * 2 + items
 
     def why(self):
-        """Of a place that a change altered, most of them by the CPU, or of any that has a name."""
-        altering = [change for change in self.changes if change.places]
-        by_cpu = [change for change in altering if change.event[0] == "cpu"]
-        some = by_cpu if by_cpu and self.random() < 0.7 else altering
-        place = self.choice(self.choice(some).places if some else NAMED)
+        """Of a place that an event stored, most of them by the CPU, or of any that has a name."""
+        storing = [change for change in self.changes if change.noted]
+        by_cpu = [change for change in storing if change.event[0] == "cpu"]
+        some = by_cpu if by_cpu and self.random() < 0.7 else storing
+        place = self.choice(sorted(self.choice(some).noted) if some else NAMED)
         words = place if place in NAMED else f"{place[0]} {place[1:]}"
         depth = self.choice(["", *range(7), self.choice([7, 30, 100, 101, "x"])])
-        return b"qRcmd," + f"why {words} {depth}".encode().hex().encode()
+        return b"qRcmd," + f"{self.choice(['why', 'why', 'why!'])} {words} {depth}".encode().hex().encode()
 
     def storage(self):
         return b"m%x,%x" % (self.address(), self.count())

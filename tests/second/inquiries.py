@@ -2,7 +2,6 @@
 
 Source: docs/reference/gdb.md.
 """
-import itertools
 import re
 
 from .causes import Causes
@@ -14,7 +13,7 @@ from .lines import ADDRESS, COUNT, PLACES, TOO_LONG, UNIT, UNKNOWN, count_up_to,
 from .machine import OPERATING
 
 CHANGES_TOLD, DEPTH_TOLD = b"10", b"5"
-MOST_DUMPED, MOST_DEPTH, MOST_CAUSES, MOST_TOLD = 1_048_576, 100, 1000, 1000
+MOST_DUMPED, MOST_DEPTH, MOST_TOLD = 1_048_576, 100, 1000
 NAMED_MARKS = (b"start", b"end", b"last")
 # The mnemonics of successive operation codes, from the one on that a row begins with; `-` is one that has none.
 ROWS_OF_MNEMONICS = {
@@ -36,8 +35,8 @@ MNEMONICS = {
 NO_INSTRUCTION = "stopped|loading|interrupted|waits"
 # What is meant where a line with a place has no number behind it.
 # Lines about a place.
-ABOUT_A_PLACE = (b"who", b"why", b"changes", b"stores")
-MEANT = {b"changes": CHANGES_TOLD, b"stores": CHANGES_TOLD, b"why": DEPTH_TOLD}
+ABOUT_A_PLACE = (b"who", b"why", b"why!", b"changes", b"stores")
+MEANT = {b"changes": CHANGES_TOLD, b"stores": CHANGES_TOLD, b"why": DEPTH_TOLD, b"why!": DEPTH_TOLD}
 
 
 
@@ -52,7 +51,7 @@ FORMS = {b"who": PLACES | ITEM, b"units": (), b"where": (), b"history": (COUNT,)
 FORMS |= {b"calls": ()}
 FORMS |= {b"goto": (lambda word: word in NAMED_MARKS or COUNT(word),)}
 FORMS |= {b"changes": {kind: (*form, COUNT) for kind, form in PLACES.items()}}
-FORMS |= {b"why": {kind: (*form, count_up_to(MOST_DEPTH)) for kind, form in PLACES.items()}}
+FORMS |= dict.fromkeys((b"why", b"why!"), {kind: (*form, count_up_to(MOST_DEPTH)) for kind, form in PLACES.items()})
 FORMS |= {b"stores": {kind: (*form, count_up_to(MOST_TOLD)) for kind, form in (PLACES | {b"s": (is_range,)}).items()}}
 FORMS |= {b"dump": (ADDRESS, count_up_to(MOST_DUMPED)), b"visits": (ADDRESS, count_up_to(MOST_TOLD))}
 
@@ -99,7 +98,8 @@ class Inquiries:
         if words[0] in ABOUT_A_PLACE and words[1] in (b"s", b"k") and int(words[2].split(b"-")[-1], 16) >= self.machine.size:
             return ["? argument 2"]
         stands = self.standing
-        answers = getattr(self, f"answer_{name}")(*rest)
+        detail = {"with_deciders": True} if name.endswith("!") else {}
+        answers = getattr(self, f"answer_{name.removesuffix('!')}")(*rest, **detail)
         if self.standing != stands:
             self.stood = stands
         return answers
@@ -211,12 +211,11 @@ class Inquiries:
         shown = self.machine.run_of_bytes(first, min(last + 1 - first, 16)).hex().upper()
         return f"{shown}.." if last + 1 - first > 16 else shown
 
-    def answer_why(self, *words):
+    def answer_why(self, *words, with_deciders=False):
         place, stands = self.recording.place_of(*words[:-1]), self.standing
-        causes = Causes(self).lines(place, int(words[-1]))
-        lines = list(itertools.islice(causes, MOST_CAUSES + 1))
+        lines = Causes(self).lines(place, int(words[-1]), with_deciders)
         self.go_to(stands)
-        return lines if len(lines) <= MOST_CAUSES else [*lines[:MOST_CAUSES], "and more"]
+        return lines
 
     def answer_history(self, most):
         stands = self.standing

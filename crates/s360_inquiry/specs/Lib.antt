@@ -12,9 +12,12 @@ pub mod Jumps
 pub mod Interruptions
 pub mod ItemChanges
 pub mod Extents
-pub mod Causes
 pub mod Stores
 pub mod Sought
+pub mod Tellings
+pub mod Fitting
+pub mod Origins
+pub mod Causes
 pub mod Calls
 pub mod Situations
 pub mod Answers

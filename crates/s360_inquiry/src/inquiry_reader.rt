@@ -4,11 +4,11 @@ ghost use Rattle.std.specs.Option.{option_map};
 ghost use Rattle.s360_language.specs.Digits.{count_of};
 ghost use Rattle.s360_language.specs.Lines.{makes, may_take, named, part, two};
 ghost use Rattle.s360_language.specs.Reading.{address, most_count, places};
-ghost use Rattle.s360_inquiry.specs.Reading.{bytes_between, bytes_of, changes_told, extent_then, inquiries, inquiry_of, item_or};
+ghost use Rattle.s360_inquiry.specs.Reading.{bytes_between, bytes_of, chain_of, changes_told, extent_then, inquiries, inquiry_of, item_or};
 ghost use Rattle.s360_inquiry.specs.Reading.{mark_of, most_dumped, most_told};
 
 use crate::extent::Extent;
-use crate::inquiry::{Inquiry, Mark};
+use crate::inquiry::{Detail, Inquiry, Mark};
 use crate::why::MOST_DEPTH;
 use s360_language::{
     LineFault, MOST_COUNT, Words, address_in, count_in, finish, if_known, next_place,
@@ -43,7 +43,8 @@ fn read_words(mut words: Words<'_>) -> Result<Inquiry, LineFault>
 {
     read_line! { words, 0, finish, LineFault::Unknown;
         "who" [read_who(words)];
-        "why" (place: [next_place], depth: count_in(MOST_DEPTH) or DEPTH) => Inquiry::Why { place, depth };
+        "why" [read_why(words, Detail::Causes)];
+        "why!" [read_why(words, Detail::Deciders)];
         "goto" (mark: mark_in) => Inquiry::Goto(mark);
         "changes" (place: [next_place], most: count_in(MOST_COUNT) or CHANGES) => Inquiry::Changes { place, most };
         "stores" [read_stores(words)];
@@ -65,6 +66,13 @@ fn read_who(mut words: Words<'_>) -> Result<Inquiry, LineFault>
         return read_arguments! { words, 2, finish, (unit: unit_in, number: count_in(MOST_COUNT)) => Inquiry::WhoItem { unit, number } };
     }
     read_arguments! { words, 1, finish, (place: [next_place]) => Inquiry::Who(place) }
+}
+
+/// `why` or `why!`, of a place.
+fn read_why(mut words: Words<'_>, detail: Detail) -> Result<Inquiry, LineFault>
+    ensures { result ≡ chain_of detail 1 words.entry }
+{
+    read_arguments! { words, 1, finish, (place: [next_place], depth: count_in(MOST_DEPTH) or DEPTH) => Inquiry::Why { place, depth, detail } }
 }
 
 /// `stores`, of bytes of storage or of another place.

@@ -1,0 +1,178 @@
+//! Goes back once through a recording, and notes what the nodes of a chain were made of, and where the values of these came from.
+ghost use Rattle.std.specs.Prelude.{◌≡◌, All, IfOk, OnErr, OnOk};
+ghost use Rattle.s360_journal.specs.Recorded.{with_standing};
+ghost use Rattle.s360_inquiry.specs.Causes.{IsMaking, IsStore};
+
+use crate::extent::{Extent, extent_with};
+use crate::making::{LastStore, Making, making_of, noted_making};
+use crate::node::Node;
+use crate::origin::{Origin, is_followed};
+use crate::storing::{span_in, stored_next};
+use s360_journal::Session;
+use s360_machine::EventKind;
+use s360_store::Place;
+use std::alloc::{AllocError, Global};
+use std::cmp::Reverse;
+
+/// A place whose last store before a moment is looked for, of which something was made; an event that stored it is told so deep.
+#[derive(Clone, Copy)]
+struct Open {
+    place: Place,
+    moment: u32,
+    /// Where what was made of it stands in the list of these.
+    making: usize,
+    depth: u32,
+}
+
+/// What is noted, and what is looked for.
+#[derive(Drop)]
+pub(crate) struct Gathering {
+    alloc: Global,
+    pub(crate) makings: Vec<Making>,
+    pub(crate) stores: Vec<LastStore>,
+    open: Vec<Open>,
+}
+
+/// Whether a place is one of those that are stored.
+fn is_stored(stored: &[Place], place: Place) -> bool {
+    span_in(Extent::of(place), stored).is_some()
+}
+
+impl Gathering {
+    /// Notes what a node was made of, and looks for where that came from.
+    fn follow(&mut self, recording: &mut Session, node: Node) -> Result<(), AllocError> {
+        if node.depth == 0 || noted_making(self.makings.as_slice(), node.number, node.extent).is_some() {
+            return Ok(());
+        }
+        let making = making_of(self.alloc, recording, node.number, node.extent)?;
+        let moment = recording.standing();
+        let index = self.makings.len();
+        for place in making.places.iter() {
+            if is_followed(*place) {
+                self.open.push(Open {
+                    place: *place,
+                    moment,
+                    making: index,
+                    depth: node.depth - 1,
+                })?;
+            }
+        }
+        self.makings.push(making)?;
+        Ok(())
+    }
+
+    /// Takes those that the next event stores from what is looked for, and notes that it did.
+    fn take_stored(
+        &mut self,
+        stored: &[Place],
+        origin: Origin,
+    ) -> Result<Vec<Open>, AllocError> {
+        let mut taken = Vec::new(self.alloc);
+        let mut left = Vec::new(self.alloc);
+        for open in self.open.iter() {
+            if is_stored(stored, open.place) {
+                self.stores.push(LastStore {
+                    place: open.place,
+                    moment: open.moment,
+                    origin,
+                })?;
+                taken.push(*open)?;
+            } else {
+                left.push(*open)?;
+            }
+        }
+        self.open = left;
+        Ok(taken)
+    }
+
+    /// Looks at what the event that comes next stores.
+    fn meet(&mut self, recording: &mut Session, kind: Option<EventKind>) -> Result<(), AllocError> {
+        let number = recording.standing() + 1;
+        let stored = stored_next(self.alloc, recording)?;
+        if !self.open.iter().any(|open| is_stored(stored.as_slice(), open.place)) {
+            return Ok(());
+        }
+        let origin = Origin::of_event(number, kind);
+        let taken = self.take_stored(stored.as_slice(), origin)?;
+        if let Origin::Event(number) = origin {
+            for node in nodes_of(self.alloc, number, taken.as_slice())?.iter() {
+                self.follow(recording, *node)?;
+            }
+        }
+        Ok(())
+    }
+
+    /// What is looked for still, at the start, was there from the start.
+    fn end(&mut self) -> Result<(), AllocError> {
+        for open in self.open.iter() {
+            self.stores.push(LastStore {
+                place: open.place,
+                moment: open.moment,
+                origin: Origin::Start,
+            })?;
+        }
+        Ok(())
+    }
+}
+
+/// The nodes of what an event stored, the nearest first: places of which one thing was made go together, if they are successive
+/// bytes.
+fn nodes_of(alloc: Global, number: u32, taken: &[Open]) -> Result<Vec<Node>, AllocError> {
+    let mut nodes: Vec<Node> = Vec::new(alloc);
+    let mut last = usize::MAX;
+    for index in (0..taken.len()).rev() {
+        let open = taken[index];
+        let mut node = Node {
+            number,
+            extent: Extent::of(open.place),
+            depth: open.depth,
+        };
+        if last == open.making {
+            join_last(&mut nodes, &mut node, open.place);
+        }
+        nodes.push(node)?;
+        last = open.making;
+    }
+    nodes.sort_by_key(|node| Reverse(node.depth))?;
+    Ok(nodes)
+}
+
+/// Takes the last node into one of a byte just before it.
+fn join_last(nodes: &mut Vec<Node>, node: &mut Node, place: Place) {
+    let Some(next) = nodes.pop() else {
+        return;
+    };
+    match extent_with(place, next.extent) {
+        Some(extent) => node.extent = extent,
+        None => nodes.push_reserved(next),
+    }
+}
+
+/// Goes back from a node, and notes what it and those below it were made of. The recording is left at some change.
+pub(crate) fn gather(
+    alloc: Global,
+    recording: &mut Session,
+    first: Node,
+) -> Result<Gathering, AllocError>
+    ensures makings { IfOk result (λ g. All (IsMaking (with_standing recording.old 0)) g.makings.items) }
+    ensures stores { IfOk result (λ g. All (IsStore (with_standing recording.old 0)) g.stores.items) }
+    ensures state { recording.new ≡ with_standing recording.old recording.new.standing }
+{
+    let mut gathering = Gathering {
+        alloc,
+        makings: Vec::new(alloc),
+        stores: Vec::new(alloc),
+        open: Vec::new(alloc),
+    };
+    gathering.follow(recording, first)?;
+    for _before in (0..recording.standing()).rev() {
+        if gathering.open.is_empty() {
+            return Ok(gathering);
+        }
+        let kind = recording.last_event();
+        let _taken = recording.step_back();
+        gathering.meet(recording, kind)?;
+    }
+    gathering.end()?;
+    Ok(gathering)
+}
