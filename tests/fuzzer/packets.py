@@ -73,7 +73,7 @@ class Requests(random.Random):
                 bytes([0x47, self.randrange(16) << 4, *at]),
                 bytes([0x92, self.randrange(256), *at]),
                 bytes([0xD2, self.randrange(8), *at, DATA >> 8, self.randrange(64)]),
-                bytes([0x0A, self.randrange(256)]),
+                bytes([0x0A, self.choice([self.randrange(4), self.randrange(256)])]),
                 bytes([self.choice(START_AND_TEST), 0, 0, self.choice([READER, PRINTER, CONSOLE])]),
                 self.randbytes(2),
             ]
@@ -172,7 +172,7 @@ class Requests(random.Random):
         places += [b"readers %s" % place, b"uses %s %d" % (place, number), b"count %s" % place, b"readers %s" % self.altered()]
         places += [b"%s s %X-%X" % (self.choice([b"stores", b"readers", b"count"]), at, at + self.randrange(-1, 64))]
         numbers = [b"goto %d" % number, b"history %d" % number, b"dump %X %d" % (at, number)]
-        visits = [b"visits %X" % self.code(), b"visits %X %d" % (at, number), b"jumps %d" % number]
+        visits = [b"visits %X" % self.code(), b"visits %X %d" % (at, number), b"jumps %d" % number, b"visits svc %X" % (number % 4)]
         item = b"%s %d" % (self.choice([b"00C", b"00E", b"00E", b"01F", b"180", b"999"]), number % 4)
         items = [b"who m %s" % item, b"dump m %s" % item]
         return places * 3 + numbers * 2 + visits * 2 + items

@@ -10,8 +10,8 @@ from .channels import LOAD, UNITS, Program
 from .core import ADDRESSES, BLOCK
 from .deciders import deciders
 from .devices import SHOWN
-from .jumps import Jumps
-from .lines import ADDRESS, COUNT, PLACES, TOO_LONG, UNIT, UNKNOWN, count_up_to, fault_of
+from .jumps import Jumps, jump_of
+from .lines import ADDRESS, COUNT, PLACES, TOO_LONG, UNIT, UNKNOWN, count_up_to, fault_of, written_as
 from .machine import OPERATING
 from .sources import sources
 
@@ -69,12 +69,16 @@ FORMS |= {b"why": {kind: (*form, count_up_to(MOST_DEPTH)) for kind, form in PLAC
 OF_AN_EXTENT = {kind: (*form, count_up_to(MOST_TOLD)) for kind, form in (PLACES | {b"s": (is_range,)}).items()}
 FORMS |= dict.fromkeys((b"stores", b"readers", b"uses"), OF_AN_EXTENT) | {b"count": PLACES | {b"s": (is_range,)}}
 FORMS |= {b"dump": (ADDRESS, count_up_to(MOST_DUMPED)), b"visits": (ADDRESS, count_up_to(MOST_TOLD))}
+CALL_CODE = written_as(rb"[0-9A-Fa-f]{1,2}")
+# Lines whose second word says that another form is meant.
+OTHERS = {(b"dump", b"m"): ITEM, (b"visits", b"svc"): {b"svc": (CALL_CODE, count_up_to(MOST_TOLD))}}
 
 
 def words_of(line):
     """The words of a line, with the number that is meant where one that may have it has none."""
     words = list(filter(None, line.split(b" ")))
-    if words in ([b"history"], [b"jumps"]) or len(words) == 2 and words[0] == b"visits":
+    visited = words[1:] if words[:1] == [b"visits"] else []
+    if words in ([b"history"], [b"jumps"]) or visited and len(visited) == 1 + (visited[0] == b"svc"):
         return [*words, CHANGES_TOLD]
     meant = MEANT.get(words[0]) if words else None
     place = PLACES.get(words[1]) if meant and len(words) > 1 else None
@@ -103,7 +107,8 @@ class Inquiries:
     def answers(self, line):
         """The lines that answer a line, or nothing if it is no inquiry."""
         words = words_of(line)
-        forms = FORMS | {b"dump": ITEM} if words[:2] == [b"dump", b"m"] else FORMS
+        other = OTHERS.get(tuple(words[:2]))
+        forms = FORMS | {words[0]: other} if other else FORMS
         fault = fault_of(b" ".join(words), forms) if words else UNKNOWN
         if fault == UNKNOWN or fault_of(line, FORMS) == TOO_LONG:
             return None
@@ -288,9 +293,11 @@ class Inquiries:
 
     # Visits of an address.
 
-    def answer_visits(self, address, most):
-        stands, at = self.standing, int(address, 16)
-        numbers = [number for number in range(1, stands + 1) if self.is_visit(number, at)]
+    def answer_visits(self, *words):
+        *visited, most = words
+        stands, at = self.standing, int(visited[-1], 16)
+        holds = self.is_supervisor_call if len(visited) > 1 else self.is_visit
+        numbers = [number for number in range(1, stands + 1) if holds(number, at)]
         befores = [None, *numbers]
         lines = [self.visit(*visit) for visit in list(zip(befores, numbers))[-int(most) :]]
         self.go_to(stands)
@@ -309,6 +316,12 @@ class Inquiries:
             return False
         ccw = self.machine.ccw_at(program.at)
         return program.at == at or bool(ccw and ccw.transfers and ccw.data == at)
+
+    def is_supervisor_call(self, number, code):
+        """Whether the event of a change is one with a code, also by EXECUTE; the recording is left just before it."""
+        self.go_to(number - 1)
+        jump = jump_of(self.machine) if self.recording.later[-1].event[0] == "cpu" else None
+        return jump is not None and jump.words == f" interrupted svc {code:02X}"
 
     def visit(self, before, number):
         """The line of a visit, with the registers that were altered since the one before."""

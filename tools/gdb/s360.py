@@ -23,6 +23,7 @@ DUMPED, FOLLOWED, TOLD = 64, 5, 10
 UNITS = ("00C", "00D", "00E", "01F", "180", "181")
 # What is asked of the printer.
 PRINTED = re.compile(r"line (?P<line>\d+) column (?P<column>\d+)(?: page (?P<page>\d+))?")
+SUPERVISOR_CALL = re.compile(r"svc\s+\w.*")
 MARK = re.compile(r"[A-Za-z_]\w*")
 COUNT = re.compile(r"\$_change\b")
 
@@ -140,11 +141,16 @@ Ten, or as many as told."""
 class Visits(Command):
     """Tell the last times that what stands at an address was executed, the oldest first.
 Usage: visits EXPRESSION [COUNT]
+       visits svc CODE [COUNT]
 
-Ten, or as many as told: of an instruction by the CPU, of a command word by a channel.
+Ten, or as many as told: of an instruction by the CPU, of a command word by a channel;
+or of SVC with a code of two digits.
 Behind each stand the registers that were altered since the one before."""
 
     def carry_out(self, words: str) -> None:
+        if SUPERVISOR_CALL.fullmatch(words):
+            show(told(f"visits {words}"))
+            return
         expression, count = with_count(words)
         if not expression:
             raise gdb.GdbError("Argument required (an address).")

@@ -7,7 +7,7 @@ use Rattle.s360_inquiry.specs.Changes.{last_of}
 use Rattle.s360_inquiry.specs.Searches.{last_up_to, numbers_since}
 use Rattle.s360_inquiry.specs.Sought.{ends, is_sought}
 use Rattle.s360_inquiry.specs.declared.search.Sought.{Sought}
-use Rattle.s360_inquiry.specs.declared.search.Sought.TheVariants.{Visits, Jumps, CodeSettings, Interruptions, Stores, Readers}
+use Rattle.s360_inquiry.specs.declared.search.Sought.TheVariants.{Visits, Jumps, CodeSettings, Interruptions, SupervisorCalls, Stores, Readers}
 
 -- those up to a number, if the search ends there or not
 abbrev since : (ℕ → Bool) → (ℕ → Bool) → ℕ → Bool → List ℕ
@@ -85,6 +85,7 @@ sought-same (Visits at) r n k = refl
 sought-same Jumps r n k = refl
 sought-same CodeSettings r n k = refl
 sought-same Interruptions r n k = refl
+sought-same (SupervisorCalls code) r n k = refl
 sought-same (Stores extent) r n k = refl
 sought-same (Readers extent) r n k = refl
 
@@ -93,6 +94,7 @@ ends-same (Visits at) r n k = refl
 ends-same Jumps r n k = refl
 ends-same CodeSettings r n k = refl
 ends-same Interruptions r n k = refl
+ends-same (SupervisorCalls code) r n k = refl
 ends-same (Stores extent) r n k = refl
 ends-same (Readers extent) r n k = refl
 

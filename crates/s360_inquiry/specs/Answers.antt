@@ -12,7 +12,7 @@ use Rattle.s360_journal.specs.Standing.{machine_of}
 use Rattle.s360_journal.specs.Recorded.{Recorded, session_of, with_standing}
 use Rattle.s360_inquiry.specs.declared.inquiry.Inquiry.{Inquiry}
 use Rattle.s360_inquiry.specs.declared.inquiry.Inquiry.TheVariants.{Who, WhoItem, Why, Goto, Changes, Stores, Readers, Count, History, Visits, Jumps, Calls}
-use Rattle.s360_inquiry.specs.declared.inquiry.Inquiry.TheVariants.{Dump, DumpItem, Units, Where}
+use Rattle.s360_inquiry.specs.declared.inquiry.Inquiry.TheVariants.{SupervisorCalls, Dump, DumpItem, Units, Where}
 use Rattle.s360_inquiry.specs.Calls.{calls_text}
 use Rattle.s360_inquiry.specs.Causes.{why_text}
 use Rattle.s360_inquiry.specs.Changes.{changes_text, last_change_in, stands_after_who, who_text}
@@ -25,7 +25,7 @@ use Rattle.s360_inquiry.specs.Histories.{history_text}
 use Rattle.s360_inquiry.specs.ItemChanges.{last_change_of_item, who_item_text, whole_item}
 use Rattle.s360_inquiry.specs.Jumps.{jumps_text}
 use Rattle.s360_inquiry.specs.Situations.{units_text, where_text}
-use Rattle.s360_inquiry.specs.Visits.{visits_text}
+use Rattle.s360_inquiry.specs.Visits.{supervisor_calls_text, visits_text}
 
 -- a recording, and where it stood before the last line that went elsewhere, if one did
 pub record Inquired : Type 0 where
@@ -61,6 +61,7 @@ told_answer i (Readers extent most) = readers_text i.recorded extent most
 told_answer i (Count extent) = count_text i.recorded extent
 told_answer i (History most) = history_text i.recorded most
 told_answer i (Visits at most) = visits_text i.recorded at most
+told_answer i (SupervisorCalls code most) = supervisor_calls_text i.recorded code most
 told_answer i (Jumps most) = jumps_text i.recorded most
 told_answer i Calls = calls_text i.recorded
 told_answer i (Dump at count) = storage_rows Signs (machine_of (session_of i.recorded)).core.storage at count

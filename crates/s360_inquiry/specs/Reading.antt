@@ -4,7 +4,7 @@ use Rattle.std.specs.List.{position}
 use Rattle.std.specs.Option.{option_and_then, option_map, option_or}
 use Rattle.s360_word.specs.declared.unit.Unit.{Unit}
 use Rattle.s360_language.specs.declared.command.LineFault.{LineFault}
-use Rattle.s360_language.specs.Digits.{count_of}
+use Rattle.s360_language.specs.Digits.{count_of, hex_number}
 use Rattle.s360_language.specs.Lines.{Form, Line, if_known, if_word, judged, line, makes, may_take, one, one_of, part, takes, two}
 use Rattle.s360_language.specs.Reading.{address, most_count, places, unit}
 use Rattle.s360_inquiry.specs.Causes.{most_depth}
@@ -14,7 +14,7 @@ use Rattle.s360_inquiry.specs.declared.extent.Extent.{Extent}
 use Rattle.s360_inquiry.specs.declared.extent.Extent.TheVariants.{Bytes}
 use Rattle.s360_inquiry.specs.declared.inquiry.Inquiry.{Inquiry}
 use Rattle.s360_inquiry.specs.declared.inquiry.Inquiry.TheVariants.{Who, WhoItem, Why, Goto, Changes, Stores, Readers, Count, History, Visits, Jumps, Calls}
-use Rattle.s360_inquiry.specs.declared.inquiry.Inquiry.TheVariants.{Dump, DumpItem, Units, Where}
+use Rattle.s360_inquiry.specs.declared.inquiry.Inquiry.TheVariants.{SupervisorCalls, Dump, DumpItem, Units, Where}
 use Rattle.s360_inquiry.specs.declared.inquiry.Mark.{Mark}
 use Rattle.s360_inquiry.specs.declared.inquiry.Mark.TheVariants.{Change, Start, End, Last}
 
@@ -58,6 +58,14 @@ bytes_of word = bytes_from word (position (λ b. nat_eq b 45) word)
 abbrev pub extent_then : (Extent → Form Inquiry) → Form Inquiry
 extent_then next = if_word (codes "s") (takes bytes_of next) (part places (λ place. next (extent_of place)))
 
+-- a supervisor call's code behind `svc`, or something else
+abbrev pub call_code : List ℕ → Option ℕ
+call_code word = hex_number 2 word
+
+abbrev pub call_or : Form Inquiry → Form Inquiry
+call_or other =
+    if_word (codes "svc") (takes call_code (λ code. may_take (count_of most_told) changes_told (λ most. makes (SupervisorCalls code most)))) other
+
 abbrev pub inquiries : List (Line Inquiry)
 inquiries =
     line (codes "who") (item_or (λ u n. WhoItem u n) (part places (λ place. makes (Who place)))) ∷
@@ -69,7 +77,7 @@ inquiries =
     line (codes "uses") (extent_then (λ extent. may_take (count_of most_told) changes_told (λ most. makes (Readers extent most)))) ∷
     line (codes "count") (extent_then (λ extent. makes (Count extent))) ∷
     line (codes "history") (may_take (count_of most_count) changes_told (λ most. makes (History most))) ∷
-    line (codes "visits") (takes address (λ at. may_take (count_of most_told) changes_told (λ most. makes (Visits at most)))) ∷
+    line (codes "visits") (call_or (takes address (λ at. may_take (count_of most_told) changes_told (λ most. makes (Visits at most))))) ∷
     line (codes "jumps") (may_take (count_of most_told) changes_told (λ most. makes (Jumps most))) ∷
     line (codes "calls") (makes Calls) ∷
     line (codes "dump") (item_or (λ u n. DumpItem u n) (two address (count_of most_dumped) (λ at count. Dump at count))) ∷

@@ -2,9 +2,9 @@
 use Rattle.std.specs.Prelude.{ℕ, Bool, List}
 use Rattle.s360_journal.specs.Recorded.{Recorded}
 use Rattle.s360_inquiry.specs.declared.search.Sought.{Sought}
-use Rattle.s360_inquiry.specs.declared.search.Sought.TheVariants.{Visits, Jumps, CodeSettings, Interruptions, Stores, Readers}
+use Rattle.s360_inquiry.specs.declared.search.Sought.TheVariants.{Visits, Jumps, CodeSettings, Interruptions, SupervisorCalls, Stores, Readers}
 use Rattle.s360_inquiry.specs.CodeSettings.{sets_code}
-use Rattle.s360_inquiry.specs.Interruptions.{interrupts}
+use Rattle.s360_inquiry.specs.Interruptions.{calls_supervisor, interrupts}
 use Rattle.s360_inquiry.specs.Jumps.{is_jump}
 use Rattle.s360_inquiry.specs.Readers.{reads_from}
 use Rattle.s360_inquiry.specs.Searches.{never, numbers_since}
@@ -17,6 +17,7 @@ is_sought (Visits at) r number = is_visit at r number
 is_sought Jumps r number = is_jump r number
 is_sought CodeSettings r number = sets_code r number
 is_sought Interruptions r number = interrupts r number
+is_sought (SupervisorCalls code) r number = calls_supervisor code r number
 is_sought (Stores extent) r number = stores_into extent r number
 is_sought (Readers extent) r number = reads_from extent r number
 

@@ -17,7 +17,7 @@ use crate::jumping::answer_jumps;
 use crate::readers::answer_readers;
 use crate::situation::{units_of, where_of};
 use crate::storing::answer_stores;
-use crate::visit::answer_visits;
+use crate::visit::{answer_supervisor_calls, answer_visits};
 use crate::why::answer_why;
 use s360_debug::text_of_fault;
 use s360_journal::Session;
@@ -113,6 +113,9 @@ fn told_answer(
         Inquiry::Count(extent) => answer_count(alloc, recording, extent),
         Inquiry::History { most } => answer_history(alloc, recording, most),
         Inquiry::Visits { at, most } => answer_visits(alloc, recording, at, most),
+        Inquiry::SupervisorCalls { code, most } => {
+            answer_supervisor_calls(alloc, recording, code, most)
+        }
         Inquiry::Jumps { most } => answer_jumps(alloc, recording, most),
         Inquiry::Calls => answer_calls(alloc, recording),
         Inquiry::Dump { at, count } => dump_of(alloc, recording.machine().storage(), at, count),

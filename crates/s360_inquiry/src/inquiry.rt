@@ -39,6 +39,8 @@ pub enum Inquiry {
     History { most: u32 },
     /// `visits`: the last events that executed what is at an address, so many at most.
     Visits { at: u32, most: u32 },
+    /// `visits svc`: the last supervisor calls with a code, so many at most.
+    SupervisorCalls { code: u8, most: u32 },
     /// `jumps`: the last branches and interruptions, so many at most.
     Jumps { most: u32 },
     /// `calls`: the calls that have not returned.

@@ -2,9 +2,9 @@
 ghost use Rattle.std.specs.Prelude.{◌≡◌};
 ghost use Rattle.std.specs.Option.{option_map};
 ghost use Rattle.s360_language.specs.Digits.{count_of};
-ghost use Rattle.s360_language.specs.Lines.{makes, may_take, named, part, two};
+ghost use Rattle.s360_language.specs.Lines.{makes, may_take, named, part, takes, two};
 ghost use Rattle.s360_language.specs.Reading.{address, most_count, places};
-ghost use Rattle.s360_inquiry.specs.Reading.{bytes_between, bytes_of, changes_told, extent_then, inquiries, inquiry_of, item_or};
+ghost use Rattle.s360_inquiry.specs.Reading.{bytes_between, bytes_of, call_code, call_or, changes_told, extent_then, inquiries, inquiry_of, item_or};
 ghost use Rattle.s360_inquiry.specs.Changes.{most_told};
 ghost use Rattle.s360_inquiry.specs.Reading.{mark_of, most_dumped};
 
@@ -17,6 +17,7 @@ use s360_language::{
     read_arguments, read_line, read_word, takes_word, unit_in, words_in,
 };
 use s360_store::GREATEST_SIZE;
+use s360_text::number_in;
 
 /// So many changes are told where no number is given.
 const CHANGES: u32 = 10;
@@ -50,7 +51,7 @@ fn read_words(mut words: Words<'_>) -> Result<Inquiry, LineFault>
         "uses" [read_readers(words)];
         "count" [read_count(words)];
         "history" (most: count_in(MOST_COUNT) or CHANGES) => Inquiry::History { most };
-        "visits" (at: address_in, most: count_in(MOST_TOLD) or CHANGES) => Inquiry::Visits { at, most };
+        "visits" [read_visits(words)];
         "jumps" (most: count_in(MOST_TOLD) or CHANGES) => Inquiry::Jumps { most };
         "calls" () => Inquiry::Calls;
         "dump" [read_dump(words)];
@@ -97,6 +98,24 @@ fn read_count(mut words: Words<'_>) -> Result<Inquiry, LineFault>
         return read_arguments! { words, 2, finish, (extent: bytes_in) => Inquiry::Count(extent) };
     }
     read_arguments! { words, 1, finish, (place: [next_place]) => Inquiry::Count(Extent::of(place)) }
+}
+
+/// `visits`, of a supervisor call or an address.
+fn read_visits(mut words: Words<'_>) -> Result<Inquiry, LineFault>
+    ensures { result ≡ call_or (takes address (λ at. may_take (count_of most_told) changes_told (λ most. makes (Inquiry.Visits at most)))) 1 words.entry }
+{
+    if takes_word(&mut words, "svc") {
+        return read_arguments! { words, 2, finish, (code: call_code_in, most: count_in(MOST_TOLD) or CHANGES) => Inquiry::SupervisorCalls { code, most } };
+    }
+    read_arguments! { words, 1, finish, (at: address_in, most: count_in(MOST_TOLD) or CHANGES) => Inquiry::Visits { at, most } }
+}
+
+/// The code of a supervisor call: at most two hexadecimal digits.
+fn call_code_in(word: &[u8]) -> Option<u8>
+    ensures { result ≡ call_code word.now }
+{
+    let code = number_in(16, word, 2)?;
+    Some(code as u8)
 }
 
 /// The bytes of a word: of one address, or from one to another, as `388` or `388-38B`.

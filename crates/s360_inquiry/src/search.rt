@@ -8,7 +8,7 @@ ghost use Rattle.s360_inquiry.specs.Sought.{ends, is_sought, numbers_sought};
 
 use crate::code_setting::sets_code;
 use crate::extent::Extent;
-use crate::interruption::is_interruption;
+use crate::interruption::{is_interruption, is_supervisor_call};
 use crate::jump::jump_of;
 use crate::readers::reads_next;
 use crate::storing::span_stored;
@@ -27,6 +27,8 @@ pub(crate) enum Sought {
     CodeSettings,
     /// Interruptions.
     Interruptions,
+    /// Supervisor calls with a code.
+    SupervisorCalls(u8),
     /// Those whose events store into an extent.
     Stores(Extent),
     /// Those whose events read an extent, since the last store there.
@@ -49,6 +51,10 @@ fn take_back(alloc: Global, recording: &mut Session, sought: Sought) -> Result<b
         },
         Sought::Interruptions => match jump_of(alloc, recording.machine(), kind) {
             Ok(jump) => Ok(is_interruption(jump)),
+            Err(error) => Err(error),
+        },
+        Sought::SupervisorCalls(code) => match jump_of(alloc, recording.machine(), kind) {
+            Ok(jump) => Ok(is_supervisor_call(jump, code)),
             Err(error) => Err(error),
         },
         Sought::CodeSettings => sets_code(alloc, recording.machine(), after, kind),

@@ -56,7 +56,7 @@ readers P, readers P N, readers s A-B, readers s A-B N: the last 10 or N events 
 uses P, uses P N, uses s A-B, uses s A-B N: the same
 count P, count s A-B: how many changes altered it
 history, history N: the last 10 or N changes
-visits A, visits A N: the last 10 or N events that executed what is at an address
+visits A, visits A N, visits svc I, visits svc I N: the last 10 or N events that executed what is at an address, or this SVC
 jumps, jumps N: the last 10 or N branches and interruptions
 calls: the calls that have not returned, the innermost first
 dump A N: bytes of storage with their signs
