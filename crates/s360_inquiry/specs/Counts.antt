@@ -2,7 +2,7 @@
 use Rattle.std.specs.Prelude.{ℕ, List, [], ◌++◌, codes, flat_map, fold, length}
 use Rattle.std.specs.BTreeSet.{insert_key}
 use Rattle.std.specs.Ordering.{nat_cmp}
-use Rattle.s360_model.specs.Text.{decimal}
+use Rattle.s360_text.specs.Counts.{counted}
 use Rattle.s360_store.specs.declared.place.Place.{Place}
 use Rattle.s360_machine.specs.Machine.{seen}
 use Rattle.s360_journal.specs.Rerun.{changes_of}
@@ -24,4 +24,4 @@ count_of_changes r (Alone place) = length (numbers_of r place)
 count_of_changes r extent = length (with_numbers [] (flat_map (numbers_of r) (places_of_extent extent)))
 
 abbrev pub count_text : Recorded → Extent → List ℕ
-count_text r extent = codes "changes " ++ (decimal (count_of_changes r extent) ++ codes "\n")
+count_text r extent = counted (codes "changes ") (count_of_changes r extent) ++ codes "\n"

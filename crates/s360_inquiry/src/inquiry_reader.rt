@@ -1,10 +1,11 @@
 //! The lines of an inquiry.
-ghost use Rattle.std.specs.Prelude.{◌≡◌};
+ghost use Rattle.std.specs.Prelude.{◌≡◌, ◌<◌, IfSome, Some, length, nat_eq};
+ghost use Rattle.std.specs.List.{position};
 ghost use Rattle.std.specs.Option.{option_map};
 ghost use Rattle.s360_language.specs.Digits.{count_of};
 ghost use Rattle.s360_language.specs.Lines.{makes, may_take, named, part, takes, two};
 ghost use Rattle.s360_language.specs.Reading.{address, most_count, places};
-ghost use Rattle.s360_inquiry.specs.Reading.{bytes_between, bytes_of, call_code, call_or, changes_told, extent_then, inquiries, inquiry_of, item_or};
+ghost use Rattle.s360_inquiry.specs.Reading.{between_both, bytes_between, bytes_from, bytes_from_to, bytes_of, call_code, call_or, changes_told, extent_then, inquiries, inquiry_of, item_or};
 ghost use Rattle.s360_inquiry.specs.Changes.{most_told};
 ghost use Rattle.s360_inquiry.specs.Reading.{mark_of, most_dumped};
 
@@ -122,15 +123,35 @@ fn call_code_in(word: &[u8]) -> Option<u8>
 fn bytes_in(word: &[u8]) -> Option<Extent>
     ensures { result ≡ bytes_of word.now }
 {
-    match word.iter().position(|byte| *byte == b'-') {
-        Some(dash) => {
-            let (first, behind) = word.split_at(dash);
-            bytes_between(address_in(first)?, address_in(&behind[1..])?)
-        }
-        None => {
-            let at = address_in(word)?;
-            bytes_between(at, at)
-        }
+    match dash_in(word) {
+        Some(dash) => bytes_around(word, dash),
+        None => bytes_from(word, word),
+    }
+}
+
+/// Where a word has its first dash.
+fn dash_in(word: &[u8]) -> Option<usize>
+    ensures found { result ≡ position (λ b. nat_eq b 45) word.now }
+    ensures inside { IfSome result (λ dash. dash < length word.now) }
+{
+    word.iter().position(|byte| *byte == b'-')
+}
+
+/// The bytes from the address before a dash to the one behind it.
+fn bytes_around(word: &[u8], dash: usize) -> Option<Extent>
+    requires { dash < length word.now }
+    ensures { result ≡ bytes_from word.now (Some dash) }
+{
+    bytes_from(&word[..dash], &word[dash + 1..])
+}
+
+/// The bytes from one address to another.
+fn bytes_from(first: &[u8], last: &[u8]) -> Option<Extent>
+    ensures { result ≡ bytes_from_to first.now last.now }
+{
+    match (address_in(first), address_in(last)) {
+        (Some(first), Some(last)) => bytes_between(first, last),
+        _ => None,
     }
 }
 

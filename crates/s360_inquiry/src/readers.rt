@@ -3,7 +3,7 @@ ghost use Rattle.std.specs.Prelude.{◌≡◌, ◌++◌, IfOk, OnErr, OnOk, reve
 ghost use Rattle.s360_machine.specs.Machine.{seen};
 ghost use Rattle.s360_journal.specs.Recorded.{with_standing};
 ghost use Rattle.s360_inquiry.specs.Changes.{just_before};
-ghost use Rattle.s360_inquiry.specs.Readers.{adjoined, has_some, is_decided_by, is_made_of, made_by, made_line, made_lines, made_next};
+ghost use Rattle.s360_inquiry.specs.Readers.{adjoined, has_some, is_decided_by, is_made_of, made_among, made_by, made_line, made_lines, made_next};
 ghost use Rattle.s360_inquiry.specs.Readers.{reader_text, readers_text, reads_next, runs_of, told_readers, with_run};
 ghost use Rattle.s360_inquiry.specs.Stores.{just_after};
 
@@ -36,7 +36,28 @@ fn is_made_of(
     Ok(sources.iter().any(|source| is_in(extent, *source)))
 }
 
-/// The places that an event stores and makes of an extent, in their order, each once.
+/// Those of some places that an event makes of an extent, in their order, each once.
+fn made_among(
+    alloc: Global,
+    machine: &Machine,
+    event: &Event,
+    extent: Extent,
+    places: &[Place],
+) -> Result<Vec<Place>, AllocError>
+    ensures { IfOk result (λ made. made.items ≡ made_among (seen machine.now.whole) event.now extent places.now) }
+{
+    let mut made = BTreeSet::new(alloc);
+    for index in (0..places.len()).rev() {
+        let place = places[index];
+        if is_made_of(alloc, machine, event, extent, place)? {
+            insert_each(&mut made, &[place])?;
+        }
+    }
+    let list = list_of(alloc, &made)?;
+    Ok(list)
+}
+
+/// The places that an event stores and makes of an extent.
 #[tactic(auto, unfolding(crate::specs::Readers::made_by))]
 fn made_by(
     alloc: Global,
@@ -47,14 +68,8 @@ fn made_by(
     ensures { IfOk result (λ made. made.items ≡ made_by (seen machine.now.whole) event.now extent) }
 {
     let stored = stored_by(alloc, machine, event)?;
-    let mut made = BTreeSet::new(alloc);
-    for index in (0..stored.len()).rev() {
-        let place = stored[index];
-        if is_made_of(alloc, machine, event, extent, place)? {
-            insert_each(&mut made, &[place])?;
-        }
-    }
-    list_of(alloc, &made)
+    let made = made_among(alloc, machine, event, extent, stored.as_slice())?;
+    Ok(made)
 }
 
 /// Whether an event is decided by an extent.
@@ -183,7 +198,8 @@ fn push_reader(
     text.push_text("\n")?;
     let made = made_next(alloc, recording, extent)?;
     go_to(recording, number)?;
-    push_all_made(text, recording.machine(), made.as_slice())
+    push_all_made(text, recording.machine(), made.as_slice())?;
+    Ok(())
 }
 
 /// Tells readers.
