@@ -17,5 +17,5 @@ returns-clause-text c =
     in let words : event_words number (seen c.machine.result.now.whole) c.in_ok-kind.kind ≡ words_of_change r number
     = ap (λ (x : Machine). event_words number x c.in_ok-kind.kind) m ∙ ap (λ (k : Option EventKind). event_words number (machine_after r (number - 1)) k) is
     in reader-told r before c.go_to.new.recording _ c.args.extent number _ c.args.text.now _ _ _ _ c.in_ok-kind.ensures.state
-    (gone-on r before _ number c.in_ok-kind.ensures.state c.in_ok-go_to.ensures.state) c.machine-2.ensures.rerun c.in_ok-made.ensures words
+    (gone-on r before _ number c.in_ok-kind.ensures.state c.in_ok-go_to.ensures.state) c.machine-2.ensures.rerun (c.as_slice.ensures.value ∙ c.in_ok-made.ensures) words
     c.in_ok-push_event_of.ensures c.in_ok-push_text.ensures c.in_ok-push_all_made.ensures

@@ -51,12 +51,12 @@ returns-then-branch-clause-numbers c =
     in let m : ℕ = c.loop-before.before
     in let goes : ends c.args.sought r m ≡ c.in_ok-is_end.field-0
     = sym (c.in_ok-is_end.ensures ∙ ended-there c.args.sought r _ m (omega arith) (c.in_ok-is_sought.ensures.state ∙ ap (λ (x : Recorded). one_back x) c.loop-before.invariant.kept))
-    in c.turned-2.ensures
+    in c.turned-then-branch.ensures
     ∙ last-all c.args.most _ c.loop-before.found.items c.loop-before.invariant.few
     (sought-ended (ends c.args.sought r) (is_sought c.args.sought r) m _ c.loop-before.found.items (omega arith) (goes ∙ c.if-branch.true) c.loop-before.invariant.numbers)
 
 pub returns-clause-numbers : goal.returns-clause-numbers
 returns-clause-numbers c =
-    c.turned-3.ensures
+    c.turned-2.ensures
     ∙ last-all c.args.most _ c.loop-before.found.items c.loop-before.invariant.few
     (none-left (ends c.args.sought c.args.recording.now) (is_sought c.args.sought c.args.recording.now) c.loop-before.before _ c.loop-before.found.items (omega arith) c.loop-before.invariant.numbers)
