@@ -73,7 +73,7 @@ class Requests(random.Random):
                 bytes([0x47, self.randrange(16) << 4, *at]),
                 bytes([0x92, self.randrange(256), *at]),
                 bytes([0xD2, self.randrange(8), *at, DATA >> 8, self.randrange(64)]),
-                bytes([0x0A, self.randrange(256)]),
+                bytes([0x0A, self.choice([self.randrange(4), self.randrange(256)])]),
                 bytes([self.choice(START_AND_TEST), 0, 0, self.choice([READER, PRINTER, CONSOLE])]),
                 self.randbytes(2),
             ]
@@ -169,21 +169,25 @@ class Requests(random.Random):
         at, number = self.address() % (1 << 24), self.randrange(1, 30)
         place = self.choice([*PLACES, f"s {at:X}", f"k {at:X}", f"r {number % 4}"]).encode()
         places = [b"who %s" % place, b"changes %s" % place, b"changes %s %d" % (place, number), b"stores %s %d" % (place, number)]
+        places += [b"readers %s" % place, b"uses %s %d" % (place, number), b"count %s" % place, b"readers %s" % self.altered()]
+        places += [b"%s s %X-%X" % (self.choice([b"stores", b"readers", b"count"]), at, at + self.randrange(-1, 64))]
         numbers = [b"goto %d" % number, b"history %d" % number, b"dump %X %d" % (at, number)]
-        visits = [b"visits %X" % self.code(), b"visits %X %d" % (at, number), b"jumps %d" % number]
+        visits = [b"visits %X" % self.code(), b"visits %X %d" % (at, number), b"jumps %d" % number, b"visits svc %X" % (number % 4)]
         item = b"%s %d" % (self.choice([b"00C", b"00E", b"00E", b"01F", b"180", b"999"]), number % 4)
         items = [b"who m %s" % item, b"dump m %s" % item]
         return places * 3 + numbers * 2 + visits * 2 + items
 
     def why(self):
-        """Of a place that a change altered, most of them by the CPU, or of any that has a name."""
+        depth = self.choice(["", *range(7), self.choice([7, 30, 100, 101, "x"])])
+        return b"qRcmd," + (b"why %s %s" % (self.altered(), str(depth).encode())).hex().encode()
+
+    def altered(self):
+        """A place that a change altered, most of them by the CPU, or any that has a name."""
         altering = [change for change in self.changes if change.places]
         by_cpu = [change for change in altering if change.event[0] == "cpu"]
         some = by_cpu if by_cpu and self.random() < 0.7 else altering
         place = self.choice(self.choice(some).places if some else NAMED)
-        words = place if place in NAMED else f"{place[0]} {place[1:]}"
-        depth = self.choice(["", *range(7), self.choice([7, 30, 100, 101, "x"])])
-        return b"qRcmd," + f"why {words} {depth}".encode().hex().encode()
+        return (place if place in NAMED else f"{place[0]} {place[1:]}").encode()
 
     def storage(self):
         return b"m%x,%x" % (self.address(), self.count())

@@ -12,8 +12,10 @@ pub mod Jumps
 pub mod Interruptions
 pub mod ItemChanges
 pub mod Extents
+pub mod Counts
 pub mod Causes
 pub mod Stores
+pub mod Readers
 pub mod Sought
 pub mod Calls
 pub mod Situations

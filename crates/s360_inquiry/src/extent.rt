@@ -3,7 +3,7 @@ ghost use Rattle.std.specs.Prelude.{◌≡◌, ◌+◌, ◌-◌, ◌++◌, IfOk,
 ghost use Rattle.s360_store.specs.Spans.{byte_places};
 ghost use Rattle.s360_machine.specs.Machine.{seen};
 ghost use Rattle.s360_inquiry.specs.Extents.{extent_name, extent_of, extent_words, extents_of, first_place, joined};
-ghost use Rattle.s360_inquiry.specs.Extents.{is_joined, last_place, places_of_extent, run_words_of, same_change, with_place};
+ghost use Rattle.s360_inquiry.specs.Extents.{is_joined, last_place, places_of_extent, put_before, run_words_of, same_change, with_place};
 
 use s360_journal::Session;
 use s360_language::{push_digits, push_place, push_value};
@@ -129,7 +129,19 @@ fn put_before(
         extents.push(Extent::of(place))?;
         return Ok(());
     };
-    match joined(recording, place, next) {
+    push_joined(extents, place, joined(recording, place, next), next)
+}
+
+/// Adds a place before the next extent to extents that are listed from the last one on: both together, if they are.
+pub(crate) fn push_joined(
+    extents: &mut Vec<Extent>,
+    place: Place,
+    together: Option<Extent>,
+    next: Extent,
+) -> Result<(), AllocError>
+    ensures { OnOk result (reverse extents.new.items ≡ put_before place together next (reverse extents.old.items)) }
+{
+    match together {
         Some(together) => extents.push(together)?,
         None => {
             extents.push(next)?;

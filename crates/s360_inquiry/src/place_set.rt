@@ -44,7 +44,7 @@ pub(crate) fn places_deciding(
 }
 
 /// Adds places, each once.
-fn insert_each(places: &mut BTreeSet<Place>, more: &[Place]) -> Result<(), AllocError>
+pub(crate) fn insert_each(places: &mut BTreeSet<Place>, more: &[Place]) -> Result<(), AllocError>
     ensures { OnOk result (places.new.keys ≡ with_places places.old.keys more.now) }
 {
     for place in more {
@@ -54,7 +54,7 @@ fn insert_each(places: &mut BTreeSet<Place>, more: &[Place]) -> Result<(), Alloc
 }
 
 /// Places as a list.
-fn list_of(alloc: Global, places: &BTreeSet<Place>) -> Result<Vec<Place>, AllocError>
+pub(crate) fn list_of(alloc: Global, places: &BTreeSet<Place>) -> Result<Vec<Place>, AllocError>
     ensures { IfOk result (λ list. list.items ≡ places.now.keys) }
 {
     places.iter().copied().collect(alloc)

@@ -19,7 +19,7 @@ use s360_text::Text;
 use std::alloc::{AllocError, Global};
 
 /// Whether a place is one of an extent.
-fn is_in(extent: Extent, place: Place) -> bool
+pub(crate) fn is_in(extent: Extent, place: Place) -> bool
     ensures { result ≡ is_in extent place }
 {
     match (extent, place) {
@@ -57,7 +57,7 @@ fn span_in(extent: Extent, places: &[Place]) -> Option<Extent>
 }
 
 /// The places that an event stores into.
-fn stored_by(alloc: Global, machine: &Machine, event: &Event) -> Result<Vec<Place>, AllocError>
+pub(crate) fn stored_by(alloc: Global, machine: &Machine, event: &Event) -> Result<Vec<Place>, AllocError>
     ensures { IfOk result (λ places. places.items ≡ stored_by (seen machine.now.whole) event.now) }
 {
     // So the bytes of a patch that is not refused have addresses of 32 bits.

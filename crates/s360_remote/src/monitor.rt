@@ -52,8 +52,11 @@ why P, why P N: what made its value, and what that was made of, 5 or N changes d
 goto N, goto start, goto end, goto last: goes to just after change N, to either end, to where one stood before
 changes P, changes P N: the last 10 or N changes of a place
 stores P, stores P N, stores s A-B, stores s A-B N: the last 10 or N stores into a place or bytes, also of an equal value
+readers P, readers P N, readers s A-B, readers s A-B N: the last 10 or N events that read it since the last store there
+uses P, uses P N, uses s A-B, uses s A-B N: the same
+count P, count s A-B: how many changes altered it
 history, history N: the last 10 or N changes
-visits A, visits A N: the last 10 or N events that executed what is at an address
+visits A, visits A N, visits svc I, visits svc I N: the last 10 or N events that executed what is at an address, or this SVC
 jumps, jumps N: the last 10 or N branches and interruptions
 calls: the calls that have not returned, the innermost first
 dump A N: bytes of storage with their signs
