@@ -72,6 +72,7 @@ fn push_name(text: &mut Text, run: Extent) -> Result<(), AllocError>
 }
 
 /// The names of the places that an event makes the value of a place of, each after a blank.
+#[tactic(auto, unfolding(crate::specs::SourcesTold::sources_words))]
 pub(crate) fn sources_words(
     alloc: Global,
     machine: &Machine,

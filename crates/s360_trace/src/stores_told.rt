@@ -42,6 +42,7 @@ fn store_met(
 }
 
 /// An event's stores where it meets the machine, in the order of their places, each once.
+#[tactic(auto, unfolding(crate::specs::StoresTold::stores_met))]
 pub(crate) fn stores_met(
     alloc: Global,
     machine: &Machine,
