@@ -14,8 +14,8 @@ pub returns-clause-text : goal.returns-clause-text
 returns-clause-text c =
     let first : c.back_to-first.result ≡ min (c.args.from - 1) c.args.recording.now.standing
     = c.back_to-first.ensures.stand ∙ ap (λ (n : ℕ). min n c.args.recording.now.standing) c.saturating_sub.ensures
-    in let end : c.min-before-end.result ≡ min c.args.to c.args.recording.now.standing
-    = c.min-before-end.ensures ∙ ap (λ (n : ℕ). min c.args.to n) c.standing-standing.ensures.standing
-    in let count : c.loop-before.before - c.back_to-first.result ≡ c.min-before-end.result - c.back_to-first.result = omega arith
-    in traced-all c.args.recording.now c.back_to-first.new.self c.args.from c.args.to c.back_to-first.result c.loop-before.before c.min-before-end.result _
+    in let end : c.min.result ≡ min c.args.to c.args.recording.now.standing
+    = c.min.ensures ∙ ap (λ (n : ℕ). min c.args.to n) c.standing-standing.ensures.standing
+    in let count : c.loop-before.before - c.back_to-first.result ≡ c.min.result - c.back_to-first.result = omega arith
+    in traced-all c.args.recording.now c.back_to-first.new.self c.args.from c.args.to c.back_to-first.result c.loop-before.before c.min.result _
     c.back_to-first.ensures.kept first end count c.loop-before.invariant.text
