@@ -204,7 +204,8 @@ def main():
     ]
     if not options.unproved:
         programs = [program.resolve() for program in options.programs]
-        looks += [(f"what {p} runs", typed.faults_of_page(TOP / p, programs)) for p in CARRIED_OUT]
+        furnish = functools.partial(typed.make_checkout, programs=programs)
+        looks += [(f"what {p} runs", typed.faults_of_page(TOP / p, furnish)) for p in CARRIED_OUT]
         looks += [(named(script), faults_of_example(script, programs)) for script in EXAMPLES]
     faults = [(name, list(found)) for name, found in looks]
     for name, found in faults:
