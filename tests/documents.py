@@ -11,7 +11,7 @@
   docs/proof/definitions.md is what the heads of the files say (definitions.py). In
   docs/develop/layers.md each crate stands on what crates.txt says.
 - The helps and the tables of docs/reference tell the lines that their definitions have (lines.py).
-- README.md has at most 100 lines, and all pages but the one of definitions, which is made, have no
+- README.md has at most 102 lines, and all pages but the one of definitions, which is made, have no
   more words than they may. Files of code and of definitions are as short and as narrow as
   docs/develop/style.md says.
 - What README.md, docs/guide.md and docs/reference/media.md let a reader type prints what they print, as typed.py says.
@@ -39,8 +39,8 @@ CODE_PAGES = ("README.md", "docs/proof/", "docs/develop/", "docs/DECISIONS.md")
 CARRIED_OUT = ("README.md", "docs/guide.md", "docs/reference/media.md")
 PROGRAMS = [TOP / "crates" / name / "out" / name for name in ("s360dbg", "s360gdb")]
 EXAMPLES = sorted((TOP / "examples").rglob("*.s360"))
-MOST_LINES_OF_README = 100
-MOST_WORDS, MOST_USER_WORDS = 24_200, 16_100
+MOST_LINES_OF_README = 102
+MOST_WORDS, MOST_USER_WORDS = 24_450, 16_200
 MOST_LINES, MOST_COLUMNS = 449, 160
 # The folders in which a name of the code may stand.
 SOURCES = ("crates/*/src", "crates/*/specs", "crates/*/proofs", "tests", "tools")

@@ -34,6 +34,7 @@ OWN |= {f"{DOC}/changelog.gz", f"{DOC}/copyright", "usr/share/lintian/overrides/
 RIGHTS = {"drwxr-xr-x", "-rwxr-xr-x", "-rw-r--r--", "lrwxrwxrwx"}
 # What has to be found in the repository alone.
 OF_THE_REPOSITORY = re.compile(rf"\./(?:run|gdb|build)\b|--unproved|(?<![\w/])(?:tools|crates|docs)/|{re.escape(str(TOP))}")
+INSTALLED = re.compile(r"/(usr/share/(?:doc/)?s360dbg[\w./-]*)")
 OPTION = re.compile(r"(?<![\w-])--?[a-zA-Z][\w-]*")
 GENERAL = {"-h", "--help", "-V", "--version"}
 VERSION = "0.1.0"
@@ -165,13 +166,19 @@ class Root:
         shutil.copytree(self.folder / DOC / "examples", folder / "examples")
 
     def faults_of_pages(self):
-        """No page and no tool names what is in the repository alone, and each link leads to a page."""
-        files = [path for part in (DOC, SHARED) for path in (self.folder / part).rglob("*.*") if path.is_file()]
+        """No page and no tool names what is in the repository alone, and what it names is there."""
+        files = [path for part in (DOC, SHARED) for path in (self.folder / part).rglob("*") if path.is_file()]
         for file in files:
-            for found in OF_THE_REPOSITORY.findall(file.read_text("latin-1")):
-                yield f"{file.name} names {found}"
+            text = file.read_text("latin-1")
+            yield from (f"{file.name} names {found}" for found in OF_THE_REPOSITORY.findall(text))
+            yield from self.faults_of_names(file.name, text)
             if file.suffix == ".md":
                 yield from (f"{file.name}: {fault}" for fault in documents.faults_of_links(file))
+
+    def faults_of_names(self, name, text):
+        for found in INSTALLED.findall(text):
+            if not (self.folder / found.rstrip(".")).exists():
+                yield f"{name} names {found}"
 
     def faults_of_typed(self, page):
         yield from typed.faults_of_page(self.folder / DOC / page, self.furnish, self.environment)
@@ -188,6 +195,7 @@ class Root:
         """man finds no fault in a page, and its commands have the options that they tell of themselves."""
         ended = self.done("man", "--warnings", "-l", self.folder / MAN / f"{page}.1.gz", check=True)
         yield from ended.stderr.splitlines()
+        yield from self.faults_of_names(page, ended.stdout)
         chapters = dict(re.findall(r"^([A-Z][A-Z ]+)\n((?: .*\n|\n)*)", ended.stdout, re.M))
         there = set()
         for line in chapters["SYNOPSIS"].split("\n"):

@@ -39,7 +39,8 @@ SENTENCES = {
     "`tools/setup asm` installs GNU binutils.": "They need GNU binutils, of Debian's package `binutils-s390x-linux-gnu`.",
     "| `./test` |": "| the tests in the repository |",
     "; [definitions](docs/proof/definitions.md), [decisions](docs/DECISIONS.md), [style](docs/develop/style.md), "
-    "[layers](docs/develop/layers.md), [gate](docs/develop/gate.md), [performance](docs/develop/performance.md).": ".",
+    "[layers](docs/develop/layers.md), [gate](docs/develop/gate.md), [performance](docs/develop/performance.md), "
+    "[changes](CHANGELOG.md).": ".",
 }
 # A chapter that is of the repository alone.
 CHAPTER = re.compile(r"^## Run and test\n.*?(?=^## )", re.S | re.M)
