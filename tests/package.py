@@ -33,7 +33,7 @@ OWN = {*(f"usr/bin/{name}" for name in COMMANDS), *(f"{MAN}/{name}.1.gz" for nam
 OWN |= {f"{DOC}/changelog.gz", f"{DOC}/copyright", "usr/share/lintian/overrides/s360dbg"}
 RIGHTS = {"drwxr-xr-x", "-rwxr-xr-x", "-rw-r--r--", "lrwxrwxrwx"}
 # What has to be found in the repository alone.
-OF_THE_REPOSITORY = re.compile(rf"\./(?:run|gdb|build)\b|--unproved|(?<![\w/])(?:tools|crates|docs)/|{re.escape(str(TOP))}")
+OF_THE_REPOSITORY = re.compile(rf"\./(?:run|gdb|build)\b|--unproved|(?<![\w/$])(?:tools|crates|docs)/|{re.escape(str(TOP))}")
 INSTALLED = re.compile(r"/(usr/share/(?:doc/)?s360dbg[\w./-]*)")
 OPTION = re.compile(r"(?<![\w-])--?[a-zA-Z][\w-]*")
 GENERAL = {"-h", "--help", "-V", "--version"}
