@@ -200,7 +200,7 @@ class Root:
         there = set()
         for line in chapters["SYNOPSIS"].split("\n"):
             if words := re.match(r"[a-z0-9 -]*(?<= )", line.strip()):
-                helped = self.done(*words[0].split(), "--help", check=True).stdout.partition("\nExample")[0]
+                helped = self.done(*words[0].split(), "--help").stdout.partition("\nExample")[0]
                 options = {*OPTION.findall(helped)}
                 yield from differs(f"the options of {words[0]}", options - GENERAL, {*OPTION.findall(line)} - {words[0]})
                 there |= options
