@@ -57,9 +57,9 @@ MARKUP = "<script>document.title='spoilt'</script>"
 
 
 def make(*words):
-    """Makes a page, and answers what is said of faults."""
+    """Makes a page or a picture, and answers the status and what is said of faults."""
     done = subprocess.run([MAKE, *words], capture_output=True, text=True)
-    return done.returncode, done.stdout + done.stderr
+    return done.returncode, done.stderr
 
 
 class Looks:
