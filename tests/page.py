@@ -23,7 +23,7 @@ MAKE = TOP / "tools/page/make_page"
 NAMES = ["inventory", "cards", "charge", "turns", "listing", "punch", "marked", "overflow", "price", "dialogue"]
 UNITS = {"00C": "reader 00C", "00D": "punch 00D", "00E": "printer 00E", "01F": "console 01F", "180": "tape 180", "181": "tape 181"}
 CHAINS = 1000
-MOST_MILLISECONDS, LONG, LONGER = 100, 200_000, 450_000
+MOST_MILLISECONDS, LONG, LONGER = 100, 200_000, 250_000
 HEADER = "number,event,address,instruction,mnemonic,place,before,after,sources\n"
 # What is wrong with a trace, the file's text, and what the line that tells it has.
 WRONG_TRACES = [
@@ -53,7 +53,16 @@ WRONG_WORDS = [
     (["--listing-columns", "1-6,8-23,25"], "there is no --symbols"),
     (["-o", "none/out"], "none/out: No such file or directory"),
 ]
+CONTRASTS = [(text, ground) for text in ("ink", "quiet", "accent") for ground in ("sheet", "ground")]
+CONTRASTS += [("ink", "chosen"), ("ink", "bar"), ("card-ink", "card"), *((f"actor{number}", "sheet") for number in range(8))]
 MARKUP = "<script>document.title='spoilt'</script>"
+
+
+def luminance(digits):
+    """How light a colour is (WCAG 2.2, "relative luminance")."""
+    shares = [int(digits[at : at + 2], 16) / 255 for at in (0, 2, 4)]
+    red, green, blue = (s / 12.92 if s <= 0.04045 else ((s + 0.055) / 1.055) ** 2.4 for s in shares)
+    return 0.2126 * red + 0.7152 * green + 0.0722 * blue
 
 
 def make(*words):
@@ -234,7 +243,33 @@ class Looks:
         self.save_picture("print")
         self.browser.media()
 
+    def zoom(self, example):
+        """Near one event a lane is filled where its event is, and the stores into the place stand in their lane alone."""
+        self.open(example.name)
+        self.value("(p.state.choose({ moment: 1801, place: 'r7' }), p.state.zoom(0.02))")
+        script = """(() => {
+          const { raster } = p.views.time, top = Math.ceil(13 * raster.ratio);
+          const chosen = getComputedStyle(document.documentElement).getPropertyValue('--accent').trim();
+          const [r, g, b] = [1, 3, 5].map((at) => parseInt(chosen.slice(at, at + 2), 16)), value = ((255 << 24) | (b << 16) | (g << 8) | r) >>> 0;
+          const at = (pixels) => pixels.filter((one) => one === value).length;
+          return [at(raster.pixels.subarray(0, top * raster.width)) > 0, at(raster.pixels.subarray(top * raster.width))];
+        })()"""
+        self.expect("the lane of stores", [True, 0], self.value(script))
+        spans = [self.value("[Math.round(p.state.to - p.state.from), p.state.from <= p.state.moment && p.state.moment < p.state.to]")]
+        self.browser.press("0")
+        spans.append(self.value("[Math.round(p.state.to - p.state.from), p.state.from <= p.state.moment && p.state.moment < p.state.to]"))
+        self.expect("spans", [[49, True], [2426, True]], spans)
+
     # Others.
+
+    def contrast(self):
+        """Texts stand out from what is behind them, in the light and in the dark (WCAG 2.2, 1.4.3)."""
+        light, _, dark = (TOP / "tools/page/page.css").read_text().partition("@media (prefers-color-scheme: dark)")
+        for scheme, style in (("light", light), ("dark", dark.partition("\n}\n")[0])):
+            colours = dict(re.findall(r"--([\w-]+): #([0-9a-f]{6});", style))
+            for text, ground in CONTRASTS:
+                low, high = sorted(map(luminance, (colours[text], colours[ground])))
+                self.expect(f"{scheme}: {text} on {ground}", True, (high + 0.05) / (low + 0.05) >= 4.5)
 
     def markup(self):
         """What cards, names and titles have is no markup."""
@@ -308,6 +343,8 @@ def main():
         examples = [looks.example(name) for name in NAMES]
         looks.graph(examples[0])
         looks.chains(examples)
+        looks.zoom(examples[0])
+        looks.contrast()
         looks.markup()
         looks.speed()
         looks.wrong(examples[0])

@@ -50,9 +50,10 @@ class Raster {
   }
 
   fill(left, right, top, bottom, value) {
-    const last = Math.min(right, this.width);
+    const first = Math.max(left, 0), last = Math.min(right, this.width);
+    if (first >= last) return;
     for (let y = Math.max(top, 0); y < Math.min(bottom, this.height); y++) {
-      this.pixels.fill(value, y * this.width + Math.max(left, 0), y * this.width + last);
+      this.pixels.fill(value, y * this.width + first, y * this.width + last);
     }
   }
 
