@@ -22,7 +22,8 @@ from packet_fuzz import FETCH, Connection, deck_of
 from packet_rows import framed, row_of
 from second.core import SIZE as STORAGE
 from second.inquiries import FORMS as INQUIRIES
-from second.remote import MALFORMED, MEMORY, OK, Recording, Target
+from second.recording import Recording
+from second.remote import MALFORMED, MEMORY, OK, Target
 
 OUT_OF_MEMORY = "s360gdb: memory: out of memory"
 AT_THE_START = b"T05replaylog:begin;"

@@ -19,13 +19,13 @@ import tempfile
 from gdb_sessions import PROMPT, echoed
 
 TOP = pathlib.Path(__file__).resolve().parent.parent
-COPIED = ("run", "gdb", "tools", "examples", ".vscode")
+COPIED = ("run", "gdb", "page", "tools", "examples", ".vscode")
 # Nothing has to be built there.
 BUILD = "#!/bin/sh\n"
 GDB, RUN = ("./gdb", "s360-gdb"), ("./run", "s360dbg")
 # Where the second and the third column of README.md begin.
 COLUMNS = 16, 50
-NOTICE = re.compile(r"(run|gdb): nothing is proved of this run; .*")
+NOTICE = re.compile(r"(run|gdb|page): nothing is proved of this run; .*")
 SECONDS = 300
 
 

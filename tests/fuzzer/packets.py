@@ -27,8 +27,11 @@ LINES += ["jumps", "jumps", "calls", "calls", "calls", "visits", "visits 200"]
 LINES += ["patch k 200 3", "patch f 200 1", "patch f 1000 1"]
 LINES = [line.encode() for line in LINES]
 SAVED = [b"printer", b"printer", b"printer", b"console", b"console", b"punch", b"P1", b"P2", b"RP3"]
-SAVED += [b"tape0", b"tape1", b"x", b""]
+SAVED += [b"tape0", b"tape1", b"x", b"", b"trace", b"trace", b"trace"]
 FILES = [b"a", b"a", b"b c", b" b  c", b"no/a", b"..", b"/dev/null", b"/dev/full", b""]
+# What may stand behind the name of a trace's file, and what of that is no part of the name.
+RANGES = [b"", b"", b"", b" 3 9", b"  1   5 ", b" 40 60", b" 2 10000000"]
+MORE_OF_A_NAME = [b" 9 3", b" 0 5", b" 7", b" 1 10000001", b"3 9"]
 NAMED = ["p", "run", "ext"]
 PLACES = ["p", "run", "ext", "u 00C", "u 00E", "d 00C", "d 01F", "k 200", "u 999"]
 # How often a kind of request is made.
@@ -162,8 +165,14 @@ class Requests(random.Random):
         return b"qRcmd," + self.choice(lines).hex().encode()
 
     def savings(self):
-        words = [[b"save", b"save!"], SAVED, FILES]
-        return [b" ".join(map(self.choice, words)) for _ in range(24)]
+        return [self.saving() for _ in range(24)]
+
+    def saving(self):
+        word, what, file = map(self.choice, ([b"save", b"save!"], SAVED, FILES))
+        ends = RANGES if what == b"trace" else [b""]
+        # No other file of /dev is named.
+        ends = ends if b"/dev" in file else [*ends, *MORE_OF_A_NAME]
+        return b" ".join([word, what, file]) + self.choice(ends)
 
     def inquiries(self):
         at, number = self.address() % (1 << 24), self.randrange(1, 30)

@@ -8,5 +8,6 @@ storage, `channels` the channels with theirs, `devices` and `tapes` the units, `
 is read, `debugger` the answers to its lines, `programs` random media and channel programs, and
 `scripts` random scripts. `remote` answers gdb's packets, and `packet_fuzz.py` compares with that;
 `inquiries` has what a person asks, `causes` why a place has its value, and `sources` what an event
-made it of. `shapes` has what an event does but for values, for `why_by_experiment.py`.
+made it of. `savings` has the files that are saved, and `traces` that of what each change did.
+`shapes` has what an event does but for values, for `why_by_experiment.py`.
 """

@@ -74,8 +74,7 @@ class Machine(Logical, Channels):
         before = signed(self.number(TIMER, 4))
         after = signed(before - 256)
         self.put_bytes(TIMER, (after % WORD).to_bytes(4, "big"))
-        if before >= 0 > after:
-            self.put("ext", self.value("ext") | TIMER_PENDING)
+        self.put("ext", self.value("ext") | (TIMER_PENDING if before >= 0 > after else 0))
 
     def press(self, key):
         is_loading = isinstance(self.value("run"), Loading)

@@ -26,7 +26,7 @@ pub enum Extent {
 
 impl Extent {
     /// The extent of a place alone.
-    pub(crate) fn of(place: Place) -> Extent
+    pub fn of(place: Place) -> Extent
         ensures { result ≡ extent_of place }
     {
         match place {
@@ -156,7 +156,7 @@ pub(crate) fn extents_of(
 }
 
 /// Adds the name of an extent: of several bytes the first address and the last.
-pub(crate) fn push_extent(text: &mut Text, extent: Extent) -> Result<(), AllocError>
+pub fn push_extent(text: &mut Text, extent: Extent) -> Result<(), AllocError>
     ensures { OnOk result (text.new ≡ text.old ++ extent_name extent) }
 {
     push_place(text, extent.first())?;

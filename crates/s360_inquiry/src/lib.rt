@@ -29,6 +29,11 @@ mod visit;
 mod why;
 
 pub use answering::answer_inquiry;
-pub use extent::Extent;
+pub use extent::{Extent, push_extent};
+pub use going::go_to;
+pub use happening::{command_word_at, fetched_bytes};
 pub use inquiry::{Inquiry, Mark};
 pub use inquiry_reader::read_inquiry;
+pub use mnemonic::mnemonic_of;
+pub use place_set::in_order;
+pub use storing::stored_by;

@@ -18,14 +18,14 @@ use std::alloc::AllocError;
 
 /// Hands up the file that a line asks for, or tells what is wrong with the line.
 pub(crate) fn save(
-    target: &Target,
+    target: &mut Target,
     asked: Result<Saving<'_>, LineFault>,
     replies: &mut Text,
 ) -> Result<Then, AllocError>
     ensures { IfOk result (λ next. Adds (IsSavingServed asked.entry (machine_now target.now) next) replies.old replies.new) }
 {
     match asked {
-        Ok(saving) => Ok(Then::Save(file_for(target.alloc, target.machine(), saving)?)),
+        Ok(saving) => Ok(Then::Save(file_for(target.alloc, &mut target.session, saving)?)),
         Err(fault) => {
             tell_line(&text_of_fault(target.alloc, fault)?, replies)?;
             Ok(Then::GoOn)

@@ -1,0 +1,89 @@
+//! The places that a value was made of, as a field of a line: in their order, each once, successive bytes together.
+ghost use Rattle.std.specs.Prelude.{◌≡◌, ◌++◌, IfOk, OnOk, reverse};
+ghost use Rattle.std.specs.List.{flat_map};
+ghost use Rattle.s360_machine.specs.Machine.{seen};
+ghost use Rattle.s360_trace.specs.SourcesTold.{behind, blank_and_name, runs_of, sources_words, with_run};
+
+use s360_inquiry::{Extent, in_order, push_extent};
+use s360_machine::{Event, Machine};
+use s360_source::sources;
+use s360_store::Place;
+use s360_text::Text;
+use std::alloc::{AllocError, Global};
+
+/// A byte with the run that begins behind it, if they are successive.
+fn behind(place: Place, next: Extent) -> Option<Extent>
+    ensures { result ≡ behind place next }
+{
+    match (place, next) {
+        (Place::Byte(at), Extent::Bytes { first, last }) if at.checked_add(1) == Some(first) => {
+            Some(Extent::Bytes { first: at, last })
+        }
+        _ => None,
+    }
+}
+
+/// Puts a place before runs, which are listed from the last one on.
+fn put_before(runs: &mut Vec<Extent>, place: Place) -> Result<(), AllocError>
+    ensures { OnOk result (reverse runs.new.items ≡ with_run place (reverse runs.old.items)) }
+{
+    let Some(next) = runs.pop() else {
+        runs.push(Extent::of(place))?;
+        return Ok(());
+    };
+    match behind(place, next) {
+        Some(together) => runs.push(together)?,
+        None => {
+            runs.push(next)?;
+            runs.push(Extent::of(place))?;
+        }
+    }
+    Ok(())
+}
+
+/// Places with successive bytes together, in their order.
+fn runs_of(alloc: Global, places: &[Place]) -> Result<Vec<Extent>, AllocError>
+    ensures { IfOk result (λ runs. runs.items ≡ runs_of places.now) }
+{
+    let mut runs = Vec::new(alloc);
+    for index in (0..places.len()).rev() {
+        put_before(&mut runs, places[index])?;
+    }
+    runs.reverse();
+    Ok(runs)
+}
+
+/// Adds the names of runs, each after a blank.
+fn push_names(text: &mut Text, runs: &[Extent]) -> Result<(), AllocError>
+    ensures { OnOk result (text.new ≡ text.old ++ flat_map blank_and_name runs.now) }
+{
+    for run in runs {
+        push_name(text, *run)?;
+    }
+    Ok(())
+}
+
+/// Adds the name of a run after a blank.
+fn push_name(text: &mut Text, run: Extent) -> Result<(), AllocError>
+    ensures { OnOk result (text.new ≡ text.old ++ blank_and_name run) }
+{
+    text.push_text(" ")?;
+    push_extent(text, run)
+}
+
+/// The names of the places that an event makes the value of a place of, each after a blank.
+pub(crate) fn sources_words(
+    alloc: Global,
+    machine: &Machine,
+    event: &Event,
+    place: Place,
+) -> Result<Text, AllocError>
+    ensures { IfOk result (λ text. text ≡ sources_words (seen machine.now.whole) event.now place) }
+{
+    let found = sources(alloc, machine, event, place)?;
+    let places = in_order(alloc, found.as_slice())?;
+    let runs = runs_of(alloc, places.as_slice())?;
+    let mut text = Text::new(alloc);
+    push_names(&mut text, runs.as_slice())?;
+    Ok(text)
+}

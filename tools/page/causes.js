@@ -1,0 +1,109 @@
+// Causes: the chain of what is chosen as a graph. Each event stands once; what it was made of is below it.
+
+const NODE = { width: 232, height: 66, across: 14, down: 26, margin: 10, most: 150 };
+
+class CausesView {
+  constructor(run, state) {
+    this.run = run;
+    this.state = state;
+    this.box = $("#causes .content");
+    this.depth = $("#depth");
+    this.depth.oninput = () => this.draw();
+    this.root = null;
+    this.draw();
+  }
+
+  follow(state) {
+    if (state.root !== this.root) {
+      this.root = state.root;
+      this.chain = state.root && new Chain(this.run, state.root);
+      this.draw();
+    }
+    for (const node of this.box.querySelectorAll(".cause")) node.classList.toggle("now", Number(node.dataset.moment) === state.moment);
+  }
+
+  draw() {
+    const { run, root, chain } = this;
+    if (!root) return this.tell("Choose a printed column, a hole, a byte or a register: its causes are drawn here.");
+    const name = root.item ? root.item.text : run.placeName(root.place);
+    $("#of").textContent = root.item ? `of ${name}` : `of ${name} after ${run.number[root.moment]}`;
+    if (!chain.root) return this.tell(`Nothing in the trace stored into ${name} by then: it is as it was from the start.`);
+    const all = chain.shown(Math.max(1, Number(this.depth.value) || 1)), shown = all.slice(0, NODE.most);
+    const graph = this.graph(shown);
+    const cut = chain.causes.size - shown.length;
+    const more = cut || chain.isCut ? `${shown.length} of ${chain.isCut ? "more than " : ""}${chain.causes.size} events: raise the depth for more` : shown.length === 1 ? "1 event" : `${shown.length} events`;
+    this.box.replaceChildren(graph, make("p", { className: "count" }, more));
+  }
+
+  tell(text) {
+    $("#of").textContent = "";
+    this.box.replaceChildren(make("p", { className: "empty" }, text));
+  }
+
+  graph(shown) {
+    const layers = [], at = new Map();
+    for (const cause of shown) {
+      const column = (layers[cause.layer] = (layers[cause.layer] ?? 0) + 1) - 1;
+      at.set(cause.moment, { x: NODE.margin + column * (NODE.width + NODE.across), y: NODE.margin + cause.layer * (NODE.height + NODE.down) });
+    }
+    const width = NODE.margin * 2 + Math.max(...layers.map((count) => count || 0)) * (NODE.width + NODE.across) - NODE.across;
+    const height = NODE.margin * 2 + layers.length * (NODE.height + NODE.down) - NODE.down;
+    const svg = makeSvg("svg", { width, height, viewBox: `0 0 ${width} ${height}`, role: "group", "aria-label": "Causes" });
+    for (const cause of shown) {
+      for (const [moment, stores] of cause.below) if (at.has(moment)) svg.append(this.edge(at.get(cause.moment), at.get(moment), stores));
+    }
+    for (const cause of shown) svg.append(this.node(cause, at.get(cause.moment), [...cause.below.keys()].some((moment) => !at.has(moment))));
+    return svg;
+  }
+
+  edge(from, to, stores) {
+    const [x1, y1, x2, y2] = [from.x + NODE.width / 2, from.y + NODE.height, to.x + NODE.width / 2, to.y];
+    const bend = NODE.down * 0.7;
+    const path = makeSvg("path", { class: "edge", d: `M${x1} ${y1}C${x1} ${y1 + bend} ${x2} ${y2 - bend} ${x2} ${y2}` });
+    path.append(makeSvg("title", {}, runsOf(this.run, stores).map(nameOfRun).join(" ")));
+    return path;
+  }
+
+  // Its event and label, its statement, what it made, and what of its sources is not followed.
+  node(cause, { x, y }, hasMore) {
+    const { run, state } = this, actor = run.actorOfKind[run.kind[cause.moment]];
+    const group = makeSvg("g", { class: `cause actor${actor}`, transform: `translate(${x} ${y})`, tabindex: 0, role: "button" });
+    group.dataset.moment = cause.moment;
+    const texts = this.textsOf(cause);
+    group.append(makeSvg("rect", { width: NODE.width, height: NODE.height, rx: 3 }), makeSvg("rect", { class: "actor", width: 4, height: NODE.height }));
+    texts.forEach(([kind, text], i) => group.append(makeSvg("text", { class: kind, x: 11, y: 15 + i * 15 }, short(text, 31))));
+    if (hasMore) group.append(makeSvg("text", { class: "more", x: NODE.width - 14, y: 15 }, "\u203a"));
+    group.append(makeSvg("title", {}, texts.map(([, text]) => text).join("\n")));
+    const store = [...cause.stores][0];
+    const choose = () => state.choose({ moment: cause.moment, place: store === undefined ? state.place : run.places[run.place[store]], keeps: true });
+    group.addEventListener("click", choose);
+    group.addEventListener("keydown", (event) => {
+      if (event.key === "Enter" || event.key === " ") { event.preventDefault(); event.stopPropagation(); choose(); }
+    });
+    return group;
+  }
+
+  textsOf(cause) {
+    const { run } = this, { name, number, address } = run.event(cause.moment);
+    const statement = run.statementAt.get(address);
+    const where = address < 0 ? "" : run.labelOf(address) || hex(address, 6);
+    const made = cause.stores.size ? runsOf(run, cause.stores).map((part) => `${nameOfRun(part)} = ${part.value}`).join(", ") : this.root.item.text;
+    const notes = [];
+    if (statement) notes.push(`line ${statement.line}`);
+    if (run.itemAt.has(cause.moment)) notes.push(run.itemAt.get(cause.moment));
+    if (cause.fromStart.size) notes.push(`from the start: ${namesOf([...cause.fromStart])}`);
+    if (cause.isOfPsw) notes.push("PSW");
+    return [["head", `${number} ${name === "cpu" ? where : `${name} ${where}`}`], ["doing", run.doing(cause.moment)], ["made", made], ["notes", notes.join(", ")]];
+  }
+}
+
+// Places with successive bytes as extents.
+function namesOf(places) {
+  const names = [];
+  for (const place of places.sort()) {
+    const last = names.at(-1);
+    if (last && isByte(place) && isByte(last.place) && addressOf(place) === last.address + last.count) last.count++;
+    else names.push({ place, address: isByte(place) ? addressOf(place) : -1, count: 1 });
+  }
+  return names.map(nameOfRun).join(" ");
+}
