@@ -21,19 +21,19 @@ import tally
 import typed
 
 TOP = pathlib.Path(__file__).resolve().parent.parent
-COMMANDS = ("s360dbg", "s360gdb", "s360-gdb", "s360as", "s360-make-deck", "s360-make-tape", "s360-what", "s360-as-text")
+COMMANDS = ("s360dbg", "s360gdb", "s360-gdb", "s360as", "s360-make-deck", "s360-make-tape", "s360-what", "s360-as-text", "s360-page")
 TYPED = ("README.md", "guide.md", "reference/media.md")
-MANUAL = ("s360dbg", "s360gdb", "s360-gdb", "s360-media")
+MANUAL = ("s360dbg", "s360gdb", "s360-gdb", "s360-media", "s360-page")
 DOC, SHARED, MAN = "usr/share/doc/s360dbg", "usr/share/s360dbg", "usr/share/man/man1"
 # Where files of the repository are installed, and what is installed beside them.
-PLACES = {"tools/asm/": f"{SHARED}/asm/", "tools/gdb/": f"{SHARED}/gdb/", "tools/media/": f"{SHARED}/media/"}
-PLACES |= {"README.md": f"{DOC}/README.md", "docs/guide.md": f"{DOC}/guide.md", "docs/reference/": f"{DOC}/reference/"}
-PLACES |= {"examples/": f"{DOC}/examples/", ".vscode/": f"{DOC}/vscode/"}
+PLACES = {f"tools/{tools}/": f"{SHARED}/{tools}/" for tools in ("asm", "gdb", "media", "page")}
+PLACES |= {f"docs/{name}": f"{DOC}/{name}" for name in ("guide.md", "time.svg", "reference/")}
+PLACES |= {"README.md": f"{DOC}/README.md", "examples/": f"{DOC}/examples/", ".vscode/": f"{DOC}/vscode/"}
 OWN = {*(f"usr/bin/{name}" for name in COMMANDS), *(f"{MAN}/{name}.1.gz" for name in (*COMMANDS, "s360-media"))}
 OWN |= {f"{DOC}/changelog.gz", f"{DOC}/copyright", "usr/share/lintian/overrides/s360dbg"}
 RIGHTS = {"drwxr-xr-x", "-rwxr-xr-x", "-rw-r--r--", "lrwxrwxrwx"}
 # What has to be found in the repository alone.
-OF_THE_REPOSITORY = re.compile(rf"\./(?:run|gdb|build)\b|--unproved|(?<![\w/$])(?:tools|crates|docs)/|{re.escape(str(TOP))}")
+OF_THE_REPOSITORY = re.compile(rf"\./(?:run|gdb|page|build)\b|--unproved|(?<![\w/$])(?:tools|crates|docs)/|{re.escape(str(TOP))}")
 INSTALLED = re.compile(r"/(usr/share/(?:doc/)?s360dbg[\w./-]*)")
 OPTION = re.compile(r"(?<![\w-])--?[a-zA-Z][\w-]*")
 GENERAL = {"-h", "--help", "-V", "--version"}

@@ -10,6 +10,7 @@ COMMANDS = {
     "s360-what": "tools/media/what",
     "s360-as-text": "tools/media/as_text",
     "s360as": "tools/asm/s360as",
+    "s360-page": "tools/page/s360-page",
 }
 # Of two names of which one begins as the other, the longer stands first.
 NAMES = {
@@ -19,6 +20,8 @@ NAMES = {
     "./run": "s360dbg",
     "./gdb --unproved": "s360-gdb",
     "./gdb": "s360-gdb",
+    "./page --unproved": "s360-page",
+    "./page": "s360-page",
     "${workspaceFolder}/gdb": "/usr/bin/s360-gdb",
     "crates/s360gdb/out/s360gdb": "s360gdb",
     "tools/setup gdb": "apt install binutils-s390x-linux-gnu",
