@@ -21,7 +21,7 @@ from page_facts import HOLES, TOP, Example, long_trace
 
 MAKE = TOP / "tools/page/make_page"
 NAMES = ["inventory", "cards", "charge", "turns", "listing", "punch", "marked", "overflow", "price", "dialogue"]
-UNITS = {"00C": "reader 00C", "00D": "punch 00D", "00E": "printer 00E", "01F": "console 01F", "180": "tape 180", "181": "tape 181"}
+UNITS = ["reader 00C", "punch 00D", "printer 00E", "console 01F", "tape 180", "tape 181"]
 CHAINS = 1000
 MOST_MILLISECONDS, LONG, LONGER = 100, 200_000, 250_000
 HEADER = "number,event,address,instruction,mnemonic,place,before,after,sources\n"
@@ -91,6 +91,10 @@ class Looks:
     def value(self, script):
         return self.browser.value(f"page.then((p) => {script})")
 
+    def texts(self, selector):
+        """The texts of some elements."""
+        return self.value(f"[...document.querySelectorAll('{selector}')].map((e) => e.textContent.replace('\\u00a0', ''))")
+
     def save_picture(self, name):
         if self.pictures:
             self.browser.picture(self.pictures / f"{name}.png")
@@ -115,21 +119,23 @@ class Looks:
         """Pages, lines, cards and blocks are as many as there are, and say what they say."""
         self.value("p.views.paper.openAll()")
         printed = example.printed()
-        pages = [[text for _, text in sorted(printed.get(page, []), key=lambda one: one[0])] for page in range(1, max(printed, default=0) + 1)]
-        script = "[...document.querySelectorAll('.page')].map((q) => [...q.querySelectorAll('.printed')].map((e) => e.firstChild?.data ?? ''))"
+        numbers = range(1, max(printed, default=0) + 1)
+        pages = [[text for _, text in sorted(printed.get(page, []), key=lambda one: one[0])] for page in numbers]
+        texts = "[...q.querySelectorAll('.printed')].map((e) => e.firstChild?.data ?? '')"
+        script = f"[...document.querySelectorAll('.page')].map((q) => {texts})"
         self.expect(f"{example.name}: printed", pages, self.value(script))
         cards = [card for _, card in example.machine.device(0x00D).cards]
         for medium, bytes_ in (("punch", cards), ("reader", example.machine.device(0x00C).cards)):
             self.cards(example, medium, [bytes(card) for card in bytes_])
         console = example.machine.device(0x01F)
         said = [re.sub(r"^(type|return) ?", "", item) for item in console.items()]
-        shown = self.value("[...document.querySelectorAll('.said:not(.enter) pre')].map((e) => e.textContent.replace('\\u00a0', ''))")
-        self.expect(f"{example.name}: typed", [item for item in said], shown)
+        self.expect(f"{example.name}: typed", said, self.texts(".said:not(.enter) pre"))
         entered = ["".join(map(example.sign, line)) for line in console.entered]
-        self.expect(f"{example.name}: entered", entered, self.value("[...document.querySelectorAll('.said.enter pre')].map((e) => e.textContent)"))
+        self.expect(f"{example.name}: entered", entered, self.texts(".said.enter pre"))
         for number, unit in enumerate((0x180, 0x181)):
             blocks = len(example.machine.device(unit).recorded)
-            self.expect(f"{example.name}: blocks of {unit:X}", blocks, self.value(f"document.querySelectorAll('.tape{number} .block').length"))
+            shown = len(self.texts(f".tape{number} .block"))
+            self.expect(f"{example.name}: blocks of {unit:X}", blocks, shown)
 
     def cards(self, example, medium, cards):
         holes = f"[...document.querySelectorAll('.{medium} .hole')].map((e) => e.getAttribute('d').split('M').length - 1)"
@@ -143,8 +149,8 @@ class Looks:
     def time(self, example):
         """The lane of each unit has its events, and those of routines all of the CPU."""
         lanes = dict(self.value("p.run.lanes.map((lane, i) => [lane.name, p.run.lane.filter((n) => n === i).length])"))
-        wanted = {name: example.events_of(f"channel {unit}") for unit, name in UNITS.items()}
-        shown = {name: lanes.get(name, 0) for name in UNITS.values()}
+        wanted = {name: example.events_of(f"channel {name[-3:]}") for name in UNITS}
+        shown = {name: lanes.get(name, 0) for name in UNITS}
         self.expect(f"{example.name}: events of units", wanted, shown)
         routines = sum(lanes.values()) - sum(shown.values()) - lanes.get("operator", 0)
         self.expect(f"{example.name}: events of the CPU", example.events_of("cpu"), routines)
@@ -170,7 +176,8 @@ class Looks:
         rows = self.value("[...p.views.source.rows].map(([a, { row }]) => [a, Number(row.cells[1].textContent)])")
         shown = {f"{int(address):06X}": count for address, count in rows if count}
         self.expect(f"{example.name}: lines that ran", {a: n for a, n in ran.items() if a in shown}, shown)
-        self.expect(f"{example.name}: the current line", 1, self.value("document.querySelectorAll('#source tr.now').length + (p.run.address[p.state.moment] ? 0 : 1)"))
+        current = "document.querySelectorAll('#source tr.now').length + (p.run.address[p.state.moment] ? 0 : 1)"
+        self.expect(f"{example.name}: the current line", 1, self.value(current))
 
     def views(self, example):
         """Keys go from event to event, and a chosen event is told in each view."""
@@ -178,8 +185,9 @@ class Looks:
         self.value("p.state.choose({ moment: 0 })")
         self.browser.press("ArrowRight")
         wanted = min(2, last)
-        self.expect(f"{example.name}: the next event", f"goto {wanted}", self.value("document.querySelector('.command').textContent"))
-        self.expect(f"{example.name}: its name", True, self.value("document.querySelector('#moment h2').textContent").startswith(f"{wanted} {example.event(wanted)}"))
+        self.expect(f"{example.name}: the next event", f"goto {wanted}", self.texts(".command")[0])
+        (head,) = self.texts("#moment h2")
+        self.expect(f"{example.name}: its name", f"{wanted} {example.event(wanted)}", head.partition(" at ")[0])
         self.browser.press("End")
         self.expect(f"{example.name}: the end", f"#{last}", self.browser.value("location.hash.split(',')[0]"))
         self.save_picture(example.name)
@@ -213,12 +221,14 @@ class Looks:
         for example, count in shares.items():
             example.look_at_all()
             self.open(example.name)
-            asked = [(some.choice(list(example.changes[number - 1].noted or ["p"])), number) for number in some.choices(range(1, len(example.changes) + 1), k=count)]
+            numbers = some.choices(range(1, len(example.changes) + 1), k=count)
+            asked = [[some.choice(list(example.changes[number - 1].noted or ["p"])), number] for number in numbers]
             script = """asked.map(([place, number]) => {
               const chain = new p.Chain(p.run, { place, moment: p.run.momentOf(number) });
-              return [...chain.causes.values()].flatMap((cause) => [...cause.stores].map((store) => `${p.run.places[p.run.place[store]]}@${p.run.number[cause.moment]}`)).sort();
+              const name = (store) => `${p.run.places[p.run.place[store]]}@${p.run.number[p.run.momentOfStore[store]]}`;
+              return [...chain.causes.values()].flatMap((cause) => [...cause.stores].map(name)).sort();
             })"""
-            shown = self.value(f"((asked) => {script})({[list(one) for one in asked]})")
+            shown = self.value(f"((asked) => {script})({asked})")
             for (place, number), causes in zip(asked, shown):
                 wanted = sorted(f"{place}@{at}" for place, at in example.causes(place, number))
                 self.expect(f"{example.name}: causes of {place} after {number}", wanted, causes)
@@ -234,7 +244,7 @@ class Looks:
         self.expect("nodes of the picture", len(nodes), picture.read_text().count('class="cause"'))
         self.browser.value("document.querySelectorAll('.cause')[1].dispatchEvent(new Event('click'))")
         chosen = self.value("p.run.number[p.state.moment]")
-        self.expect("the chosen node", [f"goto {chosen}", 1], self.value("[document.querySelector('.command').textContent, document.querySelectorAll('.cause.now').length]"))
+        self.expect("the chosen node", (f"goto {chosen}", 1), (self.texts(".command")[0], len(self.texts(".cause.now"))))
         self.value("p.goTo('1548,s000518')")
         self.save_picture("causes")
         self.browser.media("dark")
@@ -250,15 +260,16 @@ class Looks:
         script = """(() => {
           const { raster } = p.views.time, top = Math.ceil(13 * raster.ratio);
           const chosen = getComputedStyle(document.documentElement).getPropertyValue('--accent').trim();
-          const [r, g, b] = [1, 3, 5].map((at) => parseInt(chosen.slice(at, at + 2), 16)), value = ((255 << 24) | (b << 16) | (g << 8) | r) >>> 0;
+          const [r, g, b] = [1, 3, 5].map((at) => parseInt(chosen.slice(at, at + 2), 16));
+          const value = ((255 << 24) | (b << 16) | (g << 8) | r) >>> 0;
           const at = (pixels) => pixels.filter((one) => one === value).length;
           return [at(raster.pixels.subarray(0, top * raster.width)) > 0, at(raster.pixels.subarray(top * raster.width))];
         })()"""
         self.expect("the lane of stores", [True, 0], self.value(script))
-        spans = [self.value("[Math.round(p.state.to - p.state.from), p.state.from <= p.state.moment && p.state.moment < p.state.to]")]
+        span = "[Math.round(p.state.to - p.state.from), p.state.from <= p.state.moment && p.state.moment < p.state.to]"
+        near = self.value(span)
         self.browser.press("0")
-        spans.append(self.value("[Math.round(p.state.to - p.state.from), p.state.from <= p.state.moment && p.state.moment < p.state.to]"))
-        self.expect("spans", [[49, True], [2426, True]], spans)
+        self.expect("spans", ([49, True], [2426, True]), (near, self.value(span)))
 
     # Others.
 
@@ -286,7 +297,7 @@ class Looks:
         self.open("markup")
         self.value("p.views.paper.openAll()")
         self.expect("markup: title", MARKUP, self.browser.value("document.title"))
-        self.expect("markup: elements", [2, 0, 0], self.value("['script', 'img', 'b'].map((tag) => document.querySelectorAll(tag).length)"))
+        self.expect("markup: elements", [2, 0, 0], [len(self.texts(tag)) for tag in ("script", "img", "b")])
         self.expect("markup: printed", MARKUP, self.browser.value("document.querySelector('.printed').textContent"))
         self.expect("markup: card", True, MARKUP in self.browser.value("document.querySelector('.card').ariaLabel"))
 
@@ -301,7 +312,8 @@ class Looks:
             self.expect(f"{name}: told", [events > LONG, True], ["one moment" in told, f"{events:,} events" in told])
             for view in ("time", "storage"):
                 least = min(self.value(f"(p.views.{view}.draw(), p.views.{view}.milliseconds)") for _ in range(8))
-                self.expect(f"{name}: {view} is drawn within {MOST_MILLISECONDS} ms and not {least:.0f}", True, least < MOST_MILLISECONDS)
+                within = f"{name}: {view} is drawn within {MOST_MILLISECONDS} ms and not {least:.0f}"
+                self.expect(within, True, least < MOST_MILLISECONDS)
 
     def wrong(self, example):
         """A wrong file or word ends in one line, and no page."""
@@ -321,9 +333,9 @@ class Looks:
         copy = self.folder / "a clean copy"
         copy.mkdir()
         typed.make_checkout(copy, [program])
-        words = "--symbols examples/inventory/inventory.listing --reader examples/inventory/job.deck --tape0 examples/inventory/master.tape0"
-        command = f"./page --unproved {words} examples/inventory/inventory.s360 -o run.html"
-        done = typed.printed(command, copy)
+        first = (TOP / "examples/inventory/inventory.s360").read_text().partition("\n")[0]
+        words = first.removeprefix("* ./run ")
+        done = typed.printed(f"./page --unproved --symbols examples/inventory/inventory.listing {words} -o run.html", copy)
         self.expect("./page", 0, done.returncode)
         if done.returncode:
             self.faults.append(done.stderr)

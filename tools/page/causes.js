@@ -1,6 +1,7 @@
 // Causes: the chain of what is chosen as a graph. Each event stands once; what it was made of is below it.
 
 const NODE = { width: 232, height: 66, across: 14, down: 26, margin: 10, most: 150 };
+const ACROSS = NODE.width + NODE.across, DOWN = NODE.height + NODE.down;
 
 class CausesView {
   constructor(run, state) {
@@ -19,7 +20,9 @@ class CausesView {
       this.chain = state.root && new Chain(this.run, state.root);
       this.draw();
     }
-    for (const node of this.box.querySelectorAll(".cause")) node.classList.toggle("now", Number(node.dataset.moment) === state.moment);
+    for (const node of this.box.querySelectorAll(".cause")) {
+      node.classList.toggle("now", Number(node.dataset.moment) === state.moment);
+    }
   }
 
   draw() {
@@ -28,11 +31,14 @@ class CausesView {
     const name = root.item ? root.item.text : run.placeName(root.place);
     $("#of").textContent = root.item ? `of ${name}` : `of ${name} after ${run.number[root.moment]}`;
     if (!chain.root) return this.tell(`Nothing in the trace stored into ${name} by then: it is as it was from the start.`);
-    const all = chain.shown(Math.max(1, Number(this.depth.value) || 1)), shown = all.slice(0, NODE.most);
-    const graph = this.graph(shown);
-    const cut = chain.causes.size - shown.length;
-    const more = cut || chain.isCut ? `${shown.length} of ${chain.isCut ? "more than " : ""}${chain.causes.size} events: raise the depth for more` : shown.length === 1 ? "1 event" : `${shown.length} events`;
-    this.box.replaceChildren(graph, make("p", { className: "count" }, more));
+    const shown = chain.shown(Math.max(1, Number(this.depth.value) || 1)).slice(0, NODE.most);
+    this.box.replaceChildren(this.graph(shown), make("p", { className: "count" }, this.count(shown.length)));
+  }
+
+  count(shown) {
+    const { size } = this.chain.causes, more = this.chain.isCut ? "more than " : "";
+    if (more || size > shown) return `${shown} of ${more}${size} events: raise the depth for more`;
+    return shown === 1 ? "1 event" : `${shown} events`;
   }
 
   tell(text) {
@@ -44,15 +50,19 @@ class CausesView {
     const layers = [], at = new Map();
     for (const cause of shown) {
       const column = (layers[cause.layer] = (layers[cause.layer] ?? 0) + 1) - 1;
-      at.set(cause.moment, { x: NODE.margin + column * (NODE.width + NODE.across), y: NODE.margin + cause.layer * (NODE.height + NODE.down) });
+      at.set(cause.moment, { x: NODE.margin + column * ACROSS, y: NODE.margin + cause.layer * DOWN });
     }
-    const width = NODE.margin * 2 + Math.max(...layers.map((count) => count || 0)) * (NODE.width + NODE.across) - NODE.across;
-    const height = NODE.margin * 2 + layers.length * (NODE.height + NODE.down) - NODE.down;
-    const svg = makeSvg("svg", { width, height, viewBox: `0 0 ${width} ${height}`, role: "group", "aria-label": "Causes" });
+    const width = NODE.margin * 2 + Math.max(...layers.map((count) => count || 0)) * ACROSS - NODE.across;
+    const height = NODE.margin * 2 + layers.length * DOWN - NODE.down;
+    const box = { width, height, viewBox: `0 0 ${width} ${height}` };
+    const svg = makeSvg("svg", { ...box, role: "group", "aria-label": "Causes" });
+    for (const { moment, below } of shown) {
+      for (const [made, stores] of below) if (at.has(made)) svg.append(this.edge(at.get(moment), at.get(made), stores));
+    }
     for (const cause of shown) {
-      for (const [moment, stores] of cause.below) if (at.has(moment)) svg.append(this.edge(at.get(cause.moment), at.get(moment), stores));
+      const hasMore = [...cause.below.keys()].some((moment) => !at.has(moment));
+      svg.append(this.node(cause, at.get(cause.moment), hasMore));
     }
-    for (const cause of shown) svg.append(this.node(cause, at.get(cause.moment), [...cause.below.keys()].some((moment) => !at.has(moment))));
     return svg;
   }
 
@@ -67,18 +77,24 @@ class CausesView {
   // Its event and label, its statement, what it made, and what of its sources is not followed.
   node(cause, { x, y }, hasMore) {
     const { run, state } = this, actor = run.actorOfKind[run.kind[cause.moment]];
-    const group = makeSvg("g", { class: `cause actor${actor}`, transform: `translate(${x} ${y})`, tabindex: 0, role: "button" });
+    const drawn = { class: `cause actor${actor}`, transform: `translate(${x} ${y})` };
+    const group = makeSvg("g", { ...drawn, tabindex: 0, role: "button" });
     group.dataset.moment = cause.moment;
-    const texts = this.textsOf(cause);
-    group.append(makeSvg("rect", { width: NODE.width, height: NODE.height, rx: 3 }), makeSvg("rect", { class: "actor", width: 4, height: NODE.height }));
-    texts.forEach(([kind, text], i) => group.append(makeSvg("text", { class: kind, x: 11, y: 15 + i * 15 }, short(text, 31))));
+    const texts = this.textsOf(cause), { width, height } = NODE;
+    group.append(makeSvg("rect", { width, height, rx: 3 }), makeSvg("rect", { class: "actor", width: 4, height }));
+    texts.forEach(([kind, text], i) => {
+      group.append(makeSvg("text", { class: kind, x: 11, y: 15 + i * 15 }, short(text, 31)));
+    });
     if (hasMore) group.append(makeSvg("text", { class: "more", x: NODE.width - 14, y: 15 }, "\u203a"));
     group.append(makeSvg("title", {}, texts.map(([, text]) => text).join("\n")));
-    const store = [...cause.stores][0];
-    const choose = () => state.choose({ moment: cause.moment, place: store === undefined ? state.place : run.places[run.place[store]], keeps: true });
+    const [store] = cause.stores, place = store === undefined ? state.place : run.places[run.place[store]];
+    const choose = () => state.choose({ moment: cause.moment, place, keeps: true });
     group.addEventListener("click", choose);
     group.addEventListener("keydown", (event) => {
-      if (event.key === "Enter" || event.key === " ") { event.preventDefault(); event.stopPropagation(); choose(); }
+      if (event.key !== "Enter" && event.key !== " ") return;
+      event.preventDefault();
+      event.stopPropagation();
+      choose();
     });
     return group;
   }
@@ -87,13 +103,18 @@ class CausesView {
     const { run } = this, { name, number, address } = run.event(cause.moment);
     const statement = run.statementAt.get(address);
     const where = address < 0 ? "" : run.labelOf(address) || hex(address, 6);
-    const made = cause.stores.size ? runsOf(run, cause.stores).map((part) => `${nameOfRun(part)} = ${part.value}`).join(", ") : this.root.item.text;
+    const parts = runsOf(run, cause.stores).map((part) => `${nameOfRun(part)} = ${part.value}`);
     const notes = [];
     if (statement) notes.push(`line ${statement.line}`);
     if (run.itemAt.has(cause.moment)) notes.push(run.itemAt.get(cause.moment));
     if (cause.fromStart.size) notes.push(`from the start: ${namesOf([...cause.fromStart])}`);
     if (cause.isOfPsw) notes.push("PSW");
-    return [["head", `${number} ${name === "cpu" ? where : `${name} ${where}`}`], ["doing", run.doing(cause.moment)], ["made", made], ["notes", notes.join(", ")]];
+    return [
+      ["head", `${number} ${name === "cpu" ? where : `${name} ${where}`}`],
+      ["doing", run.doing(cause.moment)],
+      ["made", parts.join(", ") || this.root.item.text],
+      ["notes", notes.join(", ")],
+    ];
   }
 }
 

@@ -28,7 +28,8 @@ function positionsOf(numbers, count) {
   for (let i = 0; i < count; i++) begins[i + 1] += begins[i];
   const order = new Uint32Array(numbers.length), next = begins.slice();
   for (let i = 0; i < numbers.length; i++) order[next[numbers[i]]++] = i;
-  return { order, spanAt: (number) => [begins[number], begins[number + 1]], at: (number) => order.subarray(begins[number], begins[number + 1]) };
+  const spanAt = (number) => [begins[number], begins[number + 1]];
+  return { order, spanAt, at: (number) => order.subarray(...spanAt(number)) };
 }
 
 const byteAt = (address) => `s${hex(address, 6)}`;
@@ -149,10 +150,10 @@ class Run {
 }
 
 function extents(text) {
-  return text ? text.split(" ").map((word) => {
-    if (word.length <= 7) return { place: word, first: isByte(word) ? addressOf(word) : -1, last: isByte(word) ? addressOf(word) : -1 };
-    return { place: "s", first: addressOf(word), last: parseInt(word.slice(8), 16) };
-  }) : [];
+  return text.split(" ").filter(Boolean).map((word) => {
+    const first = isByte(word) ? addressOf(word) : -1;
+    return { place: word.slice(0, 7), first, last: word.length > 7 ? parseInt(word.slice(8), 16) : first };
+  });
 }
 
 function holds(list, place) {

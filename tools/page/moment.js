@@ -16,7 +16,8 @@ class MomentView {
     const statement = run.statementAt.get(run.event(state.moment).address);
     const notes = [statement && `line ${statement.line}`, run.itemAt.get(state.moment)].filter(Boolean);
     const line = make("span", { className: "quiet" }, notes.join(" \u00b7 "));
-    const commands = make("span", { className: "commands" }, copying(state.command()), number > run.first ? copying(`goto ${number - 1}`, "just before it") : "");
+    const before = number > run.first ? copying(`goto ${number - 1}`, "just before it") : "";
+    const commands = make("span", { className: "commands" }, copying(state.command()), before);
     this.box.replaceChildren(make("div", { className: "bar" }, head, doing, line, commands), this.stores());
   }
 
@@ -28,7 +29,8 @@ class MomentView {
       const place = make("button", { className: "place", title: "Shows its causes" }, nameOfRun(part));
       place.onclick = () => state.ask(part.place);
       const label = part.address < 0 ? "" : ` ${run.labelOf(part.address)}`;
-      const change = part.before === part.value ? `= ${short(part.value, 40)}` : `${short(part.before, 40)} \u2192 ${short(part.value, 40)}`;
+      const [before, value] = [short(part.before, 40), short(part.value, 40)];
+      const change = part.before === part.value ? `= ${value}` : `${before} \u2192 ${value}`;
       list.append(make("li", {}, place, `${label} ${change}`, ...this.sources(part)));
     }
     if (!all.length) list.append(make("li", { className: "quiet" }, "It stored into no place."));

@@ -1,7 +1,9 @@
 // Paper: pages as they were printed, cards, the console's dialogue, and tapes block by block. Each item knows the event that made
 // it, and each of its bytes the place in storage that it came from or went to.
 
-const PAPER_NAMES = { printer: "Printer", punch: "Punched cards", reader: "Deck read", console: "Console", tape0: "Tape 180", tape1: "Tape 181" };
+const PAPER_NAMES = {
+  printer: "Printer", punch: "Punched cards", console: "Console", tape0: "Tape 180", tape1: "Tape 181", reader: "Deck read",
+};
 const LINES_OF_PAGE = 66, BLOCK_SHOWN = 256;
 
 class PaperView {
@@ -75,7 +77,10 @@ class PaperView {
   columns(element, made, length, name) {
     element.made = made;
     const choose = (column) => this.choose(element, made, Math.max(0, Math.min(column, length - 1)), name);
-    element.addEventListener("click", (event) => choose(Math.floor(((event.clientX - element.getBoundingClientRect().left) / element.clientWidth) * length)));
+    element.addEventListener("click", (event) => {
+      const { left, width } = element.getBoundingClientRect();
+      choose(Math.floor(((event.clientX - left) / width) * length));
+    });
     element.addEventListener("keydown", (event) => {
       const step = { ArrowLeft: -1, ArrowRight: 1, Enter: 0 }[event.key];
       if (step === undefined) return;
@@ -89,14 +94,17 @@ class PaperView {
     this.chosen = { element, column };
     if (!made) return this.mark();
     const part = partOf(made.parts, column);
-    if (!part) this.state.choose({ moment: made.moment });
-    else this.state.choose({ moment: made.moment, place: part.place, item: made.reads ? null : { moment: made.moment, part: part.moment, text: name(column + 1) } });
+    const { moment, reads } = made;
+    if (!part) return this.state.choose({ moment });
+    const item = reads ? null : { moment, part: part.moment, text: name(column + 1) };
+    this.state.choose({ moment, place: part.place, item });
   }
 
   said({ kind, text, made }) {
     const words = { type: "", return: "", alarm: "alarm", enter: "entered" };
     const line = make("pre", { tabIndex: 0 }, text || "\u00a0");
-    if (kind === "type" || kind === "return") this.columns(line, made, Math.max(text.length, 1), (column) => `typed column ${column}`);
+    const name = (column) => `typed column ${column}`;
+    if (kind === "type" || kind === "return") this.columns(line, made, Math.max(text.length, 1), name);
     else if (made) line.onclick = () => this.state.choose({ moment: made.moment });
     line.made = made;
     return make("li", { className: `said ${kind}` }, make("span", { className: "quiet" }, words[kind]), line);
@@ -106,7 +114,8 @@ class PaperView {
     const title = bytes === null ? "mark" : `block of ${bytes.length / 2} bytes`;
     const head = make("h3", {}, `${number} ${title}`);
     for (const made of events) {
-      const button = make("button", { className: "number", title: "Goes to this event" }, `${made.did} by ${this.run.number[made.moment]}`);
+      const did = `${made.did} by ${this.run.number[made.moment]}`;
+      const button = make("button", { className: "number", title: "Goes to this event" }, did);
       button.onclick = () => this.state.choose({ moment: made.moment });
       head.append(" ", button);
     }
@@ -126,19 +135,23 @@ class PaperView {
     add(0, shown);
     if (shown < bytes.length / 2) {
       const more = make("button", {}, `${bytes.length / 2 - shown} bytes more`);
-      more.onclick = () => { more.remove(); add(shown, bytes.length / 2); };
+      more.onclick = () => {
+        more.remove();
+        add(shown, bytes.length / 2);
+      };
       box.append(more);
     }
     return box;
   }
 
   rowOfBlock(bytes, row, made, number) {
-    const part = bytes.slice(2 * row, 2 * row + 32).toUpperCase(), count = part.length / 2;
-    const signs = Array.from({ length: count }, (_, i) => this.run.signs[parseInt(part.slice(2 * i, 2 * i + 2), 16)]).join("");
-    const text = make("pre", { className: "signs", tabIndex: 0 }, signs);
-    this.columns(text, made && { ...made, parts: behind(made.parts, row) }, count, (column) => `block ${number} byte ${row + column}`);
+    const part = bytes.slice(2 * row, 2 * row + 32).toUpperCase(), codes = codesOf(part);
+    const text = make("pre", { className: "signs", tabIndex: 0 }, codes.map((code) => this.run.signs[code]).join(""));
+    const name = (column) => `block ${number} byte ${row + column}`;
+    this.columns(text, made && { ...made, parts: behind(made.parts, row) }, codes.length, name);
     text.made = made;
-    return make("div", {}, make("span", { className: "quiet" }, `${hex(row, 6)} `), part.replace(/(.{8})/g, "$1 ").padEnd(37), text);
+    const address = make("span", { className: "quiet" }, `${hex(row, 6)} `);
+    return make("div", {}, address, part.replace(/(.{8})/g, "$1 ").padEnd(37), text);
   }
 
   follow() {
@@ -147,11 +160,13 @@ class PaperView {
 
   // Shows the chosen column, and which items the moment's event made.
   mark() {
-    for (const old of this.box.querySelectorAll(".here, .column")) old.classList.contains("column") ? old.remove() : old.classList.remove("here");
+    for (const old of this.box.querySelectorAll(".column")) old.remove();
+    for (const old of this.box.querySelectorAll(".here")) old.classList.remove("here");
     const { chosen, state } = this;
     if (chosen && state.root?.item && chosen.element.made?.moment === state.root.item.moment) {
       const length = chosen.element.columnCount ?? chosen.element.textContent.length;
-      chosen.element.append(make("i", { className: "column", style: `left:${(100 * chosen.column) / length}%;width:${100 / length}%` }));
+      const style = `left:${(100 * chosen.column) / length}%;width:${100 / length}%`;
+      chosen.element.append(make("i", { className: "column", style }));
     }
     for (const element of this.box.querySelectorAll(".printed, .card, .said pre, .block")) {
       if (element.made?.moment === state.moment) element.classList.add("here");
@@ -161,6 +176,9 @@ class PaperView {
     this.shown = state.moment;
   }
 }
+
+// The bytes that digits stand for.
+const codesOf = (digits) => (digits.match(/../g) ?? []).map((byte) => parseInt(byte, 16));
 
 // Where a byte of an item was in storage, and when, by the item's parts.
 function partOf(parts, column) {

@@ -1,5 +1,5 @@
-// Source: the listing with the current line, how often each line ran, and what it made last by the chosen moment. Without a listing
-// it is the instructions that ran, in the order of addresses.
+// Source: the listing with the current line, how often each line ran, and what it made last by the chosen moment. Without a
+// listing it is the instructions that ran, in the order of addresses.
 
 class SourceView {
   constructor(run, state) {
@@ -11,7 +11,8 @@ class SourceView {
     $("#file").textContent = file && lines.length ? file.split("/").at(-1) : "no listing: instructions as they ran";
     this.most = Math.max(1, ...run.runsAt.values());
     const rows = lines.length ? this.ofLines() : this.ofInstructions();
-    this.box.append(make("table", {}, make("thead", {}, headOf(["line", "ran", "at", "", "made last"])), make("tbody", {}, ...rows)));
+    const head = make("thead", {}, headOf(["line", "ran", "at", "", "made last"]));
+    this.box.append(make("table", {}, head, make("tbody", {}, ...rows)));
   }
 
   ofLines() {
@@ -31,7 +32,8 @@ class SourceView {
 
   row(number, text, addresses) {
     const ran = Math.max(0, ...addresses.map((address) => this.run.runsAt.get(address) ?? 0));
-    const bar = make("i", { className: "bar", style: `width:${ran ? Math.max(3, (100 * Math.log1p(ran)) / Math.log1p(this.most)) : 0}%` });
+    const share = ran ? Math.max(3, (100 * Math.log1p(ran)) / Math.log1p(this.most)) : 0;
+    const bar = make("i", { className: "bar", style: `width:${share}%` });
     const at = addresses.length ? hex(Math.min(...addresses), 6) : "";
     const cells = [number, ran ? String(ran) : "", at, text, ""].map((cell) => make("td", {}, cell));
     cells[1].append(bar);

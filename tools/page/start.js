@@ -3,13 +3,19 @@
 async function start() {
   const run = await Run.read();
   const state = new State(run);
-  const views = { time: new TimeView(run, state), moment: new MomentView(run, state), paper: new PaperView(run, state) };
-  Object.assign(views, { causes: new CausesView(run, state), storage: new StorageView(run, state), source: new SourceView(run, state) });
+  const kinds = { time: TimeView, moment: MomentView, paper: PaperView };
+  Object.assign(kinds, { causes: CausesView, storage: StorageView, source: SourceView });
+  const views = Object.fromEntries(Object.entries(kinds).map(([name, View]) => [name, new View(run, state)]));
   state.views.push(...Object.values(views), { follow: () => noteAddress(state) });
   tellSummary(run);
   listenToKeys(state);
-  $("#go").addEventListener("submit", (event) => { event.preventDefault(); goTo(state, $("#wanted").value); });
-  for (const button of document.querySelectorAll(".enlarge")) button.onclick = () => button.closest(".pane").classList.toggle("large");
+  $("#go").onsubmit = (event) => {
+    event.preventDefault();
+    goTo(state, $("#wanted").value);
+  };
+  for (const button of document.querySelectorAll(".enlarge")) {
+    button.onclick = () => button.closest(".pane").classList.toggle("large");
+  }
   addEventListener("beforeprint", () => views.paper.openAll());
   if (!goTo(state, decodeURIComponent(location.hash.slice(1)))) state.tell();
   return { run, state, views, Chain, partOf, goTo: (text) => goTo(state, text) };
@@ -17,8 +23,8 @@ async function start() {
 
 function tellSummary(run) {
   const last = run.first + run.events - 1, count = run.events.toLocaleString("en");
-  const summed = run.step > 1 ? ` Up to ${run.step} successive events of the CPU are one moment, which has the last of them and its last stores.` : "";
-  $("#summary").textContent = `${count} events, ${run.first} to ${last}.${summed}`;
+  const summed = ` Up to ${run.step} successive events of the CPU are one moment: its last event and last stores.`;
+  $("#summary").textContent = `${count} events, ${run.first} to ${last}.${run.step > 1 ? summed : ""}`;
 }
 
 // Goes to a number, a place, a label with or without a distance, or several of them with commas between.
@@ -36,7 +42,9 @@ function goTo(state, text) {
 }
 
 function placeOf(run, word) {
-  const found = [word, word.toLowerCase(), `s${word.padStart(6, "0")}`, word[0].toLowerCase() + word.slice(1).toUpperCase()].find((name) => run.placeNumbers.has(name));
+  const upper = word.toUpperCase();
+  const forms = [word.toLowerCase(), word[0].toLowerCase() + upper.slice(1), `s${upper.padStart(6, "0")}`];
+  const found = forms.find((name) => run.placeNumbers.has(name));
   if (found) return found;
   const [name, distance = "0"] = word.split("+");
   const label = run.labels.find(([, label]) => label === name);

@@ -127,8 +127,9 @@ class StorageView {
 
   showCell() {
     const { run, state } = this, cell = $("#storage .cell");
-    if (!this.bytes.length) cell.replaceChildren(make("p", { className: "empty" }, "No event stored into storage."));
-    else if (!state.place) cell.replaceChildren(make("p", { className: "empty" }, "Choose a byte: its stores, values and readers."));
+    const tell = (text) => cell.replaceChildren(make("p", { className: "empty" }, text));
+    if (!this.bytes.length) tell("No event stored into storage.");
+    else if (!state.place) tell("Choose a byte: its stores, values and readers.");
     else {
       cell.replaceChildren(
         make("h3", {}, `${run.placeName(state.place)} = ${run.valueAt(state.place, state.moment) || "not in the trace"}`),
@@ -148,7 +149,8 @@ class StorageView {
       let signs = "";
       for (let at = row; at < row + 16; at++) {
         const value = run.valueAt(byteAt(at), state.moment);
-        const button = make("button", { title: run.placeName(byteAt(at)), className: at === chosen ? "now" : "" }, value || "\u00b7\u00b7");
+        const told = { title: run.placeName(byteAt(at)), className: at === chosen ? "now" : "" };
+        const button = make("button", told, value || "\u00b7\u00b7");
         button.onclick = () => state.choose({ place: byteAt(at) });
         line.append(button);
         signs += value ? run.signs[parseInt(value, 16)] : " ";
@@ -165,8 +167,9 @@ class StorageView {
     const first = Math.max(0, Math.min(there - MOST_LISTED / 2, stores.length - MOST_LISTED));
     const told = [...stores.slice(first, first + MOST_LISTED)];
     const rows = told.map((store) => storeRow(run, state, store, title === "Readers"));
-    const count = stores.length > told.length ? ` (${told.length} of ${stores.length})` : ` (${stores.length})`;
-    return make("details", { open: true }, make("summary", {}, title + count), make("table", { className: title.toLowerCase() }, ...rows));
+    const of = stores.length > told.length ? `${told.length} of ` : "";
+    const table = make("table", { className: title.toLowerCase() }, ...rows);
+    return make("details", { open: true }, make("summary", {}, `${title} (${of}${stores.length})`), table);
   }
 }
 
@@ -177,5 +180,6 @@ function storeRow(run, state, store, isReader) {
   number.onclick = () => state.choose(isReader ? { moment, place } : { moment });
   const value = `${run.values[run.before[store]]} \u2192 ${run.values[run.after[store]]}`;
   const cells = [number, run.where(moment), run.doing(moment), isReader ? `made ${run.placeName(place)}` : value];
-  return make("tr", { className: moment === state.moment ? "now" : "" }, ...cells.map((cell) => make("td", {}, cell)));
+  const className = moment === state.moment ? "now" : "";
+  return make("tr", { className }, ...cells.map((cell) => make("td", {}, cell)));
 }

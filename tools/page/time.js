@@ -69,10 +69,10 @@ class TimeView {
     const { run, state, raster } = this, { width } = raster;
     const counts = new Uint32Array(run.lanes.length * width);
     const [first, end] = [Math.floor(state.from), Math.min(Math.ceil(state.to), run.moments)];
-    const wide = Math.max(1, Math.floor(scale) - (scale >= 6 ? 1 : 0));
+    const gap = scale >= 6 ? 1 : 0;
     for (let moment = first; moment < end; moment++) {
-      const x = Math.floor((moment - state.from) * scale), row = run.lane[moment] * width;
-      const last = scale > 1 ? Math.min(x + Math.max(wide, Math.floor((moment + 1 - state.from) * scale) - x - (scale >= 6 ? 1 : 0)), width) : x + 1;
+      const x = Math.floor((moment - state.from) * scale), next = Math.floor((moment + 1 - state.from) * scale);
+      const row = run.lane[moment] * width, last = Math.min(Math.max(next - gap, x + 1), width);
       for (let at = Math.max(x, 0); at < last; at++) counts[row + at]++;
     }
     const shades = run.lanes.map((lane) => shadesOf(colour(`actor${lane.actor}`)));
@@ -81,7 +81,8 @@ class TimeView {
       const top = Math.round((lane + 1) * LANE * raster.ratio) + 1;
       for (let x = 0; x < width; x++) {
         const count = counts[lane * width + x];
-        if (count) raster.fill(x, x + 1, top, top + high, shades[lane][Math.min(SHADES, Math.ceil((SHADES * count) / full))]);
+        const shade = Math.min(SHADES, Math.ceil((SHADES * count) / full));
+        if (count) raster.fill(x, x + 1, top, top + high, shades[lane][shade]);
       }
     }
   }
