@@ -37,7 +37,7 @@ OF_THE_REPOSITORY = re.compile(rf"\./(?:run|gdb|page|build)\b|--unproved|(?<![\w
 INSTALLED = re.compile(r"/(usr/share/(?:doc/)?s360dbg[\w./-]*)")
 OPTION = re.compile(r"(?<![\w-])--?[a-zA-Z][\w-]*")
 GENERAL = {"-h", "--help", "-V", "--version"}
-VERSION = "0.1.0"
+VERSION, DATE = re.search(r"(?m)^## (\S+), (\S+)$", (TOP / "CHANGELOG.md").read_text()).groups()
 PROGRAM = f'int puts(const char *);\nint main(void) {{ return puts("s360dbg {VERSION}") < 0; }}\n'
 SECONDS = 300
 
@@ -110,10 +110,13 @@ def faults_of_wrong_sources(folder):
         yield from differs("what is told", (1, "", f"{line}\n"), (ended.returncode, ended.stdout, ended.stderr))
 
     yield from tells("dpkg-shlibdeps: not installed: type tools/setup package", env={"PATH": str(commands)})
+    yield from tells("SOURCE_DATE_EPOCH: 'now' is no number of seconds", env={**os.environ, "SOURCE_DATE_EPOCH": "now"})
     copy.spoil("docs/guide.md", "Editors start it, once it is built, as", "Editors start it as")
     yield from tells("tools/package/wording.py: no page says: Editors start it, once it is built, as")
     copy.spoil("CHANGELOG.md", f"## {VERSION}, ", f"## {VERSION}.1, ")
     yield from tells(f"CHANGELOG.md: it begins with {VERSION}.1, and the version of s360dbg is {VERSION}")
+    copy.spoil("CHANGELOG.md", f", {DATE}", ", 2026-99-01")
+    yield from tells("CHANGELOG.md: 2026-99-01 is no date")
     copy.spoil("CHANGELOG.md", "## ", "### ")
     yield from tells("CHANGELOG.md: it has no version: write a line as ## 0.1.0, 2026-12-01")
     copy.programs[1].unlink()

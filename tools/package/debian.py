@@ -46,7 +46,8 @@ License: Apache-2.0
  On Debian systems it is in /usr/share/common-licenses/Apache-2.0.
 """
 # A program of the simulated machine is an example.
-TAGS_OF_ELF = ("arch-dependent-file-in-usr-share", "binary-from-other-architecture", "statically-linked-binary", "unstripped-binary-or-object")
+TAGS_OF_ELF = ("arch-dependent-file-in-usr-share", "binary-from-other-architecture")
+TAGS_OF_ELF += ("statically-linked-binary", "unstripped-binary-or-object")
 OVERRIDES = "".join(f"{NAME}: {tag} [usr/share/doc/{NAME}/examples/*.elf]\n" for tag in TAGS_OF_ELF)
 
 
@@ -61,7 +62,10 @@ def releases_of(changes):
     found = []
     for version, date, text in RELEASE.findall(changes):
         told = [" ".join(change.split()) for change in re.split(r"^- ", text, flags=re.M)[1:]]
-        found.append(Release(version, datetime.datetime.fromisoformat(f"{date}T00:00:00+00:00"), told))
+        try:
+            found.append(Release(version, datetime.datetime.fromisoformat(f"{date}T00:00:00+00:00"), told))
+        except ValueError:
+            raise Fault(f"CHANGELOG.md: {date} is no date") from None
     if not found:
         raise Fault("CHANGELOG.md: it has no version: write a line as ## 0.1.0, 2026-12-01")
     return found
