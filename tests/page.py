@@ -18,6 +18,7 @@ import tally
 import typed
 from browser import Browser
 from page_facts import HOLES, TOP, Example, long_trace
+from second.traces import Trace
 
 MAKE = TOP / "tools/page/make_page"
 NAMES = ["inventory", "cards", "charge", "turns", "listing", "punch", "marked", "overflow", "price", "dialogue"]
@@ -271,6 +272,19 @@ class Looks:
         self.browser.press("0")
         self.expect("spans", ([49, True], [2426, True]), (near, self.value(span)))
 
+    def part(self, example):
+        """A trace may have some changes alone: what was made before it has no cause."""
+        (example.folder / "trace").write_text(Trace(example.inquiries).text(1100, 1600))
+        page = self.folder / "part.html"
+        self.expect("part: made", (0, ""), make(*example.words(), "-o", str(page)))
+        self.open("part", "1548,s000518")
+        self.expect("part: told", "501 events, 1100 to 1600.", self.texts("#summary")[0])
+        self.expect("part: its first cause", "1124", self.texts(".cause .head")[0].split()[0])
+        self.expect("part: what is before it", True, any("before 1100" in text for text in self.texts(".cause .notes")))
+        made = self.value("[...document.querySelectorAll('.printed')].map((e) => e.made ? p.run.number[e.made.moment] : 0)")
+        wanted = [number if 1100 <= number <= 1600 else 0 for number in example.printed_by()]
+        self.expect("part: lines with their events", wanted, made)
+
     # Others.
 
     def contrast(self):
@@ -356,6 +370,7 @@ def main():
         looks.graph(examples[0])
         looks.chains(examples)
         looks.zoom(examples[0])
+        looks.part(examples[0])
         looks.contrast()
         looks.markup()
         looks.speed()

@@ -30,7 +30,7 @@ class CausesView {
     if (!root) return this.tell("Choose a printed column, a hole, a byte or a register: its causes are drawn here.");
     const name = root.item ? root.item.text : run.placeName(root.place);
     $("#of").textContent = root.item ? `of ${name}` : `of ${name} after ${run.number[root.moment]}`;
-    if (!chain.root) return this.tell(`Nothing in the trace stored into ${name} by then: it is as it was from the start.`);
+    if (!chain.root) return this.tell(`No event of the trace stored into ${name} by then.`);
     const shown = chain.shown(Math.max(1, Number(this.depth.value) || 1)).slice(0, NODE.most);
     this.box.replaceChildren(this.graph(shown), make("p", { className: "count" }, this.count(shown.length)));
   }
@@ -107,7 +107,7 @@ class CausesView {
     const notes = [];
     if (statement) notes.push(`line ${statement.line}`);
     if (run.itemAt.has(cause.moment)) notes.push(run.itemAt.get(cause.moment));
-    if (cause.fromStart.size) notes.push(`from the start: ${namesOf([...cause.fromStart])}`);
+    if (cause.fromStart.size) notes.push(`${run.start}: ${namesOf([...cause.fromStart])}`);
     if (cause.isOfPsw) notes.push("PSW");
     return [
       ["head", `${number} ${name === "cpu" ? where : `${name} ${where}`}`],

@@ -171,7 +171,8 @@ def node(run, cause, x, y):
     doing = statement[2] if statement else f"{mnemonic} {digits}".strip() or kind
     made = {places[trace.place[store]]: values[trace.after[store]] for store in sorted(cause.stores)}
     notes = [f"line {statement[1]}"] if statement else []
-    notes += [f"from the start: {' '.join(sorted(cause.from_start))}"] if cause.from_start else []
+    start = "from the start" if trace.first == 1 else f"before {trace.first}"
+    notes += [f"{start}: {' '.join(sorted(cause.from_start))}"] if cause.from_start else []
     notes += ["PSW"] if cause.is_of_psw else []
     lines = [f"{trace.number[cause.moment]} {label if kind == 'cpu' else f'{kind} {label}'}", doing, told(made), ", ".join(notes)]
     for number, line in enumerate(lines):
