@@ -23,7 +23,7 @@ from second.traces import Trace
 MAKE = TOP / "tools/page/make_page"
 NAMES = ["inventory", "cards", "charge", "turns", "listing", "punch", "marked", "overflow", "price", "dialogue"]
 UNITS = ["reader 00C", "punch 00D", "printer 00E", "console 01F", "tape 180", "tape 181"]
-CHAINS = 1000
+CHAINS, MOST_LISTED = 1000, 40
 MOST_MILLISECONDS, LONG, LONGER = 100, 200_000, 250_000
 HEADER = "number,event,address,instruction,mnemonic,place,before,after,sources\n"
 # What is wrong with a trace, the file's text, and what the line that tells it has.
@@ -50,7 +50,7 @@ WRONG_WORDS = [
     (["--svg", "space", "out"], "no view 'space'"),
     (["--svg", "causes", "out"], "no place is named: add --of PLACE"),
     (["--svg", "causes", "out", "--of", "q1"], "--of q1: no place"),
-    (["--svg", "causes", "out", "--of", "rC"], "nothing stored into rC by then"),
+    (["--svg", "causes", "out", "--of", "k000800"], "nothing stored into k000800 by then"),
     (["--listing-columns", "1-6,8-23,25"], "there is no --symbols"),
     (["-o", "none/out"], "none/out: No such file or directory"),
 ]
@@ -164,7 +164,9 @@ class Looks:
         for place in random.Random(example.name).sample(places, min(12, len(places))):
             self.value(f"p.state.choose({{ place: '{place}', moment: p.run.last }})")
             told = self.value("document.querySelector('.cell summary')?.textContent")
-            self.expect(f"{example.name}: stores of {place}", f"Stores ({len(example.stores(place))})", told)
+            count = len(example.stores(place))
+            of = f"{MOST_LISTED} of {count}" if count > MOST_LISTED else count
+            self.expect(f"{example.name}: stores of {place}", f"Stores ({of})", told)
 
     def source(self, example):
         """How often lines ran, all together."""
