@@ -47,12 +47,11 @@ class CausesView {
   }
 
   graph(shown) {
-    const layers = [], at = new Map();
-    for (const cause of shown) {
-      const column = (layers[cause.layer] = (layers[cause.layer] ?? 0) + 1) - 1;
-      at.set(cause.moment, { x: NODE.margin + column * ACROSS, y: NODE.margin + cause.layer * DOWN });
-    }
-    const width = NODE.margin * 2 + Math.max(...layers.map((count) => count || 0)) * ACROSS - NODE.across;
+    const layers = layersOf(shown), at = new Map();
+    layers.forEach((causes, layer) => {
+      causes.forEach(({ moment }, i) => at.set(moment, { x: NODE.margin + i * ACROSS, y: NODE.margin + layer * DOWN }));
+    });
+    const width = NODE.margin * 2 + Math.max(...layers.map((causes) => causes.length)) * ACROSS - NODE.across;
     const height = NODE.margin * 2 + layers.length * DOWN - NODE.down;
     const box = { width, height, viewBox: `0 0 ${width} ${height}` };
     const svg = makeSvg("svg", { ...box, role: "group", "aria-label": "Causes" });
@@ -116,6 +115,23 @@ class CausesView {
       ["notes", notes.join(", ")],
     ];
   }
+}
+
+// The causes of each layer from left to right: each stands as near as it can below what it made, a later event before an earlier.
+function layersOf(shown) {
+  const layers = [], above = new Map();
+  for (const cause of shown) (layers[cause.layer] ??= []).push(cause);
+  for (const layer of layers) {
+    const middle = ({ moment }) => {
+      const columns = above.get(moment) ?? [0];
+      return columns.reduce((sum, column) => sum + column, 0) / columns.length;
+    };
+    layer.sort((a, b) => middle(a) - middle(b) || b.moment - a.moment);
+    layer.forEach(({ below }, column) => {
+      for (const moment of below.keys()) above.set(moment, [...(above.get(moment) ?? []), column]);
+    });
+  }
+  return layers;
 }
 
 // Places with successive bytes as extents.
