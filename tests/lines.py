@@ -13,7 +13,7 @@ TOP = pathlib.Path(__file__).resolve().parent.parent
 LANGUAGES = {"s360_language": "commands", "s360_inquiry": "inquiries", "s360_saving": "savings"}
 # What stands in a form for an argument of a kind. A kind that is not here has a word for each value.
 KINDS = {"address": "A", "bytes_in": "BYTES", "register": "R", "word_of": "W", "storage_key": "K", "bit_of": "D"}
-KINDS |= {"doubleword_of": "Q", "unit": "U", "count_of": "N", "ebcdic_text": "TEXT", "file_name": "FILE"}
+KINDS |= {"doubleword_of": "Q", "unit": "U", "count_of": "N", "ebcdic_text": "TEXT", "file_in": "FILE"}
 ROW = re.compile(r'line \(codes "(\S+)"\) \((.*)\) ∷')
 ITEM_OR = re.compile(r"item_or \(.*?\) \((.*)\)")
 EXTENT = re.compile(r"extent_then \(λ extent\. (.*)\)")

@@ -18,11 +18,12 @@ import tally
 import typed
 from browser import Browser
 from page_facts import HOLES, TOP, Example, long_trace
+from second.traces import Trace
 
 MAKE = TOP / "tools/page/make_page"
 NAMES = ["inventory", "cards", "charge", "turns", "listing", "punch", "marked", "overflow", "price", "dialogue"]
 UNITS = ["reader 00C", "punch 00D", "printer 00E", "console 01F", "tape 180", "tape 181"]
-CHAINS = 1000
+CHAINS, MOST_LISTED = 1000, 40
 MOST_MILLISECONDS, LONG, LONGER = 100, 200_000, 250_000
 HEADER = "number,event,address,instruction,mnemonic,place,before,after,sources\n"
 # What is wrong with a trace, the file's text, and what the line that tells it has.
@@ -49,7 +50,7 @@ WRONG_WORDS = [
     (["--svg", "space", "out"], "no view 'space'"),
     (["--svg", "causes", "out"], "no place is named: add --of PLACE"),
     (["--svg", "causes", "out", "--of", "q1"], "--of q1: no place"),
-    (["--svg", "causes", "out", "--of", "rC"], "nothing stored into rC by then"),
+    (["--svg", "causes", "out", "--of", "k000800"], "nothing stored into k000800 by then"),
     (["--listing-columns", "1-6,8-23,25"], "there is no --symbols"),
     (["-o", "none/out"], "none/out: No such file or directory"),
 ]
@@ -163,7 +164,9 @@ class Looks:
         for place in random.Random(example.name).sample(places, min(12, len(places))):
             self.value(f"p.state.choose({{ place: '{place}', moment: p.run.last }})")
             told = self.value("document.querySelector('.cell summary')?.textContent")
-            self.expect(f"{example.name}: stores of {place}", f"Stores ({len(example.stores(place))})", told)
+            count = len(example.stores(place))
+            of = f"{MOST_LISTED} of {count}" if count > MOST_LISTED else count
+            self.expect(f"{example.name}: stores of {place}", f"Stores ({of})", told)
 
     def source(self, example):
         """How often lines ran, all together."""
@@ -271,6 +274,19 @@ class Looks:
         self.browser.press("0")
         self.expect("spans", ([49, True], [2426, True]), (near, self.value(span)))
 
+    def part(self, example):
+        """A trace may have some changes alone: what was made before it has no cause."""
+        (example.folder / "trace").write_text(Trace(example.inquiries).text(1100, 1600))
+        page = self.folder / "part.html"
+        self.expect("part: made", (0, ""), make(*example.words(), "-o", str(page)))
+        self.open("part", "1548,s000518")
+        self.expect("part: told", "501 events, 1100 to 1600.", self.texts("#summary")[0])
+        self.expect("part: its first cause", "1124", self.texts(".cause .head")[0].split()[0])
+        self.expect("part: what is before it", True, any("before 1100" in text for text in self.texts(".cause .notes")))
+        made = self.value("[...document.querySelectorAll('.printed')].map((e) => e.made ? p.run.number[e.made.moment] : 0)")
+        wanted = [number if 1100 <= number <= 1600 else 0 for number in example.printed_by()]
+        self.expect("part: lines with their events", wanted, made)
+
     # Others.
 
     def contrast(self):
@@ -356,6 +372,7 @@ def main():
         looks.graph(examples[0])
         looks.chains(examples)
         looks.zoom(examples[0])
+        looks.part(examples[0])
         looks.contrast()
         looks.markup()
         looks.speed()

@@ -107,6 +107,15 @@ class Example:
             left += [(source, cause[1] - 1) for source in self.made[cause[1]][place] if source != "p"]
         return found
 
+    def printed_by(self):
+        """The number of the change that printed each line."""
+        counts = [0]
+        for number in self.stores("d00E"):
+            self.inquiries.go_to(number)
+            count = len(self.machine.device(0x00E).records)
+            counts += [number] * (count - len(counts) + 1)
+        return counts[1:]
+
     def printed(self):
         """Of each page the lines that were printed, and the texts of each, in order."""
         pages = {}

@@ -106,8 +106,9 @@ class LackingTarget(Target):
 
 
 def is_inquiry(data):
+    """Whether it goes elsewhere in the recording: the line that saves a trace does too."""
     words = bytes.fromhex(data[len(LINE) :].decode()).split() if data.startswith(LINE) else []
-    return bool(words) and words[0] in INQUIRIES
+    return bool(words) and (words[0] in INQUIRIES or words[1:2] == [b"trace"])
 
 
 class NotingConnection(Connection):

@@ -79,8 +79,8 @@ class Machine(Logical, Channels):
     def press(self, key):
         is_loading = isinstance(self.value("run"), Loading)
         if key in ("start", "stop"):
-            if not is_loading:
-                self.put("run", OPERATING if key == "start" else STOPPED)
+            state = OPERATING if key == "start" else STOPPED
+            self.put("run", self.value("run") if is_loading else state)
         elif key == "reset":
             self.put("run", STOPPED)
             self.put("ext", 0)

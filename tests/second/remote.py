@@ -83,6 +83,7 @@ HELP = [
     " all or those of a stacker",
     "save console FILE: saves what the console typed, and the lines that were entered",
     "save tape0 FILE, save tape1 FILE: saves the file of a tape",
+    "save trace FILE: saves what each change did; FROM and TO behind FILE say from which to which",
     "save! WHAT FILE: writes over a file that is there",
 ]
 

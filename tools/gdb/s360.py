@@ -246,7 +246,7 @@ Usage: withdraw NUMBER"""
 
 
 class Save(gdb.Command):
-    """Save what a unit has at this moment in a file.
+    """Save what a unit has at this moment, or what each change did, in a file.
 Usage: save WHAT [-overwrite] FILE"""
 
     KINDS = {
@@ -258,6 +258,7 @@ Usage: save WHAT [-overwrite] FILE"""
         "console": "what the console typed, and the lines that were entered",
         "tape0": "the tape of unit 180",
         "tape1": "the tape of unit 181",
+        "trace": "what each change did, as comma-separated values",
     }
 
     def __init__(self, kind: str) -> None:

@@ -21,6 +21,7 @@ Maintainer: {developers}
 Installed-Size: {size}
 Depends: {libraries}, gdb-multiarch, python3 (>= 3.10)
 Recommends: binutils-s390x-linux-gnu
+Suggests: sqlite3
 Section: devel
 Priority: optional
 Description: debugger for a simulated IBM System/360 that steps backwards

@@ -21,7 +21,6 @@ function cardOf(view, { bytes, stacker, made }, number, medium) {
   const card = make("section", { className: "card", "aria-label": `Card ${number}: ${text.trimEnd()}` });
   const tells = [`card ${number}`, stacker, made && `${medium === "reader" ? "read" : "punched"} by ${run.number[made.moment]}`];
   card.append(make("span", { className: "folio" }, tells.filter(Boolean).join(" \u00b7 ")), face);
-  card.made = made;
   return card;
 }
 

@@ -30,7 +30,7 @@ class CausesView {
     if (!root) return this.tell("Choose a printed column, a hole, a byte or a register: its causes are drawn here.");
     const name = root.item ? root.item.text : run.placeName(root.place);
     $("#of").textContent = root.item ? `of ${name}` : `of ${name} after ${run.number[root.moment]}`;
-    if (!chain.root) return this.tell(`Nothing in the trace stored into ${name} by then: it is as it was from the start.`);
+    if (!chain.root) return this.tell(`No event of the trace stored into ${name} by then.`);
     const shown = chain.shown(Math.max(1, Number(this.depth.value) || 1)).slice(0, NODE.most);
     this.box.replaceChildren(this.graph(shown), make("p", { className: "count" }, this.count(shown.length)));
   }
@@ -47,12 +47,11 @@ class CausesView {
   }
 
   graph(shown) {
-    const layers = [], at = new Map();
-    for (const cause of shown) {
-      const column = (layers[cause.layer] = (layers[cause.layer] ?? 0) + 1) - 1;
-      at.set(cause.moment, { x: NODE.margin + column * ACROSS, y: NODE.margin + cause.layer * DOWN });
-    }
-    const width = NODE.margin * 2 + Math.max(...layers.map((count) => count || 0)) * ACROSS - NODE.across;
+    const layers = layersOf(shown), at = new Map();
+    layers.forEach((causes, layer) => {
+      causes.forEach(({ moment }, i) => at.set(moment, { x: NODE.margin + i * ACROSS, y: NODE.margin + layer * DOWN }));
+    });
+    const width = NODE.margin * 2 + Math.max(...layers.map((causes) => causes.length)) * ACROSS - NODE.across;
     const height = NODE.margin * 2 + layers.length * DOWN - NODE.down;
     const box = { width, height, viewBox: `0 0 ${width} ${height}` };
     const svg = makeSvg("svg", { ...box, role: "group", "aria-label": "Causes" });
@@ -107,7 +106,7 @@ class CausesView {
     const notes = [];
     if (statement) notes.push(`line ${statement.line}`);
     if (run.itemAt.has(cause.moment)) notes.push(run.itemAt.get(cause.moment));
-    if (cause.fromStart.size) notes.push(`from the start: ${namesOf([...cause.fromStart])}`);
+    if (cause.fromStart.size) notes.push(`${run.start}: ${namesOf([...cause.fromStart])}`);
     if (cause.isOfPsw) notes.push("PSW");
     return [
       ["head", `${number} ${name === "cpu" ? where : `${name} ${where}`}`],
@@ -116,6 +115,23 @@ class CausesView {
       ["notes", notes.join(", ")],
     ];
   }
+}
+
+// The causes of each layer from left to right: each stands as near as it can below what it made, a later event before an earlier.
+function layersOf(shown) {
+  const layers = [], above = new Map();
+  for (const cause of shown) (layers[cause.layer] ??= []).push(cause);
+  for (const layer of layers) {
+    const middle = ({ moment }) => {
+      const columns = above.get(moment) ?? [0];
+      return columns.reduce((sum, column) => sum + column, 0) / columns.length;
+    };
+    layer.sort((a, b) => middle(a) - middle(b) || b.moment - a.moment);
+    layer.forEach(({ below }, column) => {
+      for (const moment of below.keys()) above.set(moment, [...(above.get(moment) ?? []), column]);
+    });
+  }
+  return layers;
 }
 
 // Places with successive bytes as extents.

@@ -96,3 +96,19 @@ def layered(causes, depth):
             if moment in shown:
                 shown[moment].layer = max(shown[moment].layer, cause.layer + 1)
     return list(shown.values())
+
+
+def columns(causes):
+    """The causes of each layer from left to right: each stands as near as it can below what it made, a later event before an
+    earlier one."""
+    layers = [[] for _ in range(max(cause.layer for cause in causes) + 1)]
+    for cause in causes:
+        layers[cause.layer].append(cause)
+    above = {}
+    for layer in layers:
+        places = {cause.moment: above.get(cause.moment, [0]) for cause in layer}
+        layer.sort(key=lambda cause: (sum(places[cause.moment]) / len(places[cause.moment]), -cause.moment))
+        for column, cause in enumerate(layer):
+            for moment in cause.below:
+                above.setdefault(moment, []).append(column)
+    return layers

@@ -42,6 +42,7 @@ class Run {
     Object.assign(this, told, columns, told.words);
     this.moments = columns.number.length;
     this.last = this.moments - 1;
+    this.start = this.first > 1 ? `before ${this.first}` : "from the start";
     this.placeNumbers = new Map(this.places.map((place, number) => [place, number]));
     this.momentOfStore = new Uint32Array(this.place.length);
     for (let moment = 0; moment < this.moments; moment++) {

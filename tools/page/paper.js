@@ -12,6 +12,7 @@ class PaperView {
     this.state = state;
     this.box = $("#paper .content");
     this.sheets = new Map();
+    this.elements = new Map(); // of each moment what its event made
     const media = Object.keys(run.paper);
     this.tabs = media.map((medium) => this.tab(medium));
     $("#paper .tabs").append(...this.tabs);
@@ -75,7 +76,7 @@ class PaperView {
 
   // Lets columns of a text be chosen, by the pointer or by arrows.
   columns(element, made, length, name) {
-    element.made = made;
+    this.note(element, made);
     const choose = (column) => this.choose(element, made, Math.max(0, Math.min(column, length - 1)), name);
     element.addEventListener("click", (event) => {
       const { left, width } = element.getBoundingClientRect();
@@ -88,6 +89,11 @@ class PaperView {
       event.stopPropagation();
       choose((this.chosen?.element === element ? this.chosen.column : 0) + step);
     });
+  }
+
+  note(element, made) {
+    element.made = made;
+    if (made) this.elements.set(made.moment, [...(this.elements.get(made.moment) ?? []), element]);
   }
 
   choose(element, made, column, name) {
@@ -105,8 +111,10 @@ class PaperView {
     const line = make("pre", { tabIndex: 0 }, text || "\u00a0");
     const name = (column) => `typed column ${column}`;
     if (kind === "type" || kind === "return") this.columns(line, made, Math.max(text.length, 1), name);
-    else if (made) line.onclick = () => this.state.choose({ moment: made.moment });
-    line.made = made;
+    else if (made) {
+      this.note(line, made);
+      line.onclick = () => this.state.choose({ moment: made.moment });
+    }
     return make("li", { className: `said ${kind}` }, make("span", { className: "quiet" }, words[kind]), line);
   }
 
@@ -149,7 +157,6 @@ class PaperView {
     const text = make("pre", { className: "signs", tabIndex: 0 }, codes.map((code) => this.run.signs[code]).join(""));
     const name = (column) => `block ${number} byte ${row + column}`;
     this.columns(text, made && { ...made, parts: behind(made.parts, row) }, codes.length, name);
-    text.made = made;
     const address = make("span", { className: "quiet" }, `${hex(row, 6)} `);
     return make("div", {}, address, part.replace(/(.{8})/g, "$1 ").padEnd(37), text);
   }
@@ -168,9 +175,7 @@ class PaperView {
       const style = `left:${(100 * chosen.column) / length}%;width:${100 / length}%`;
       chosen.element.append(make("i", { className: "column", style }));
     }
-    for (const element of this.box.querySelectorAll(".printed, .card, .said pre, .block")) {
-      if (element.made?.moment === state.moment) element.classList.add("here");
-    }
+    for (const element of this.elements.get(state.moment) ?? []) element.classList.add("here");
     const here = $(`.sheets:not([hidden]) .here`, this.box);
     if (here && this.shown !== state.moment) scrollWithin(this.box, here);
     this.shown = state.moment;

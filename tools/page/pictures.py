@@ -4,7 +4,7 @@ import pathlib
 import re
 from xml.sax.saxutils import escape
 
-from chains import Chains, layered
+from chains import Chains, columns, layered
 from common import Fault
 from lanes import ACTORS, actor_of
 from trace_file import FORMS
@@ -139,12 +139,12 @@ def causes(run, place, at):
     shown = layered(found, DEPTH)[:MOST_NODES]
     if not shown:
         raise Fault(f"{trace.name}: nothing stored into {place} by then: name another place or a later change")
-    counts, at_of = {}, {}
-    for cause in shown:
-        column = counts[cause.layer] = counts.get(cause.layer, 0) + 1
-        at_of[cause.moment] = MARGIN + (column - 1) * (NODE_WIDTH + ACROSS), MARGIN + cause.layer * (NODE_HEIGHT + DOWN)
-    width = 2 * MARGIN + max(counts.values()) * (NODE_WIDTH + ACROSS) - ACROSS
-    height = 2 * MARGIN + (max(counts) + 1) * (NODE_HEIGHT + DOWN) - DOWN
+    layers, at_of = columns(shown), {}
+    for layer, causes_of_layer in enumerate(layers):
+        for column, cause in enumerate(causes_of_layer):
+            at_of[cause.moment] = MARGIN + column * (NODE_WIDTH + ACROSS), MARGIN + layer * (NODE_HEIGHT + DOWN)
+    width = 2 * MARGIN + max(map(len, layers)) * (NODE_WIDTH + ACROSS) - ACROSS
+    height = 2 * MARGIN + len(layers) * (NODE_HEIGHT + DOWN) - DOWN
     edges = [edge(at_of[c.moment], at_of[below]) for c in shown for below in sorted(c.below) if below in at_of]
     nodes = [part for cause in shown for part in node(run, cause, *at_of[cause.moment])]
     return svg(width, height, [*edges, *nodes])
@@ -171,7 +171,8 @@ def node(run, cause, x, y):
     doing = statement[2] if statement else f"{mnemonic} {digits}".strip() or kind
     made = {places[trace.place[store]]: values[trace.after[store]] for store in sorted(cause.stores)}
     notes = [f"line {statement[1]}"] if statement else []
-    notes += [f"from the start: {' '.join(sorted(cause.from_start))}"] if cause.from_start else []
+    start = "from the start" if trace.first == 1 else f"before {trace.first}"
+    notes += [f"{start}: {' '.join(sorted(cause.from_start))}"] if cause.from_start else []
     notes += ["PSW"] if cause.is_of_psw else []
     lines = [f"{trace.number[cause.moment]} {label if kind == 'cpu' else f'{kind} {label}'}", doing, told(made), ", ".join(notes)]
     for number, line in enumerate(lines):

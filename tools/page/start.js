@@ -72,6 +72,7 @@ function listenToKeys(state) {
     Home: () => step(-state.run.moments), End: () => step(state.run.moments),
     p: () => goToStore(state, false), n: () => goToStore(state, true),
     "+": () => state.zoom(0.5), "-": () => state.zoom(2), 0: () => state.move(0, state.run.moments),
+    Escape: () => $(".large")?.classList.remove("large"),
     Backspace: () => state.goBack(), "/": () => $("#wanted").focus(),
   };
   addEventListener("keydown", (event) => {

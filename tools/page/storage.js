@@ -1,6 +1,7 @@
 // Storage over time: a row for each byte into which some event stored, over the events. A byte has the colour of the one who
 // stored it, pale as long as it stands. Below it is the chosen cell: its bytes, stores and readers.
 
+const AGAIN = " again";
 const MOST_LISTED = 40, DUMPED = 64, ROW = 12, TINT = 0.35;
 
 class StorageView {
@@ -29,7 +30,9 @@ class StorageView {
     }
     const options = [...areas].map(([label, count]) => make("option", { value: label }, `${label} (${count})`));
     this.area = $("#area");
-    this.area.append(make("option", { value: "" }, `all ${this.bytes.length} bytes stored into`), ...options);
+    this.again = this.bytes.filter(([, number]) => this.run.storesAt(number).length > 1);
+    const all = make("option", { value: "" }, `all ${this.bytes.length} bytes stored into`);
+    this.area.append(all, make("option", { value: AGAIN }, `stored into again (${this.again.length})`), ...options);
     this.area.onchange = () => this.draw();
   }
 
@@ -41,6 +44,7 @@ class StorageView {
 
   rows() {
     const { value } = this.area;
+    if (value === AGAIN) return this.again;
     return value ? this.bytes.filter(([place]) => this.run.labelOf(addressOf(place)).split("+")[0] === value) : this.bytes;
   }
 
@@ -63,7 +67,7 @@ class StorageView {
   draw() {
     const began = performance.now(), rows = this.rows(), { raster, state } = this;
     const width = this.plot.clientWidth, height = Math.max(60, Math.min(rows.length * ROW, 340));
-    if (!width || !rows.length) return;
+    if (!width) return;
     raster.begin(width, height);
     const scale = raster.width / (state.to - state.from), high = raster.height / rows.length;
     const strong = this.run.actors.map((_, actor) => pixel(colour(`actor${actor}`)));

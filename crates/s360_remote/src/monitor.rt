@@ -64,6 +64,7 @@ save printer FILE: saves the pages that were printed in a file that is not there
 save punch FILE, save P1 FILE, save P2 FILE, save RP3 FILE: saves the cards that were punched, all or those of a stacker
 save console FILE: saves what the console typed, and the lines that were entered
 save tape0 FILE, save tape1 FILE: saves the file of a tape
+save trace FILE: saves what each change did; FROM and TO behind FILE say from which to which
 save! WHAT FILE: writes over a file that is there
 ";
 

@@ -1,9 +1,9 @@
 //! The lines that save.
 ghost use Rattle.std.specs.Prelude.{◌≡◌, []};
 ghost use Rattle.s360_language.specs.Lines.{judged, text};
-ghost use Rattle.s360_saving.specs.Reading.{before_word, file_in, last_word, medium_of, name_in, named, ranged, saving_of};
-ghost use Rattle.s360_saving.specs.Reading.{savings, up_to_word};
+ghost use Rattle.s360_saving.specs.Reading.{file_in, medium_of, name_in, named, ranged, saving_of, savings};
 
+use crate::last_words::{before_word, last_word, up_to_word};
 use crate::saving::{Medium, Saving};
 use s360_device::PunchStacker;
 use s360_language::{
@@ -32,72 +32,52 @@ fn reading_of(line: &[u8]) -> Result<Saving<'_>, LineFault>
     }
 }
 
-/// What is asked, if it names a file: what is left of a line is the argument of this number.
+/// What is asked, if what is left of the line names a file; else the argument of this number is missing.
 fn with_name<'a>(_words: Words<'_>, number: u8, saving: Saving<'a>) -> Result<Saving<'a>, LineFault>
     ensures { result ≡ text (file_in saving.entry.what saving.entry.over) saving.entry.name (λ asked. asked) number [] }
 {
-    file_in(saving).ok_or(LineFault::Argument(number))
+    match file_in(saving) {
+        Some(saving) => Ok(saving),
+        None => Err(LineFault::Argument(number)),
+    }
 }
 
 /// What is asked, if what is left of the line names a file. Behind that of a trace may stand which changes it has.
 fn file_in(saving: Saving<'_>) -> Option<Saving<'_>>
     ensures { result ≡ file_in saving.entry.what saving.entry.over saving.entry.name }
 {
-    let Medium::Trace { .. } = saving.what else {
-        return named(saving);
-    };
-    let before = before_word(saving.name);
-    match (
-        count_in(last_word(before), MOST_COUNT),
-        count_in(last_word(saving.name), MOST_COUNT),
-    ) {
+    match saving.what {
+        Medium::Trace { .. } => {
+            let from = count_in(last_word(before_word(saving.name)), MOST_COUNT);
+            let to = count_in(last_word(saving.name), MOST_COUNT);
+            ranged(saving, from, to)
+        }
+        _ => named(saving),
+    }
+}
+
+/// What is asked, if it names a file behind whose name these numbers may stand.
+fn ranged(saving: Saving<'_>, from: Option<u32>, to: Option<u32>) -> Option<Saving<'_>>
+    ensures { result ≡ ranged saving.entry.what saving.entry.over saving.entry.name from to }
+{
+    match (from, to) {
         (Some(from), Some(to)) if from <= to => named(Saving {
             what: Medium::Trace { from, to },
-            name: up_to_word(before_word(before)),
+            name: up_to_word(before_word(before_word(saving.name))),
             over: saving.over,
         }),
         _ => named(saving),
     }
 }
 
-/// What is asked, if its name is not empty.
+/// What is asked, if the name of its file is not empty.
 fn named(saving: Saving<'_>) -> Option<Saving<'_>>
     ensures { result ≡ named saving.entry.what saving.entry.over saving.entry.name }
 {
-    if saving.name.is_empty() {
-        return None;
+    match saving.name {
+        [] => None,
+        _ => Some(saving),
     }
-    Some(saving)
-}
-
-/// How many bytes at the end of a line are blanks, or are none.
-fn count_at_end(line: &[u8], blanks: bool) -> usize {
-    line.iter()
-        .rev()
-        .take_while(|byte| (**byte == b' ') == blanks)
-        .count()
-}
-
-/// A line up to its last word.
-fn up_to_word(line: &[u8]) -> &[u8]
-    ensures { result.now ≡ up_to_word line.now }
-{
-    &line[..line.len() - count_at_end(line, true)]
-}
-
-/// A line up to what stands before its last word.
-fn before_word(line: &[u8]) -> &[u8]
-    ensures { result.now ≡ before_word line.now }
-{
-    let line = up_to_word(line);
-    &line[..line.len() - count_at_end(line, false)]
-}
-
-/// The last word of a line; none has no byte.
-fn last_word(line: &[u8]) -> &[u8]
-    ensures { result.now ≡ last_word line.now }
-{
-    &up_to_word(line)[before_word(line).len()..]
 }
 
 /// What a word says is saved.

@@ -29,11 +29,13 @@ abbrev pub mnemonic_field : Option (List ℕ) → List ℕ
 mnemonic_field None = codes ","
 mnemonic_field (Some mnemonic) = codes "," ++ mnemonic
 
--- an instruction, whose bytes are those in storage
+-- the bytes of an instruction in storage, and its mnemonic
+abbrev pub bytes_fields : Storage → ℕ → List ℕ
+bytes_fields s at = (codes "," ++ hex_bytes (fetched_bytes s at)) ++ mnemonic_field (mnemonic_of (slice_index s.bytes at))
+
+-- an instruction, which may be outside storage
 abbrev pub instruction_fields : Storage → ℕ → List ℕ
-instruction_fields s at =
-    (codes "," ++ hex_text 6 at)
-    ++ (if nat_lt at (length s.bytes) then (codes "," ++ hex_bytes (fetched_bytes s at)) ++ mnemonic_field (mnemonic_of (slice_index s.bytes at)) else codes ",,")
+instruction_fields s at = (codes "," ++ hex_text 6 at) ++ (if nat_lt at (length s.bytes) then bytes_fields s at else codes ",,")
 
 -- the CPU executes none where it is interrupted in place of one, waits or does not operate
 abbrev pub case_fields : CpuCase → Machine → List ℕ
