@@ -31,8 +31,10 @@ WRONG_TRACES = [
     ("nothing", "", "line 1: it does not begin as a trace"),
     ("no trace", "hello\n", "line 1: it does not begin as a trace"),
     ("no event", HEADER, "line 1: no event follows"),
-    ("a cut line", HEADER + "1,tick,,,,,,,\n2,tick,,", "line 3: it has"),
-    ("a field too many", HEADER + "1,tick,,,,,,,,\n", "line 2: "),
+    ("a cut line", HEADER + "1,tick,,,,,,,\n2,tick,,", "line 3: it was cut off"),
+    ("a cut store", HEADER + "1,tick,,,,ext,none,timer,ex", "line 2: it was cut off"),
+    ("a field too few", HEADER + "1,tick,,,,,,\n", "line 2: it has 8 fields of 9"),
+    ("a field too many", HEADER + "1,tick,,,,,,,,\n", "line 2: it has 10 fields of 9"),
     ("a number", HEADER + "1,tick,,,,,,,\n3,tick,,,,,,,\n", "line 3: number '3' follows 1"),
     ("an event", HEADER + "1,tock,,,,,,,\n", "line 2: 'tock' is no event"),
     ("a place", HEADER + "1,tick,,,,x9,0,0,\n", "line 2: 'x9' is no place"),
@@ -113,6 +115,7 @@ class Looks:
         self.source(example)
         self.views(example)
         self.columns(example)
+        self.bytes(example)
         self.expect(f"{name}: faults at the end", [], self.browser.faults())
         return example
 
@@ -214,6 +217,30 @@ class Looks:
         texts = [text for lines in example.printed().values() for _, text in lines]
         texts += [re.sub(r"^(type|return) ?", "", item) for item in example.machine.device(0x01F).items()]
         self.expect(f"{example.name}: columns", (sum(map(len, texts)), []), (looked, faults))
+
+    def bytes(self, example):
+        """Each byte of cards and blocks came from one in storage that had its value, or went to one that has it then."""
+        script = """(() => {
+          const { run } = p, { paper } = run, faults = [];
+          let looked = 0;
+          const look = (bytes, made, reads) => {
+            for (let at = 0; made && at < bytes.length / 2; at++, looked++) {
+              const part = p.partOf(made.parts, at), byte = bytes.slice(2 * at, 2 * at + 2).toUpperCase();
+              const value = part ? run.valueAt(part.place, part.moment - (reads ? 0 : 1)) : reads ? byte : '40';
+              if (value !== byte) faults.push([at, byte, value, run.number[made.moment]]);
+            }
+          };
+          for (const { bytes, made } of paper.punch ?? []) look(bytes, made, false);
+          for (const { bytes, made } of paper.reader ?? []) look(bytes, made, true);
+          for (const block of [...(paper.tape0 ?? []), ...(paper.tape1 ?? [])]) {
+            for (const made of block.events) look(block.bytes ?? '', made, made.did === 'read');
+          }
+          return [looked, faults];
+        })()"""
+        looked, faults = self.value(script)
+        self.expect(f"{example.name}: bytes of cards and blocks", [], faults)
+        cards = 80 * len(example.machine.device(0x00D).cards)
+        self.expect(f"{example.name}: so many were looked at", True, looked >= cards)
 
     # Causes.
 
