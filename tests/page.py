@@ -384,7 +384,8 @@ class Looks:
             self.faults.append(done.stderr)
             return
         self.browser.open(copy / "run.html")
-        self.expect("./page: events and lines", [2426, 15], self.value("[p.run.moments, document.querySelectorAll('.printed').length]"))
+        shown = self.value("p.run.moments"), len(self.texts(".printed"))
+        self.expect("./page: events and lines", (2426, 15), shown)
         self.browser.open(self.folder / "inventory.html")
 
 

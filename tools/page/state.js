@@ -13,7 +13,7 @@ class State {
     this.past = [];
   }
 
-  // Chooses a moment, a place, an item, or several of them. A place is the root of a new chain, unless `keeps` leaves it as it is.
+  // Chooses a moment, a place, an item, or several of them. A place is the root of a new chain, unless `keeps` leaves that.
   choose({ moment = this.moment, place = null, item = null, keeps = false }) {
     this.past.push({ moment: this.moment, place: this.place, root: this.root });
     this.moment = Math.max(0, Math.min(moment, this.run.last));
