@@ -17,8 +17,12 @@ import tempfile
 import tally
 import typed
 from browser import Browser
-from page_facts import HOLES, TOP, Example, long_trace
+from page_facts import HOLES, TOP, Example, assembled, lines_by_binutils, long_trace
 from second.traces import Trace
+
+sys.path += [str(TOP / "tools" / name) for name in ("page", "gdb", "media")]
+import elf
+import symbols
 
 MAKE = TOP / "tools/page/make_page"
 NAMES = ["inventory", "cards", "charge", "turns", "listing", "punch", "marked", "overflow", "price", "dialogue"]
@@ -316,6 +320,19 @@ class Looks:
 
     # Others.
 
+    def symbols(self):
+        """The lines of ELF files are those that binutils find, and labels and lines those of the same program's listing."""
+        for source in (TOP / "tests/gdb").glob("*.s"):
+            for version in (2, 3, 4, 5):
+                file = assembled(source, version, self.folder)
+                lines = {(pathlib.Path(name).name, line, at) for name, line, at in elf.lines(file.read_bytes())}
+                self.expect(f"{source.name}: lines of DWARF {version}", lines_by_binutils(file), lines)
+        linked, listed = (symbols.read(str(TOP / f"examples/inventory/inventory.{kind}")) for kind in ("elf", "listing"))
+        names = [[(at, name) for at, name, *_ in some.labels] for some in (linked, listed)]
+        self.expect("labels of the listing", names[0], names[1])
+        lines = [{(at, line) for at, line, _ in some.statements} for some in (linked, listed)]
+        self.expect("lines of the listing", set(), lines[0] - lines[1])
+
     def contrast(self):
         """Texts stand out from what is behind them, in the light and in the dark (WCAG 2.2, 1.4.3)."""
         light, _, dark = (TOP / "tools/page/page.css").read_text().partition("@media (prefers-color-scheme: dark)")
@@ -401,6 +418,7 @@ def main():
         looks.chains(examples)
         looks.zoom(examples[0])
         looks.part(examples[0])
+        looks.symbols()
         looks.contrast()
         looks.markup()
         looks.speed()
