@@ -13,6 +13,7 @@ import re
 import subprocess
 import sys
 import tempfile
+from concurrent.futures import ThreadPoolExecutor
 
 import tally
 import typed
@@ -276,6 +277,10 @@ class Looks:
         picture = self.folder / "causes.svg"
         self.expect("picture", (0, ""), make("--svg", "causes", str(picture), "--of", "r7", *example.words()))
         self.expect("nodes of the picture", len(nodes), picture.read_text().count('class="cause"'))
+        picture = self.folder / "storage.svg"
+        self.expect("picture of storage", (0, ""), make("--svg", "storage", str(picture), *example.words()))
+        told = re.findall(r">([^<]+)</text>", picture.read_text())
+        self.expect("who stored into storage", ["CPU", "reader 00C", "tape 180"], told[-3:])
         self.browser.value("document.querySelectorAll('.cause')[1].dispatchEvent(new Event('click'))")
         chosen = self.value("p.run.number[p.state.moment]")
         self.expect("the chosen node", (f"goto {chosen}", 1), (self.texts(".command")[0], len(self.texts(".cause.now"))))
@@ -383,8 +388,10 @@ class Looks:
             file = self.folder / f"{name}.trace"
             file.write_bytes(text.encode("latin-1"))
             cases.append(([str(file)], told))
-        for words, told in cases:
-            done = subprocess.run([MAKE, *words], capture_output=True, text=True, cwd=self.folder)
+        how = {"capture_output": True, "text": True, "cwd": self.folder}
+        with ThreadPoolExecutor(2) as pool:
+            ended = list(pool.map(lambda case: subprocess.run([MAKE, *case[0]], **how), cases))
+        for (words, told), done in zip(cases, ended):
             is_told = told in done.stderr and done.stderr.count("\n") == 1 and done.returncode > 0
             self.expect(f"{words}: {done.stderr!r}", (True, False), (is_told, (self.folder / "run.html").exists()))
 
