@@ -12,7 +12,9 @@ import tempfile
 import time
 
 NAME = "chromium"
-FLAGS = ["--headless", "--no-sandbox", "--disable-gpu", "--no-first-run", "--hide-scrollbars", "--remote-debugging-pipe"]
+FLAGS = ["--headless", "--disable-gpu", "--no-first-run", "--hide-scrollbars", "--remote-debugging-pipe"]
+# As root it does not start in its sandbox.
+FLAGS += ["--no-sandbox"] if os.geteuid() == 0 else []
 SECONDS = 60
 
 

@@ -13,12 +13,17 @@ import re
 import subprocess
 import sys
 import tempfile
+from concurrent.futures import ThreadPoolExecutor
 
 import tally
 import typed
 from browser import Browser
-from page_facts import HOLES, TOP, Example, long_trace
+from page_facts import HOLES, TOP, Example, assembled, lines_by_binutils, long_trace
 from second.traces import Trace
+
+sys.path += [str(TOP / "tools" / name) for name in ("page", "gdb", "media")]
+import elf
+import symbols
 
 MAKE = TOP / "tools/page/make_page"
 NAMES = ["inventory", "cards", "charge", "turns", "listing", "punch", "marked", "overflow", "price", "dialogue"]
@@ -31,8 +36,10 @@ WRONG_TRACES = [
     ("nothing", "", "line 1: it does not begin as a trace"),
     ("no trace", "hello\n", "line 1: it does not begin as a trace"),
     ("no event", HEADER, "line 1: no event follows"),
-    ("a cut line", HEADER + "1,tick,,,,,,,\n2,tick,,", "line 3: it has"),
-    ("a field too many", HEADER + "1,tick,,,,,,,,\n", "line 2: "),
+    ("a cut line", HEADER + "1,tick,,,,,,,\n2,tick,,", "line 3: it was cut off"),
+    ("a cut store", HEADER + "1,tick,,,,ext,none,timer,ex", "line 2: it was cut off"),
+    ("a field too few", HEADER + "1,tick,,,,,,\n", "line 2: it has 8 fields of 9"),
+    ("a field too many", HEADER + "1,tick,,,,,,,,\n", "line 2: it has 10 fields of 9"),
     ("a number", HEADER + "1,tick,,,,,,,\n3,tick,,,,,,,\n", "line 3: number '3' follows 1"),
     ("an event", HEADER + "1,tock,,,,,,,\n", "line 2: 'tock' is no event"),
     ("a place", HEADER + "1,tick,,,,x9,0,0,\n", "line 2: 'x9' is no place"),
@@ -113,6 +120,7 @@ class Looks:
         self.source(example)
         self.views(example)
         self.columns(example)
+        self.bytes(example)
         self.expect(f"{name}: faults at the end", [], self.browser.faults())
         return example
 
@@ -215,6 +223,30 @@ class Looks:
         texts += [re.sub(r"^(type|return) ?", "", item) for item in example.machine.device(0x01F).items()]
         self.expect(f"{example.name}: columns", (sum(map(len, texts)), []), (looked, faults))
 
+    def bytes(self, example):
+        """Each byte of cards and blocks came from one in storage that had its value, or went to one that has it then."""
+        script = """(() => {
+          const { run } = p, { paper } = run, faults = [];
+          let looked = 0;
+          const look = (bytes, made, reads) => {
+            for (let at = 0; made && at < bytes.length / 2; at++, looked++) {
+              const part = p.partOf(made.parts, at), byte = bytes.slice(2 * at, 2 * at + 2).toUpperCase();
+              const value = part ? run.valueAt(part.place, part.moment - (reads ? 0 : 1)) : reads ? byte : '40';
+              if (value !== byte) faults.push([at, byte, value, run.number[made.moment]]);
+            }
+          };
+          for (const { bytes, made } of paper.punch ?? []) look(bytes, made, false);
+          for (const { bytes, made } of paper.reader ?? []) look(bytes, made, true);
+          for (const block of [...(paper.tape0 ?? []), ...(paper.tape1 ?? [])]) {
+            for (const made of block.events) look(block.bytes ?? '', made, made.did === 'read');
+          }
+          return [looked, faults];
+        })()"""
+        looked, faults = self.value(script)
+        self.expect(f"{example.name}: bytes of cards and blocks", [], faults)
+        cards = 80 * len(example.machine.device(0x00D).cards)
+        self.expect(f"{example.name}: so many were looked at", True, looked >= cards)
+
     # Causes.
 
     def chains(self, examples):
@@ -245,6 +277,10 @@ class Looks:
         picture = self.folder / "causes.svg"
         self.expect("picture", (0, ""), make("--svg", "causes", str(picture), "--of", "r7", *example.words()))
         self.expect("nodes of the picture", len(nodes), picture.read_text().count('class="cause"'))
+        picture = self.folder / "storage.svg"
+        self.expect("picture of storage", (0, ""), make("--svg", "storage", str(picture), *example.words()))
+        told = re.findall(r">([^<]+)</text>", picture.read_text())
+        self.expect("who stored into storage", ["CPU", "reader 00C", "tape 180"], told[-3:])
         self.browser.value("document.querySelectorAll('.cause')[1].dispatchEvent(new Event('click'))")
         chosen = self.value("p.run.number[p.state.moment]")
         self.expect("the chosen node", (f"goto {chosen}", 1), (self.texts(".command")[0], len(self.texts(".cause.now"))))
@@ -288,6 +324,19 @@ class Looks:
         self.expect("part: lines with their events", wanted, made)
 
     # Others.
+
+    def symbols(self):
+        """The lines of ELF files are those that binutils find, and labels and lines those of the same program's listing."""
+        for source in (TOP / "tests/gdb").glob("*.s"):
+            for version in (2, 3, 4, 5):
+                file = assembled(source, version, self.folder)
+                lines = {(pathlib.Path(name).name, line, at) for name, line, at in elf.lines(file.read_bytes())}
+                self.expect(f"{source.name}: lines of DWARF {version}", lines_by_binutils(file), lines)
+        linked, listed = (symbols.read(str(TOP / f"examples/inventory/inventory.{kind}")) for kind in ("elf", "listing"))
+        names = [[(at, name) for at, name, *_ in some.labels] for some in (linked, listed)]
+        self.expect("labels of the listing", names[0], names[1])
+        lines = [{(at, line) for at, line, _ in some.statements} for some in (linked, listed)]
+        self.expect("lines of the listing", set(), lines[0] - lines[1])
 
     def contrast(self):
         """Texts stand out from what is behind them, in the light and in the dark (WCAG 2.2, 1.4.3)."""
@@ -339,8 +388,10 @@ class Looks:
             file = self.folder / f"{name}.trace"
             file.write_bytes(text.encode("latin-1"))
             cases.append(([str(file)], told))
-        for words, told in cases:
-            done = subprocess.run([MAKE, *words], capture_output=True, text=True, cwd=self.folder)
+        how = {"capture_output": True, "text": True, "cwd": self.folder}
+        with ThreadPoolExecutor(2) as pool:
+            ended = list(pool.map(lambda case: subprocess.run([MAKE, *case[0]], **how), cases))
+        for (words, told), done in zip(cases, ended):
             is_told = told in done.stderr and done.stderr.count("\n") == 1 and done.returncode > 0
             self.expect(f"{words}: {done.stderr!r}", (True, False), (is_told, (self.folder / "run.html").exists()))
 
@@ -357,7 +408,8 @@ class Looks:
             self.faults.append(done.stderr)
             return
         self.browser.open(copy / "run.html")
-        self.expect("./page: events and lines", [2426, 15], self.value("[p.run.moments, document.querySelectorAll('.printed').length]"))
+        shown = self.value("p.run.moments"), len(self.texts(".printed"))
+        self.expect("./page: events and lines", (2426, 15), shown)
         self.browser.open(self.folder / "inventory.html")
 
 
@@ -373,6 +425,7 @@ def main():
         looks.chains(examples)
         looks.zoom(examples[0])
         looks.part(examples[0])
+        looks.symbols()
         looks.contrast()
         looks.markup()
         looks.speed()

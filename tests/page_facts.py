@@ -4,7 +4,9 @@ A run is what a script does before its first line that takes changes back. Sourc
 """
 import bisect
 import pathlib
+import re
 import shlex
+import subprocess
 
 from second.inquiries import Inquiries
 from second.savings import SAVED
@@ -128,6 +130,24 @@ class Example:
     def sign(byte):
         sign = bytes([byte]).decode("cp037")
         return sign if sign in HOLES or sign.isascii() and sign.isalnum() else "."
+
+
+def assembled(source, version, folder):
+    """The ELF file that GNU as and ld make of a source, with lines of a version of DWARF."""
+    made = folder / f"{source.stem}.{version}.elf"
+    assembler = ["s390x-linux-gnu-as", "-m31", f"-gdwarf-{version}", "-o", made.with_suffix(".o"), source]
+    subprocess.run(assembler, check=True)
+    linker = ["s390x-linux-gnu-ld", "-m", "elf_s390", "-Ttext=0", "-e", "0", "-o", made, made.with_suffix(".o")]
+    subprocess.run(linker, check=True)
+    return made
+
+
+def lines_by_binutils(file):
+    """Of each line of a program its file, its number and its address."""
+    words = ["s390x-linux-gnu-readelf", "--debug-dump=decodedline", file]
+    told = subprocess.run(words, capture_output=True, text=True, check=True).stdout
+    found = re.findall(r"^(\S+)\s+(\d+)\s+(0x[0-9a-f]+|0)\s", told, re.MULTILINE)
+    return {(name, int(line), int(address, 16)) for name, line, address in found}
 
 
 def long_trace(events):

@@ -99,10 +99,11 @@ class LackingTarget(Target):
 
     def stand_at_change(self, data):
         """What an inquiry has done by then; any other request has done nothing."""
-        recorded = self.inquiries.recorded
+        recorded, stands = self.inquiries.recorded, self.inquiries.standing
         self.is_done = not is_inquiry(data) or self.number >= recorded
         if is_inquiry(data):
             self.inquiries.go_to(min(self.number, recorded))
+            self.is_moved = self.inquiries.standing != stands
 
 
 def is_inquiry(data):

@@ -6,7 +6,7 @@
 What a file has to be is written here by the pages gdb.md, devices.md and images.md of
 docs/reference, and tape files are read by a reader of this script's own, and by `hetmap` and `hetget`
 of Hercules, another emulator. Cards and tapes that were saved are loaded again, and shown. Traces of a
-small program are worked by hand, and those of examples made by the second machine.
+small program are worked by hand, and those of examples and random scripts made by the second machine.
 The status is 0 if each file and each answer is right.
 """
 import argparse
@@ -21,7 +21,10 @@ import tempfile
 import tally
 from packet_rows import PROGRAM, TOP, framed, items_of
 from second.lines import lines_of
-from second.traces import trace_of_script
+from second.recording import Recording
+from second.scripts import Script
+from second.traces import carried_out, trace_of, trace_of_script
+from second_opinion import command_line
 
 SECONDS = 600
 CARD, BLANK, HEADER = 80, b"\x40", 6
@@ -29,8 +32,9 @@ WHOLE, MARK_FLAGS = 0xA0, 0x40
 PROGRAM_AT, WORDS_AT, DATA_AT = 0x200, 0x400, 0x1000
 COMMAND_CHAIN = 0x40
 MOST_PATCHED = 256
-# Examples whose traces are made twice, with what they load.
+# Examples whose traces are made twice, with what they load; and seeds of random scripts, each of so many cases.
 TRACED = {"cards": "reader", "turns": "reader", "marked": "reader", "charge": "tape0", "overflow": None, "timer": None}
+SEEDS, CASES = range(1, 9), 40
 FIELDS = ["number", "event", "address", "instruction", "mnemonic", "place", "before", "after", "sources"]
 # A program that stores a register and a byte, and the line of each place that the events store into.
 SMALL_PROGRAM = {
@@ -295,6 +299,16 @@ class Cases:
             media = {"deck": held} if option == "reader" else {"images": (held, b"")} if option else {}
             wanted = trace_of_script("".join(f"{line}\n" for line in lines).encode(), **media)
             self.expect(f"the trace of {example}", wanted.encode(), self.file(f"{example}.csv"))
+        for seed in SEEDS:
+            script = Script(seed)
+            for _ in range(CASES):
+                script.case()
+            words = [*command_line(script, self.folder)]
+            # A line that is entered may have the sign that stands for the folder.
+            answers_of(self.program, words, [*script.lines, f"save trace {self.folder}/{seed}.csv"])
+            recording = Recording(script.deck, script.tapes, protects_fetches=script.protects_fetches)
+            wanted = trace_of(carried_out(recording, "\n".join(script.lines).encode()))
+            self.expect(f"the trace of seed {seed}", wanted.encode(), self.file(f"{seed}.csv"))
 
     def faults(self):
         kept = b"as it was, and longer than what is saved"

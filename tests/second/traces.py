@@ -98,16 +98,25 @@ def recording_of(script, deck=b"", images=(b"", b""), size=SIZE, protects_fetche
     """A recording of what a script does over the bytes of a deck and of tape files."""
     cards = [deck[at : at + CARD] for at in range(0, len(deck), CARD)]
     tapes = [Tape(recorded=items_of(image)) for image in images]
-    recording = Recording(cards, tapes, size=size, protects_fetches=protects_fetches)
+    return carried_out(Recording(cards, tapes, size=size, protects_fetches=protects_fetches), script)
+
+
+def carried_out(recording, script):
+    """A recording once the lines of a script are carried out that are right."""
     for line in lines_of(script):
         if fault_of(line) is None:
             recording.answer(line.decode())
     return recording
 
 
+def trace_of(recording):
+    """The trace of all that stands in a recording."""
+    return Trace(Inquiries(recording)).text()
+
+
 def trace_of_script(script, **media):
     """The trace of what a script does, in bytes, over media that `recording_of` names."""
-    return Trace(Inquiries(recording_of(script, **media))).text()
+    return trace_of(recording_of(script, **media))
 
 
 def main():

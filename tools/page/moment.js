@@ -27,7 +27,7 @@ class MomentView {
     const runs = runsOf(run, all.slice(0, MOST_STORES));
     for (const part of runs) {
       const place = make("button", { className: "place", title: "Shows its causes" }, nameOfRun(part));
-      place.onclick = () => state.ask(part.place);
+      place.onclick = () => state.choose({ place: part.place });
       const label = part.address < 0 ? "" : ` ${run.labelOf(part.address)}`;
       const [before, value] = [short(part.before, 40), short(part.value, 40)];
       const change = part.before === part.value ? `= ${value}` : `${before} \u2192 ${value}`;
@@ -46,7 +46,7 @@ class MomentView {
       const place = extent.first < 0 ? extent.place : byteAt(extent.first);
       const name = extent.last > extent.first ? `${place}-${hex(extent.last, 6)}` : place;
       const button = make("button", { className: "place", title: run.placeName(place) }, name === PSW ? "PSW" : name);
-      button.onclick = () => state.ask(place, Math.max(0, state.moment - 1));
+      button.onclick = () => state.choose({ place, moment: state.moment - 1 });
       return button;
     });
     return [make("span", { className: "quiet" }, part.count > 1 ? " the first of " : " of "), ...buttons];

@@ -35,7 +35,7 @@ class PaperView {
       this.box.append(sheet);
     }
     for (const [name, sheet] of this.sheets) sheet.hidden = name !== medium;
-    for (const tab of this.tabs) tab.ariaSelected = String(tab.dataset.medium === medium);
+    for (const tab of this.tabs) tab.setAttribute("aria-selected", tab.dataset.medium === medium);
     this.mark();
   }
 

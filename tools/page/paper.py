@@ -111,6 +111,9 @@ class Units:
         for moment, before, after in self.stores.get(f"d{unit}", []):
             at, then = (POSITION.search(text) for text in (before, after))
             command, parts = self.parts(unit, moment) if self.word(moment) else (READ, [])
+            if command == READ_BACKWARD:
+                # Its bytes went to falling addresses, and from which one on the trace does not say.
+                parts = []
             if at and then and at[1] != then[1] and command in (WRITE, WRITE_MARK, READ, READ_BACKWARD):
                 item = int(at[1]) - (command == READ_BACKWARD)
                 yield Made(item, moment, before, command, parts)

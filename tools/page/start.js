@@ -76,8 +76,9 @@ function listenToKeys(state) {
     Backspace: () => state.goBack(), "/": () => $("#wanted").focus(),
   };
   addEventListener("keydown", (event) => {
-    const isTyped = event.target.matches("input, select, .content[tabindex]") && event.target.id !== "";
-    if (event.target.matches("input, select") || isTyped || event.ctrlKey || event.metaKey || event.altKey) return;
+    // A pane is scrolled by these.
+    const scrolls = event.target.closest(".content") && /^(Page|Home|End)/.test(event.key);
+    if (event.target.matches("input, select") || scrolls || event.ctrlKey || event.metaKey || event.altKey) return;
     const deed = deeds[event.key];
     if (!deed) return;
     event.preventDefault();

@@ -1,8 +1,6 @@
 // What is chosen: a moment, which is the machine just after an event; a place; the root of the chain of causes; and the span of
 // moments that is drawn. Each view follows it.
 
-const LEAST_SPAN = 8;
-
 class State {
   constructor(run) {
     this.run = run;
@@ -15,22 +13,14 @@ class State {
     this.past = [];
   }
 
-  // Chooses a moment, a place, an item, or several of them. `keeps` leaves the chain as it is.
-  choose({ moment = this.moment, place = this.place, item = null, keeps = false }) {
+  // Chooses a moment, a place, an item, or several of them. A place is the root of a new chain, unless `keeps` leaves that.
+  choose({ moment = this.moment, place = null, item = null, keeps = false }) {
     this.past.push({ moment: this.moment, place: this.place, root: this.root });
-    const isOther = place !== this.place || item;
     this.moment = Math.max(0, Math.min(moment, this.run.last));
-    this.place = place;
-    if (item) this.root = { place, moment: item.moment, item };
-    else if (place && !keeps && isOther) this.root = { place, moment: this.moment };
+    if (place && !keeps) this.root = { place, moment: this.moment, item };
+    this.place = place ?? this.place;
     this.show();
     this.tell();
-  }
-
-  // Takes a place anew as the root, as it is at the moment.
-  ask(place, moment = this.moment) {
-    this.place = null;
-    this.choose({ place, moment });
   }
 
   goBack() {
@@ -50,7 +40,7 @@ class State {
   }
 
   zoom(factor, around = this.moment + 0.5) {
-    const span = Math.max(Math.min(LEAST_SPAN, this.run.moments), Math.min((this.to - this.from) * factor, this.run.moments));
+    const span = Math.max(1, Math.min((this.to - this.from) * factor, this.run.moments));
     const share = (around - this.from) / (this.to - this.from);
     this.move(around - share * span, span);
   }

@@ -45,10 +45,8 @@ class TimeView {
     this.chosen.textContent = state.place ? `stores: ${run.placeName(state.place)}` : "no place chosen";
     [...this.names.children].slice(1).forEach((name, lane) => name.classList.toggle("now", run.lane[state.moment] === lane));
     const number = run.number[state.moment];
-    this.plot.ariaValueNow = number;
-    this.plot.ariaValueMin = run.first;
-    this.plot.ariaValueMax = run.first + run.events - 1;
-    this.plot.ariaValueText = `event ${number}, ${run.where(state.moment)}`;
+    const told = { now: number, min: run.first, max: run.number[run.last], text: `event ${number}, ${run.where(state.moment)}` };
+    for (const [name, value] of Object.entries(told)) this.plot.setAttribute(`aria-value${name}`, value);
   }
 
   draw() {

@@ -135,19 +135,21 @@ class Reading:
 
     def take(self, line):
         """Takes a line: what is told of its event, and a store."""
+        if line[-1] != "\n":
+            raise ValueError("it was cut off")
         head, *store = line.rsplit(",", len(STORE))
         if head != self.head:
-            self.begin(head, line)
+            self.begin(head, len(store))
         if store[0]:
             self.stores[store[0]] = store
         elif store != NO_STORE:
             raise ValueError("there is a value and no place")
 
-    def begin(self, head, line):
-        """Begins an event."""
+    def begin(self, head, others):
+        """Begins an event, by the fields of a line before so many others."""
         fields = head.split(",")
-        if len(fields) + len(STORE) != FIELDS or line[-1] != "\n":
-            raise ValueError(f"it has {line.count(',') + 1} fields of {FIELDS}, or was cut off")
+        if len(fields) + others != FIELDS:
+            raise ValueError(f"it has {len(fields) + others} fields of {FIELDS}")
         number, name, address = fields[:3]
         if not number.isdecimal() or int(number) != self.at + 1:
             raise ValueError(f"number {number!a} follows {self.at}")

@@ -1,17 +1,8 @@
 -- The lines of changes, which are told one change after another.
-use Rattle.std.proofs.Common.{◌≡◌, ◌<◌, ◌≤◌, ◌+◌, ◌-◌, ◌++◌, ℕ, List, ap, sym, ◌∙◌, arith, length, min, max, append_assoc}
-use Rattle.s360_machine.specs.declared.event.Event.{Event}
-use Rattle.s360_machine.specs.declared.event_kind.EventKind.{EventKind}
-use Rattle.s360_machine.specs.EventKinds.{kind_of_event}
-use Rattle.s360_machine.specs.Machine.{Machine}
-use Rattle.s360_journal.specs.Standing.{machine_of}
-use Rattle.s360_journal.specs.Recorded.{Recorded, session_of, with_standing}
+use Rattle.std.proofs.Common.{◌≡◌, ◌≤◌, ◌+◌, ◌-◌, ◌++◌, ℕ, List, ap, sym, ◌∙◌, arith, min, append_assoc}
+use Rattle.s360_journal.specs.Recorded.{Recorded, with_standing}
 use Rattle.s360_language.proofs.ShownLemmas.{told-next}
-use Rattle.s360_inquiry.specs.Causes.{event_next}
-use Rattle.s360_inquiry.specs.Changes.{machine_after}
-use Rattle.s360_trace.specs.declared.stores_told.Store.{Store}
-use Rattle.s360_trace.specs.StoresTold.{lines_of, stores_met}
-use Rattle.s360_trace.specs.Trace.{change_lines, event_fields, event_lines, header, lines_behind}
+use Rattle.s360_trace.specs.Trace.{change_lines, header, lines_behind, trace}
 
 -- one change more, of a recording that stands just before it
 pub traced-more : (r x : Recorded) (first before : ℕ) (text new : List ℕ) → first ≤ before → x ≡ with_standing r before
@@ -27,21 +18,12 @@ traced-more r x first before text new order kept told more =
     ∙ ap (λ (t : List ℕ). header ++ t) (sym (told-next (λ b. change_lines r (b + 1)) first (before - first) before at))
     ∙ ap (λ (n : ℕ). header ++ lines_behind r first n) count
 
--- the change that comes next, told of the machines before and after it
-pub change-told : (old new fields : List ℕ) (r x : Recorded) (e : Event) (kind : EventKind) (m after : Machine) (stores : List Store) (number n : ℕ)
-    → number ≡ r.standing + 1 → r.standing < length r.events → e ≡ event_next r → m ≡ machine_of (session_of r) → kind ≡ kind_of_event e
-    → n ≡ max r.standing (min number (length r.events)) → x ≡ with_standing r n → after ≡ machine_of (session_of x)
-    → fields ≡ event_fields number m kind → stores ≡ stores_met m e → new ≡ old ++ lines_of fields after stores → new ≡ old ++ change_lines r number
-change-told old new fields r x e kind m after stores number n is less comes here same stands kept there named met told =
-    let one : number - 1 ≡ r.standing = omega (arith, is)
-    in let all : n ≡ number = omega (arith, is, less, stands)
-    in let then : after ≡ machine_after r number
-    = there ∙ ap (λ (y : Recorded). machine_of (session_of y)) (kept ∙ ap (λ (k : ℕ). with_standing r k) all)
-    in told
-    ∙ ap (λ (t : List ℕ). old ++ lines_of t after stores) named
-    ∙ ap (λ (s : List Store). old ++ lines_of (event_fields number m kind) after s) met
-    ∙ ap (λ (a : Machine). old ++ lines_of (event_fields number m kind) a (stores_met m e)) then
-    ∙ ap (λ (k : EventKind). old ++ lines_of (event_fields number m k) (machine_after r number) (stores_met m e)) same
-    ∙ ap (λ (y : Machine). old ++ event_lines number y e (machine_after r number)) here
-    ∙ ap (λ (d : Event). old ++ event_lines number (machine_of (session_of r)) d (machine_after r number)) comes
-    ∙ sym (ap (λ (k : ℕ). old ++ event_lines number (machine_after r k) (event_next (with_standing r k)) (machine_after r number)) one)
+-- all changes of a range, as far as they stand
+pub traced-all : (r x : Recorded) (from to first before end : ℕ) (text : List ℕ) → x ≡ with_standing r first → first ≡ min (from - 1) r.standing
+    → end ≡ min to r.standing → before - first ≡ end - first → text ≡ header ++ lines_behind x first (before - first) → text ≡ trace r from to
+traced-all r x from to first before end text kept begins ends count told =
+    told
+    ∙ ap (λ (y : Recorded). header ++ lines_behind y first (before - first)) kept
+    ∙ ap (λ (n : ℕ). header ++ lines_behind r first n) count
+    ∙ ap (λ (n : ℕ). header ++ lines_behind r first (n - first)) ends
+    ∙ ap (λ (n : ℕ). header ++ lines_behind r n (min to r.standing - n)) begins

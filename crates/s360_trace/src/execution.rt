@@ -21,6 +21,7 @@ const NOTHING: &str = ",,,";
 
 /// Adds what an event of this kind executes in a machine that it meets: the address, the digits and the mnemonic, each after
 /// a comma.
+#[tactic(auto, unfolding(crate::specs::Executions::executed_fields))]
 pub(crate) fn push_executed(
     text: &mut Text,
     machine: &Machine,
@@ -36,6 +37,7 @@ pub(crate) fn push_executed(
 }
 
 /// Adds what the CPU executes, if it executes an instruction.
+#[tactic(auto, unfolding(crate::specs::Executions::cpu_fields))]
 fn push_cpu(text: &mut Text, machine: &Machine) -> Result<(), AllocError>
     ensures { OnOk result (text.new ≡ text.old ++ cpu_fields (seen machine.now.whole)) }
 {

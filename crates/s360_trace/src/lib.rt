@@ -2,6 +2,7 @@
 #![tactic(auto)]
 
 mod execution;
+mod field_texts;
 mod sources_told;
 mod stores_told;
 mod tracing;

@@ -4,6 +4,7 @@ ghost use Rattle.std.specs.List.{flat_map};
 ghost use Rattle.s360_machine.specs.Machine.{seen};
 ghost use Rattle.s360_trace.specs.SourcesTold.{behind, blank_and_name, runs_of, sources_words, with_run};
 
+use crate::field_texts::field_text;
 use s360_inquiry::{Extent, in_order, push_extent};
 use s360_machine::{Event, Machine};
 use s360_source::sources;
@@ -72,6 +73,7 @@ fn push_name(text: &mut Text, run: Extent) -> Result<(), AllocError>
 }
 
 /// The names of the places that an event makes the value of a place of, each after a blank.
+#[tactic(auto, unfolding(crate::specs::SourcesTold::sources_words))]
 pub(crate) fn sources_words(
     alloc: Global,
     machine: &Machine,
@@ -83,7 +85,7 @@ pub(crate) fn sources_words(
     let found = sources(alloc, machine, event, place)?;
     let places = in_order(alloc, found.as_slice())?;
     let runs = runs_of(alloc, places.as_slice())?;
-    let mut text = Text::new(alloc);
+    let mut text = field_text(alloc)?;
     push_names(&mut text, runs.as_slice())?;
     Ok(text)
 }

@@ -5,6 +5,7 @@ ghost use Rattle.s360_machine.specs.Machine.{seen};
 ghost use Rattle.s360_language.specs.Values.{value_words};
 ghost use Rattle.s360_trace.specs.StoresTold.{field, lines_of, store_line, store_met, stores_met};
 
+use crate::field_texts::field_text;
 use crate::sources_told::sources_words;
 use s360_inquiry::{in_order, stored_by};
 use s360_language::{push_place, push_value};
@@ -31,7 +32,7 @@ fn store_met(
 ) -> Result<Store, AllocError>
     ensures { IfOk result (λ store. store ≡ store_met (seen machine.now.whole) event.now place) }
 {
-    let mut before = Text::new(alloc);
+    let mut before = field_text(alloc)?;
     push_value(&mut before, machine, place)?;
     let sources = sources_words(alloc, machine, event, place)?;
     Ok(Store {
@@ -42,6 +43,7 @@ fn store_met(
 }
 
 /// An event's stores where it meets the machine, in the order of their places, each once.
+#[tactic(auto, unfolding(crate::specs::StoresTold::stores_met))]
 pub(crate) fn stores_met(
     alloc: Global,
     machine: &Machine,
@@ -73,7 +75,7 @@ fn push_field(text: &mut Text, words: &[u8]) -> Result<(), AllocError>
 fn push_value_field(text: &mut Text, machine: &Machine, place: Place) -> Result<(), AllocError>
     ensures { OnOk result (text.new ≡ text.old ++ field (value_words (seen machine.now.whole) place)) }
 {
-    let mut value = Text::new(text.alloc());
+    let mut value = field_text(text.alloc())?;
     push_value(&mut value, machine, place)?;
     push_field(text, value.as_bytes())
 }

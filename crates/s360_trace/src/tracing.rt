@@ -5,6 +5,7 @@ ghost use Rattle.s360_journal.specs.Recorded.{with_standing};
 ghost use Rattle.s360_trace.specs.Trace.{change_lines, event_fields, trace};
 
 use crate::execution::push_executed;
+use crate::field_texts::field_text;
 use crate::stores_told::{push_lines, stores_met};
 use s360_inquiry::go_to;
 use s360_journal::Session;
@@ -32,7 +33,8 @@ pub fn trace_of(
     let mut text = Text::new(alloc);
     text.push_text(HEADER)?;
     let first = recording.back_to(from.saturating_sub(1));
-    for before in first..to.min(standing) {
+    let last = to.min(standing).max(first);
+    for before in first..last {
         push_change(alloc, &mut text, recording, before + 1)?;
     }
     go_to(recording, standing)?;
@@ -54,7 +56,7 @@ fn push_change(
     ensures memory { OnErr result (recording.new ≡ with_standing recording.old recording.new.standing) }
 {
     let event = recording.next_event()?;
-    let mut fields = Text::new(alloc);
+    let mut fields = field_text(alloc)?;
     push_fields(&mut fields, number, recording.machine(), event.kind())?;
     let stores = stores_met(alloc, recording.machine(), &event)?;
     let _stand = recording.again_to(number)?;
