@@ -1,7 +1,7 @@
 -- The lines of an inquiry (own profile). Their arguments are those of the script language.
 use Rattle.std.specs.Prelude.{ℕ, ◌+◌, nat_eq, nat_le, if◌then◌else◌, Option, Some, None, Result, List, [], ◌∷◌, codes, drop, take}
 use Rattle.std.specs.List.{position}
-use Rattle.std.specs.Option.{option_and_then, option_map, option_or}
+use Rattle.std.specs.Option.{option_map, option_or}
 use Rattle.s360_word.specs.declared.unit.Unit.{Unit}
 use Rattle.s360_language.specs.declared.command.LineFault.{LineFault}
 use Rattle.s360_language.specs.Digits.{count_of}
@@ -48,10 +48,16 @@ item_or asks other = if_word (codes "m") (two unit (count_of most_count) asks) o
 abbrev pub bytes_between : ℕ → ℕ → Option Extent
 bytes_between first last = if nat_le first last then Some (Bytes first last) else None
 
+abbrev pub bytes_if : Option ℕ → Option ℕ → Option Extent
+bytes_if (Some first) (Some last) = bytes_between first last
+bytes_if first last = None
+
+abbrev pub bytes_of_words : List ℕ → List ℕ → Option Extent
+bytes_of_words first last = bytes_if (address first) (address last)
+
 abbrev pub bytes_from : List ℕ → Option ℕ → Option Extent
-bytes_from word None = option_and_then (λ at. bytes_between at at) (address word)
-bytes_from word (Some dash) =
-    option_and_then (λ first. option_and_then (λ last. bytes_between first last) (address (drop (dash + 1) word))) (address (take dash word))
+bytes_from word None = bytes_of_words word word
+bytes_from word (Some dash) = bytes_of_words (take dash word) (drop (dash + 1) word)
 
 abbrev pub bytes_of : List ℕ → Option Extent
 bytes_of word = bytes_from word (position (λ b. nat_eq b 45) word)

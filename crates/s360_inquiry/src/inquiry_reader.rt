@@ -1,10 +1,11 @@
 //! The lines of an inquiry.
-ghost use Rattle.std.specs.Prelude.{◌≡◌};
+ghost use Rattle.std.specs.Prelude.{◌≡◌, ◌<◌, IfSome, length, nat_eq};
+ghost use Rattle.std.specs.List.{position};
 ghost use Rattle.std.specs.Option.{option_map};
 ghost use Rattle.s360_language.specs.Digits.{count_of};
 ghost use Rattle.s360_language.specs.Lines.{makes, may_take, named, part, two};
 ghost use Rattle.s360_language.specs.Reading.{address, most_count, places};
-ghost use Rattle.s360_inquiry.specs.Reading.{bytes_between, bytes_of, changes_told, extent_then, inquiries, inquiry_of, item_or};
+ghost use Rattle.s360_inquiry.specs.Reading.{bytes_between, bytes_of, bytes_of_words, changes_told, extent_then, inquiries, inquiry_of, item_or};
 ghost use Rattle.s360_inquiry.specs.Reading.{mark_of, most_dumped, most_told};
 
 use crate::extent::Extent;
@@ -81,15 +82,27 @@ fn read_stores(mut words: Words<'_>) -> Result<Inquiry, LineFault>
 fn bytes_in(word: &[u8]) -> Option<Extent>
     ensures { result ≡ bytes_of word.now }
 {
-    match word.iter().position(|byte| *byte == b'-') {
-        Some(dash) => {
-            let (first, behind) = word.split_at(dash);
-            bytes_between(address_in(first)?, address_in(&behind[1..])?)
-        }
-        None => {
-            let at = address_in(word)?;
-            bytes_between(at, at)
-        }
+    match first_dash(word) {
+        Some(dash) => bytes_of_words(&word[..dash], &word[dash + 1..]),
+        None => bytes_of_words(word, word),
+    }
+}
+
+/// Where the first dash of a word stands.
+fn first_dash(word: &[u8]) -> Option<usize>
+    ensures value { result ≡ position (λ b. nat_eq b 45) word.now }
+    ensures within { IfSome result (λ at. at < length word.now) }
+{
+    word.iter().position(|byte| *byte == b'-')
+}
+
+/// The bytes from the address of one word to that of another.
+fn bytes_of_words(first: &[u8], last: &[u8]) -> Option<Extent>
+    ensures { result ≡ bytes_of_words first.now last.now }
+{
+    match (address_in(first), address_in(last)) {
+        (Some(first), Some(last)) => bytes_between(first, last),
+        _ => None,
     }
 }
 
