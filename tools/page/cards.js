@@ -1,6 +1,5 @@
 // Cards: the holes of 80 columns, and above them what the bytes say.
 
-const BLANK = 0x40;
 const CARD = { width: 738, height: 190, left: 9, pitch: 9, top: 30, down: 13 };
 
 function cardOf(view, { bytes, stacker, made }, number, medium) {
@@ -10,10 +9,7 @@ function cardOf(view, { bytes, stacker, made }, number, medium) {
   const edge = makeSvg("path", { class: "card-edge", d: `M18 0H${CARD.width}V${CARD.height}H0V18Z` });
   svg.append(edge, digitsOf(), makeSvg("path", { class: "hole", d: holesOf(run, codes) }));
   const text = codes.map((code) => run.signs[code]).join("");
-  codes.forEach((code, column) => {
-    const x = CARD.left + (column + 0.5) * CARD.pitch;
-    if (code !== BLANK) svg.append(makeSvg("text", { class: "sign", x, y: 18 }, run.signs[code]));
-  });
+  svg.append(rowOf("sign", 18, text));
   const face = make("div", { className: "face", tabIndex: 0 }, svg);
   face.columnCount = 80;
   const whole = made && medium === "reader" ? { ...made, reads: true } : made;
@@ -40,8 +36,12 @@ function holesOf(run, codes) {
 function digitsOf() {
   const group = makeSvg("g", { class: "card-digits" });
   for (let digit = 0; digit < 10; digit++) {
-    const at = { x: CARD.left + 2, y: CARD.top + (digit + 2) * CARD.down + 8, textLength: CARD.pitch * 80 - 5 };
-    group.append(makeSvg("text", { class: "digits", ...at }, String(digit).repeat(80)));
+    group.append(rowOf("digits", CARD.top + (digit + 2) * CARD.down + 8, String(digit).repeat(80)));
   }
   return group;
+}
+
+// A sign in each column.
+function rowOf(kind, y, text) {
+  return makeSvg("text", { class: kind, x: CARD.left + 2, y, textLength: CARD.pitch * 80 - 5 }, text);
 }

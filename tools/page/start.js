@@ -16,6 +16,7 @@ async function start() {
   for (const button of document.querySelectorAll(".enlarge")) {
     button.onclick = () => button.closest(".pane").classList.toggle("large");
   }
+  matchMedia("(prefers-color-scheme: dark)").addEventListener("change", () => state.tell());
   addEventListener("beforeprint", () => views.paper.openAll());
   if (!goTo(state, decodeURIComponent(location.hash.slice(1)))) state.tell();
   return { run, state, views, Chain, partOf, goTo: (text) => goTo(state, text) };
