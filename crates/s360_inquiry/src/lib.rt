@@ -38,4 +38,5 @@ pub use inquiry::{Inquiry, Mark};
 pub use inquiry_reader::read_inquiry;
 pub use mnemonic::mnemonic_of;
 pub use place_set::in_order;
+pub use readers::runs_of;
 pub use storing::stored_by;

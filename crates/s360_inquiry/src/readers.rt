@@ -135,8 +135,8 @@ fn put_run_before(extents: &mut Vec<Extent>, place: Place) -> Result<(), AllocEr
     push_joined(extents, place, adjoined(place, next), next)
 }
 
-/// Places as extents, in their order: successive bytes are one.
-fn runs_of(alloc: Global, places: &[Place]) -> Result<Vec<Extent>, AllocError>
+/// Places as extents, in their order: successive bytes are one. The one error is want of memory.
+pub fn runs_of(alloc: Global, places: &[Place]) -> Result<Vec<Extent>, AllocError>
     ensures { IfOk result (λ extents. extents.items ≡ runs_of places.now) }
 {
     let mut extents = Vec::new(alloc);

@@ -1,58 +1,16 @@
 //! The places that a value was made of, as a field of a line: in their order, each once, successive bytes together.
-ghost use Rattle.std.specs.Prelude.{◌≡◌, ◌++◌, IfOk, OnOk, reverse};
+ghost use Rattle.std.specs.Prelude.{◌≡◌, ◌++◌, IfOk, OnOk};
 ghost use Rattle.std.specs.List.{flat_map};
 ghost use Rattle.s360_machine.specs.Machine.{seen};
-ghost use Rattle.s360_trace.specs.SourcesTold.{behind, blank_and_name, runs_of, sources_words, with_run};
+ghost use Rattle.s360_trace.specs.SourcesTold.{blank_and_name, sources_words};
 
 use crate::field_texts::field_text;
-use s360_inquiry::{Extent, in_order, push_extent};
+use s360_inquiry::{Extent, in_order, push_extent, runs_of};
 use s360_machine::{Event, Machine};
 use s360_source::sources;
 use s360_store::Place;
 use s360_text::Text;
 use std::alloc::{AllocError, Global};
-
-/// A byte with the run that begins behind it, if they are successive.
-fn behind(place: Place, next: Extent) -> Option<Extent>
-    ensures { result ≡ behind place next }
-{
-    match (place, next) {
-        (Place::Byte(at), Extent::Bytes { first, last }) if at.checked_add(1) == Some(first) => {
-            Some(Extent::Bytes { first: at, last })
-        }
-        _ => None,
-    }
-}
-
-/// Puts a place before runs, which are listed from the last one on.
-fn put_before(runs: &mut Vec<Extent>, place: Place) -> Result<(), AllocError>
-    ensures { OnOk result (reverse runs.new.items ≡ with_run place (reverse runs.old.items)) }
-{
-    let Some(next) = runs.pop() else {
-        runs.push(Extent::of(place))?;
-        return Ok(());
-    };
-    match behind(place, next) {
-        Some(together) => runs.push(together)?,
-        None => {
-            runs.push(next)?;
-            runs.push(Extent::of(place))?;
-        }
-    }
-    Ok(())
-}
-
-/// Places with successive bytes together, in their order.
-fn runs_of(alloc: Global, places: &[Place]) -> Result<Vec<Extent>, AllocError>
-    ensures { IfOk result (λ runs. runs.items ≡ runs_of places.now) }
-{
-    let mut runs = Vec::new(alloc);
-    for index in (0..places.len()).rev() {
-        put_before(&mut runs, places[index])?;
-    }
-    runs.reverse();
-    Ok(runs)
-}
 
 /// Adds the names of runs, each after a blank.
 fn push_names(text: &mut Text, runs: &[Extent]) -> Result<(), AllocError>
