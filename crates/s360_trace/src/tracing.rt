@@ -60,7 +60,12 @@ fn push_change(
     push_fields(&mut fields, number, recording.machine(), event.kind())?;
     let stores = stores_met(alloc, recording.machine(), &event)?;
     let _stand = recording.again_to(number)?;
-    push_lines(text, fields.as_bytes(), recording.machine(), stores.as_slice())
+    push_lines(
+        text,
+        fields.as_bytes(),
+        recording.machine(),
+        stores.as_slice(),
+    )
 }
 
 /// Adds the number of an event, its name, and what it executes in the machine that it meets.
