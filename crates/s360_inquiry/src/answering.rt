@@ -83,9 +83,8 @@ fn asks_outside(storage: &Storage, inquiry: Inquiry) -> bool
         Inquiry::Who(place) | Inquiry::Why { place, .. } | Inquiry::Changes { place, .. } => {
             is_outside(storage, place)
         }
-        Inquiry::Stores { extent, .. }
-        | Inquiry::Readers { extent, .. }
-        | Inquiry::Count(extent) => is_outside(storage, extent.last()),
+        Inquiry::Stores { extent, .. } | Inquiry::Readers { extent, .. } | Inquiry::Count(extent) =>
+            is_outside(storage, extent.last()),
         _ => false,
     }
 }

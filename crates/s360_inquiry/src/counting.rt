@@ -35,11 +35,7 @@ fn numbers_of(
 }
 
 /// How many changes altered an extent.
-fn count_of_changes(
-    alloc: Global,
-    recording: &Session,
-    extent: Extent,
-) -> Result<usize, AllocError>
+fn count_of_changes(alloc: Global, recording: &Session, extent: Extent) -> Result<usize, AllocError>
     ensures { IfOk result (λ count. count ≡ count_of_changes recording.now extent) }
 {
     match extent {

@@ -148,11 +148,7 @@ fn runs_of(alloc: Global, places: &[Place]) -> Result<Vec<Extent>, AllocError>
 }
 
 /// What the next event of the record makes of an extent.
-fn made_next(
-    alloc: Global,
-    recording: &Session,
-    extent: Extent,
-) -> Result<Vec<Extent>, AllocError>
+fn made_next(alloc: Global, recording: &Session, extent: Extent) -> Result<Vec<Extent>, AllocError>
     ensures { IfOk result (λ made. made.items ≡ made_next extent recording.now) }
 {
     let event = recording.next_event()?;

@@ -57,7 +57,11 @@ fn span_in(extent: Extent, places: &[Place]) -> Option<Extent>
 }
 
 /// The places that an event stores into.
-pub(crate) fn stored_by(alloc: Global, machine: &Machine, event: &Event) -> Result<Vec<Place>, AllocError>
+pub(crate) fn stored_by(
+    alloc: Global,
+    machine: &Machine,
+    event: &Event,
+) -> Result<Vec<Place>, AllocError>
     ensures { IfOk result (λ places. places.items ≡ stored_by (seen machine.now.whole) event.now) }
 {
     // So the bytes of a patch that is not refused have addresses of 32 bits.
