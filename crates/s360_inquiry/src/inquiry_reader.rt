@@ -5,7 +5,8 @@ ghost use Rattle.std.specs.Option.{option_map};
 ghost use Rattle.s360_language.specs.Digits.{count_of};
 ghost use Rattle.s360_language.specs.Lines.{makes, may_take, named, part, takes, two};
 ghost use Rattle.s360_language.specs.Reading.{address, most_count, places};
-ghost use Rattle.s360_inquiry.specs.Reading.{between_both, bytes_between, bytes_from, bytes_from_to, bytes_of, call_code, call_or, changes_told, extent_then, inquiries, inquiry_of, item_or};
+ghost use Rattle.s360_inquiry.specs.Reading.{between_both, bytes_between, bytes_from, bytes_from_to, bytes_of};
+ghost use Rattle.s360_inquiry.specs.Reading.{call_code, call_or, changes_told, extent_then, inquiries, inquiry_of, item_or};
 ghost use Rattle.s360_inquiry.specs.Changes.{most_told};
 ghost use Rattle.s360_inquiry.specs.Reading.{mark_of, most_dumped};
 
