@@ -30,6 +30,7 @@ goto 26
 readers LINE+0
 uses LINE+0 1
 readers $r3
+visits svc 5
 goto 25
 who k 0
 history 3

@@ -1,5 +1,5 @@
 -- The lines of a store, which are told a part at a time.
-use Rattle.std.proofs.Common.{◌≡◌, ◌-◌, ◌++◌, ℕ, List, [], ◌∷◌, Option, Some, ap, ◌∙◌, sym, refl, codes}
+use Rattle.std.proofs.Common.{◌≡◌, ◌++◌, ℕ, List, [], ◌∷◌, Option, Some, ap, ◌∙◌, sym, refl, codes}
 use Rattle.s360_journal.specs.Recorded.{Recorded, with_standing}
 use Rattle.s360_inquiry.specs.declared.extent.Extent.{Extent}
 use Rattle.s360_inquiry.specs.declared.search.Sought.TheVariants.{Stores}

@@ -1,6 +1,6 @@
 -- What an inquiry is answered, and where the recording stands then (own profile). Each line of an answer is ended by one line
 -- feed. No inquiry alters the record.
-use Rattle.std.specs.Prelude.{ℕ, Bool, false, not, nat_eq, nat_lt, if◌then◌else◌, Option, Some, List, ◌++◌, codes, length}
+use Rattle.std.specs.Prelude.{ℕ, Bool, false, not, nat_eq, nat_lt, if◌then◌else◌, Option, Some, List, length}
 use Rattle.s360_model.specs.Storage.{Storage}
 use Rattle.s360_store.specs.declared.place.Place.{Place}
 use Rattle.s360_store.specs.declared.place.Place.TheVariants.{Byte, Key}

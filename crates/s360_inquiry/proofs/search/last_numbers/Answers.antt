@@ -1,4 +1,4 @@
-use Rattle.std.proofs.Common.{◌≡◌, ◌+◌, ◌-◌, ℕ, Bool, false, true, List, ◌∙◌, ap, sym, length, arith}
+use Rattle.std.proofs.Common.{◌≡◌, ◌+◌, ◌-◌, ℕ, List, ◌∙◌, ap, sym, length, arith}
 use Rattle.std.proofs.lemmas.List.{length_push}
 use Rattle.s360_journal.specs.Recorded.{Recorded}
 use Rattle.s360_journal.specs.Returning.{one_back}
