@@ -7,12 +7,12 @@ use Rattle.s360_remote.proofs.target.Target.answer_line.Goals as goal
 pub returns-in-Some : goal.returns-in-Some
 returns-in-Some c =
     let is : saving_of c.args.line.now ≡ Some c.in-Some.asked = sym (rw c.as_slice.ensures at (rw c.in-Some.is at c.read_saving.ensures))
-    in let moved : c.note_moved.new.self ≡ with_moved c.args.self.now c.save.new.target
-    = c.note_moved.ensures ∙ ap (λ (n : ℕ). with_moved_from n c.save.new.target) c.standing.ensures.standing
+    in let moved : c.note_moved.new.self ≡ with_moved c.args.self.now c.save-next.new.target
+    = c.note_moved.ensures ∙ ap (λ (n : ℕ). with_moved_from n c.save-next.new.target) c.standing-standing.ensures.standing
     in record {
-      served = saved-served c.save.result _ c.in-Some.asked c.args.line.now c.args.self.now c.save.new.target c.note_moved.new.self c.args.replies.now c.save.new.replies
-          c.save.ensures.state moved is c.save.ensures.served;
-      begun = saved-begun c.save.result _ c.in-Some.asked c.args.line.now c.args.self.now c.save.new.target c.note_moved.new.self c.save.ensures.begun moved is;
+      served = saved-served c.save-next.result _ c.in-Some.asked c.args.line.now c.args.self.now c.save-next.new.target c.note_moved.new.self c.args.replies.now c.save-next.new.replies
+          c.save-next.ensures.state moved is c.save-next.ensures.served;
+      begun = saved-begun c.save-next.result _ c.in-Some.asked c.args.line.now c.args.self.now c.save-next.new.target c.note_moved.new.self c.save-next.ensures.begun moved is;
     }
 
 pub returns-in-None : goal.returns-in-None
