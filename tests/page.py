@@ -27,7 +27,7 @@ import elf
 import symbols
 
 MAKE = TOP / "tools/page/make_page"
-NAMES = ["inventory", "cards", "charge", "turns", "listing", "punch", "marked", "overflow", "price", "dialogue"]
+NAMES = ["inventory", "cards", "charge", "turns", "listing", "punch", "marked", "overflow", "price", "dialogue", "feeds"]
 UNITS = ["reader 00C", "punch 00D", "printer 00E", "console 01F", "tape 180", "tape 181"]
 CHAINS, MOST_LISTED = 1000, 40
 MOST_MILLISECONDS, LONG, LONGER = 100, 200_000, 250_000
@@ -217,12 +217,19 @@ class Looks:
         cards = 80 * len(example.machine.device(0x00D).cards)
         self.expect(f"{example.name}: so many were looked at", True, looked >= cards)
 
+    def feeds(self):
+        """A card that is fed went nowhere; of one that is read some columns did, and others were skipped."""
+        self.open("feeds")
+        script = "p.run.paper.reader.map(({ made }) => made && [0, 3, 4].map((at) => p.partOf(made.parts, at)?.place ?? ''))"
+        wanted = [["", "", ""], ["s000600", "s000603", ""], None]
+        self.expect("feeds: where columns went", wanted, self.value(script))
+
     # Causes.
 
     def chains(self, examples):
         """The causes of random places, after random events, are those of the second machine."""
         some = random.Random(1)
-        shares = {example: CHAINS // len(examples) for example in examples}
+        shares = {example: -(-CHAINS // len(examples)) for example in examples}
         for example, count in shares.items():
             example.look_at_all()
             self.open(example.name)
@@ -391,6 +398,7 @@ def main():
     with tempfile.TemporaryDirectory() as folder, Browser() as browser:
         looks = Looks(browser, pathlib.Path(folder), options.pictures)
         examples = [looks.example(name) for name in NAMES]
+        looks.feeds()
         looks.graph(examples[0])
         looks.chains(examples)
         looks.zoom(examples[0])

@@ -28,6 +28,17 @@ enter YES
 run 40
 enter NO
 """
+# 400 feeds a card, and 408 reads four columns of the next one to 600; 410 skips ten more.
+FEEDS = """
+patch s 200 9C00000C9D00000C47700204
+patch s 48 00000400
+patch s 400 23000600600000500200060080000004020007003000000A
+patch p 0000000000000200
+key eof
+run 20
+"""
+FED = b"".join(f"CARD {number}".encode("cp037").ljust(80, b"\x40") for number in range(3))
+OWN = {"dialogue": (DIALOGUE, b""), "feeds": (FEEDS, FED)}
 # The rows that are punched for each sign (GA22-6821, Appendix F), worked by hand.
 HOLES = {" ": 0, "&": 1, "-": 1, "/": 2} | dict.fromkeys("0123456789", 1)
 HOLES |= dict.fromkeys("ABCDEFGHIJKLMNOPQRSTUVWXYZ:#@'=\"", 2) | dict.fromkeys(".<(+|!$*);,%_>?", 3)
@@ -48,8 +59,9 @@ class Example:
     def script(self):
         """The bytes of the script, the file of symbols if there is one, and the deck."""
         self.images = (b"", b"")
-        if self.name == "dialogue":
-            return DIALOGUE.encode(), None, b""
+        if self.name in OWN:
+            script, deck = OWN[self.name]
+            return script.encode(), None, deck
         (file,) = EXAMPLES.rglob(f"{self.name}.s360")
         lines = file.read_text().splitlines()
         words = shlex.split(lines[0])

@@ -14,6 +14,8 @@ from tapes import items_of_awstape
 READER, PUNCH, PRINTER, CONSOLE = "00C", "00D", "00E", "01F"
 TAPES = {"tape0": "180", "tape1": "181"}
 CHAIN_DATA, SKIP = 0x80, 0x10
+# The low bits of a command say whether it reads, or moves nothing.
+KIND, INPUT, CONTROL = 0x03, 0x02, 0x03
 COMMAND_WORD, FIRST_OF_LOADING = 8, "0200000060000018"
 # What `show d` counts, and the most bytes of an item.
 COUNTED = {READER: r"next (\d+)", PUNCH: r"cards (\d+)", PRINTER: r"records (\d+)", CONSOLE: r"typed (\d+)"}
@@ -88,11 +90,15 @@ class Units:
         words = [(m, self.word(m)) for m in chain]
         if words[0][1] is None:
             return READ, []
+        command = words[0][1][0]
+        if command & KIND == CONTROL:
+            return command, []
         for at, (_, address, flags, count) in words:
             moved = min(left, count)
-            parts.append((address if not flags & SKIP or unit != READER else -1, moved, at))
+            is_skipped = flags & SKIP and command & KIND == INPUT
+            parts.append((-1 if is_skipped else address, moved, at))
             left -= moved
-        return words[0][1][0], parts
+        return command, parts
 
     def counted(self, unit, form):
         """The moments at which a count of a unit's media rose, each with the count before it."""
