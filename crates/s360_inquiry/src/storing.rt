@@ -56,12 +56,9 @@ fn span_in(extent: Extent, places: &[Place]) -> Option<Extent>
     span
 }
 
-/// The places that an event stores into.
-pub(crate) fn stored_by(
-    alloc: Global,
-    machine: &Machine,
-    event: &Event,
-) -> Result<Vec<Place>, AllocError>
+/// The places that an event stores into in the machine that meets it; none if it is refused. A place may be there more than once.
+/// The one error is want of memory.
+pub fn stored_by(alloc: Global, machine: &Machine, event: &Event) -> Result<Vec<Place>, AllocError>
     ensures { IfOk result (λ places. places.items ≡ stored_by (seen machine.now.whole) event.now) }
 {
     // So the bytes of a patch that is not refused have addresses of 32 bits.
