@@ -97,6 +97,8 @@ class Decimal(Logical):
         self.put_packed(first + count, rest_count, rest, dividend.is_minus)
 
     def edit(self, first, count, second, marks):
+        # The addresses of the pattern's bytes that it came to, each with that of the byte fetched for it.
+        self.edited = {}
         self.check_inside(first, count)
         fill, zone = self.byte(first), 0x50 if self.psw_field(51, 1) else 0xF0
         source = second
@@ -104,6 +106,7 @@ class Decimal(Logical):
         is_zero, right, marked = True, None, None
         for at in range(first, first + count):
             pattern = self.byte(at)
+            self.edited[at] = None
             if pattern == SEPARATOR:
                 is_on, is_zero = False, True
                 self.put_byte(at, fill)
@@ -114,6 +117,7 @@ class Decimal(Logical):
                 if right is not None:
                     digit, right = right, None
                 else:
+                    self.edited[at] = source
                     self.check_inside(source, 1)
                     digit, right = divmod(self.byte(source), 16)
                     source += 1

@@ -1,6 +1,6 @@
 -- Decimal arithmetic: two packed operands in storage, each with its length. The result has the place of the first (GA22-6821, "Decimal Arithmetic"). What the
 -- bytes of the operands make stands in s360_decimal.
-use Rattle.std.specs.Prelude.{ℕ, ◌+◌, ◌-◌, Bool, false, ◌&&◌, nat_eq, nat_lt, if◌then◌else◌, Option, None, Some, Result, Ok, Err, List}
+use Rattle.std.specs.Prelude.{ℕ, ◌+◌, ◌-◌, Bool, false, ◌&&◌, nat_eq, nat_lt, if◌then◌else◌, Option, None, Some, Result, Ok, Err, is_err, List, length}
 use Rattle.s360_model.specs.{Psw.ascii_mode_of, Psw.decimal_overflow_mask_of, Storage.Storage, Storage.with_run}
 use Rattle.s360_store.specs.declared.protection.{Access.Access, Access.TheVariants.Fetch, Access.TheVariants.Store}
 use Rattle.s360_fixed.specs.declared.{ended.Ended.Ended, program_code.ProgramCode.ProgramCode}
@@ -64,6 +64,15 @@ ended_by_sum code psw = if nat_eq code 3 && decimal_overflow_mask_of psw then En
 
 abbrev pub sum_stored : View → Field → DecimalSum → Outcome
 sum_stored v first sum = record (result_stored v first (Some sum.code) sum.field) { ended = ended_by_sum sum.code v.core.psw }
+
+-- whether something is wrong with the bytes of the operands: it is the same in either mode
+abbrev pub has_fault : DecimalRow → List ℕ → List ℕ → Bool
+has_fault DecimalRow.ZeroAndAdd a b = is_err (zero_added false (length a) b)
+has_fault DecimalRow.Compare a b = is_err (compared a b)
+has_fault DecimalRow.Add a b = is_err (added false a b)
+has_fault DecimalRow.Subtract a b = is_err (subtracted false a b)
+has_fault DecimalRow.Multiply a b = is_err (multiplied false a b)
+has_fault DecimalRow.Divide a b = is_err (divided false a b)
 
 -- what the operands make
 abbrev pub decimal_made : DecimalRow → View → Field → List ℕ → List ℕ → Outcome

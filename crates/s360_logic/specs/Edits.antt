@@ -1,6 +1,6 @@
 -- EDIT and EDIT AND MARK in storage: the pattern is replaced by the result (GA22-6821, "Decimal Arithmetic"). What each byte of the pattern comes to stands in
 -- s360_decimal. A byte that was stored is seen by later fetches of the source (own profile).
-use Rattle.std.specs.Prelude.{ℕ, ◌+◌, nat_eq, if◌then◌else◌, Option, None, Some, List, slice_index}
+use Rattle.std.specs.Prelude.{ℕ, ◌+◌, Bool, nat_eq, if◌then◌else◌, Option, None, Some, List, slice_index}
 use Rattle.std.specs.Option.{option_map_or}
 use Rattle.s360_model.specs.{Core.Core, Core.core_with_word, Psw.ascii_mode_of, Storage.Storage, Storage.is_inside}
 use Rattle.s360_store.specs.declared.protection.{Access.TheVariants.Fetch, Access.TheVariants.Store, Checked.Checked}
@@ -15,24 +15,27 @@ use Rattle.s360_logic.specs.Decimal.{bytes_of_field, ended_with, result_stored, 
 use Rattle.s360_logic.specs.LeftToRight.{field_at, with_address}
 
 -- the byte of the source with a number, counted from 0, as it is after these bytes of the result were stored; none where it is outside storage
-abbrev pub source_after : View → Field → ℕ → Source
-source_after v first second result i =
-    if is_inside v.core.storage (second + i) 1 then Some (byte_at (with_result first result v.core.storage) (second + i)) else None
+abbrev pub source_after : Storage → Field → ℕ → Source
+source_after s first second result i =
+    if is_inside s (second + i) 1 then Some (byte_at (with_result first result s) (second + i)) else None
 
 -- the fill byte is the first of the pattern
-abbrev pub rules_of : View → Field → EditRules
-rules_of v first = record { fill = byte_at v.core.storage first.address; ascii = ascii_mode_of v.core.psw }
+abbrev pub rules_of : Storage → Bool → Field → EditRules
+rules_of s ascii first = record { fill = byte_at s first.address; ascii = ascii }
 
 -- the edit of the whole pattern
-abbrev pub edit_of : View → Field → ℕ → Editing
-edit_of v first second = edited (rules_of v first) (source_after v first second) editing_start (bytes_of_field v.core.storage first)
+abbrev pub edit_of : Storage → Bool → Field → ℕ → Editing
+edit_of s ascii first second = edited (rules_of s ascii first) (source_after s first second) editing_start (bytes_of_field s first)
+
+abbrev pub edit_in : View → Field → ℕ → Editing
+edit_in v first second = edit_of v.core.storage (ascii_mode_of v.core.psw) first second
 
 -- what the fetches of the source bytes that are used meet, the last of which may be outside storage; nothing, where none is used
 abbrev pub source_met : View → ℕ → ℕ → Checked
 source_met v second used = if nat_eq used 0 then Checked.Clear else field_access v Fetch (field_at second used)
 
 abbrev pub edit_conditions : View → Field → ℕ → Conditions
-edit_conditions v first second = conditions_of (met_of_both (field_access v Store first) (source_met v second (edit_of v first second).used))
+edit_conditions v first second = conditions_of (met_of_both (field_access v Store first) (source_met v second (edit_in v first second).used))
 
 -- edit and mark puts the address of the byte that is marked into bits 8 to 31 of register 1
 abbrev pub core_marked : EditRow → Field → Option ℕ → Core → Core
@@ -51,4 +54,4 @@ edit_made row v first e = option_map_or (λ (fault : EditFault). ended_with v Pr
 
 abbrev pub edit_outcome : EditRow → View → Field → ℕ → Outcome
 edit_outcome row v first second =
-    unless_met (edit_conditions v first second) v.core (edit_made row v first (edit_of v first second))
+    unless_met (edit_conditions v first second) v.core (edit_made row v first (edit_in v first second))

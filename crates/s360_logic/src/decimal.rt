@@ -4,7 +4,8 @@ ghost use Rattle.s360_store.specs.Plans.{HasBytes};
 ghost use Rattle.s360_fixed.specs.Plans.{PutsNothing, PutsOutcome};
 ghost use Rattle.s360_fixed.specs.ProgramCodes.{program_code};
 ghost use Rattle.s360_logic.specs.Decimal.{bytes_of_field, code_of_fault, decimal_access, decimal_conditions, decimal_made};
-ghost use Rattle.s360_logic.specs.Decimal.{decimal_outcome, ended_by_sum, has_wrong_lengths, overlaps_to_the_left, result_stored};
+ghost use Rattle.s360_logic.specs.LeftToRight.{field_at};
+ghost use Rattle.s360_logic.specs.Decimal.{decimal_outcome, ended_by_sum, has_fault, has_wrong_lengths, overlaps_to_the_left, result_stored};
 ghost use Rattle.s360_logic.specs.Decimal.{sum_stored, unless_fault};
 ghost use Rattle.s360_logic.specs.Immediate.{code_alone};
 
@@ -32,7 +33,7 @@ fn code_of_fault(fault: DecimalFault) -> ProgramCode
 }
 
 /// Whether two operands share a byte, and the first one ends left of the second.
-fn overlaps_to_the_left(first: Field, second: Field) -> bool
+pub fn overlaps_to_the_left(first: Field, second: Field) -> bool
     requires first { first.address + first.count ≤ 1048576 }
     requires second { second.address + second.count ≤ 1048576 }
     ensures { result ≡ overlaps_to_the_left first second }
@@ -54,7 +55,7 @@ fn ended_by_sum(code: Cc, psw: Psw) -> Ended
 
 impl DecimalRow {
     /// What it does with the first operand.
-    fn access(self) -> Access
+    pub fn access(self) -> Access
         ensures { result ≡ decimal_access self }
     {
         match self {
@@ -64,7 +65,7 @@ impl DecimalRow {
     }
 
     /// Whether the lengths of its operands are a specification exception.
-    fn has_wrong_lengths(self, first: Field, second: Field) -> bool
+    pub fn has_wrong_lengths(self, first: Field, second: Field) -> bool
         requires some_first { 0 < first.count }
         requires few_first { first.count ≤ 16 }
         requires some_second { 0 < second.count }
@@ -76,6 +77,25 @@ impl DecimalRow {
                 are_lengths_wrong((first.count - 1) as u8, (second.count - 1) as u8)
             }
             _ => false,
+        }
+    }
+
+    /// Whether something is wrong with the bytes of its operands.
+    pub fn has_fault(self, first: &[u8], second: &[u8]) -> bool
+        requires some_first { 0 < length first.now }
+        requires few_first { length first.now ≤ 16 }
+        requires some_second { 0 < length second.now }
+        requires few_second { length second.now ≤ 16 }
+        requires lengths { has_wrong_lengths self (field_at 0 (length first.now)) (field_at 0 (length second.now)) ≡ false }
+        ensures { result ≡ has_fault self first.now second.now }
+    {
+        match self {
+            DecimalRow::ZeroAndAdd => zero_and_add(false, first.len(), second).is_err(),
+            DecimalRow::Compare => compare(first, second).is_err(),
+            DecimalRow::Add => add(false, first, second).is_err(),
+            DecimalRow::Subtract => subtract(false, first, second).is_err(),
+            DecimalRow::Multiply => multiply(false, first, second).is_err(),
+            DecimalRow::Divide => divide(false, first, second).is_err(),
         }
     }
 }

@@ -11,13 +11,13 @@ use crate::left_to_right::{exception_of, with_address};
 use crate::row::EditRow;
 use s360_decimal::{EditRules, EditState};
 use s360_fixed::{Ended, ProgramCode, View, psw_with};
-use s360_store::{Access, Checked, Puts};
+use s360_store::{Access, Checked, Puts, Storage};
 use s360_word::RegisterNumber;
 use std::alloc::AllocError;
 
 /// Why an edit ends before its last byte.
 #[derive(Clone, Copy, PartialEq, Eq)]
-enum EditFault {
+pub enum EditFault {
     /// The next byte of the source is outside storage.
     Outside,
     /// Its left digit is none.
@@ -26,15 +26,15 @@ enum EditFault {
 
 /// An edit so far.
 #[derive(Clone, Copy)]
-struct Editing {
+pub struct Editing {
     /// What is known between two bytes of the pattern.
     state: EditState,
     /// How many bytes of the source were used, with the one that ends it.
-    used: u32,
+    pub used: u32,
     /// Which byte of the result was marked last, counted from 0 at the left.
-    mark: Option<u32>,
+    pub mark: Option<u32>,
     /// Why it ended, if it did.
-    fault: Option<EditFault>,
+    pub fault: Option<EditFault>,
 }
 
 impl Editing {
@@ -91,6 +91,26 @@ fn edit(rules: EditRules, operand: &mut FirstOperand, second: u32) -> Editing {
     editing
 }
 
+/// What holds for the whole edit of a pattern, of which nothing is stored yet.
+fn rules_of(operand: &FirstOperand, ascii: bool) -> EditRules {
+    EditRules {
+        fill: operand.own_byte(0),
+        ascii,
+    }
+}
+
+/// The edit of a pattern inside storage with the source from `second` on, which stores nothing.
+pub fn edit_of(storage: &Storage, ascii: bool, first: Field, second: u32) -> Editing
+    requires some { 0 < first.count }
+    requires few { first.count ≤ 256 }
+    requires inside { first.address + first.count ≤ length storage.now.bytes }
+    requires source { second < 2 ^ 24 }
+    ensures { IsEditing (edit_of storage.now ascii first second) result }
+{
+    let mut operand = FirstOperand::new(storage, first);
+    edit(rules_of(&operand, ascii), &mut operand, second)
+}
+
 /// What the fetches of the source bytes that are used meet.
 fn source_met(view: &View, second: u32, used: u32) -> Checked
     ensures { result ≡ source_met view.now second used }
@@ -144,10 +164,7 @@ pub(crate) fn put_edit<P: Puts>(
         return Ok(Ended::Program(ProgramCode::Addressing));
     }
     let mut operand = FirstOperand::new(view.storage(), first);
-    let rules = EditRules {
-        fill: operand.own_byte(0),
-        ascii: view.psw().ascii_mode(),
-    };
+    let rules = rules_of(&operand, view.psw().ascii_mode());
     let editing = edit(rules, &mut operand, second);
     match exception_of(checked, source_met(view, second, editing.used)) {
         Some(code) => Ok(Ended::Program(code)),

@@ -25,6 +25,8 @@ mod row;
 mod status;
 
 pub use cpu::{FetchedInstruction, PlannedInstruction, fetch, plan_instruction, put_instruction};
+pub use decimal::overlaps_to_the_left;
+pub use edit::{EditFault, Editing, edit_of};
 pub use field::{Field, fields_exception};
 pub use laws::digits_of_apart_operands;
 pub use logic::{plan_logic, put_logic, subject_of, with_ored_byte};

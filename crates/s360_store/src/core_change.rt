@@ -7,7 +7,7 @@ ghost use Rattle.s360_store.specs.Cells.{AllFit, AreCellsOf, after_exchange, byt
 ghost use Rattle.s360_store.specs.CoreChanges.{AllBefore, cells_before, cells_from, cells_of_change, other_psw, psw_cell};
 ghost use Rattle.s360_store.specs.Items.{Appended};
 ghost use Rattle.s360_store.specs.Differences.{KeepsAltering};
-ghost use Rattle.s360_store.specs.Order.{IsAscending};
+ghost use Rattle.s360_store.specs.Order.{IsAscending, precedes};
 ghost use Rattle.s360_store.specs.Plans.{HasBytes};
 ghost use Rattle.s360_store.specs.declared.place.Place.TheVariants.{Byte, Psw as psw_place};
 
@@ -178,14 +178,25 @@ fn keep_bytes(core: &Core, address: u32, new: &[u8], kept: &mut Altered) -> Resu
     Ok(())
 }
 
-/// Adds the cells whose places come before one.
-fn push_before(place: Place, cells: &Altered, to: &mut Altered) -> Result<(), AllocError>
+/// Whether a place comes before a byte of storage.
+fn precedes(place: Place, address: u32) -> bool
+    ensures { result ≡ precedes place (Byte address) }
+{
+    match place {
+        Place::Psw | Place::Register(_) => true,
+        Place::Byte(at) => at < address,
+        _ => false,
+    }
+}
+
+/// Adds the cells whose places come before a byte of storage.
+fn push_before(address: u32, cells: &Altered, to: &mut Altered) -> Result<(), AllocError>
     requires room { length to.old + length cells.now ≤ 1000000 }
-    ensures { OnOk result (to.new ≡ to.old ++ cells_before place cells.now) }
+    ensures { OnOk result (to.new ≡ to.old ++ cells_before address cells.now) }
 {
     for i in 0..cells.len() {
         let cell = cells.cell(i);
-        if cell.place < place {
+        if precedes(cell.place, address) {
             to.push(cell)?;
         }
     }
@@ -193,13 +204,13 @@ fn push_before(place: Place, cells: &Altered, to: &mut Altered) -> Result<(), Al
 }
 
 /// Adds those whose places do not.
-fn push_from(place: Place, cells: &Altered, to: &mut Altered) -> Result<(), AllocError>
+fn push_from(address: u32, cells: &Altered, to: &mut Altered) -> Result<(), AllocError>
     requires room { length to.old + length cells.now ≤ 1000000 }
-    ensures { OnOk result (to.new ≡ to.old ++ cells_from place cells.now) }
+    ensures { OnOk result (to.new ≡ to.old ++ cells_from address cells.now) }
 {
     for i in 0..cells.len() {
         let cell = cells.cell(i);
-        if cell.place >= place {
+        if !precedes(cell.place, address) {
             to.push(cell)?;
         }
     }
@@ -272,9 +283,9 @@ impl Puts for CoreChange {
         let _ = core.storage();
         let end = address + bytes.len() as u32;
         let mut cells = self.cells.none();
-        push_before(Place::Byte(address), &self.cells, &mut cells)?;
+        push_before(address, &self.cells, &mut cells)?;
         keep_bytes(core, address, bytes, &mut cells)?;
-        push_from(Place::Byte(end), &self.cells, &mut cells)?;
+        push_from(end, &self.cells, &mut cells)?;
         self.cells = cells;
         Ok(())
     }
