@@ -1,7 +1,7 @@
 //! Decimal arithmetic: each byte of a result is made of all bytes of the operands. Source: GA22-6821, "Decimal Arithmetic".
 ghost use Rattle.std.specs.Prelude.{◌≡◌, ◌<◌, ◌≤◌, OnOk};
 ghost use Rattle.s360_machine.specs.Machine.{seen};
-ghost use Rattle.s360_footprint.specs.DecimalRows.{decimal_row};
+ghost use Rattle.s360_footprint.specs.DecimalRows.{decimal_row, sets_code};
 ghost use Rattle.s360_footprint.specs.OperandReadings.{profile_of};
 ghost use Rattle.s360_source.specs.Fields.{field_of};
 ghost use Rattle.s360_source.specs.Walks.{walked};
@@ -36,7 +36,9 @@ fn is_refused(machine: &Machine, row: DecimalRow, first: Field, second: Field) -
 }
 
 /// Whether a row sets the condition code by its operands.
-fn sets_code(row: DecimalRow) -> bool {
+fn sets_code(row: DecimalRow) -> bool
+    ensures { result ≡ sets_code row }
+{
     !matches!(row, DecimalRow::Multiply | DecimalRow::Divide)
 }
 
@@ -56,13 +58,13 @@ fn push_made(
         Part::Bytes(first.address, first_count),
         Part::Bytes(second.address, second.count),
     ];
-    question.decide(found, &parts[1..])?;
+    question.decide(found, &parts)?;
     if is_refused(machine, row, field_of(first), field_of(second)) {
         return Ok(());
     }
     let stored = if row == DecimalRow::Compare { 0 } else { first.count };
     question.store_bytes(found, first.address, stored, &parts)?;
-    question.store_psw(found, if sets_code(row) { &parts[1..] } else { &parts[..0] })
+    question.store_psw(found, if sets_code(row) { &parts } else { &parts[..0] })
 }
 
 /// Walks over a row of two decimal numbers.

@@ -69,6 +69,7 @@ impl Edit {
         count: u32,
     ) -> Result<(), AllocError> {
         found.push(Place::Psw)?;
+        found.push(Place::Byte(self.first.number()))?;
         let mut used = 0;
         for i in 0..count {
             found.push(Place::Byte(self.first.number() + i))?;
