@@ -40,7 +40,7 @@ CARRIED_OUT = ("README.md", "docs/guide.md", "docs/reference/media.md")
 PROGRAMS = [TOP / "crates" / name / "out" / name for name in ("s360dbg", "s360gdb")]
 EXAMPLES = sorted((TOP / "examples").rglob("*.s360"))
 MOST_LINES_OF_README = 100
-MOST_WORDS, MOST_USER_WORDS = 24_200, 16_100
+MOST_WORDS, MOST_USER_WORDS = 25_000, 16_750
 MOST_LINES, MOST_COLUMNS = 449, 160
 # The folders in which a name of the code may stand.
 SOURCES = ("crates/*/src", "crates/*/specs", "crates/*/proofs", "tests", "tools")

@@ -2,7 +2,8 @@
 use Rattle.std.specs.Prelude.{◌≡◌, ◌≤◌, ℕ, ◌+◌, ◌*◌, nat_lt, if◌then◌else◌, Option, None, Some, List, [], ◌∷◌, ◌++◌, length}
 use Rattle.s360_model.specs.{Core.Core, Core.core_with_word, Storage.word_at}
 use Rattle.s360_store.specs.{declared.place.Cell.Cell, declared.place.Place.TheVariants.Byte, declared.puts.Puts.Ghosts, Plans.IsPlanOf, Puts.HasNoPuts}
-use Rattle.s360_fixed.specs.declared.{effect.Effect.Effect, ended.Ended.Ended, program_code.ProgramCode.TheVariants.DecimalOverflow, register_words.RegisterWords.RegisterWords}
+use Rattle.s360_fixed.specs.declared.{effect.Effect.Effect, ended.Ended.Ended, register_words.RegisterWords.RegisterWords}
+use Rattle.s360_fixed.specs.declared.program_code.ProgramCode.TheVariants.{DecimalOverflow}
 use Rattle.s360_fixed.specs.{Alterations.Alteration, Outcomes.word_for, View.Outcome, View.View}
 use Rattle.s360_fixed.specs.Storing.{register_distance, with_registers_loaded, with_registers_stored}
 

@@ -13,7 +13,7 @@ use Rattle.s360_logic.specs.LeftToRight.{combine_outcome, compare_outcome, field
 use Rattle.s360_logic.specs.Rows.{conversion_of, immediate_row_of, register_status_of, storage_row_of, storage_status_of}
 use Rattle.s360_logic.specs.Status.{register_status_outcome, storage_status_outcome}
 
--- a row of two operands in storage, by the length field, which is one less than the number of bytes, or two such fields for digits and for decimal numbers, and by
+-- a row of two operands in storage, by the length field, which is one less than the number of bytes, or two such fields for digits and decimal numbers, and by
 -- the addresses
 abbrev pub storage_outcome : StorageRow → View → ℕ → ℕ → ℕ → Outcome
 storage_outcome (StorageRow.Combine c) v l first second = combine_outcome c v first second (l + 1)
