@@ -47,9 +47,8 @@ pub(crate) fn put_interruption_over<P: Puts>(
     prove!(core.storage().size() >= LEAST_SIZE);
     let next = Psw::from_u64(double(core, puts, class.new_location()));
     let stored = psw.stored(code, instruction_length);
-    puts.put_psw(core, next)?;
     puts.put_bytes_over(core, class.old_location(), &stored.to_be_bytes())?;
-    Ok(())
+    puts.put_psw(core, next)
 }
 
 /// Puts an interruption of the core as the puts leave it, with this PSW in place of its own: it is
