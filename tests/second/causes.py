@@ -44,7 +44,7 @@ class Causes:
         self.alterations = numbers_by_place(change.places for change in self.changes)
         self.causes_of = functools.cache(self.causes_of)
 
-    def lines(self, place, depth, with_deciders):
+    def lines(self, place, depth, in_full):
         """The lines of the chain, of which one level after the other is found."""
         number = last_before(self.stores, place, len(self.changes) + 1)
         if number is None:
@@ -58,7 +58,7 @@ class Causes:
             if len(nodes) > MOST_LINES:
                 break
         told = list(nodes)[:MOST_LINES]
-        lines = [line for node in told for line in self.lines_of(node, with_deciders)]
+        lines = [line for node in told for line in self.lines_of(node, in_full)]
         return lines if len(nodes) <= MOST_LINES else [*lines, "and more"]
 
     def nodes_below(self, node):
@@ -72,13 +72,16 @@ class Causes:
     def is_patch(self, number):
         return self.changes[number - 1].event[0].startswith("patch")
 
-    def lines_of(self, node, with_deciders):
+    def lines_of(self, node, in_full):
         causes = [f"{cause.name}{self.origin_words(cause.origin)}" for cause in self.causes_of(node)]
         of = [f"{', ' if i else ' of '}{words}" for i, words in enumerate(causes)]
-        yield filled(self.head(node), of)
-        decided = self.deciders_of(node.number) if with_deciders else []
-        if decided:
-            yield filled("  decided by", [f" {words}" for words in decided])
+        head = self.head(node)
+        if not in_full:
+            yield filled(head, of)
+            return
+        yield "".join([head, *of])
+        if decided := self.deciders_of(node.number):
+            yield " ".join(["  decided by", *decided])
 
     def origin_words(self, origin):
         if origin is None:

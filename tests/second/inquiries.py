@@ -98,7 +98,7 @@ class Inquiries:
         if words[0] in ABOUT_A_PLACE and words[1] in (b"s", b"k") and int(words[2].split(b"-")[-1], 16) >= self.machine.size:
             return ["? argument 2"]
         stands = self.standing
-        detail = {"with_deciders": True} if name.endswith("!") else {}
+        detail = {"in_full": True} if name.endswith("!") else {}
         answers = getattr(self, f"answer_{name.removesuffix('!')}")(*rest, **detail)
         if self.standing != stands:
             self.stood = stands
@@ -211,9 +211,9 @@ class Inquiries:
         shown = self.machine.run_of_bytes(first, min(last + 1 - first, 16)).hex().upper()
         return f"{shown}.." if last + 1 - first > 16 else shown
 
-    def answer_why(self, *words, with_deciders=False):
+    def answer_why(self, *words, in_full=False):
         place, stands = self.recording.place_of(*words[:-1]), self.standing
-        lines = Causes(self).lines(place, int(words[-1]), with_deciders)
+        lines = Causes(self).lines(place, int(words[-1]), in_full)
         self.go_to(stands)
         return lines
 

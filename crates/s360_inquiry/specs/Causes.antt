@@ -19,7 +19,7 @@ use Rattle.s360_footprint.specs.EventRows.{deciders, sources}
 use Rattle.s360_inquiry.specs.declared.cause.Cause.{Cause}
 use Rattle.s360_inquiry.specs.declared.extent.Extent.{Extent}
 use Rattle.s360_inquiry.specs.declared.inquiry.Detail.{Detail}
-use Rattle.s360_inquiry.specs.declared.inquiry.Detail.TheVariants.{Causes, Deciders}
+use Rattle.s360_inquiry.specs.declared.inquiry.Detail.TheVariants.{Brief, Full}
 use Rattle.s360_inquiry.specs.declared.making.LastStore.{LastStore}
 use Rattle.s360_inquiry.specs.declared.making.Making.{Making}
 use Rattle.s360_inquiry.specs.declared.node.Node.{Node}
@@ -83,25 +83,27 @@ deciders_next r =
 abbrev pub deciders_of : Recorded → ℕ → List (List ℕ)
 deciders_of r number = deciders_next (just_before r number)
 
--- ---- the lines of a node: its event, what that made with its value, and of what; and what decided the event, if that is asked
+-- ---- the lines of a node: its event, what that made with its value, and of what; in full also what decided the event
 
 abbrev pub node_head : Recorded → ℕ → Extent → List ℕ
 node_head r number extent = words_of_change r number ++ codes ": " ++ extent_name extent ++ extent_words (machine_after r number) extent
 
-abbrev pub filled : List ℕ → List (List ℕ) → List ℕ
-filled head items = (head ++ fitted (length head) items) ++ codes "\n"
+abbrev pub brief_line : List ℕ → List (List ℕ) → List ℕ
+brief_line head items = (head ++ fitted (length head) items) ++ codes "\n"
+
+abbrev pub full_line : List ℕ → List (List ℕ) → List ℕ
+full_line head items = (head ++ flat_map (λ item. item) items) ++ codes "\n"
 
 abbrev pub decided_line : List (List ℕ) → List ℕ
 decided_line [] = []
-decided_line (item ∷ items) = filled (codes "  decided by") (item ∷ items)
+decided_line (item ∷ items) = full_line (codes "  decided by") (item ∷ items)
 
-abbrev pub decided_if : Detail → List (List ℕ) → List ℕ
-decided_if Causes items = []
-decided_if Deciders items = decided_line items
+abbrev pub lines_in : Detail → List ℕ → List (List ℕ) → List (List ℕ) → List ℕ
+lines_in Brief head causes deciders = brief_line head causes
+lines_in Full head causes deciders = full_line head causes ++ decided_line deciders
 
 abbrev pub node_text : Recorded → Detail → ℕ → Extent → List ℕ
-node_text r detail number extent =
-    filled (node_head r number extent) (cause_items (causes_of r number extent)) ++ decided_if detail (deciders_of r number)
+node_text r detail number extent = lines_in detail (node_head r number extent) (cause_items (causes_of r number extent)) (deciders_of r number)
 
 -- ---- the chain: each node once, the nearest first
 

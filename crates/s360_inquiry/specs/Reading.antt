@@ -12,7 +12,7 @@ use Rattle.s360_inquiry.specs.Extents.{extent_of}
 use Rattle.s360_inquiry.specs.declared.extent.Extent.{Extent}
 use Rattle.s360_inquiry.specs.declared.extent.Extent.TheVariants.{Bytes}
 use Rattle.s360_inquiry.specs.declared.inquiry.Detail.{Detail}
-use Rattle.s360_inquiry.specs.declared.inquiry.Detail.TheVariants.{Causes, Deciders}
+use Rattle.s360_inquiry.specs.declared.inquiry.Detail.TheVariants.{Brief, Full}
 use Rattle.s360_inquiry.specs.declared.inquiry.Inquiry.{Inquiry}
 use Rattle.s360_inquiry.specs.declared.inquiry.Inquiry.TheVariants.{Who, WhoItem, Why, Goto, Changes, Stores, History, Visits, Jumps, Calls}
 use Rattle.s360_inquiry.specs.declared.inquiry.Inquiry.TheVariants.{Dump, DumpItem, Units, Where}
@@ -69,8 +69,8 @@ chain_of detail = part places (λ place. may_take (count_of most_depth) depth_to
 abbrev pub inquiries : List (Line Inquiry)
 inquiries =
     line (codes "who") (item_or (λ u n. WhoItem u n) (part places (λ place. makes (Who place)))) ∷
-    line (codes "why") (chain_of Causes) ∷
-    line (codes "why!") (chain_of Deciders) ∷
+    line (codes "why") (chain_of Brief) ∷
+    line (codes "why!") (chain_of Full) ∷
     line (codes "goto") (one mark_of (λ mark. Goto mark)) ∷
     line (codes "changes") (part places (λ place. may_take (count_of most_count) changes_told (λ most. makes (Changes place most)))) ∷
     line (codes "stores") (extent_then (λ extent. may_take (count_of most_told) changes_told (λ most. makes (Stores extent most)))) ∷

@@ -1,6 +1,6 @@
-//! Items that are told in a line as far as it has room.
+//! Items that are told in a line: as far as it has room, or all.
 ghost use Rattle.std.specs.Prelude.{◌≡◌, ◌++◌, IfOk, OnOk, drop, length};
-ghost use Rattle.s360_inquiry.specs.Causes.{filled};
+ghost use Rattle.s360_inquiry.specs.Causes.{brief_line, full_line};
 ghost use Rattle.s360_inquiry.specs.Fitting.{fitted, more_words};
 
 use s360_text::Text;
@@ -38,17 +38,28 @@ fn push_fitted(alloc: Global, line: &mut Text, items: &[Text]) -> Result<(), All
 }
 
 /// Adds a line that begins so, with items as far as it has room.
-pub(crate) fn push_filled(
+pub(crate) fn push_brief(
     alloc: Global,
     text: &mut Text,
     head: &[u8],
     items: &[Text],
 ) -> Result<(), AllocError>
-    ensures { OnOk result (text.new ≡ text.old ++ filled head.now items.now) }
+    ensures { OnOk result (text.new ≡ text.old ++ brief_line head.now items.now) }
 {
     let mut line = Text::new(alloc);
     line.push_bytes(head)?;
     push_fitted(alloc, &mut line, items)?;
     text.push_bytes(line.as_bytes())?;
+    text.push_text("\n")
+}
+
+/// Adds a line that begins so, with all items.
+pub(crate) fn push_full(text: &mut Text, head: &[u8], items: &[Text]) -> Result<(), AllocError>
+    ensures { OnOk result (text.new ≡ text.old ++ full_line head.now items.now) }
+{
+    text.push_bytes(head)?;
+    for item in items {
+        text.push_bytes(item.as_bytes())?;
+    }
     text.push_text("\n")
 }

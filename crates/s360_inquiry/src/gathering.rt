@@ -13,6 +13,8 @@ use s360_machine::EventKind;
 use s360_store::Place;
 use std::alloc::{AllocError, Global};
 use std::cmp::Reverse;
+use std::collections::BTreeSet;
+use std::mem;
 
 /// A place whose last store before a moment is looked for, of which something was made; an event that stored it is told so deep.
 #[derive(Clone, Copy)]
@@ -31,6 +33,8 @@ pub(crate) struct Gathering {
     pub(crate) makings: Vec<Making>,
     pub(crate) stores: Vec<LastStore>,
     open: Vec<Open>,
+    /// The places of what is looked for, each once.
+    wanted: BTreeSet<Place>,
 }
 
 /// Whether a place is one of those that are stored.
@@ -38,7 +42,19 @@ fn is_stored(stored: &[Place], place: Place) -> bool {
     span_in(Extent::of(place), stored).is_some()
 }
 
+/// Whether one of the places that are stored is wanted.
+fn is_wanted(wanted: &BTreeSet<Place>, stored: &[Place]) -> bool {
+    stored.iter().any(|place| wanted.contains(place))
+}
+
 impl Gathering {
+    /// Looks for where the value of a place comes from.
+    fn seek(&mut self, open: Open) -> Result<(), AllocError> {
+        self.wanted.insert(open.place)?;
+        self.open.push(open)?;
+        Ok(())
+    }
+
     /// Notes what a node was made of, and looks for where that came from.
     fn follow(&mut self, recording: &mut Session, node: Node) -> Result<(), AllocError> {
         if node.depth == 0 || noted_making(self.makings.as_slice(), node.number, node.extent).is_some() {
@@ -49,7 +65,7 @@ impl Gathering {
         let index = self.makings.len();
         for place in making.places.iter() {
             if is_followed(*place) {
-                self.open.push(Open {
+                self.seek(Open {
                     place: *place,
                     moment,
                     making: index,
@@ -61,38 +77,43 @@ impl Gathering {
         Ok(())
     }
 
+    /// Notes where the value of a place came from.
+    fn note(&mut self, open: Open, origin: Origin) -> Result<(), AllocError> {
+        self.stores.push(LastStore {
+            place: open.place,
+            moment: open.moment,
+            origin,
+        })?;
+        Ok(())
+    }
+
     /// Takes those that the next event stores from what is looked for, and notes that it did.
     fn take_stored(
         &mut self,
         stored: &[Place],
         origin: Origin,
     ) -> Result<Vec<Open>, AllocError> {
+        let sought = mem::replace(&mut self.open, Vec::new(self.alloc));
         let mut taken = Vec::new(self.alloc);
-        let mut left = Vec::new(self.alloc);
-        for open in self.open.iter() {
+        self.wanted = BTreeSet::new(self.alloc);
+        for open in sought.iter() {
             if is_stored(stored, open.place) {
-                self.stores.push(LastStore {
-                    place: open.place,
-                    moment: open.moment,
-                    origin,
-                })?;
+                self.note(*open, origin)?;
                 taken.push(*open)?;
             } else {
-                left.push(*open)?;
+                self.seek(*open)?;
             }
         }
-        self.open = left;
         Ok(taken)
     }
 
     /// Looks at what the event that comes next stores.
     fn meet(&mut self, recording: &mut Session, kind: Option<EventKind>) -> Result<(), AllocError> {
-        let number = recording.standing() + 1;
         let stored = stored_next(self.alloc, recording)?;
-        if !self.open.iter().any(|open| is_stored(stored.as_slice(), open.place)) {
+        if !is_wanted(&self.wanted, stored.as_slice()) {
             return Ok(());
         }
-        let origin = Origin::of_event(number, kind);
+        let origin = Origin::of_event(recording.standing() + 1, kind);
         let taken = self.take_stored(stored.as_slice(), origin)?;
         if let Origin::Event(number) = origin {
             for node in nodes_of(self.alloc, number, taken.as_slice())?.iter() {
@@ -102,14 +123,11 @@ impl Gathering {
         Ok(())
     }
 
-    /// What is looked for still, at the start, was there from the start.
+    /// Notes that what is looked for still, at the start, was there from the start.
     fn end(&mut self) -> Result<(), AllocError> {
-        for open in self.open.iter() {
-            self.stores.push(LastStore {
-                place: open.place,
-                moment: open.moment,
-                origin: Origin::Start,
-            })?;
+        let sought = mem::replace(&mut self.open, Vec::new(self.alloc));
+        for open in sought.iter() {
+            self.note(*open, Origin::Start)?;
         }
         Ok(())
     }
@@ -163,6 +181,7 @@ pub(crate) fn gather(
         makings: Vec::new(alloc),
         stores: Vec::new(alloc),
         open: Vec::new(alloc),
+        wanted: BTreeSet::new(alloc),
     };
     gathering.follow(recording, first)?;
     for _before in (0..recording.standing()).rev() {

@@ -16,13 +16,13 @@ pub enum Mark {
     Last,
 }
 
-/// What is told of each event of a chain of causes.
+/// How much is told of each event of a chain of causes.
 #[derive(Clone, Copy)]
 pub enum Detail {
-    /// What it made, and of what.
-    Causes,
-    /// That, and what decided the event.
-    Deciders,
+    /// What it made, and of what, in a line.
+    Brief,
+    /// That, however long it is, and what decided the event.
+    Full,
 }
 
 /// A line with its arguments: a variant for each first word.

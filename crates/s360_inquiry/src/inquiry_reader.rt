@@ -43,8 +43,8 @@ fn read_words(mut words: Words<'_>) -> Result<Inquiry, LineFault>
 {
     read_line! { words, 0, finish, LineFault::Unknown;
         "who" [read_who(words)];
-        "why" [read_why(words, Detail::Causes)];
-        "why!" [read_why(words, Detail::Deciders)];
+        "why" [read_why(words, Detail::Brief)];
+        "why!" [read_why(words, Detail::Full)];
         "goto" (mark: mark_in) => Inquiry::Goto(mark);
         "changes" (place: [next_place], most: count_in(MOST_COUNT) or CHANGES) => Inquiry::Changes { place, most };
         "stores" [read_stores(words)];

@@ -2,14 +2,14 @@
 //! the chain is told from.
 ghost use Rattle.std.specs.Prelude.{◌≡◌, ◌-◌, ◌++◌, ◌∷◌, All, IfOk, OnErr, OnOk, length, min, [], List, ℕ};
 ghost use Rattle.s360_journal.specs.Recorded.{with_standing};
-ghost use Rattle.s360_inquiry.specs.Causes.{IsMaking, IsStore, causes_of, decided_if, node_text, node_texts, nodes_below, why_text};
+ghost use Rattle.s360_inquiry.specs.Causes.{IsMaking, IsStore, causes_of, decided_line, lines_in, node_text, node_texts, nodes_below, why_text};
 ghost use Rattle.s360_inquiry.specs.Causes.{with_nodes};
-ghost use Rattle.s360_inquiry.specs.Origins.{origin_in};
+ghost use Rattle.s360_inquiry.specs.Origins.{cause_items, origin_in};
 ghost use Rattle.s360_inquiry.specs.Tellings.{IsTold, told_lines};
 
 use crate::cause::{Cause, Sourced, cause_items, causes_from};
 use crate::extent::{Extent, push_extent, push_words};
-use crate::fitting::push_filled;
+use crate::fitting::{push_brief, push_full};
 use crate::gathering::gather;
 use crate::going::go_to;
 use crate::inquiry::Detail;
@@ -79,13 +79,16 @@ impl Chain<'_> {
     }
 
     /// The lines of a node, by what its event made.
-    fn text_of(self, making: &Making, causes: &[Cause]) -> Result<Text, AllocError> {
+    fn lines_of(self, making: &Making, causes: &[Cause]) -> Result<Text, AllocError>
+        ensures { IfOk result (λ text. text ≡ lines_in self.detail making.now.head (cause_items causes.now) making.now.deciders.items) }
+    {
         let mut text = Text::new(self.alloc);
         let items = cause_items(self.alloc, causes)?;
-        push_filled(self.alloc, &mut text, making.head.as_bytes(), items.as_slice())?;
-        if let Detail::Deciders = self.detail {
-            if !making.deciders.is_empty() {
-                push_filled(self.alloc, &mut text, b"  decided by", making.deciders.as_slice())?;
+        match self.detail {
+            Detail::Brief => push_brief(self.alloc, &mut text, making.head.as_bytes(), items.as_slice())?,
+            Detail::Full => {
+                push_full(&mut text, making.head.as_bytes(), items.as_slice())?;
+                push_decided(&mut text, making.deciders.as_slice())?;
             }
         }
         Ok(text)
@@ -101,7 +104,7 @@ impl Chain<'_> {
         depth: u32,
     ) -> Result<(), AllocError> {
         let causes = self.causes_of(recording, making)?;
-        let text = self.text_of(making, causes.as_slice())?;
+        let text = self.lines_of(making, causes.as_slice())?;
         telling.push(text.as_bytes())?;
         push_nodes(known, depth, causes.as_slice())
     }
@@ -137,6 +140,16 @@ impl Chain<'_> {
         }
         telling.finish()
     }
+}
+
+/// Adds the line of what decided an event, if anything did.
+fn push_decided(text: &mut Text, deciders: &[Text]) -> Result<(), AllocError>
+    ensures { OnOk result (text.new ≡ text.old ++ decided_line deciders.now) }
+{
+    if deciders.is_empty() {
+        return Ok(());
+    }
+    push_full(text, b"  decided by", deciders)
 }
 
 /// That a place is as at the start.
