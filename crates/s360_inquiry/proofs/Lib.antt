@@ -5,4 +5,5 @@ pub mod ExecutedLemmas
 pub mod CallLemmas
 pub mod SearchLemmas
 pub mod JumpLemmas
+pub mod TellingLemmas
 pub mod WhyLemmas

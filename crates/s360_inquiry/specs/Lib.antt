@@ -18,6 +18,7 @@ pub mod Tellings
 pub mod Fitting
 pub mod Origins
 pub mod Causes
+pub mod Gatherings
 pub mod Calls
 pub mod Situations
 pub mod Answers

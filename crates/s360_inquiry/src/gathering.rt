@@ -1,8 +1,12 @@
 //! Goes back once through a recording, and notes what the nodes of a chain were made of, and where the values of these came from.
-ghost use Rattle.std.specs.Prelude.{◌≡◌, All, IfOk, OnErr, OnOk};
-ghost use Rattle.s360_journal.specs.Recorded.{with_standing};
+ghost use Rattle.std.specs.Prelude.{◌≡◌, ◌-◌, ◌+◌, ◌<◌, All, IfOk, OnErr, OnOk, length, ℕ};
+ghost use Rattle.s360_journal.specs.Recorded.{Recorded, with_standing};
+ghost use Rattle.s360_journal.specs.Returning.{one_back};
 ghost use Rattle.s360_inquiry.specs.Causes.{IsMaking, IsStore};
+ghost use Rattle.s360_inquiry.specs.Changes.{just_before, kind_of_change};
+ghost use Rattle.s360_inquiry.specs.Gatherings.{IsGathering, IsOfEvent, IsOpen, is_stored, is_wanted, store_of};
 
+use crate::change::go_before;
 use crate::extent::{Extent, extent_with};
 use crate::making::{LastStore, Making, making_of, noted_making};
 use crate::node::Node;
@@ -38,47 +42,33 @@ pub(crate) struct Gathering {
 }
 
 /// Whether a place is one of those that are stored.
-fn is_stored(stored: &[Place], place: Place) -> bool {
+fn is_stored(stored: &[Place], place: Place) -> bool
+    ensures { result ≡ is_stored stored.now place }
+{
     span_in(Extent::of(place), stored).is_some()
 }
 
 /// Whether one of the places that are stored is wanted.
-fn is_wanted(wanted: &BTreeSet<Place>, stored: &[Place]) -> bool {
+fn is_wanted(wanted: &BTreeSet<Place>, stored: &[Place]) -> bool
+    ensures { result ≡ is_wanted wanted.now.keys stored.now }
+{
     stored.iter().any(|place| wanted.contains(place))
 }
 
 impl Gathering {
     /// Looks for where the value of a place comes from.
-    fn seek(&mut self, open: Open) -> Result<(), AllocError> {
+    fn seek(&mut self, open: Open) -> Result<(), AllocError>
+        ensures { OnOk result ((r : Recorded) (n : ℕ) → IsGathering r n self.old → IsOpen r n open → IsGathering r n self.new) }
+    {
         self.wanted.insert(open.place)?;
         self.open.push(open)?;
         Ok(())
     }
 
-    /// Notes what a node was made of, and looks for where that came from.
-    fn follow(&mut self, recording: &mut Session, node: Node) -> Result<(), AllocError> {
-        if node.depth == 0 || noted_making(self.makings.as_slice(), node.number, node.extent).is_some() {
-            return Ok(());
-        }
-        let making = making_of(self.alloc, recording, node.number, node.extent)?;
-        let moment = recording.standing();
-        let index = self.makings.len();
-        for place in making.places.iter() {
-            if is_followed(*place) {
-                self.seek(Open {
-                    place: *place,
-                    moment,
-                    making: index,
-                    depth: node.depth - 1,
-                })?;
-            }
-        }
-        self.makings.push(making)?;
-        Ok(())
-    }
-
     /// Notes where the value of a place came from.
-    fn note(&mut self, open: Open, origin: Origin) -> Result<(), AllocError> {
+    fn note(&mut self, open: Open, origin: Origin) -> Result<(), AllocError>
+        ensures { OnOk result ((r : Recorded) (n : ℕ) → IsGathering r n self.old → IsStore r (store_of open origin) → IsGathering r n self.new) }
+    {
         self.stores.push(LastStore {
             place: open.place,
             moment: open.moment,
@@ -87,12 +77,47 @@ impl Gathering {
         Ok(())
     }
 
-    /// Takes those that the next event stores from what is looked for, and notes that it did.
+    /// Notes what the event that comes next, of this number, made an extent of, and looks for where that came from. Want of memory
+    /// leaves the recording at some change.
+    fn follow(
+        &mut self,
+        recording: &mut Session,
+        number: u32,
+        extent: Extent,
+        depth: u32,
+    ) -> Result<(), AllocError>
+        requires before { recording.old ≡ just_before recording.old number }
+        ensures gathered { OnOk result (IsGathering (with_standing recording.old 0) recording.old.standing self.old → IsGathering (with_standing recording.old 0) recording.old.standing self.new) }
+        ensures state { OnOk result (recording.new ≡ recording.old) }
+        ensures memory { OnErr result (recording.new ≡ with_standing recording.old recording.new.standing) }
+    {
+        if depth == 0 || noted_making(self.makings.as_slice(), number, extent).is_some() {
+            return Ok(());
+        }
+        let making = making_of(self.alloc, recording, number, extent)?;
+        let index = self.makings.len();
+        for place in making.places.iter() {
+            if is_followed(*place) {
+                self.seek(Open {
+                    place: *place,
+                    moment: recording.standing(),
+                    making: index,
+                    depth: depth - 1,
+                })?;
+            }
+        }
+        self.makings.push(making)?;
+        Ok(())
+    }
+
+    /// Takes those that an event stored, of this origin, from what is looked for.
     fn take_stored(
         &mut self,
         stored: &[Place],
         origin: Origin,
-    ) -> Result<Vec<Open>, AllocError> {
+    ) -> Result<Vec<Open>, AllocError>
+        ensures { OnOk result ((r : Recorded) (n : ℕ) → IsOfEvent r n stored.now origin → IsGathering r n self.old → IsGathering r (n - 1) self.new) }
+    {
         let sought = mem::replace(&mut self.open, Vec::new(self.alloc));
         let mut taken = Vec::new(self.alloc);
         self.wanted = BTreeSet::new(self.alloc);
@@ -107,24 +132,33 @@ impl Gathering {
         Ok(taken)
     }
 
-    /// Looks at what the event that comes next stores.
-    fn meet(&mut self, recording: &mut Session, kind: Option<EventKind>) -> Result<(), AllocError> {
+    /// Looks at what the event that comes next stores, which is of this kind, and was taken back last.
+    fn meet(&mut self, recording: &mut Session, kind: Option<EventKind>) -> Result<(), AllocError>
+        requires kind { kind ≡ kind_of_change recording.old (recording.old.standing + 1) }
+        requires room { recording.old.standing < length recording.old.events }
+        ensures gathered { OnOk result (IsGathering (with_standing recording.old 0) (recording.old.standing + 1) self.old → IsGathering (with_standing recording.old 0) recording.old.standing self.new) }
+        ensures state { OnOk result (recording.new ≡ recording.old) }
+        ensures memory { OnErr result (recording.new ≡ with_standing recording.old recording.new.standing) }
+    {
         let stored = stored_next(self.alloc, recording)?;
         if !is_wanted(&self.wanted, stored.as_slice()) {
             return Ok(());
         }
-        let origin = Origin::of_event(recording.standing() + 1, kind);
+        let number = recording.standing() + 1;
+        let origin = Origin::of_event(number, kind);
         let taken = self.take_stored(stored.as_slice(), origin)?;
-        if let Origin::Event(number) = origin {
+        if let Origin::Event(_) = origin {
             for node in nodes_of(self.alloc, number, taken.as_slice())?.iter() {
-                self.follow(recording, *node)?;
+                self.follow(recording, number, node.extent, node.depth)?;
             }
         }
         Ok(())
     }
 
     /// Notes that what is looked for still, at the start, was there from the start.
-    fn end(&mut self) -> Result<(), AllocError> {
+    fn end(&mut self) -> Result<(), AllocError>
+        ensures { OnOk result ((r : Recorded) → IsGathering r 0 self.old → IsGathering r 0 self.new) }
+    {
         let sought = mem::replace(&mut self.open, Vec::new(self.alloc));
         for open in sought.iter() {
             self.note(*open, Origin::Start)?;
@@ -166,6 +200,16 @@ fn join_last(nodes: &mut Vec<Node>, node: &mut Node, place: Place) {
     }
 }
 
+/// Takes the last event back, and answers of which kind it is.
+fn take_back(recording: &mut Session) -> Option<EventKind>
+    ensures kind { result ≡ kind_of_change recording.old recording.old.standing }
+    ensures state { recording.new ≡ one_back recording.old }
+{
+    let kind = recording.last_event();
+    let _taken = recording.step_back();
+    kind
+}
+
 /// Goes back from a node, and notes what it and those below it were made of. The recording is left at some change.
 pub(crate) fn gather(
     alloc: Global,
@@ -183,13 +227,13 @@ pub(crate) fn gather(
         open: Vec::new(alloc),
         wanted: BTreeSet::new(alloc),
     };
-    gathering.follow(recording, first)?;
+    let _kind = go_before(recording, first.number)?;
+    gathering.follow(recording, first.number, first.extent, first.depth)?;
     for _before in (0..recording.standing()).rev() {
         if gathering.open.is_empty() {
             return Ok(gathering);
         }
-        let kind = recording.last_event();
-        let _taken = recording.step_back();
+        let kind = take_back(recording);
         gathering.meet(recording, kind)?;
     }
     gathering.end()?;

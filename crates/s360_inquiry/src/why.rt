@@ -1,11 +1,11 @@
 //! Why a place has its value: the chain of causes, each event once, the nearest first. The recording goes back once and notes what
 //! the chain is told from.
-ghost use Rattle.std.specs.Prelude.{◌≡◌, ◌-◌, ◌++◌, ◌∷◌, All, IfOk, OnErr, OnOk, length, min, [], List, ℕ};
+ghost use Rattle.std.specs.Prelude.{◌≡◌, ◌≤◌, ◌-◌, ◌+◌, ◌++◌, ◌∷◌, All, IfOk, OnErr, OnOk, Some, None, length, min, [], List, ℕ};
 ghost use Rattle.s360_journal.specs.Recorded.{with_standing};
-ghost use Rattle.s360_inquiry.specs.Causes.{IsMaking, IsStore, causes_of, decided_line, lines_in, node_text, node_texts, nodes_below, why_text};
-ghost use Rattle.s360_inquiry.specs.Causes.{with_nodes};
+ghost use Rattle.s360_inquiry.specs.Causes.{IsMaking, IsStore, causes_of, decided_line, lines_in, node_text, node_texts, nodes_below};
+ghost use Rattle.s360_inquiry.specs.Causes.{nodes_of, why_text, why_text_from, with_nodes};
 ghost use Rattle.s360_inquiry.specs.Origins.{cause_items, origin_in};
-ghost use Rattle.s360_inquiry.specs.Tellings.{IsTold, told_lines};
+ghost use Rattle.s360_inquiry.specs.Tellings.{IsTold, most_lines, told_lines};
 
 use crate::cause::{Cause, Sourced, cause_items, causes_from};
 use crate::extent::{Extent, push_extent, push_words};
@@ -44,7 +44,8 @@ impl Chain<'_> {
         moment: u32,
     ) -> Result<Origin, AllocError>
         requires stores { All (IsStore (with_standing recording.old 0)) self.stores.now }
-        ensures origin { IfOk result (λ origin. origin ≡ origin_in (with_standing recording.old (min moment (length recording.old.events))) place) }
+        requires moment { moment ≤ length recording.old.events }
+        ensures origin { IfOk result (λ origin. origin ≡ origin_in (with_standing recording.old moment) place) }
         ensures state { recording.new ≡ with_standing recording.old recording.new.standing }
     {
         match noted_store(self.stores, place, moment) {
@@ -64,15 +65,16 @@ impl Chain<'_> {
     ) -> Result<Vec<Cause>, AllocError>
         requires stores { All (IsStore (with_standing recording.old 0)) self.stores.now }
         requires making { IsMaking (with_standing recording.old 0) making.now }
-        ensures causes { IfOk result (λ causes. causes.items ≡ causes_of recording.old making.now.number making.now.extent) }
+        ensures causes { IfOk result (λ causes. causes.items ≡ causes_of (with_standing recording.old 0) making.now.number making.now.extent) }
         ensures state { recording.new ≡ with_standing recording.old recording.new.standing }
     {
         let moment = making.number.saturating_sub(1).min(recording.recorded());
         let mut sources = Vec::new(self.alloc);
         for place in making.places.iter() {
+            let origin = self.origin_at(recording, *place, moment)?;
             sources.push(Sourced {
                 place: *place,
-                origin: self.origin_at(recording, *place, moment)?,
+                origin,
             })?;
         }
         causes_from(self.alloc, sources.as_slice())
@@ -85,7 +87,12 @@ impl Chain<'_> {
         let mut text = Text::new(self.alloc);
         let items = cause_items(self.alloc, causes)?;
         match self.detail {
-            Detail::Brief => push_brief(self.alloc, &mut text, making.head.as_bytes(), items.as_slice())?,
+            Detail::Brief => push_brief(
+                self.alloc,
+                &mut text,
+                making.head.as_bytes(),
+                items.as_slice(),
+            )?,
             Detail::Full => {
                 push_full(&mut text, making.head.as_bytes(), items.as_slice())?;
                 push_decided(&mut text, making.deciders.as_slice())?;
@@ -102,7 +109,13 @@ impl Chain<'_> {
         known: &mut Vec<Node>,
         making: &Making,
         depth: u32,
-    ) -> Result<(), AllocError> {
+    ) -> Result<(), AllocError>
+        requires stores { All (IsStore (with_standing recording.old 0)) self.stores.now }
+        requires making { IsMaking (with_standing recording.old 0) making.now }
+        ensures told { OnOk result ((lines : List (List ℕ)) → IsTold lines telling.old → IsTold (lines ++ node_text (with_standing recording.old 0) self.detail making.now.number making.now.extent ∷ []) telling.new) }
+        ensures known { OnOk result (known.new.items ≡ with_nodes known.old.items (nodes_of depth (causes_of (with_standing recording.old 0) making.now.number making.now.extent))) }
+        ensures state { recording.new ≡ with_standing recording.old recording.new.standing }
+    {
         let causes = self.causes_of(recording, making)?;
         let text = self.lines_of(making, causes.as_slice())?;
         telling.push(text.as_bytes())?;
@@ -116,7 +129,13 @@ impl Chain<'_> {
         telling: &mut Telling,
         known: &mut Vec<Node>,
         node: Node,
-    ) -> Result<(), AllocError> {
+    ) -> Result<(), AllocError>
+        requires makings { All (IsMaking (with_standing recording.old 0)) self.makings.now }
+        requires stores { All (IsStore (with_standing recording.old 0)) self.stores.now }
+        ensures told { OnOk result ((lines : List (List ℕ)) → IsTold lines telling.old → IsTold (lines ++ node_text (with_standing recording.old 0) self.detail node.number node.extent ∷ []) telling.new) }
+        ensures known { OnOk result (known.new.items ≡ with_nodes known.old.items (nodes_below (with_standing recording.old 0) node)) }
+        ensures state { recording.new ≡ with_standing recording.old recording.new.standing }
+    {
         match noted_making(self.makings, node.number, node.extent) {
             Some(making) => self.tell_making(recording, telling, known, making, node.depth),
             None => {
@@ -127,11 +146,16 @@ impl Chain<'_> {
     }
 
     /// Tells the chain that begins with a node.
-    fn text_from(self, recording: &mut Session, first: Node) -> Result<Text, AllocError> {
+    fn text_from(self, recording: &mut Session, first: Node) -> Result<Text, AllocError>
+        requires makings { All (IsMaking (with_standing recording.old 0)) self.makings.now }
+        requires stores { All (IsStore (with_standing recording.old 0)) self.stores.now }
+        ensures text { IfOk result (λ text. text ≡ told_lines (node_texts (most_lines + 1) (with_standing recording.old 0) self.detail (first ∷ []) 0)) }
+        ensures state { recording.new ≡ with_standing recording.old recording.new.standing }
+    {
         let mut telling = Telling::new(self.alloc);
         let mut known = Vec::new(self.alloc);
         known.push(first)?;
-        for told in 0..=MOST_LINES {
+        for told in 0..MOST_LINES + 1 {
             if told >= known.len() {
                 return telling.finish();
             }
@@ -153,7 +177,9 @@ fn push_decided(text: &mut Text, deciders: &[Text]) -> Result<(), AllocError>
 }
 
 /// That a place is as at the start.
-fn text_of_start(alloc: Global, recording: &Session, place: Place) -> Result<Text, AllocError> {
+fn text_of_start(alloc: Global, recording: &Session, place: Place) -> Result<Text, AllocError>
+    ensures { IfOk result (λ text. (depth : ℕ) (detail : Detail) → text ≡ why_text_from recording.now place depth detail None) }
+{
     let mut text = Text::new(alloc);
     push_extent(&mut text, Extent::of(place))?;
     push_words(&mut text, recording.machine(), Extent::of(place))?;
@@ -167,7 +193,10 @@ fn text_of_chain(
     recording: &mut Session,
     first: Node,
     detail: Detail,
-) -> Result<Text, AllocError> {
+) -> Result<Text, AllocError>
+    ensures text { IfOk result (λ text. text ≡ told_lines (node_texts (most_lines + 1) (with_standing recording.old 0) detail (first ∷ []) 0)) }
+    ensures state { recording.new ≡ with_standing recording.old recording.new.standing }
+{
     let gathering = gather(alloc, recording, first)?;
     let chain = Chain {
         alloc,
@@ -192,10 +221,11 @@ pub(crate) fn answer_why(
 {
     let standing = recording.standing();
     let extent = Extent::of(place);
-    let text = match last_number(alloc, recording, Sought::Stores(extent), 0)? {
+    let last = last_number(alloc, recording, Sought::Stores(extent), 0)?;
+    let text = match last {
         Some(number) => {
-            let first = Node { number, extent, depth: depth.min(MOST_DEPTH) };
-            text_of_chain(alloc, recording, first, detail)?
+            let depth = depth.min(MOST_DEPTH);
+            text_of_chain(alloc, recording, Node { number, extent, depth }, detail)?
         }
         None => {
             go_to(recording, standing)?;

@@ -1,8 +1,8 @@
 use Rattle.std.proofs.Common.{◌+◌, ◌∙◌, ap, rules}
-use Rattle.s360_inquiry.specs.declared.why.Telling.{Telling}
-use Rattle.s360_inquiry.proofs.WhyLemmas.{counted-one, told-full, told-one}
-use Rattle.s360_inquiry.proofs.why.Telling.push.Goals.{then-self-lt-MOST_LINES+in_ok-push_bytes, else-self-lt-MOST_LINES}
-use Rattle.s360_inquiry.proofs.why.Telling.push.Goals as goal
+use Rattle.s360_inquiry.specs.declared.telling.Telling.{Telling}
+use Rattle.s360_inquiry.proofs.TellingLemmas.{counted-one, told-full, told-one}
+use Rattle.s360_inquiry.proofs.telling.Telling.push.Goals.{then-self-lt-MOST_LINES+in_ok-push_bytes, else-self-lt-MOST_LINES}
+use Rattle.s360_inquiry.proofs.telling.Telling.push.Goals as goal
 
 pub returns-then-is_full : goal.returns-then-is_full
 returns-then-is_full c = λ lines told. told-full lines _ c.args.self.now (c.is_full.ensures.0 (search rules)) told

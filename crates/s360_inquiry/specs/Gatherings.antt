@@ -1,0 +1,49 @@
+-- What is noted of a recording while it goes back (ours).
+use Rattle.std.specs.Prelude.{◌≡◌, ◌<◌, ℕ, ◌-◌, Bool, true, is_some, Some, List, All}
+use Rattle.std.specs.List.{list_any}
+use Rattle.std.specs.Ordering.{is_eq}
+use Rattle.s360_store.specs.declared.place.Place.{Place}
+use Rattle.s360_journal.specs.Recorded.{Recorded, with_standing}
+use Rattle.s360_inquiry.specs.declared.gathering.Gathering.{Gathering}
+use Rattle.s360_inquiry.specs.declared.gathering.Open.{Open}
+use Rattle.s360_inquiry.specs.declared.making.LastStore.{LastStore}
+use Rattle.s360_inquiry.specs.declared.origin.Origin.{Origin}
+use Rattle.s360_inquiry.specs.Causes.{IsMaking, IsStore, order_of}
+use Rattle.s360_inquiry.specs.Extents.{extent_of}
+use Rattle.s360_inquiry.specs.Origins.{is_followed, origin_by}
+use Rattle.s360_inquiry.specs.Searches.{last_up_to}
+use Rattle.s360_inquiry.specs.Stores.{span_in, stored_next, stores_into}
+
+-- a place is one of some keys in their order
+abbrev pub has_key : List Place → Place → Bool
+has_key keys place = list_any (λ key. is_eq (order_of place key)) keys
+
+-- one of the places that an event stores into is wanted
+abbrev pub is_wanted : List Place → List Place → Bool
+is_wanted keys stored = list_any (has_key keys) stored
+
+abbrev pub is_stored : List Place → Place → Bool
+is_stored stored place = is_some (span_in (extent_of place) stored)
+
+-- what is looked for is a place that is followed, and no event stored there since its moment but those that still stand
+abbrev pub IsOpen : Recorded → ℕ → Open → Type 0
+IsOpen r standing open =
+    (is_followed open.place ≡ true)
+    × (last_up_to (stores_into (extent_of open.place) r) standing ≡ last_up_to (stores_into (extent_of open.place) r) open.moment)
+
+-- what is noted is so, and what is looked for is wanted, where so many events stand
+pub record IsGathering (r : Recorded) (standing : ℕ) (g : Gathering) : Type 0 where
+  pub makings : All (IsMaking r) g.makings.items
+  pub stores : All (IsStore r) g.stores.items
+  pub open : All (IsOpen r standing) g.open.items
+  pub wanted : All (λ (open : Open). has_key g.wanted.keys open.place ≡ true) g.open.items
+
+-- the event of a number stores into these places, and is this origin
+pub record IsOfEvent (r : Recorded) (number : ℕ) (stored : List Place) (origin : Origin) : Type 0 where
+  pub some : 0 < number
+  pub stored : stored ≡ stored_next (with_standing r (number - 1))
+  pub origin : origin ≡ origin_by r (Some number)
+
+-- what is looked for, once it is found
+abbrev pub store_of : Open → Origin → LastStore
+store_of open origin = record { place = open.place; moment = open.moment; origin = origin }
