@@ -6,4 +6,6 @@ pub mod CallLemmas
 pub mod SearchLemmas
 pub mod JumpLemmas
 pub mod TellingLemmas
+pub mod FittingLemmas
 pub mod WhyLemmas
+pub mod GatheringLemmas

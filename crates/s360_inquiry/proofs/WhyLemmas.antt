@@ -12,7 +12,7 @@ use Rattle.s360_inquiry.specs.Causes.{order_of, with_places}
 -- ---- places in their order, each once
 
 -- the derived order is the one by kind and number
-derived-is : (p q : Place) → compare p q ≡ order_of p q
+pub derived-is : (p q : Place) → compare p q ≡ order_of p q
 derived-is Psw Psw = refl
 derived-is (Register n) (Register k) = refl
 derived-is (Byte n) (Byte k) = refl
@@ -23,7 +23,7 @@ derived-is (UnitState u) (UnitState v) = refl
 derived-is (UnitMedia u) (UnitMedia v) = refl
 derived-is p q = refl
 
-insert-same : (ks : List Place) (p : Place) → insert_key compare ks p ≡ insert_key order_of ks p
+pub insert-same : (ks : List Place) (p : Place) → insert_key compare ks p ≡ insert_key order_of ks p
 insert-same [] p = refl
 insert-same (k ∷ ks) p = rw (derived-is p k, insert-same ks p) refl
 

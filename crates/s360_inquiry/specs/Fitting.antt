@@ -1,5 +1,5 @@
 -- Items that are told in a line as far as it has room (own profile).
-use Rattle.std.specs.Prelude.{ℕ, ◌+◌, nat_le, if◌then◌else◌, List, [], ◌∷◌, ◌++◌, codes, length}
+use Rattle.std.specs.Prelude.{ℕ, ◌+◌, nat_lt, if◌then◌else◌, List, [], ◌∷◌, ◌++◌, codes, length}
 use Rattle.s360_model.specs.Text.{decimal}
 
 -- so many columns has a line
@@ -15,5 +15,5 @@ more_words (item ∷ items) = codes " and " ++ decimal (length (item ∷ items))
 abbrev pub fitted : ℕ → List (List ℕ) → List ℕ
 fitted used [] = []
 fitted used (item ∷ items) =
-    if nat_le (used + length item + length (more_words items)) columns then item ++ fitted (used + length item) items
-    else more_words (item ∷ items)
+    if nat_lt columns (used + length item + length (more_words items)) then more_words (item ∷ items)
+    else item ++ fitted (used + length item) items

@@ -5,7 +5,7 @@ use Rattle.std.specs.Ordering.{is_eq}
 use Rattle.s360_store.specs.declared.place.Place.{Place}
 use Rattle.s360_journal.specs.Recorded.{Recorded, with_standing}
 use Rattle.s360_inquiry.specs.declared.gathering.Gathering.{Gathering}
-use Rattle.s360_inquiry.specs.declared.gathering.Open.{Open}
+use Rattle.s360_inquiry.specs.declared.gathering.Request.{Request}
 use Rattle.s360_inquiry.specs.declared.making.LastStore.{LastStore}
 use Rattle.s360_inquiry.specs.declared.origin.Origin.{Origin}
 use Rattle.s360_inquiry.specs.Causes.{IsMaking, IsStore, order_of}
@@ -26,17 +26,17 @@ abbrev pub is_stored : List Place → Place → Bool
 is_stored stored place = is_some (span_in (extent_of place) stored)
 
 -- what is looked for is a place that is followed, and no event stored there since its moment but those that still stand
-abbrev pub IsOpen : Recorded → ℕ → Open → Type 0
-IsOpen r standing open =
-    (is_followed open.place ≡ true)
-    × (last_up_to (stores_into (extent_of open.place) r) standing ≡ last_up_to (stores_into (extent_of open.place) r) open.moment)
+abbrev pub IsRequested : Recorded → ℕ → Request → Type 0
+IsRequested r standing request =
+    (is_followed request.place ≡ true)
+    × (last_up_to (stores_into (extent_of request.place) r) standing ≡ last_up_to (stores_into (extent_of request.place) r) request.moment)
 
 -- what is noted is so, and what is looked for is wanted, where so many events stand
 pub record IsGathering (r : Recorded) (standing : ℕ) (g : Gathering) : Type 0 where
   pub makings : All (IsMaking r) g.makings.items
   pub stores : All (IsStore r) g.stores.items
-  pub open : All (IsOpen r standing) g.open.items
-  pub wanted : All (λ (open : Open). has_key g.wanted.keys open.place ≡ true) g.open.items
+  pub requests : All (IsRequested r standing) g.requests.items
+  pub wanted : All (λ (request : Request). has_key g.wanted.keys request.place ≡ true) g.requests.items
 
 -- the event of a number stores into these places, and is this origin
 pub record IsOfEvent (r : Recorded) (number : ℕ) (stored : List Place) (origin : Origin) : Type 0 where
@@ -45,5 +45,5 @@ pub record IsOfEvent (r : Recorded) (number : ℕ) (stored : List Place) (origin
   pub origin : origin ≡ origin_by r (Some number)
 
 -- what is looked for, once it is found
-abbrev pub store_of : Open → Origin → LastStore
-store_of open origin = record { place = open.place; moment = open.moment; origin = origin }
+abbrev pub store_of : Request → Origin → LastStore
+store_of request origin = record { place = request.place; moment = request.moment; origin = origin }

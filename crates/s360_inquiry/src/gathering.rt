@@ -4,7 +4,7 @@ ghost use Rattle.s360_journal.specs.Recorded.{Recorded, with_standing};
 ghost use Rattle.s360_journal.specs.Returning.{one_back};
 ghost use Rattle.s360_inquiry.specs.Causes.{IsMaking, IsStore};
 ghost use Rattle.s360_inquiry.specs.Changes.{just_before, kind_of_change};
-ghost use Rattle.s360_inquiry.specs.Gatherings.{IsGathering, IsOfEvent, IsOpen, is_stored, is_wanted, store_of};
+ghost use Rattle.s360_inquiry.specs.Gatherings.{IsGathering, IsOfEvent, IsRequested, is_stored, is_wanted, store_of};
 
 use crate::change::go_before;
 use crate::extent::{Extent, extent_with};
@@ -22,7 +22,7 @@ use std::mem;
 
 /// A place whose last store before a moment is looked for, of which something was made; an event that stored it is told so deep.
 #[derive(Clone, Copy)]
-struct Open {
+struct Request {
     place: Place,
     moment: u32,
     /// Where what was made of it stands in the list of these.
@@ -36,7 +36,7 @@ pub(crate) struct Gathering {
     alloc: Global,
     pub(crate) makings: Vec<Making>,
     pub(crate) stores: Vec<LastStore>,
-    open: Vec<Open>,
+    requests: Vec<Request>,
     /// The places of what is looked for, each once.
     wanted: BTreeSet<Place>,
 }
@@ -57,21 +57,21 @@ fn is_wanted(wanted: &BTreeSet<Place>, stored: &[Place]) -> bool
 
 impl Gathering {
     /// Looks for where the value of a place comes from.
-    fn seek(&mut self, open: Open) -> Result<(), AllocError>
-        ensures { OnOk result ((r : Recorded) (n : ℕ) → IsGathering r n self.old → IsOpen r n open → IsGathering r n self.new) }
+    fn seek(&mut self, request: Request) -> Result<(), AllocError>
+        ensures { OnOk result ((r : Recorded) (n : ℕ) → IsGathering r n self.old → IsRequested r n request → IsGathering r n self.new) }
     {
-        self.wanted.insert(open.place)?;
-        self.open.push(open)?;
+        self.wanted.insert(request.place)?;
+        self.requests.push(request)?;
         Ok(())
     }
 
     /// Notes where the value of a place came from.
-    fn note(&mut self, open: Open, origin: Origin) -> Result<(), AllocError>
-        ensures { OnOk result ((r : Recorded) (n : ℕ) → IsGathering r n self.old → IsStore r (store_of open origin) → IsGathering r n self.new) }
+    fn note(&mut self, request: Request, origin: Origin) -> Result<(), AllocError>
+        ensures { OnOk result ((r : Recorded) (n : ℕ) → IsGathering r n self.old → IsStore r (store_of request origin) → IsGathering r n self.new) }
     {
         self.stores.push(LastStore {
-            place: open.place,
-            moment: open.moment,
+            place: request.place,
+            moment: request.moment,
             origin,
         })?;
         Ok(())
@@ -98,7 +98,7 @@ impl Gathering {
         let index = self.makings.len();
         for place in making.places.iter() {
             if is_followed(*place) {
-                self.seek(Open {
+                self.seek(Request {
                     place: *place,
                     moment: recording.standing(),
                     making: index,
@@ -115,18 +115,18 @@ impl Gathering {
         &mut self,
         stored: &[Place],
         origin: Origin,
-    ) -> Result<Vec<Open>, AllocError>
+    ) -> Result<Vec<Request>, AllocError>
         ensures { OnOk result ((r : Recorded) (n : ℕ) → IsOfEvent r n stored.now origin → IsGathering r n self.old → IsGathering r (n - 1) self.new) }
     {
-        let sought = mem::replace(&mut self.open, Vec::new(self.alloc));
+        let sought = mem::replace(&mut self.requests, Vec::new(self.alloc));
         let mut taken = Vec::new(self.alloc);
         self.wanted = BTreeSet::new(self.alloc);
-        for open in sought.iter() {
-            if is_stored(stored, open.place) {
-                self.note(*open, origin)?;
-                taken.push(*open)?;
+        for request in sought.iter() {
+            if is_stored(stored, request.place) {
+                self.note(*request, origin)?;
+                taken.push(*request)?;
             } else {
-                self.seek(*open)?;
+                self.seek(*request)?;
             }
         }
         Ok(taken)
@@ -159,9 +159,9 @@ impl Gathering {
     fn end(&mut self) -> Result<(), AllocError>
         ensures { OnOk result ((r : Recorded) → IsGathering r 0 self.old → IsGathering r 0 self.new) }
     {
-        let sought = mem::replace(&mut self.open, Vec::new(self.alloc));
-        for open in sought.iter() {
-            self.note(*open, Origin::Start)?;
+        let sought = mem::replace(&mut self.requests, Vec::new(self.alloc));
+        for request in sought.iter() {
+            self.note(*request, Origin::Start)?;
         }
         Ok(())
     }
@@ -169,21 +169,21 @@ impl Gathering {
 
 /// The nodes of what an event stored, the nearest first: places of which one thing was made go together, if they are successive
 /// bytes.
-fn nodes_of(alloc: Global, number: u32, taken: &[Open]) -> Result<Vec<Node>, AllocError> {
+fn nodes_of(alloc: Global, number: u32, taken: &[Request]) -> Result<Vec<Node>, AllocError> {
     let mut nodes: Vec<Node> = Vec::new(alloc);
     let mut last = usize::MAX;
     for index in (0..taken.len()).rev() {
-        let open = taken[index];
+        let request = taken[index];
         let mut node = Node {
             number,
-            extent: Extent::of(open.place),
-            depth: open.depth,
+            extent: Extent::of(request.place),
+            depth: request.depth,
         };
-        if last == open.making {
-            join_last(&mut nodes, &mut node, open.place);
+        if last == request.making {
+            join_last(&mut nodes, &mut node, request.place);
         }
         nodes.push(node)?;
-        last = open.making;
+        last = request.making;
     }
     nodes.sort_by_key(|node| Reverse(node.depth))?;
     Ok(nodes)
@@ -224,13 +224,13 @@ pub(crate) fn gather(
         alloc,
         makings: Vec::new(alloc),
         stores: Vec::new(alloc),
-        open: Vec::new(alloc),
+        requests: Vec::new(alloc),
         wanted: BTreeSet::new(alloc),
     };
     let _kind = go_before(recording, first.number)?;
     gathering.follow(recording, first.number, first.extent, first.depth)?;
     for _before in (0..recording.standing()).rev() {
-        if gathering.open.is_empty() {
+        if gathering.requests.is_empty() {
             return Ok(gathering);
         }
         let kind = take_back(recording);

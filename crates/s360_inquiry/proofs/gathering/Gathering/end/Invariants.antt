@@ -3,5 +3,5 @@ use Rattle.s360_journal.specs.Recorded.{Recorded}
 use Rattle.s360_inquiry.specs.Gatherings.{IsGathering}
 use Rattle.s360_inquiry.proofs.gathering.Gathering.end.Given as goal
 
-abbrev pub invariant-loop-open : goal.invariant-loop-open
-invariant-loop-open l = (r : Recorded) → IsGathering r 0 l.initial.self → IsGathering r 0 l.self
+abbrev pub invariant-loop-request : goal.invariant-loop-request
+invariant-loop-request l = (r : Recorded) → IsGathering r 0 l.initial.self → IsGathering r 0 l.self
