@@ -9,3 +9,4 @@ pub mod TellingLemmas
 pub mod FittingLemmas
 pub mod WhyLemmas
 pub mod GatheringLemmas
+pub mod ChainLemmas

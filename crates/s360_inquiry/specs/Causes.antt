@@ -24,12 +24,13 @@ use Rattle.s360_inquiry.specs.declared.making.LastStore.{LastStore}
 use Rattle.s360_inquiry.specs.declared.making.Making.{Making}
 use Rattle.s360_inquiry.specs.declared.node.Node.{Node}
 use Rattle.s360_inquiry.specs.declared.origin.Origin.{Origin}
+use Rattle.s360_inquiry.specs.declared.telling.Telling.{Telling}
 use Rattle.s360_inquiry.specs.declared.origin.Origin.TheVariants.{NotFollowed, Start, Patch, Event}
 use Rattle.s360_inquiry.specs.Changes.{event_next, just_before, last_change_in, machine_after, words_of_change}
 use Rattle.s360_inquiry.specs.Extents.{extent_name, extent_of, extent_words, places_of_extent, same_extent}
 use Rattle.s360_inquiry.specs.Fitting.{fitted}
 use Rattle.s360_inquiry.specs.Origins.{cause_items, causes_from, last_store, origin_in, sourced}
-use Rattle.s360_inquiry.specs.Tellings.{most_lines, told_lines}
+use Rattle.s360_inquiry.specs.Tellings.{IsTold, most_lines, told_lines}
 
 -- ---- what an event made an extent of, and what decided the event
 
@@ -118,10 +119,6 @@ node_of depth c = node_from depth c.extent c.origin
 abbrev pub nodes_of : ℕ → List Cause → List Node
 nodes_of depth causes = if nat_lt 1 depth then flat_map (node_of (depth - 1)) causes else []
 
--- the nodes below one, which are told one level less deep
-abbrev pub nodes_below : Recorded → Node → List Node
-nodes_below r node = nodes_of node.depth (causes_of r node.number node.extent)
-
 abbrev pub is_node : Node → Node → Bool
 is_node one other = nat_eq one.number other.number && same_extent one.extent other.extent
 
@@ -132,13 +129,28 @@ with_node known node = if list_any (is_node node) known then known else known ++
 abbrev pub with_nodes : List Node → List Node → List Node
 with_nodes known more = fold with_node known more
 
+-- those that are known once a node is told, and those below it, one level less deep, are known too
+abbrev pub known_after : Recorded → List Node → ℕ → Extent → ℕ → List Node
+known_after r known number extent depth = with_nodes known (nodes_of depth (causes_of r number extent))
+
 -- the texts of nodes, so many at most. Of those that are known the first so many are told: the next is told, and those below it are known then
 abbrev pub node_texts : ℕ → Recorded → Detail → List Node → ℕ → List (List ℕ)
 node_texts zero r detail known told = []
 node_texts (suc left) r detail known told =
     option_map_or
-    (λ (node : Node). node_text r detail node.number node.extent ∷ node_texts left r detail (with_nodes known (nodes_below r node)) (told + 1))
+    (λ (node : Node). node_text r detail node.number node.extent ∷ node_texts left r detail (known_after r known node.number node.extent node.depth) (told + 1))
     (slice_get known told) []
+
+-- a node is told behind other lines
+abbrev pub TellsNode : Recorded → Detail → ℕ → Extent → Telling → Telling → Type 0
+TellsNode r detail number extent t u = (lines : List (List ℕ)) → IsTold lines t → IsTold (lines ++ node_text r detail number extent ∷ []) u
+
+-- so many of the nodes that are known are told, and with those that are told still they are the whole chain
+abbrev pub IsChain : Recorded → Detail → Node → List Node → ℕ → Telling → Type 0
+IsChain r detail first known told t =
+    (lines : List (List ℕ))
+    × (IsTold lines t
+    × (lines ++ node_texts (most_lines + 1 - told) r detail known told ≡ node_texts (most_lines + 1) r detail (first ∷ []) 0))
 
 -- so deep is a chain followed at most
 abbrev pub most_depth : ℕ

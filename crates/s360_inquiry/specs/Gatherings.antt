@@ -38,6 +38,10 @@ pub record IsGathering (r : Recorded) (standing : ℕ) (g : Gathering) : Type 0 
   pub requests : All (IsRequested r standing) g.requests.items
   pub wanted : All (λ (request : Request). has_key g.wanted.keys request.place ≡ true) g.requests.items
 
+-- what was noted where so many stood is noted where the recording stands
+abbrev pub Gathers : Recorded → ℕ → Gathering → Gathering → Type 0
+Gathers r before old new = IsGathering (with_standing r 0) before old → IsGathering (with_standing r 0) r.standing new
+
 -- the event of a number stores into these places, and is this origin
 pub record IsOfEvent (r : Recorded) (number : ℕ) (stored : List Place) (origin : Origin) : Type 0 where
   pub some : 0 < number

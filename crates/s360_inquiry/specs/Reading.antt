@@ -11,7 +11,6 @@ use Rattle.s360_inquiry.specs.Causes.{most_depth}
 use Rattle.s360_inquiry.specs.Extents.{extent_of}
 use Rattle.s360_inquiry.specs.declared.extent.Extent.{Extent}
 use Rattle.s360_inquiry.specs.declared.extent.Extent.TheVariants.{Bytes}
-use Rattle.s360_inquiry.specs.declared.inquiry.Detail.{Detail}
 use Rattle.s360_inquiry.specs.declared.inquiry.Detail.TheVariants.{Brief, Full}
 use Rattle.s360_inquiry.specs.declared.inquiry.Inquiry.{Inquiry}
 use Rattle.s360_inquiry.specs.declared.inquiry.Inquiry.TheVariants.{Who, WhoItem, Why, Goto, Changes, Stores, History, Visits, Jumps, Calls}
@@ -62,15 +61,11 @@ bytes_of word = bytes_from word (position (λ b. nat_eq b 45) word)
 abbrev pub extent_then : (Extent → Form Inquiry) → Form Inquiry
 extent_then next = if_word (codes "s") (takes bytes_of next) (part places (λ place. next (extent_of place)))
 
--- a chain of causes, in some detail
-abbrev pub chain_of : Detail → Form Inquiry
-chain_of detail = part places (λ place. may_take (count_of most_depth) depth_told (λ depth. makes (Why place depth detail)))
-
 abbrev pub inquiries : List (Line Inquiry)
 inquiries =
     line (codes "who") (item_or (λ u n. WhoItem u n) (part places (λ place. makes (Who place)))) ∷
-    line (codes "why") (chain_of Brief) ∷
-    line (codes "why!") (chain_of Full) ∷
+    line (codes "why") (part places (λ place. may_take (count_of most_depth) depth_told (λ depth. makes (Why place depth Brief)))) ∷
+    line (codes "why!") (part places (λ place. may_take (count_of most_depth) depth_told (λ depth. makes (Why place depth Full)))) ∷
     line (codes "goto") (one mark_of (λ mark. Goto mark)) ∷
     line (codes "changes") (part places (λ place. may_take (count_of most_count) changes_told (λ most. makes (Changes place most)))) ∷
     line (codes "stores") (extent_then (λ extent. may_take (count_of most_told) changes_told (λ most. makes (Stores extent most)))) ∷

@@ -4,7 +4,7 @@ ghost use Rattle.s360_journal.specs.Recorded.{Recorded, with_standing};
 ghost use Rattle.s360_journal.specs.Returning.{one_back};
 ghost use Rattle.s360_inquiry.specs.Causes.{IsMaking, IsStore};
 ghost use Rattle.s360_inquiry.specs.Changes.{just_before, kind_of_change};
-ghost use Rattle.s360_inquiry.specs.Gatherings.{IsGathering, IsOfEvent, IsRequested, is_stored, is_wanted, store_of};
+ghost use Rattle.s360_inquiry.specs.Gatherings.{Gathers, IsGathering, IsOfEvent, IsRequested, is_stored, is_wanted, store_of};
 
 use crate::change::go_before;
 use crate::extent::{Extent, extent_with};
@@ -87,7 +87,7 @@ impl Gathering {
         depth: u32,
     ) -> Result<(), AllocError>
         requires before { recording.old ≡ just_before recording.old number }
-        ensures gathered { OnOk result (IsGathering (with_standing recording.old 0) recording.old.standing self.old → IsGathering (with_standing recording.old 0) recording.old.standing self.new) }
+        ensures gathered { OnOk result (Gathers recording.old recording.old.standing self.old self.new) }
         ensures state { OnOk result (recording.new ≡ recording.old) }
         ensures memory { OnErr result (recording.new ≡ with_standing recording.old recording.new.standing) }
     {
@@ -136,7 +136,7 @@ impl Gathering {
     fn meet(&mut self, recording: &mut Session, kind: Option<EventKind>) -> Result<(), AllocError>
         requires kind { kind ≡ kind_of_change recording.old (recording.old.standing + 1) }
         requires room { recording.old.standing < length recording.old.events }
-        ensures gathered { OnOk result (IsGathering (with_standing recording.old 0) (recording.old.standing + 1) self.old → IsGathering (with_standing recording.old 0) recording.old.standing self.new) }
+        ensures gathered { OnOk result (Gathers recording.old (recording.old.standing + 1) self.old self.new) }
         ensures state { OnOk result (recording.new ≡ recording.old) }
         ensures memory { OnErr result (recording.new ≡ with_standing recording.old recording.new.standing) }
     {

@@ -4,7 +4,7 @@ ghost use Rattle.std.specs.Option.{option_map};
 ghost use Rattle.s360_language.specs.Digits.{count_of};
 ghost use Rattle.s360_language.specs.Lines.{makes, may_take, named, part, two};
 ghost use Rattle.s360_language.specs.Reading.{address, most_count, places};
-ghost use Rattle.s360_inquiry.specs.Reading.{bytes_between, bytes_of, chain_of, changes_told, extent_then, inquiries, inquiry_of, item_or};
+ghost use Rattle.s360_inquiry.specs.Reading.{bytes_between, bytes_of, changes_told, extent_then, inquiries, inquiry_of, item_or};
 ghost use Rattle.s360_inquiry.specs.Reading.{mark_of, most_dumped, most_told};
 
 use crate::extent::Extent;
@@ -43,8 +43,8 @@ fn read_words(mut words: Words<'_>) -> Result<Inquiry, LineFault>
 {
     read_line! { words, 0, finish, LineFault::Unknown;
         "who" [read_who(words)];
-        "why" [read_why(words, Detail::Brief)];
-        "why!" [read_why(words, Detail::Full)];
+        "why" (place: [next_place], depth: count_in(MOST_DEPTH) or DEPTH) => Inquiry::Why { place, depth, detail: Detail::Brief };
+        "why!" (place: [next_place], depth: count_in(MOST_DEPTH) or DEPTH) => Inquiry::Why { place, depth, detail: Detail::Full };
         "goto" (mark: mark_in) => Inquiry::Goto(mark);
         "changes" (place: [next_place], most: count_in(MOST_COUNT) or CHANGES) => Inquiry::Changes { place, most };
         "stores" [read_stores(words)];
@@ -66,13 +66,6 @@ fn read_who(mut words: Words<'_>) -> Result<Inquiry, LineFault>
         return read_arguments! { words, 2, finish, (unit: unit_in, number: count_in(MOST_COUNT)) => Inquiry::WhoItem { unit, number } };
     }
     read_arguments! { words, 1, finish, (place: [next_place]) => Inquiry::Who(place) }
-}
-
-/// `why` or `why!`, of a place.
-fn read_why(mut words: Words<'_>, detail: Detail) -> Result<Inquiry, LineFault>
-    ensures { result ≡ chain_of detail 1 words.entry }
-{
-    read_arguments! { words, 1, finish, (place: [next_place], depth: count_in(MOST_DEPTH) or DEPTH) => Inquiry::Why { place, depth, detail } }
 }
 
 /// `stores`, of bytes of storage or of another place.

@@ -1,11 +1,11 @@
 //! Why a place has its value: the chain of causes, each event once, the nearest first. The recording goes back once and notes what
 //! the chain is told from.
-ghost use Rattle.std.specs.Prelude.{◌≡◌, ◌≤◌, ◌-◌, ◌+◌, ◌++◌, ◌∷◌, All, IfOk, OnErr, OnOk, Some, None, length, min, [], List, ℕ};
+ghost use Rattle.std.specs.Prelude.{◌≡◌, ◌≤◌, ◌+◌, ◌++◌, ◌∷◌, All, IfOk, OnErr, OnOk, None, length, [], ℕ};
 ghost use Rattle.s360_journal.specs.Recorded.{with_standing};
-ghost use Rattle.s360_inquiry.specs.Causes.{IsMaking, IsStore, causes_of, decided_line, lines_in, node_text, node_texts, nodes_below};
-ghost use Rattle.s360_inquiry.specs.Causes.{nodes_of, why_text, why_text_from, with_nodes};
+ghost use Rattle.s360_inquiry.specs.Causes.{IsMaking, IsStore, TellsNode, causes_of, decided_line, known_after, lines_in, node_texts};
+ghost use Rattle.s360_inquiry.specs.Causes.{why_text, why_text_from};
 ghost use Rattle.s360_inquiry.specs.Origins.{cause_items, origin_in};
-ghost use Rattle.s360_inquiry.specs.Tellings.{IsTold, most_lines, told_lines};
+ghost use Rattle.s360_inquiry.specs.Tellings.{most_lines, told_lines};
 
 use crate::cause::{Cause, Sourced, cause_items, causes_from};
 use crate::extent::{Extent, push_extent, push_words};
@@ -112,8 +112,8 @@ impl Chain<'_> {
     ) -> Result<(), AllocError>
         requires stores { All (IsStore (with_standing recording.old 0)) self.stores.now }
         requires making { IsMaking (with_standing recording.old 0) making.now }
-        ensures told { OnOk result ((lines : List (List ℕ)) → IsTold lines telling.old → IsTold (lines ++ node_text (with_standing recording.old 0) self.detail making.now.number making.now.extent ∷ []) telling.new) }
-        ensures known { OnOk result (known.new.items ≡ with_nodes known.old.items (nodes_of depth (causes_of (with_standing recording.old 0) making.now.number making.now.extent))) }
+        ensures told { OnOk result (TellsNode (with_standing recording.old 0) self.detail making.now.number making.now.extent telling.old telling.new) }
+        ensures known { OnOk result (known.new.items ≡ known_after (with_standing recording.old 0) known.old.items making.now.number making.now.extent depth) }
         ensures state { recording.new ≡ with_standing recording.old recording.new.standing }
     {
         let causes = self.causes_of(recording, making)?;
@@ -132,8 +132,8 @@ impl Chain<'_> {
     ) -> Result<(), AllocError>
         requires makings { All (IsMaking (with_standing recording.old 0)) self.makings.now }
         requires stores { All (IsStore (with_standing recording.old 0)) self.stores.now }
-        ensures told { OnOk result ((lines : List (List ℕ)) → IsTold lines telling.old → IsTold (lines ++ node_text (with_standing recording.old 0) self.detail node.number node.extent ∷ []) telling.new) }
-        ensures known { OnOk result (known.new.items ≡ with_nodes known.old.items (nodes_below (with_standing recording.old 0) node)) }
+        ensures told { OnOk result (TellsNode (with_standing recording.old 0) self.detail node.number node.extent telling.old telling.new) }
+        ensures known { OnOk result (known.new.items ≡ known_after (with_standing recording.old 0) known.old.items node.number node.extent node.depth) }
         ensures state { recording.new ≡ with_standing recording.old recording.new.standing }
     {
         match noted_making(self.makings, node.number, node.extent) {
