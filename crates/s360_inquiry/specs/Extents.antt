@@ -1,5 +1,6 @@
 -- Places that are told together: successive bytes, or a place alone (own profile).
-use Rattle.std.specs.Prelude.{ℕ, ◌+◌, ◌-◌, Bool, false, ◌&&◌, nat_eq, nat_le, nat_lt, if◌then◌else◌, Option, Some, None, List, [], ◌∷◌, ◌++◌, codes, length, min}
+use Rattle.std.specs.Prelude.{ℕ, ◌+◌, ◌-◌, Bool, false, ◌&&◌, nat_eq, nat_le, nat_lt, if◌then◌else◌, Option, Some, None, List, [], ◌∷◌, ◌++◌}
+use Rattle.std.specs.Prelude.{codes, length, min}
 use Rattle.std.specs.List.{slice_range}
 use Rattle.s360_model.specs.Storage.{Storage}
 use Rattle.s360_model.specs.Text.{hex_bytes, hex_text}
