@@ -1,15 +1,21 @@
 -- The chain of causes: its items in words, and its nodes one after another.
-use Rattle.std.proofs.Common.{◌≡◌, ◌<◌, ◌≤◌, ◌+◌, ◌-◌, ◌++◌, ◌∙◌, ℕ, zero, suc, Option, Some, None, get_or, List, [], ◌∷◌, ap, sym, subst, refl, arith, append_assoc, codes, length, map, nat_eq, slice_get, if◌then◌else◌}
+use Rattle.std.proofs.Common.{◌≡◌, ◌<◌, ◌≤◌, ◌+◌, ◌-◌, ◌++◌, ◌∙◌, ℕ, zero, suc, Option, Some, None, get_or, List, [], ◌∷◌, ap, sym, subst, refl, arith, append_assoc, codes, length, map, min, nat_eq, slice_get, if◌then◌else◌}
 use Rattle.std.proofs.lemmas.List.{append-nil, map-append}
 use Rattle.std.specs.Option.{option_map_or}
+use Rattle.s360_store.specs.declared.place.Place.{Place}
 use Rattle.s360_journal.specs.Recorded.{Recorded, with_standing}
 use Rattle.s360_inquiry.specs.declared.cause.Cause.{Cause}
+use Rattle.s360_inquiry.specs.declared.extent.Extent.{Extent}
 use Rattle.s360_inquiry.specs.declared.inquiry.Detail.{Detail}
 use Rattle.s360_inquiry.specs.declared.node.Node.{Node}
 use Rattle.s360_inquiry.specs.declared.telling.Telling.{Telling}
-use Rattle.s360_inquiry.specs.Causes.{IsChain, TellsNode, known_after, node_text, node_texts}
+use Rattle.s360_inquiry.specs.Causes.{IsChain, TellsNode, known_after, most_depth, node_text, node_texts, why_text, why_text_from}
+use Rattle.s360_inquiry.specs.Extents.{extent_of}
 use Rattle.s360_inquiry.specs.Origins.{cause_items, cause_words}
+use Rattle.s360_inquiry.specs.Searches.{last_up_to}
+use Rattle.s360_inquiry.specs.Stores.{stores_into}
 use Rattle.s360_inquiry.specs.Tellings.{IsTold, most_lines, told_lines}
+use Rattle.s360_inquiry.proofs.WhyLemmas.{same-record}
 
 -- ---- causes in words, one more
 
@@ -95,3 +101,24 @@ chain-full r detail known told first t text full finish (lines, before, whole) =
     ∙ ap (λ (n : ℕ). lines ++ node_texts n r detail known told) (sym none)
     ∙ whole
     )
+
+-- ---- the whole answer
+
+pub why-told : (r x : Recorded) (place : Place) (depth deep number : ℕ) (detail : Detail) (extent : Extent) (text : List ℕ) → extent ≡ extent_of place
+    → x ≡ with_standing r x.standing → deep ≡ min depth most_depth → Some number ≡ last_up_to (stores_into extent r) r.standing
+    → text ≡ told_lines (node_texts (most_lines + 1) (with_standing x 0) detail (record { number = number; extent = extent; depth = deep } ∷ []) 0)
+    → text ≡ why_text r place depth detail
+why-told r x place depth deep number detail extent text is here least last told =
+    let chain : Recorded → Extent → ℕ → List ℕ
+    = λ (y : Recorded) (e : Extent) (d : ℕ). told_lines (node_texts (most_lines + 1) y detail (record { number = number; extent = e; depth = d } ∷ []) 0)
+    in told
+    ∙ ap (λ (y : Recorded). chain y extent deep) (same-record r x here)
+    ∙ ap (λ (e : Extent). chain (with_standing r 0) e deep) is
+    ∙ ap (λ (d : ℕ). chain (with_standing r 0) (extent_of place) d) least
+    ∙ ap (λ (o : Option ℕ). why_text_from r place (min depth most_depth) detail o) (last ∙ ap (λ (e : Extent). last_up_to (stores_into e r) r.standing) is)
+
+pub why-start : (r : Recorded) (place : Place) (depth : ℕ) (detail : Detail) (extent : Extent) (text : List ℕ) → extent ≡ extent_of place
+    → None ≡ last_up_to (stores_into extent r) r.standing → text ≡ why_text_from r place (min depth most_depth) detail None → text ≡ why_text r place depth detail
+why-start r place depth detail extent text is last told =
+    told
+    ∙ ap (λ (o : Option ℕ). why_text_from r place (min depth most_depth) detail o) (last ∙ ap (λ (e : Extent). last_up_to (stores_into e r) r.standing) is)

@@ -221,16 +221,20 @@ pub(crate) fn answer_why(
 {
     let standing = recording.standing();
     let extent = Extent::of(place);
-    let last = last_number(alloc, recording, Sought::Stores(extent), 0)?;
-    let text = match last {
-        Some(number) => {
-            let depth = depth.min(MOST_DEPTH);
-            text_of_chain(alloc, recording, Node { number, extent, depth }, detail)?
-        }
-        None => {
-            go_to(recording, standing)?;
-            text_of_start(alloc, recording, place)?
-        }
+    let depth = depth.min(MOST_DEPTH);
+    let start = text_of_start(alloc, recording, place)?;
+    let text = match last_number(alloc, recording, Sought::Stores(extent), 0)? {
+        Some(number) => text_of_chain(
+            alloc,
+            recording,
+            Node {
+                number,
+                extent,
+                depth,
+            },
+            detail,
+        )?,
+        None => start,
     };
     go_to(recording, standing)?;
     Ok(text)
