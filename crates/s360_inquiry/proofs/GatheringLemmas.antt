@@ -1,6 +1,7 @@
 -- What is noted of a recording while it goes back: the places that are wanted, and what an event that is met stored.
-use Rattle.std.proofs.Common.{◌≡◌, ◌<◌, ◌-◌, ◌∙◌, ◌||◌, ℕ, Bool, true, false, Some, None, Option, is_some, List, [], ◌∷◌, All, Ordering, Less, Equal, Greater, ap, sym, refl, rules, if◌then◌else◌}
+use Rattle.std.proofs.Common.{◌≡◌, ◌<◌, ◌-◌, ◌∙◌, ◌||◌, ◌++◌, ℕ, Bool, true, false, Some, None, Option, is_some, List, [], ◌∷◌, All, Ordering, Less, Equal, Greater, ap, sym, subst, refl, rules, if◌then◌else◌}
 use borrow.Author.Tests.{tests}
+use Rattle.std.proofs.lemmas.List.Elements.{All-nil, All-push}
 use Rattle.std.specs.BTreeSet.{insert_key}
 use Rattle.std.specs.List.{list_any}
 use Rattle.std.specs.Ordering.{is_eq, match_ordering, MatchOrdering}
@@ -11,16 +12,18 @@ use Rattle.s360_store.proofs.OrderOfPlaces.{IsBefore-irreflexive, compare, compa
 use Rattle.s360_journal.specs.Recorded.{Recorded, with_standing}
 use Rattle.s360_inquiry.specs.declared.gathering.Gathering.{Gathering}
 use Rattle.s360_inquiry.specs.declared.gathering.Request.{Request}
+use Rattle.s360_inquiry.specs.declared.making.LastStore.{LastStore}
+use Rattle.s360_inquiry.specs.declared.making.Making.{Making}
 use Rattle.s360_inquiry.specs.declared.origin.Origin.{Origin}
 use Rattle.s360_inquiry.specs.declared.origin.Origin.TheVariants.{NotFollowed, Start}
-use Rattle.s360_inquiry.specs.Causes.{IsStore, order_of}
+use Rattle.s360_inquiry.specs.Causes.{IsMaking, IsStore, order_of}
 use Rattle.s360_inquiry.specs.Extents.{extent_of, is_in}
 use Rattle.s360_inquiry.specs.Gatherings.{IsGathering, IsRequested, has_key, is_stored, is_wanted, store_of}
 use Rattle.s360_inquiry.specs.Origins.{origin_by}
 use Rattle.s360_inquiry.specs.Searches.{last_up_to}
 use Rattle.s360_inquiry.specs.Stores.{span_in, spanned, stored_next, stores_into}
 use Rattle.s360_inquiry.proofs.SearchLemmas.{last-not, last-there}
-use Rattle.s360_inquiry.proofs.WhyLemmas.{derived-is}
+use Rattle.s360_inquiry.proofs.WhyLemmas.{derived-is, insert-same}
 
 -- ---- keys in their order
 
@@ -128,4 +131,52 @@ gathering-kept r n g some none h = record {
   stores = h.stores;
   requests = λ k d lt. requested-kept r n _ some (not-stored g.wanted.keys (stored_next (with_standing r (n - 1))) _ none (h.wanted k d lt)) (h.requests k d lt);
   wanted = h.wanted;
+}
+
+-- ---- one thing more is noted or looked for
+
+pub making-more : (r : Recorded) (n : ℕ) (g h : Gathering) (m : Making) → h.makings.items ≡ g.makings.items ++ m ∷ [] → h.stores.items ≡ g.stores.items
+    → h.requests.items ≡ g.requests.items → h.wanted.keys ≡ g.wanted.keys → IsGathering r n g → IsMaking r m → IsGathering r n h
+making-more r n g h m more stores requests wanted was is = record {
+  makings = subst (λ (ms : List Making). All (IsMaking r) ms) (sym more) (All-push (IsMaking r) g.makings.items m was.makings is);
+  stores = subst (λ (ss : List LastStore). All (IsStore r) ss) (sym stores) was.stores;
+  requests = subst (λ (qs : List Request). All (IsRequested r n) qs) (sym requests) was.requests;
+  wanted = subst (λ (ks : List Place). All (λ (q : Request). has_key ks q.place ≡ true) h.requests.items) (sym wanted)
+      (subst (λ (qs : List Request). All (λ (q : Request). has_key g.wanted.keys q.place ≡ true) qs) (sym requests) was.wanted);
+}
+
+pub store-more : (r : Recorded) (n : ℕ) (g h : Gathering) (s : LastStore) → h.makings.items ≡ g.makings.items → h.stores.items ≡ g.stores.items ++ s ∷ []
+    → h.requests.items ≡ g.requests.items → h.wanted.keys ≡ g.wanted.keys → IsGathering r n g → IsStore r s → IsGathering r n h
+store-more r n g h s makings more requests wanted was is = record {
+  makings = subst (λ (ms : List Making). All (IsMaking r) ms) (sym makings) was.makings;
+  stores = subst (λ (ss : List LastStore). All (IsStore r) ss) (sym more) (All-push (IsStore r) g.stores.items s was.stores is);
+  requests = subst (λ (qs : List Request). All (IsRequested r n) qs) (sym requests) was.requests;
+  wanted = subst (λ (ks : List Place). All (λ (q : Request). has_key ks q.place ≡ true) h.requests.items) (sym wanted)
+      (subst (λ (qs : List Request). All (λ (q : Request). has_key g.wanted.keys q.place ≡ true) qs) (sym requests) was.wanted);
+}
+
+pub request-more : (r : Recorded) (n : ℕ) (g h : Gathering) (x : Request) → h.makings.items ≡ g.makings.items → h.stores.items ≡ g.stores.items
+    → h.requests.items ≡ g.requests.items ++ x ∷ [] → h.wanted.keys ≡ insert_key compare g.wanted.keys x.place → IsGathering r n g → IsRequested r n x
+    → IsGathering r n h
+request-more r n g h x makings stores more wanted was is =
+    let keys : h.wanted.keys ≡ insert_key order_of g.wanted.keys x.place = wanted ∙ insert-same g.wanted.keys x.place
+    in let Has : Request → Type 0 = λ (q : Request). has_key (insert_key order_of g.wanted.keys x.place) q.place ≡ true
+    in record {
+      makings = subst (λ (ms : List Making). All (IsMaking r) ms) (sym makings) was.makings;
+      stores = subst (λ (ss : List LastStore). All (IsStore r) ss) (sym stores) was.stores;
+      requests = subst (λ (qs : List Request). All (IsRequested r n) qs) (sym more) (All-push (IsRequested r n) g.requests.items x was.requests is);
+      wanted = subst (λ (ks : List Place). All (λ (q : Request). has_key ks q.place ≡ true) h.requests.items) (sym keys)
+          (subst (λ (qs : List Request). All Has qs) (sym more)
+          (All-push Has g.requests.items x (λ k d lt. has-kept g.wanted.keys x.place _ (was.wanted k d lt)) (has-inserted g.wanted.keys x.place)));
+    }
+
+-- nothing is looked for before those that are left are
+pub none-requested : (r : Recorded) (n : ℕ) (g h : Gathering) → h.makings.items ≡ g.makings.items → h.stores.items ≡ g.stores.items
+    → h.requests.items ≡ [] → IsGathering r n g → IsGathering r (n - 1) h
+none-requested r n g h makings stores none was = record {
+  makings = subst (λ (ms : List Making). All (IsMaking r) ms) (sym makings) was.makings;
+  stores = subst (λ (ss : List LastStore). All (IsStore r) ss) (sym stores) was.stores;
+  requests = subst (λ (qs : List Request). All (IsRequested r (n - 1)) qs) (sym none) (All-nil (IsRequested r (n - 1)));
+  wanted = subst (λ (qs : List Request). All (λ (q : Request). has_key h.wanted.keys q.place ≡ true) qs) (sym none)
+      (All-nil (λ (q : Request). has_key h.wanted.keys q.place ≡ true));
 }
