@@ -45,8 +45,8 @@ Gathers r before old new = IsGathering (with_standing r 0) before old → IsGath
 -- the event of a number stores into these places, and is this origin
 pub record IsOfEvent (r : Recorded) (number : ℕ) (stored : List Place) (origin : Origin) : Type 0 where
   pub some : 0 < number
-  pub stored : stored ≡ stored_next (with_standing r (number - 1))
-  pub origin : origin ≡ origin_by r (Some number)
+  pub places : stored ≡ stored_next (with_standing r (number - 1))
+  pub is : origin ≡ origin_by r (Some number)
 
 -- what is looked for, once it is found
 abbrev pub store_of : Request → Origin → LastStore

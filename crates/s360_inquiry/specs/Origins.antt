@@ -24,9 +24,12 @@ abbrev pub is_patch : Option EventKind → Bool
 is_patch (Some (patched kind)) = true
 is_patch other = false
 
+abbrev pub origin_of_event : ℕ → Option EventKind → Origin
+origin_of_event number kind = if is_patch kind then Patch number else Event number
+
 abbrev pub origin_by : Recorded → Option ℕ → Origin
 origin_by r None = Start
-origin_by r (Some number) = if is_patch (kind_of_change r number) then Patch number else Event number
+origin_by r (Some number) = origin_of_event number (kind_of_change r number)
 
 -- the PSW and a device are told and not followed: each instruction alters the one, and each command the other
 abbrev pub is_followed : Place → Bool

@@ -1,8 +1,7 @@
 //! Where a value comes from: the event that stored it last, also an equal value, or the start.
 ghost use Rattle.std.specs.Prelude.{◌≡◌, ◌++◌, IfOk, OnErr, OnOk};
 ghost use Rattle.s360_journal.specs.Recorded.{with_standing};
-ghost use Rattle.s360_inquiry.specs.Changes.{kind_of_change};
-ghost use Rattle.s360_inquiry.specs.Origins.{is_followed, is_patch, origin_by, origin_in, origin_words, same_origin};
+ghost use Rattle.s360_inquiry.specs.Origins.{is_followed, is_patch, origin_in, origin_of_event, origin_words, same_origin};
 
 use crate::extent::Extent;
 use crate::going::go_to;
@@ -41,7 +40,7 @@ impl Origin {
 
     /// An event of a number and of this kind.
     pub(crate) fn of_event(number: u32, kind: Option<EventKind>) -> Origin
-        ensures { result ≡ (if is_patch kind then Patch number else Event number) }
+        ensures { result ≡ origin_of_event number kind }
     {
         match kind {
             Some(EventKind::Patch(_)) => Origin::Patch(number),

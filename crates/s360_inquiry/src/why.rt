@@ -82,7 +82,7 @@ impl Chain<'_> {
 
     /// The lines of a node, by what its event made.
     fn lines_of(self, making: &Making, causes: &[Cause]) -> Result<Text, AllocError>
-        ensures { IfOk result (λ text. text ≡ lines_in self.detail making.now.head (cause_items causes.now) making.now.deciders.items) }
+        ensures { IfOk result (λ text. text ≡ lines_in self.entry.detail making.now.head (cause_items causes.now) making.now.deciders.items) }
     {
         let mut text = Text::new(self.alloc);
         let items = cause_items(self.alloc, causes)?;
@@ -112,7 +112,7 @@ impl Chain<'_> {
     ) -> Result<(), AllocError>
         requires stores { All (IsStore (with_standing recording.old 0)) self.stores.now }
         requires making { IsMaking (with_standing recording.old 0) making.now }
-        ensures told { OnOk result (TellsNode (with_standing recording.old 0) self.detail making.now.number making.now.extent telling.old telling.new) }
+        ensures told { OnOk result (TellsNode (with_standing recording.old 0) self.entry.detail making.now.number making.now.extent telling.old telling.new) }
         ensures known { OnOk result (known.new.items ≡ known_after (with_standing recording.old 0) known.old.items making.now.number making.now.extent depth) }
         ensures state { recording.new ≡ with_standing recording.old recording.new.standing }
     {
@@ -132,7 +132,7 @@ impl Chain<'_> {
     ) -> Result<(), AllocError>
         requires makings { All (IsMaking (with_standing recording.old 0)) self.makings.now }
         requires stores { All (IsStore (with_standing recording.old 0)) self.stores.now }
-        ensures told { OnOk result (TellsNode (with_standing recording.old 0) self.detail node.number node.extent telling.old telling.new) }
+        ensures told { OnOk result (TellsNode (with_standing recording.old 0) self.entry.detail node.number node.extent telling.old telling.new) }
         ensures known { OnOk result (known.new.items ≡ known_after (with_standing recording.old 0) known.old.items node.number node.extent node.depth) }
         ensures state { recording.new ≡ with_standing recording.old recording.new.standing }
     {
@@ -149,7 +149,7 @@ impl Chain<'_> {
     fn text_from(self, recording: &mut Session, first: Node) -> Result<Text, AllocError>
         requires makings { All (IsMaking (with_standing recording.old 0)) self.makings.now }
         requires stores { All (IsStore (with_standing recording.old 0)) self.stores.now }
-        ensures text { IfOk result (λ text. text ≡ told_lines (node_texts (most_lines + 1) (with_standing recording.old 0) self.detail (first ∷ []) 0)) }
+        ensures text { IfOk result (λ text. text ≡ told_lines (node_texts (most_lines + 1) (with_standing recording.old 0) self.entry.detail (first ∷ []) 0)) }
         ensures state { recording.new ≡ with_standing recording.old recording.new.standing }
     {
         let mut telling = Telling::new(self.alloc);
