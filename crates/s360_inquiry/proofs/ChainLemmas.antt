@@ -71,10 +71,10 @@ chain-more r x detail known new told node d first t u room less is same tells mo
       lines ++ text ∷ [],
       subst (λ (y : Recorded). IsTold (lines ++ node_text y detail node.number node.extent ∷ []) u) same (tells lines before),
       append_assoc lines (text ∷ []) (node_texts (most_lines + 1 - (told + 1)) r detail new (told + 1))
-      ∙ ap (λ (ns : List Node). lines ++ text ∷ node_texts (most_lines + 1 - (told + 1)) r detail ns (told + 1)) next
-      ∙ ap (λ (ts : List (List ℕ)). lines ++ ts) (sym (texts-next (most_lines + 1 - (told + 1)) told r detail known node d less is))
-      ∙ ap (λ (n : ℕ). lines ++ node_texts n r detail known told) (sym left)
-      ∙ whole
+          ∙ ap (λ (ns : List Node). lines ++ text ∷ node_texts (most_lines + 1 - (told + 1)) r detail ns (told + 1)) next
+          ∙ ap (λ (ts : List (List ℕ)). lines ++ ts) (sym (texts-next (most_lines + 1 - (told + 1)) told r detail known node d less is))
+          ∙ ap (λ (n : ℕ). lines ++ node_texts n r detail known told) (sym left)
+          ∙ whole,
     )
 
 -- no further node is known

@@ -75,6 +75,7 @@ has-kept (k ∷ ks) p q h = by (order_of p k) where
   further false e =
       let rest : has_key ks q ≡ true = sym (ap (λ (b : Bool). b || has_key ks q) e) ∙ h
       in either-right (is_eq (order_of q k)) (has_key (insert_key order_of ks p) q) (has-kept ks p q rest)
+
   by : (r : Ordering) → has_key (match_ordering r (p ∷ (k ∷ ks)) (k ∷ ks) (k ∷ insert_key order_of ks p)) q ≡ true
   by Less = either-right (is_eq (order_of q p)) (has_key (k ∷ ks) q) h
   by Equal = h

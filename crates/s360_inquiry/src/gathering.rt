@@ -111,11 +111,7 @@ impl Gathering {
     }
 
     /// Takes those that an event stored, of this origin, from what is looked for.
-    fn take_stored(
-        &mut self,
-        stored: &[Place],
-        origin: Origin,
-    ) -> Result<Vec<Request>, AllocError>
+    fn take_stored(&mut self, stored: &[Place], origin: Origin) -> Result<Vec<Request>, AllocError>
         ensures { OnOk result ((r : Recorded) (n : ℕ) → IsOfEvent r n stored.now origin → IsGathering r n self.old → IsGathering r (n - 1) self.new) }
     {
         let sought = mem::replace(&mut self.requests, Vec::new(self.alloc));

@@ -130,5 +130,7 @@ pub(crate) fn noted_store(stores: &[LastStore], place: Place, moment: u32) -> Op
     ensures place { IfSome result (λ store. store.now.place ≡ place) }
     ensures moment { IfSome result (λ store. store.now.moment ≡ moment) }
 {
-    stores.iter().find(|store| store.moment == moment && store.place.is(place))
+    stores
+        .iter()
+        .find(|store| store.moment == moment && store.place.is(place))
 }

@@ -48,11 +48,14 @@ pub(crate) fn push_nodes(
     }
     for cause in causes {
         if let Origin::Event(number) = cause.origin {
-            push_node(known, Node {
-                number,
-                extent: cause.extent,
-                depth: depth - 1,
-            })?;
+            push_node(
+                known,
+                Node {
+                    number,
+                    extent: cause.extent,
+                    depth: depth - 1,
+                },
+            )?;
         }
     }
     Ok(())

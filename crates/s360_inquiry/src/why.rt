@@ -58,11 +58,7 @@ impl Chain<'_> {
     }
 
     /// The causes of what an event made.
-    fn causes_of(
-        self,
-        recording: &mut Session,
-        making: &Making,
-    ) -> Result<Vec<Cause>, AllocError>
+    fn causes_of(self, recording: &mut Session, making: &Making) -> Result<Vec<Cause>, AllocError>
         requires stores { All (IsStore (with_standing recording.old 0)) self.stores.now }
         requires making { IsMaking (with_standing recording.old 0) making.now }
         ensures causes { IfOk result (λ causes. causes.items ≡ causes_of (with_standing recording.old 0) making.now.number making.now.extent) }
