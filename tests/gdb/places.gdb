@@ -64,6 +64,7 @@ who m 00E 4
 goto last
 dump m 00E 4
 units
+where
 save printer list
 save printer list
 save printer -overwrite list

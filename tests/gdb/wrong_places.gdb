@@ -38,6 +38,7 @@ tick 5
 withdraw
 withdraw 7
 units all
+where all
 save printer
 save tape9 file
 save printer nowhere/list

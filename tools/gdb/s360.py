@@ -185,6 +185,20 @@ Each BAL, BALR and SVC, with where it goes on and its link."""
         show(told("calls"))
 
 
+class Where(Command):
+    """Tell where the machine stands: how many changes stand, and what the CPU does next.
+Usage: where
+
+Also the last interruption, the PSW, and what is pending. A machine has no callers for a
+backtrace, which is bt; see calls."""
+
+    completion = gdb.COMPLETE_NONE
+
+    def carry_out(self, words: str) -> None:
+        refuse(words)
+        show(told("where"))
+
+
 class Dump(Command):
     """Show storage, or an item of a unit's media, in digits and in EBCDIC signs.
 Usage: dump EXPRESSION [COUNT]
@@ -377,7 +391,7 @@ def count_in_condition(point: gdb.Breakpoint) -> None:
         point.condition = COUNT.sub("$_changes()", point.condition)
 
 
-for command in (Who, Why, Changes, Stores, Readers, Uses, History, Visits, Jumps, Calls, Dump, Units):
+for command in (Who, Why, Changes, Stores, Readers, Uses, History, Visits, Jumps, Calls, Where, Dump, Units):
     command()
 for command in (Key, Load, Enter, Tick, Withdraw, Marks, Mark, Goto, Over, ReverseOver, Out, ReverseOut):
     command()
