@@ -27,7 +27,8 @@ import elf
 import symbols
 
 MAKE = TOP / "tools/page/make_page"
-NAMES = ["inventory", "cards", "charge", "turns", "listing", "punch", "marked", "overflow", "price", "dialogue", "feeds"]
+NAMES = ["inventory", "cards", "charge", "turns", "listing", "punch", "marked", "overflow", "price", "add", "call", "store", "timer"]
+NAMES += ["dialogue", "feeds"]
 UNITS = ["reader 00C", "punch 00D", "printer 00E", "console 01F", "tape 180", "tape 181"]
 CHAINS, MOST_LISTED = 1000, 40
 MOST_MILLISECONDS, LONG, LONGER = 100, 200_000, 250_000
