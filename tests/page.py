@@ -20,6 +20,7 @@ import typed
 from browser import Browser
 from page_facts import HOLES, TOP, Example, assembled, lines_by_binutils, long_trace
 from page_wrong import HEADER, WRONG_TRACES, WRONG_WORDS
+from saved_files import answers_of
 from second.traces import Trace
 
 sys.path += [str(TOP / "tools" / name) for name in ("page", "gdb", "media")]
@@ -35,6 +36,24 @@ MOST_MILLISECONDS, LONG, LONGER = 100, 200_000, 250_000
 CONTRASTS = [(text, ground) for text in ("ink", "quiet", "accent") for ground in ("sheet", "ground")]
 CONTRASTS += [("ink", "chosen"), ("ink", "bar"), ("card-ink", "card"), *((f"actor{number}", "sheet") for number in range(8))]
 MARKUP = "<script>document.title='spoilt'</script>"
+
+
+def places_of(word):
+    """The places of a name: of successive bytes each."""
+    first, _, last = word.partition("-")
+    return [f"s{at:06X}" for at in range(int(first[1:], 16), int(last, 16) + 1)] if last else [first]
+
+
+def spoken(place):
+    """A place as a line of monitor names it."""
+    return place if place in ("p", "run", "ext") else f"{place[0]} {place[1:]}"
+
+
+def why_of(text):
+    """The number of the change that `why` tells, and the places that it was made of."""
+    made, *below = text.splitlines()
+    words = [line.split()[0] for line in below if not line.startswith("  decided by")]
+    return int(re.search(r" by (\d+) ", made)[1]), {name for word in words for name in places_of(word)}
 
 
 def luminance(digits):
@@ -246,6 +265,23 @@ class Looks:
                 wanted = sorted(f"{place}@{at}" for place, at in example.causes(place, number))
                 self.expect(f"{example.name}: causes of {place} after {number}", wanted, causes)
 
+    def whys(self, examples, program):
+        """What random changes made some place of is what `why` of s360gdb tells."""
+        some, count = random.Random(2), -(-CHAINS // len(examples))
+        for example in examples:
+            numbers = [number for number, change in enumerate(example.changes, 1) if change.places]
+            asked = [[some.choice(example.changes[number - 1].places), number] for number in some.choices(numbers, k=count)]
+            lines = [line for place, number in asked for line in (f"goto {number}", f"why {spoken(place)} 1")]
+            answers = answers_of(program, example.words_of_program(), [*example.lines(), *lines])[len(example.lines()) + 1 :: 2]
+            self.open(example.name)
+            script = """asked.map(([place, number]) => {
+              const store = p.run.lastStore(place, p.run.momentOf(number));
+              return [p.run.number[p.run.momentOfStore[store]], p.run.sources[p.run.source[store]]];
+            })"""
+            for (place, number), (at, sources), told in zip(asked, self.value(f"((asked) => {script})({asked})"), answers):
+                made = {name for word in sources.split() for name in places_of(word)}
+                self.expect(f"{example.name}: why {place} after {number}", why_of(told), (at, made))
+
     def graph(self, example):
         """The graph has the events up to a depth, each once; choosing one leads all views there. A picture has the same."""
         self.open(example.name)
@@ -410,6 +446,7 @@ def main():
         looks.speed()
         looks.wrong(examples[0])
         if options.program:
+            looks.whys(examples, options.program.resolve())
             looks.script(options.program.resolve())
     return tally.end(looks.passed, looks.faults)
 

@@ -50,8 +50,8 @@ class Example:
     def __init__(self, name, folder):
         self.name, self.folder = name, folder / name
         self.folder.mkdir(exist_ok=True)
-        script, self.symbols, self.deck = self.script()
-        self.recording = recording_of(script, deck=self.deck, images=self.images)
+        self.text, self.symbols, self.deck = self.script()
+        self.recording = recording_of(self.text, deck=self.deck, images=self.images)
         self.inquiries = Inquiries(self.recording)
         self.machine, self.changes = self.recording.machine, self.recording.changes
         self.save()
@@ -84,6 +84,20 @@ class Example:
         words += ["--reader", self.folder / "reader"] if self.deck else []
         words += ["--symbols", self.symbols] if self.symbols else []
         return [*map(str, words), "--title", self.name, str(self.folder / "trace")]
+
+    def words_of_program(self):
+        """The words of s360gdb."""
+        words = ["--reader", self.folder / "reader"] if self.deck else []
+        for number, image in enumerate(self.images):
+            if image:
+                file = self.folder / f"image{number}"
+                file.write_bytes(image)
+                words += [f"--tape{number}", file]
+        return words
+
+    def lines(self):
+        """The lines of the script that are carried out."""
+        return [line for line in self.text.decode().splitlines() if line.strip() and line[0] != "*"]
 
     # Facts.
 
