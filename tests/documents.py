@@ -11,10 +11,11 @@
   docs/proof/definitions.md is what the heads of the files say (definitions.py). In
   docs/develop/layers.md each crate stands on what crates.txt says.
 - The helps and the tables of docs/reference tell the lines that their definitions have (lines.py).
-- README.md has at most 100 lines, and all pages but the one of definitions, which is made, have no
+- README.md has at most 110 lines, and all pages but the one of definitions, which is made, have no
   more words than they may. Files of code and of definitions are as short and as narrow as
   docs/develop/style.md says.
 - What README.md, docs/guide.md and docs/reference/media.md let a reader type prints what they print, as typed.py says.
+- The picture of README.md is the one that tools/page makes of the second machine's run.
 - Each example says its command line in its first comment, which gives its answers.
 
 The screens of gdb in docs/reference are compared by gdb_sessions.py. The last line says how many
@@ -25,22 +26,25 @@ import functools
 import itertools
 import pathlib
 import re
+import subprocess
 import sys
 import tempfile
 
 import definitions
 import lines
 import typed
+from page_facts import Example
 
 TOP = pathlib.Path(__file__).resolve().parent.parent
 PAGES = [TOP / "README.md", *sorted((TOP / "docs").rglob("*.md"))]
 USER_PAGES = ("README.md", "docs/guide.md", "docs/reference/")
 CODE_PAGES = ("README.md", "docs/proof/", "docs/develop/", "docs/DECISIONS.md")
 CARRIED_OUT = ("README.md", "docs/guide.md", "docs/reference/media.md")
+PICTURE = TOP / "docs/time.svg"
 PROGRAMS = [TOP / "crates" / name / "out" / name for name in ("s360dbg", "s360gdb")]
 EXAMPLES = sorted((TOP / "examples").rglob("*.s360"))
-MOST_LINES_OF_README = 100
-MOST_WORDS, MOST_USER_WORDS = 24_200, 16_100
+MOST_LINES_OF_README = 110
+MOST_WORDS, MOST_USER_WORDS = 26_200, 17_600
 MOST_LINES, MOST_COLUMNS = 449, 160
 # The folders in which a name of the code may stand.
 SOURCES = ("crates/*/src", "crates/*/specs", "crates/*/proofs", "tests", "tools")
@@ -174,6 +178,17 @@ def faults_of_sources():
             yield f"{named(file)} has a line of more than {MOST_COLUMNS} columns"
 
 
+def faults_of_picture():
+    with tempfile.TemporaryDirectory() as name:
+        folder = pathlib.Path(name)
+        example = Example("inventory", folder)
+        made = folder / "time.svg"
+        words = ["--svg", "time", made, "--symbols", example.symbols, example.folder / "trace"]
+        subprocess.run([TOP / "tools/page/make_page", *words], check=True)
+        if made.read_text() != PICTURE.read_text():
+            yield f"{named(PICTURE)} is another: tools/page/make_page --svg time"
+
+
 def faults_of_example(script, programs):
     first = script.read_text().partition("\n")[0]
     found = re.fullmatch(r"\* (\./run .*)", first)
@@ -201,10 +216,12 @@ def main():
         ("lengths", faults_of_lengths()),
         ("sources", faults_of_sources()),
         ("lines", lines.faults()),
+        ("picture", faults_of_picture()),
     ]
     if not options.unproved:
         programs = [program.resolve() for program in options.programs]
-        looks += [(f"what {p} runs", typed.faults_of_page(TOP / p, programs)) for p in CARRIED_OUT]
+        furnish = functools.partial(typed.make_checkout, programs=programs)
+        looks += [(f"what {p} runs", typed.faults_of_page(TOP / p, furnish)) for p in CARRIED_OUT]
         looks += [(named(script), faults_of_example(script, programs)) for script in EXAMPLES]
     faults = [(name, list(found)) for name, found in looks]
     for name, found in faults:

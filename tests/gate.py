@@ -10,7 +10,9 @@
                       sessions that nobody wrote; and sends packets to s360gdb, lets it save files,
                       lets a real gdb drive it, also on a screen and for an editor, and compares it with
                       a second target, and tries the sources and deciders that it tells; and loads what
-                      the tools for decks and tapes make; and looks that the documents are true
+                      the tools for decks and tapes make; and opens pages of runs in a browser; and makes
+                      Debian's package, and does what the pages say with what it installs; and looks that
+                      the documents are true
     ./test --quick    looks at the scripts and at listings, runs the worked rows over the program with
                       no proof, in some three minutes, and looks at these tools and at the documents
 
@@ -51,6 +53,8 @@ WHOLE = [
     ("fuzzed commands of gdb", ["tests/gdb_fuzz.py", "--commands", COMMANDS]),
     ("chains by experiment", ["tests/why_by_experiment.py", "--sessions", SESSIONS]),
     ("media", ["tests/media.py"]),
+    ("pages of runs", ["tests/page.py", "--program", "crates/s360gdb/out/s360gdb"]),
+    ("package", ["tests/package.py"]),
     ("costs", ["tests/costs.py"]),
     ("documents", ["tests/documents.py"]),
 ]

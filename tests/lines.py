@@ -13,9 +13,11 @@ TOP = pathlib.Path(__file__).resolve().parent.parent
 LANGUAGES = {"s360_language": "commands", "s360_inquiry": "inquiries", "s360_saving": "savings"}
 # What stands in a form for an argument of a kind. A kind that is not here has a word for each value.
 KINDS = {"address": "A", "bytes_in": "BYTES", "register": "R", "word_of": "W", "storage_key": "K", "bit_of": "D"}
-KINDS |= {"doubleword_of": "Q", "unit": "U", "count_of": "N", "ebcdic_text": "TEXT", "file_name": "FILE"}
+KINDS |= {"doubleword_of": "Q", "unit": "U", "count_of": "N", "ebcdic_text": "TEXT", "file_in": "FILE"}
 ROW = re.compile(r'line \(codes "(\S+)"\) \((.*)\) ∷')
 ITEM_OR = re.compile(r"item_or \(.*?\) \((.*)\)")
+CALL_OR = re.compile(r"call_or \((.*)\)")
+EXTENT = re.compile(r"extent_then \(λ extent\. (.*)\)")
 WORD = re.compile(r'\(codes "(\w+)", ')
 # Where lines are told: as a help tells them, in rows of a table, and the media that a line saves.
 HELPS = {"s360_remote/src/monitor.rt": [*LANGUAGES], "s360_setup/src/program.rt": ["s360_language"]}
@@ -43,6 +45,10 @@ def ends_of(form):
     """How a line of this form may go on behind its name."""
     if found := ITEM_OR.fullmatch(form):
         return [["m", "U", "N"], *ends_of(found[1])]
+    if found := CALL_OR.fullmatch(form):
+        return [["svc", "I"], ["svc", "I", "N"], *ends_of(found[1])]
+    if found := EXTENT.fullmatch(form):
+        return [[*end, *more] for end in [*table("places"), ["s", "A-B"]] for more in ends_of(found[1])]
     sort, *words = re.findall(r"\w+", form)
     if sort in ("kind", "part"):
         rest = form.partition(". ")[2]

@@ -22,7 +22,8 @@ from packet_fuzz import FETCH, Connection, deck_of
 from packet_rows import framed, row_of
 from second.core import SIZE as STORAGE
 from second.inquiries import FORMS as INQUIRIES
-from second.remote import MALFORMED, MEMORY, OK, Recording, Target
+from second.recording import Recording
+from second.remote import MALFORMED, MEMORY, OK, Target
 
 OUT_OF_MEMORY = "s360gdb: memory: out of memory"
 AT_THE_START = b"T05replaylog:begin;"
@@ -98,15 +99,17 @@ class LackingTarget(Target):
 
     def stand_at_change(self, data):
         """What an inquiry has done by then; any other request has done nothing."""
-        recorded = self.inquiries.recorded
+        recorded, stands = self.inquiries.recorded, self.inquiries.standing
         self.is_done = not is_inquiry(data) or self.number >= recorded
         if is_inquiry(data):
             self.inquiries.go_to(min(self.number, recorded))
+            self.is_moved = self.inquiries.standing != stands
 
 
 def is_inquiry(data):
+    """Whether it goes elsewhere in the recording: the line that saves a trace does too."""
     words = bytes.fromhex(data[len(LINE) :].decode()).split() if data.startswith(LINE) else []
-    return bool(words) and words[0] in INQUIRIES
+    return bool(words) and (words[0] in INQUIRIES or words[1:2] == [b"trace"])
 
 
 class NotingConnection(Connection):

@@ -5,9 +5,12 @@
 
 What a file has to be is written here by the pages gdb.md, devices.md and images.md of
 docs/reference, and tape files are read by a reader of this script's own, and by `hetmap` and `hetget`
-of Hercules, another emulator. Cards and tapes that were saved are loaded again, and shown. The status is 0 if each file and each answer is right.
+of Hercules, another emulator. Cards and tapes that were saved are loaded again, and shown. Traces of a
+small program are worked by hand, and those of examples and random scripts made by the second machine.
+The status is 0 if each file and each answer is right.
 """
 import argparse
+import csv
 import os
 import pathlib
 import re
@@ -16,7 +19,12 @@ import sys
 import tempfile
 
 import tally
-from packet_rows import PROGRAM, framed, items_of
+from packet_rows import PROGRAM, TOP, framed, items_of
+from second.lines import lines_of
+from second.recording import Recording
+from second.scripts import Script
+from second.traces import carried_out, trace_of, trace_of_script
+from second_opinion import command_line
 
 SECONDS = 600
 CARD, BLANK, HEADER = 80, b"\x40", 6
@@ -24,6 +32,56 @@ WHOLE, MARK_FLAGS = 0xA0, 0x40
 PROGRAM_AT, WORDS_AT, DATA_AT = 0x200, 0x400, 0x1000
 COMMAND_CHAIN = 0x40
 MOST_PATCHED = 256
+# Examples whose traces are made twice, with what they load; and seeds of random scripts, each of so many cases.
+TRACED = {"cards": "reader", "turns": "reader", "marked": "reader", "charge": "tape0", "overflow": None, "timer": None}
+SEEDS, CASES = range(1, 9), 40
+FIELDS = ["number", "event", "address", "instruction", "mnemonic", "place", "before", "after", "sources"]
+# A program that stores a register and a byte, and the line of each place that the events store into.
+SMALL_PROGRAM = {
+    "patch r 1 00C2": ["1,patch r,,,,r1,00000000,000000C2,"],
+    "patch s 300 5A": ["2,patch s,,,,s000300,00,5A,"],
+    "patch k 800 3": ["3,patch k,,,,k000800,0,3,k000800"],
+    "patch s 200 5010030092C20303": [
+        f"4,patch s,,,,s{0x200 + i:06X},00,{byte:02X}," for i, byte in enumerate(bytes.fromhex("5010030092C20303"))
+    ],
+    "patch p 0000000000000200": ["5,patch p,,,,p,0000000000000000,0000000000000200,"],
+    "step": [
+        "6,cpu,000200,50100300,ST,p,0000000000000200,0000000000000204,p",
+        "6,cpu,000200,50100300,ST,s000300,5A,00,r1",
+        "6,cpu,000200,50100300,ST,s000301,00,00,r1",
+        "6,cpu,000200,50100300,ST,s000302,00,00,r1",
+        "6,cpu,000200,50100300,ST,s000303,00,C2,r1",
+    ],
+    # An equal value is stored.
+    " step": [
+        "7,cpu,000204,92C20303,MVI,p,0000000000000204,0000000000000208,p",
+        "7,cpu,000204,92C20303,MVI,s000303,C2,C2,",
+    ],
+    "tick": [
+        "8,tick,,,,s000050,00,FF,s000050-000053",
+        "8,tick,,,,s000051,00,FF,s000050-000053",
+        "8,tick,,,,s000052,00,FF,s000050-000053",
+        "8,tick,,,,s000053,00,00,s000050-000053",
+        "8,tick,,,,ext,none,timer,s000050-000053 ext",
+    ],
+    # It stores nothing: no unit executes a program, and no fetch bit is there.
+    "channel 00C": ["9,channel 00C,,,,,,,"],
+    "patch f 800 1": ["10,patch f,,,,,,,"],
+    "key stop": ["11,key stop,,,,run,operating,stopped,run"],
+    "  step": ["12,cpu,,,,,,,"],
+}
+# A program of a channel whose second word is a transfer to one at 418, and that to one at 422, which is none; and which word
+# each of its events executes.
+TRANSFERS = [
+    "patch s 48 00000400",
+    "patch s 200 9C00000E",
+    "patch p 0000000000000200",
+    "patch s 400 0B000000400000010800041800000000",
+    "patch s 418 13000000400000010800042200000000",
+    "step",
+    *["channel 00E"] * 3,
+]
+TRANSFERRED = ["000400,0B00000040000001", "000418,1300000040000001", "000420,0800042200000000"]
 
 
 def ebcdic(text):
@@ -205,6 +263,53 @@ class Cases:
         self.expect("its second file", long, bytes_on_tape(tape, 2, 512))
         self.expect("a block of parts by hetget", ebcdic("ABC"), bytes_on_tape(whole, 1, 3))
 
+    def traces(self):
+        lines = [line.strip() for line in SMALL_PROGRAM]
+        asked = ["save trace @all", "save trace @some of it  6 7 ", "save trace @one 9 9", "save trace @beyond 13 99", "standing"]
+        asked += ["save trace @back 9 3", "save trace @zero 0 9", "save trace @one word 7", "save! trace /dev/full", "save trace 3 9", "save trace"]
+        answers = self.saved(lines, asked)
+        told = [len(lines) for lines in SMALL_PROGRAM.values()]
+        head = ",".join(FIELDS)
+        files = {"all": [*SMALL_PROGRAM.values()], "some of it": [*SMALL_PROGRAM.values()][5:7], "one": [["9,channel 00C,,,,,,,"]]}
+        files |= {"beyond": [], "back 9 3": files["all"], "zero 0 9": files["all"], "one word 7": files["all"]}
+        for name, wanted in files.items():
+            text = "".join(f"{line}\n" for line in [head, *(line for change in wanted for line in change)])
+            self.expect(f"the trace in '{name}'", text.encode(), self.file(name))
+        whole = f"saved {sum(told) + 1} lines\n"
+        wanted = [whole, f"saved {sum(told[5:7]) + 1} lines\n", "saved 2 lines\n", "saved 1 line\n", f"standing {len(told)}\n"]
+        wanted += [whole] * 3 + ["not saved: write failed\n", "? argument 2\n", "? argument 2\n"]
+        self.expect("the answers of traces", wanted, answers)
+        with open(self.folder / "all", newline="") as file:
+            read = list(csv.DictReader(file))
+        self.expect("the fields that Python reads", FIELDS, [*read[0]])
+        self.expect("the values that Python reads", {9}, {len(row) for row in read if None not in row})
+        self.saved(TRANSFERS, ["save trace @transfers", "goto 2", "save trace @two"])
+        words = self.file("transfers").decode().splitlines()
+        words = [",".join(line.split(",")[2:4]) for line in words if ",channel " in line]
+        self.expect("words of a channel", TRANSFERRED, [*dict.fromkeys(words)])
+        self.expect("changes that stand", b"2,", self.file("two").splitlines()[-1][:2])
+
+    def traces_made_twice(self):
+        for example, option in TRACED.items():
+            file = TOP / "examples" / f"{example}.{'deck' if option == 'reader' else option}"
+            lines = [line.decode() for line in lines_of((TOP / f"examples/{example}.s360").read_bytes())]
+            words = [f"--{option}", file] if option else []
+            self.saved(lines, [f"save trace @{example}.csv"], *words)
+            held = file.read_bytes() if option else b""
+            media = {"deck": held} if option == "reader" else {"images": (held, b"")} if option else {}
+            wanted = trace_of_script("".join(f"{line}\n" for line in lines).encode(), **media)
+            self.expect(f"the trace of {example}", wanted.encode(), self.file(f"{example}.csv"))
+        for seed in SEEDS:
+            script = Script(seed)
+            for _ in range(CASES):
+                script.case()
+            words = [*command_line(script, self.folder)]
+            # A line that is entered may have the sign that stands for the folder.
+            answers_of(self.program, words, [*script.lines, f"save trace {self.folder}/{seed}.csv"])
+            recording = Recording(script.deck, script.tapes, protects_fetches=script.protects_fetches)
+            wanted = trace_of(carried_out(recording, "\n".join(script.lines).encode()))
+            self.expect(f"the trace of seed {seed}", wanted.encode(), self.file(f"{seed}.csv"))
+
     def faults(self):
         kept = b"as it was, and longer than what is saved"
         (self.folder / "kept").write_bytes(kept)
@@ -244,7 +349,8 @@ def main():
     options = parser.parse_args()
     with tempfile.TemporaryDirectory() as folder:
         cases = Cases(options.program.resolve(), pathlib.Path(folder))
-        for part in (cases.printer, cases.punch, cases.console, cases.tapes, cases.faults):
+        parts = (cases.printer, cases.punch, cases.console, cases.tapes, cases.traces, cases.traces_made_twice, cases.faults)
+        for part in parts:
             try:
                 part()
             except (OSError, ValueError, subprocess.TimeoutExpired) as fault:

@@ -12,7 +12,9 @@ before K, the event of K is run again
     event has the same shape;
   - after a patch of a source: over all sessions at least one of the patches has to alter the value
     that P gets, for each operation that can show it and that was tried so many times;
-  - after patches of one or more places that are no deciders: the event has to have the same shape.
+  - after patches of one or more places that are no deciders: the event has to have the same shape;
+  - after patches of a few places that K did not store into, and of which `readers` does not tell K: the event has to have the
+    same shape and to alter what it altered to the same values.
 
 The second target leads the way: it is asked all this, and finds the shape of an event
 (`second/shapes.py`). s360gdb then gets all packets of the session at once, and each of its answers
@@ -164,6 +166,7 @@ class Experiments:
             self.go_to(number - 1)
             found = shape(self.machine, change.event[0])
             if self.random.random() < TRIED.get(found.name.split()[0], 1):
+                self.try_readers(number, change, found)
                 for place in self.random.sample(change.places, min(PLACES, len(change.places))):
                     self.try_place(number, change, place, found)
         counts = self.passed, self.excused, self.shapes
@@ -215,6 +218,25 @@ class Experiments:
             _, _, value_then = self.run_again(number, change.event, place, [source])
             self.of_sources[found.name] += 1
             self.altered[found.name] += value_then != value
+
+    def try_readers(self, number, change, found):
+        """Of a change whose event has a shape."""
+        self.go_to(number)
+        values = {place: self.value(place) for place in change.places}
+        near = [*change.places, *(at for place in change.places[:1] for at in self.operands(found, place))]
+        beside = {place for place in self.beside(near or ["p"]) if self.can_be_patched(place)} - change.noted.keys()
+        some = self.random.sample(sorted(beside), min(MOST_NEAR, len(beside)))
+        others = [place for place in some if not self.say(f"readers {words(place)} 1")[0].startswith(f"{number} ")]
+        patches, shape_then = self.patched(number, change.event, others[:TRIES])
+        self.say(line_of(change.event))
+        values_then = {place: self.value(place) for place in change.places}
+        if (shape_then, values_then) == (found, values):
+            self.passed += 1
+        else:
+            self.faults.append(
+                f"seed {self.seed}: change {number}, {found.name}, is no reader of what is patched; it was {found} {values},"
+                f" and is {shape_then} {values_then} after {', '.join(patches)}"
+            )
 
     def run_again(self, number, event, place, others):
         """An event is run again after patches of other places: the patches, the shape of the event,

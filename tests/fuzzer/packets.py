@@ -27,8 +27,11 @@ LINES += ["jumps", "jumps", "calls", "calls", "calls", "visits", "visits 200"]
 LINES += ["patch k 200 3", "patch f 200 1", "patch f 1000 1"]
 LINES = [line.encode() for line in LINES]
 SAVED = [b"printer", b"printer", b"printer", b"console", b"console", b"punch", b"P1", b"P2", b"RP3"]
-SAVED += [b"tape0", b"tape1", b"x", b""]
+SAVED += [b"tape0", b"tape1", b"x", b"", b"trace", b"trace", b"trace"]
 FILES = [b"a", b"a", b"b c", b" b  c", b"no/a", b"..", b"/dev/null", b"/dev/full", b""]
+# What may stand behind the name of a trace's file, and what of that is no part of the name.
+RANGES = [b"", b"", b"", b" 3 9", b"  1   5 ", b" 40 60", b" 2 10000000"]
+MORE_OF_A_NAME = [b" 9 3", b" 0 5", b" 7", b" 1 10000001", b"3 9"]
 NAMED = ["p", "run", "ext"]
 PLACES = ["p", "run", "ext", "u 00C", "u 00E", "d 00C", "d 01F", "k 200", "u 999"]
 # How often a kind of request is made.
@@ -73,7 +76,7 @@ class Requests(random.Random):
                 bytes([0x47, self.randrange(16) << 4, *at]),
                 bytes([0x92, self.randrange(256), *at]),
                 bytes([0xD2, self.randrange(8), *at, DATA >> 8, self.randrange(64)]),
-                bytes([0x0A, self.randrange(256)]),
+                bytes([0x0A, self.choice([self.randrange(4), self.randrange(256)])]),
                 bytes([self.choice(START_AND_TEST), 0, 0, self.choice([READER, PRINTER, CONSOLE])]),
                 self.randbytes(2),
             ]
@@ -162,28 +165,38 @@ class Requests(random.Random):
         return b"qRcmd," + self.choice(lines).hex().encode()
 
     def savings(self):
-        words = [[b"save", b"save!"], SAVED, FILES]
-        return [b" ".join(map(self.choice, words)) for _ in range(24)]
+        return [self.saving() for _ in range(24)]
+
+    def saving(self):
+        word, what, file = map(self.choice, ([b"save", b"save!"], SAVED, FILES))
+        ends = RANGES if what == b"trace" else [b""]
+        # No other file of /dev is named.
+        ends = ends if b"/dev" in file else [*ends, *MORE_OF_A_NAME]
+        return b" ".join([word, what, file]) + self.choice(ends)
 
     def inquiries(self):
         at, number = self.address() % (1 << 24), self.randrange(1, 30)
         place = self.choice([*PLACES, f"s {at:X}", f"k {at:X}", f"r {number % 4}"]).encode()
-        places = [b"who %s" % place, b"changes %s" % place, b"changes %s %d" % (place, number)]
+        places = [b"who %s" % place, b"changes %s" % place, b"changes %s %d" % (place, number), b"stores %s %d" % (place, number)]
+        places += [b"readers %s" % place, b"uses %s %d" % (place, number), b"count %s" % place, b"readers %s" % self.altered()]
+        places += [b"%s s %X-%X" % (self.choice([b"stores", b"readers", b"count"]), at, at + self.randrange(-1, 64))]
         numbers = [b"goto %d" % number, b"history %d" % number, b"dump %X %d" % (at, number)]
-        visits = [b"visits %X" % self.code(), b"visits %X %d" % (at, number), b"jumps %d" % number]
+        visits = [b"visits %X" % self.code(), b"visits %X %d" % (at, number), b"jumps %d" % number, b"visits svc %X" % (number % 4)]
         item = b"%s %d" % (self.choice([b"00C", b"00E", b"00E", b"01F", b"180", b"999"]), number % 4)
         items = [b"who m %s" % item, b"dump m %s" % item]
         return places * 3 + numbers * 2 + visits * 2 + items
 
     def why(self):
-        """Of a place that a change altered, most of them by the CPU, or of any that has a name."""
+        depth = self.choice(["", *range(7), self.choice([7, 30, 100, 101, "x"])])
+        return b"qRcmd," + (b"why %s %s" % (self.altered(), str(depth).encode())).hex().encode()
+
+    def altered(self):
+        """A place that a change altered, most of them by the CPU, or any that has a name."""
         altering = [change for change in self.changes if change.places]
         by_cpu = [change for change in altering if change.event[0] == "cpu"]
         some = by_cpu if by_cpu and self.random() < 0.7 else altering
         place = self.choice(self.choice(some).places if some else NAMED)
-        words = place if place in NAMED else f"{place[0]} {place[1:]}"
-        depth = self.choice(["", *range(7), self.choice([7, 30, 100, 101, "x"])])
-        return b"qRcmd," + f"why {words} {depth}".encode().hex().encode()
+        return (place if place in NAMED else f"{place[0]} {place[1:]}").encode()
 
     def storage(self):
         return b"m%x,%x" % (self.address(), self.count())

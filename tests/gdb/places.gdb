@@ -20,6 +20,18 @@ changes r 3
 changes *(char*)&RDCCW 1
 changes $pc 1
 changes u 00C 1
+# the deck stores the field's zeros, and the first card is counted in all of its bytes
+stores COUNT
+stores COUNT 1
+stores $r3 1
+# what was made of them since: nothing yet of COUNT, and of the first blank a moment later a line of them
+readers COUNT
+goto 26
+readers LINE+0
+uses LINE+0 1
+readers $r3
+visits svc 5
+goto 25
 who k 0
 history 3
 history 1
@@ -52,6 +64,7 @@ who m 00E 4
 goto last
 dump m 00E 4
 units
+where
 save printer list
 save printer list
 save printer -overwrite list

@@ -23,6 +23,9 @@ shell cat typed
 monitor save punch cards
 monitor save tape0 tape
 shell wc -c < tape
+# What the first change did
+monitor save trace first 1 1
+shell tail -1 first
 # What is wrong is told, and nothing is saved
 monitor save
 monitor save reader list

@@ -13,6 +13,12 @@ dump 0x200 0
 dump TOTL 4
 changes COUNT 0
 why COUNT 101
+stores
+stores TOTL
+stores COUNT 1001
+readers
+readers COUNT 0
+uses TOTL
 who *(char*)0xFFFFFF
 who m 00E
 who m 00E 0
@@ -32,6 +38,7 @@ tick 5
 withdraw
 withdraw 7
 units all
+where all
 save printer
 save tape9 file
 save printer nowhere/list

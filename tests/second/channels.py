@@ -267,6 +267,8 @@ class Channels(Core):
             program = program._replace(command=ccw.command, moved=0, gathered=b"")
         kind, record = begun(self.device(unit), program.command)
         if kind == NOT_YET:
+            # The unit stays as it is, and so is what is stored of it.
+            self.put_unit(unit, self.unit(unit))
             return
         if kind == INPUT:
             left = len(record) - program.moved

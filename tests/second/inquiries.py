@@ -5,13 +5,15 @@ Source: docs/reference/gdb.md.
 import itertools
 import re
 
-from .causes import Causes
+from .causes import Causes, is_next, order_of
 from .channels import LOAD, UNITS, Program
 from .core import ADDRESSES, BLOCK
+from .deciders import deciders
 from .devices import SHOWN
-from .jumps import Jumps
-from .lines import ADDRESS, COUNT, PLACES, TOO_LONG, UNIT, UNKNOWN, count_up_to, fault_of
+from .jumps import Jumps, jump_of
+from .lines import ADDRESS, COUNT, PLACES, TOO_LONG, UNIT, UNKNOWN, count_up_to, fault_of, written_as
 from .machine import OPERATING
+from .sources import sources
 
 CHANGES_TOLD, DEPTH_TOLD = b"10", b"5"
 MOST_DUMPED, MOST_DEPTH, MOST_CAUSES, MOST_TOLD = 1_048_576, 100, 1000, 1000
@@ -36,23 +38,47 @@ MNEMONICS = {
 NO_INSTRUCTION = "stopped|loading|interrupted|waits"
 # What is meant where a line with a place has no number behind it.
 # Lines about a place.
-ABOUT_A_PLACE = (b"who", b"why", b"changes")
-MEANT = {b"changes": CHANGES_TOLD, b"why": DEPTH_TOLD}
+ABOUT_A_PLACE = (b"who", b"why", b"changes", b"stores", b"readers", b"uses", b"count")
+MEANT = {b"changes": CHANGES_TOLD, b"stores": CHANGES_TOLD, b"readers": CHANGES_TOLD, b"uses": CHANGES_TOLD, b"why": DEPTH_TOLD}
+
+
+
+def is_range(word):
+    """Whether a word names a byte, or bytes from one address to another that is not lower."""
+    first, dash, last = word.partition(b"-")
+    return ADDRESS(first) and (not dash or ADDRESS(last) and int(first, 16) <= int(last, 16))
 
 
 ITEM = {b"m": (UNIT, COUNT)}
+def runs_of(places):
+    """Places in their order, with successive bytes together."""
+    runs = []
+    for place in sorted(places, key=order_of):
+        if runs and is_next(runs[-1][-1], place):
+            runs[-1].append(place)
+        else:
+            runs.append([place])
+    return runs
+
+
 FORMS = {b"who": PLACES | ITEM, b"units": (), b"where": (), b"history": (COUNT,), b"jumps": (count_up_to(MOST_TOLD),)}
 FORMS |= {b"calls": ()}
 FORMS |= {b"goto": (lambda word: word in NAMED_MARKS or COUNT(word),)}
 FORMS |= {b"changes": {kind: (*form, COUNT) for kind, form in PLACES.items()}}
 FORMS |= {b"why": {kind: (*form, count_up_to(MOST_DEPTH)) for kind, form in PLACES.items()}}
+OF_AN_EXTENT = {kind: (*form, count_up_to(MOST_TOLD)) for kind, form in (PLACES | {b"s": (is_range,)}).items()}
+FORMS |= dict.fromkeys((b"stores", b"readers", b"uses"), OF_AN_EXTENT) | {b"count": PLACES | {b"s": (is_range,)}}
 FORMS |= {b"dump": (ADDRESS, count_up_to(MOST_DUMPED)), b"visits": (ADDRESS, count_up_to(MOST_TOLD))}
+CALL_CODE = written_as(rb"[0-9A-Fa-f]{1,2}")
+# Lines whose second word says that another form is meant.
+OTHERS = {(b"dump", b"m"): ITEM, (b"visits", b"svc"): {b"svc": (CALL_CODE, count_up_to(MOST_TOLD))}}
 
 
 def words_of(line):
     """The words of a line, with the number that is meant where one that may have it has none."""
     words = list(filter(None, line.split(b" ")))
-    if words in ([b"history"], [b"jumps"]) or len(words) == 2 and words[0] == b"visits":
+    visited = words[1:] if words[:1] == [b"visits"] else []
+    if words in ([b"history"], [b"jumps"]) or visited and len(visited) == 1 + (visited[0] == b"svc"):
         return [*words, CHANGES_TOLD]
     meant = MEANT.get(words[0]) if words else None
     place = PLACES.get(words[1]) if meant and len(words) > 1 else None
@@ -81,14 +107,15 @@ class Inquiries:
     def answers(self, line):
         """The lines that answer a line, or nothing if it is no inquiry."""
         words = words_of(line)
-        forms = FORMS | {b"dump": ITEM} if words[:2] == [b"dump", b"m"] else FORMS
+        other = OTHERS.get(tuple(words[:2]))
+        forms = FORMS | {words[0]: other} if other else FORMS
         fault = fault_of(b" ".join(words), forms) if words else UNKNOWN
         if fault == UNKNOWN or fault_of(line, FORMS) == TOO_LONG:
             return None
         if fault:
             return [fault]
         name, *rest = (word.decode() for word in words)
-        if words[0] in ABOUT_A_PLACE and words[1] in (b"s", b"k") and int(words[2], 16) >= self.machine.size:
+        if words[0] in ABOUT_A_PLACE and words[1] in (b"s", b"k") and int(words[2].split(b"-")[-1], 16) >= self.machine.size:
             return ["? argument 2"]
         stands = self.standing
         answers = getattr(self, f"answer_{name}")(*rest)
@@ -162,10 +189,87 @@ class Inquiries:
 
     def answer_changes(self, *words):
         place, stands = self.recording.place_of(*words[:-1]), self.standing
-        numbers = self.numbers_of(place)[-int(words[-1]) :]
-        lines = [line for number in numbers for line in self.told(place, number)]
+        asked = self.numbers_of(place)[-int(words[-1]) :]
+        lines = [line for number in asked[-MOST_TOLD:] for line in self.told(place, number)]
         self.go_to(stands)
+        if len(asked) > MOST_TOLD:
+            lines.append("and more")
         return lines or ["changes none"]
+
+    def answer_count(self, kind, *place):
+        asked = self.asked(kind, *place)
+        return [f"changes {sum(not asked.isdisjoint(change.places) for change in self.recording.changes)}"]
+
+    # Stores, also of an equal value.
+
+    def answer_stores(self, kind, *words):
+        *place, most = words
+        asked, stands = self.asked(kind, *place), self.standing
+        changes = enumerate(self.recording.changes, 1)
+        numbers = [number for number, change in changes if not asked.isdisjoint(change.noted)]
+        lines = [line for number in numbers[-int(most) :] for line in self.stored(number, asked)]
+        self.go_to(stands)
+        return lines or ["stores none"]
+
+    def asked(self, kind, word=""):
+        """The places that words name."""
+        if kind != "s":
+            return {self.recording.place_of(kind, word)}
+        first, _, last = word.partition("-")
+        return {f"s{at:06X}" for at in range(int(first, 16), int(last or first, 16) + 1)}
+
+    def stored(self, number, asked):
+        """Both lines of a store: of bytes those from the first to the last."""
+        self.go_to(number)
+        change = self.recording.changes[-1]
+        places = sorted(asked & change.noted.keys())
+        after, sign = self.run_of(places), "=" if asked.isdisjoint(change.places) else "->"
+        self.go_to(number - 1)
+        name = places[0] if places[0] == places[-1] else f"{places[0]}-{places[-1][1:]}"
+        return [f"{number} {self.happening(change.event[0])}", f"{name} {self.run_of(places)} {sign} {after}"]
+
+    def run_of(self, places):
+        """The values from the first to the last of some bytes, of which sixteen are told, or of one place."""
+        if places[0] == places[-1]:
+            return self.value(places[0])
+        first, last = int(places[0][1:], 16), int(places[-1][1:], 16)
+        shown = self.machine.run_of_bytes(first, min(last + 1 - first, 16)).hex().upper()
+        return f"{shown}.." if last + 1 - first > 16 else shown
+
+    # Readers: events that read places which nothing has stored into since.
+
+    def answer_readers(self, kind, *words):
+        *place, most = words
+        asked, stands, found = self.asked(kind, *place), self.standing, []
+        while self.standing and len(found) < int(most):
+            change = self.recording.changes[-1]
+            if not asked.isdisjoint(change.noted):
+                break
+            self.go_to(self.standing - 1)
+            if lines := self.read(change, asked):
+                found[:0] = [lines]
+        self.go_to(stands)
+        return [line for lines in found for line in lines] or ["readers none"]
+
+    answer_uses = answer_readers
+
+    def read(self, change, asked):
+        """The lines of an event that reads one of some places; nothing of any other. The recording stands just before it."""
+        name, fields = change.event
+        made_of = sources(self.machine, name, fields)
+        made = [place for place in change.noted if not asked.isdisjoint(made_of.get(place, [place]))]
+        if not made and asked.isdisjoint(deciders(self.machine, name)):
+            return []
+        before = self.standing
+        event = f"{before + 1} {self.happening(name)}"
+        self.go_to(before + 1)
+        lines = [self.made(run) for run in runs_of(made)] or ["decides"]
+        self.go_to(before)
+        return [event, *lines]
+
+    def made(self, places):
+        name = places[0] if places[0] == places[-1] else f"{places[0]}-{places[-1][1:]}"
+        return f"{name} {self.run_of(places)}"
 
     def answer_why(self, *words):
         place, stands = self.recording.place_of(*words[:-1]), self.standing
@@ -189,9 +293,11 @@ class Inquiries:
 
     # Visits of an address.
 
-    def answer_visits(self, address, most):
-        stands, at = self.standing, int(address, 16)
-        numbers = [number for number in range(1, stands + 1) if self.is_visit(number, at)]
+    def answer_visits(self, *words):
+        *visited, most = words
+        stands, at = self.standing, int(visited[-1], 16)
+        holds = self.is_supervisor_call if len(visited) > 1 else self.is_visit
+        numbers = [number for number in range(1, stands + 1) if holds(number, at)]
         befores = [None, *numbers]
         lines = [self.visit(*visit) for visit in list(zip(befores, numbers))[-int(most) :]]
         self.go_to(stands)
@@ -210,6 +316,12 @@ class Inquiries:
             return False
         ccw = self.machine.ccw_at(program.at)
         return program.at == at or bool(ccw and ccw.transfers and ccw.data == at)
+
+    def is_supervisor_call(self, number, code):
+        """Whether the event of a change is one with a code, also by EXECUTE; the recording is left just before it."""
+        self.go_to(number - 1)
+        jump = jump_of(self.machine) if self.recording.later[-1].event[0] == "cpu" else None
+        return jump is not None and jump.words == f" interrupted svc {code:02X}"
 
     def visit(self, before, number):
         """The line of a visit, with the registers that were altered since the one before."""

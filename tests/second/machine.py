@@ -74,14 +74,13 @@ class Machine(Logical, Channels):
         before = signed(self.number(TIMER, 4))
         after = signed(before - 256)
         self.put_bytes(TIMER, (after % WORD).to_bytes(4, "big"))
-        if before >= 0 > after:
-            self.put("ext", self.value("ext") | TIMER_PENDING)
+        self.put("ext", self.value("ext") | (TIMER_PENDING if before >= 0 > after else 0))
 
     def press(self, key):
         is_loading = isinstance(self.value("run"), Loading)
         if key in ("start", "stop"):
-            if not is_loading:
-                self.put("run", OPERATING if key == "start" else STOPPED)
+            state = OPERATING if key == "start" else STOPPED
+            self.put("run", self.value("run") if is_loading else state)
         elif key == "reset":
             self.put("run", STOPPED)
             self.put("ext", 0)

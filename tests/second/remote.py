@@ -7,10 +7,11 @@ import re
 from .channels import UNITS, Program
 from .conditions import conditions_in, holds
 from .core import WORD
-from .debugger import MOST_PATCHED, Debugger
+from .debugger import MOST_PATCHED
 from .inquiries import Inquiries
 from .lines import fault_of
 from .machine import OPERATING
+from .recording import Recording
 from .savings import Savings
 
 MEMORY, ADDRESS, MALFORMED, FULL = b"E0c", b"E0e", b"E16", b"E1c"
@@ -68,8 +69,12 @@ HELP = [
     "goto N, goto start, goto end, goto last: goes to just after change N, to either end, to where"
     " one stood before",
     "changes P, changes P N: the last 10 or N changes of a place",
+    "stores P, stores P N, stores s A-B, stores s A-B N: the last 10 or N stores into a place or bytes, also of an equal value",
+    "readers P, readers P N, readers s A-B, readers s A-B N: the last 10 or N events that read it since the last store there",
+    "uses P, uses P N, uses s A-B, uses s A-B N: the same",
+    "count P, count s A-B: how many changes altered it",
     "history, history N: the last 10 or N changes",
-    "visits A, visits A N: the last 10 or N events that executed what is at an address",
+    "visits A, visits A N, visits svc I, visits svc I N: the last 10 or N events that executed what is at an address, or this SVC",
     "jumps, jumps N: the last 10 or N branches and interruptions",
     "calls: the calls that have not returned, the innermost first",
     "dump A N: bytes of storage with their signs",
@@ -81,6 +86,7 @@ HELP = [
     " all or those of a stacker",
     "save console FILE: saves what the console typed, and the lines that were entered",
     "save tape0 FILE, save tape1 FILE: saves the file of a tape",
+    "save trace FILE: saves what each change did; FROM and TO behind FILE say from which to which",
     "save! WHAT FILE: writes over a file that is there",
 ]
 
@@ -111,56 +117,6 @@ def description():
 
 class Endless(Exception):
     """The machine does not pause within so many events."""
-
-
-class Recording(Debugger):
-    """A debugger whose events stay recorded once they are taken back.
-
-    An event of a change is its name and its fields, since two patches of one kind may differ."""
-
-    def __init__(self, *media, **options):
-        super().__init__(*media, **options)
-        self.later = []  # changes that were taken back, the next one last
-        self.fields = ()
-        self.dropped = 0
-
-    def happen(self, event, act):
-        event = event if isinstance(event, tuple) else (event, self.fields)
-        if self.later and self.later[-1].event == event:
-            self.later.pop()
-        else:
-            self.dropped += len(self.later)
-            self.later.clear()
-        super().happen(event, act)
-
-    def take_back(self):
-        self.later.append(self.changes[-1])
-        return super().take_back()[0]
-
-    def answer_patch(self, kind, *words):
-        digits = words[-1].lower()
-        value = digits if kind == "s" else int(digits, 16)
-        fields = *(int(word, 16) for word in words[:-1]), value
-        return self.with_fields(fields, super().answer_patch, kind, *words)
-
-    def answer_enter(self, text):
-        return self.with_fields((text,), super().answer_enter, text)
-
-    def with_fields(self, fields, answer, *words):
-        """Answers a line whose event, if it isn't refused, has these fields."""
-        self.fields = fields
-        try:
-            return answer(*words)
-        finally:
-            self.fields = ()
-
-    def answer_withdraw(self, count):
-        rest, self.later = self.later, []
-        answer = super().answer_withdraw(count)
-        is_withdrawn = answer != ["no such change"]
-        self.later = [] if is_withdrawn else rest
-        self.dropped = len(rest) if is_withdrawn else 0
-        return answer
 
 
 class Target:
@@ -444,7 +400,7 @@ class Target:
         line = bytes.fromhex(digits.decode())
         standing = len(self.recording.changes)
         self.recording.dropped = 0
-        asked = self.savings.answers(line, self.machine) or self.inquiries.answers(line)
+        asked = self.savings.answers(line, self.inquiries) or self.inquiries.answers(line)
         answers = HELP if line == b"help" else asked or self.answers_to(line)
         self.is_moved = len(self.recording.changes) != standing
         if self.recording.dropped:

@@ -6,11 +6,15 @@ import re
 
 from .channels import CONSOLE, PRINTER, PUNCH, TAPES
 from .devices import PUNCH_STACKERS, SHOWN
-from .lines import LONGEST_LINE, argument
+from .lines import COUNT, LONGEST_LINE, argument
 from .tapes import image_of
+from .traces import Trace
 
 # A word that saves, the word for what, and the name of the file.
 LINE = re.compile(rb" *(save!?)(?: +([^ ]+))?(?: +([^ ].*))? *", re.DOTALL)
+# The name of a file and two numbers behind it.
+RANGE = re.compile(rb"(.*?) *(?:(?<= )|^)([0-9]+) +([0-9]+) *", re.DOTALL)
+TRACE = b"trace"
 TAKES_ALL, TAKES_NONE = b"/dev/null", b"/dev/full"
 FOLDERS = (b".", b"..")
 FORM_FEED, CARRIAGE_RETURN, LINE_FEED = "\f", "\r", "\n"
@@ -53,6 +57,18 @@ def tape_of(machine, unit):
     return image, f"{len(image)} byte"
 
 
+def parted(name):
+    """The name of a trace's file, and the first and the last number of what it has, if the line says that."""
+    found = RANGE.fullmatch(name)
+    is_range = found and all(map(COUNT, found.groups()[1:])) and int(found[2]) <= int(found[3])
+    return (found[1], int(found[2]), int(found[3])) if is_range else (name,)
+
+
+def trace_of(inquiries, *span):
+    text = Trace(inquiries).text(*span)
+    return text.encode(), f"{text.count(LINE_FEED)} line"
+
+
 SAVED = {b"printer": pages_of, b"punch": cards_of, b"console": console_of}
 SAVED |= {
     stacker.encode(): lambda machine, stacker=stacker: cards_of(machine, [stacker])
@@ -73,19 +89,20 @@ class Savings:
     def __init__(self):
         self.files = {}
 
-    def answers(self, line, machine):
+    def answers(self, line, inquiries):
         """The lines that answer a line, or nothing if it saves nothing."""
         found = LINE.fullmatch(line)
         if found is None or len(line) > LONGEST_LINE:
             return None
-        word, what, name = found.groups()
-        if what not in SAVED:
+        word, what, name = found.groups(default=b"")
+        if what not in (*SAVED, TRACE):
             return [argument(1)]
-        if name is None:
+        name, *span = parted(name) if what == TRACE else (name,)
+        if not name:
             return [argument(2)]
         if word == b"save" and name in (*self.files, TAKES_ALL, TAKES_NONE, *FOLDERS):
             return ["not saved: file exists"]
-        contents, amount = SAVED[what](machine)
+        contents, amount = trace_of(inquiries, *span) if what == TRACE else SAVED[what](inquiries.machine)
         if name == TAKES_NONE and contents:
             return ["not saved: write failed"]
         if name not in (TAKES_ALL, TAKES_NONE):

@@ -15,13 +15,15 @@ gdb.execute(f"source {FOLDER / 's360.gdb'}")
 from s360_command import Command, refuse  # noqa: E402
 from s360_machine import machine, show, standing, told  # noqa: E402
 from s360_over import Out, Over, ReverseOut, ReverseOver  # noqa: E402
-from s360_places import MONITOR_ITEM, Change, bytes_of, changes_of, places_of, places_of_value, show_change, with_count  # noqa: E402
-from s360_printed import MOST_CHANGES, print_of  # noqa: E402
+from s360_places import MONITOR_ITEM, MOST_TOLD, Change, bytes_of, changes_of, count_of, extent_of  # noqa: E402
+from s360_places import places_of, places_of_value, show_change, with_count  # noqa: E402
+from s360_printed import print_of  # noqa: E402
 
 DUMPED, FOLLOWED, TOLD = 64, 5, 10
 UNITS = ("00C", "00D", "00E", "01F", "180", "181")
 # What is asked of the printer.
 PRINTED = re.compile(r"line (?P<line>\d+) column (?P<column>\d+)(?: page (?P<page>\d+))?")
+SUPERVISOR_CALL = re.compile(r"svc\s+\w.*")
 MARK = re.compile(r"[A-Za-z_]\w*")
 COUNT = re.compile(r"\$_change\b")
 
@@ -85,15 +87,43 @@ class Changes(Command):
     """Tell the last changes of a place, the oldest first.
 Usage: changes EXPRESSION [COUNT]
 
-Ten, or as many as told."""
+Ten, or as many as told; of more than a thousand the last ones."""
 
     def carry_out(self, words: str) -> None:
         expression, count = with_count(words)
-        found = changes_of(places_of(expression), TOLD if count is None else count)
+        places = places_of(expression)
+        found = changes_of(places, TOLD if count is None else count)
         for change in found:
             show_change(change)
         if not found:
             gdb.write("changes none\n")
+        elif len(found) == MOST_TOLD != count and count_of(places) > MOST_TOLD:
+            gdb.write("and more\n")
+
+
+class Stores(Command):
+    """Tell the last stores into a place, the oldest first, also those of an equal value.
+Usage: stores EXPRESSION [COUNT]
+
+Ten, or as many as told. Between the values stands = where they are the same."""
+
+    def carry_out(self, words: str) -> None:
+        expression, count = with_count(words)
+        line = type(self).__name__.lower()
+        show(told(f"{line} {extent_of(places_of(expression))} {TOLD if count is None else count}"))
+
+
+class Readers(Stores):
+    """Tell the last events that read a place since the last store there, the oldest first.
+Usage: readers EXPRESSION [COUNT]
+
+Ten, or as many as told: each with what it made of the place, or that the place decided
+what it does."""
+
+
+class Uses(Readers):
+    """Tell the last events that read a place since the last store there, as `readers` does.
+Usage: uses EXPRESSION [COUNT]"""
 
 
 class History(Command):
@@ -111,11 +141,16 @@ Ten, or as many as told."""
 class Visits(Command):
     """Tell the last times that what stands at an address was executed, the oldest first.
 Usage: visits EXPRESSION [COUNT]
+       visits svc CODE [COUNT]
 
-Ten, or as many as told: of an instruction by the CPU, of a command word by a channel.
+Ten, or as many as told: of an instruction by the CPU, of a command word by a channel;
+or of SVC with a code of two digits.
 Behind each stand the registers that were altered since the one before."""
 
     def carry_out(self, words: str) -> None:
+        if SUPERVISOR_CALL.fullmatch(words):
+            show(told(f"visits {words}"))
+            return
         expression, count = with_count(words)
         if not expression:
             raise gdb.GdbError("Argument required (an address).")
@@ -148,6 +183,20 @@ Each BAL, BALR and SVC, with where it goes on and its link."""
     def carry_out(self, words: str) -> None:
         refuse(words)
         show(told("calls"))
+
+
+class Where(Command):
+    """Tell where the machine stands: how many changes stand, and what the CPU does next.
+Usage: where
+
+Also the last interruption, the PSW, and what is pending. A machine has no callers for a
+backtrace, which is bt; see calls."""
+
+    completion = gdb.COMPLETE_NONE
+
+    def carry_out(self, words: str) -> None:
+        refuse(words)
+        show(told("where"))
 
 
 class Dump(Command):
@@ -233,7 +282,7 @@ Usage: withdraw NUMBER"""
 
 
 class Save(gdb.Command):
-    """Save what a unit has at this moment in a file.
+    """Save what a unit has at this moment, or what each change did, in a file.
 Usage: save WHAT [-overwrite] FILE"""
 
     KINDS = {
@@ -245,6 +294,7 @@ Usage: save WHAT [-overwrite] FILE"""
         "console": "what the console typed, and the lines that were entered",
         "tape0": "the tape of unit 180",
         "tape1": "the tape of unit 181",
+        "trace": "what each change did, as comma-separated values",
     }
 
     def __init__(self, kind: str) -> None:
@@ -326,7 +376,7 @@ class ChangesOf(gdb.Function):
             places = places_of_value(value)
         else:
             raise gdb.GdbError('A register is named in quotes: $_changes("$r5").')
-        return len(changes_of(places, MOST_CHANGES))
+        return count_of(places)
 
 
 def keep_count(_event: gdb.Event | None = None) -> None:
@@ -341,7 +391,7 @@ def count_in_condition(point: gdb.Breakpoint) -> None:
         point.condition = COUNT.sub("$_changes()", point.condition)
 
 
-for command in (Who, Why, Changes, History, Visits, Jumps, Calls, Dump, Units):
+for command in (Who, Why, Changes, Stores, Readers, Uses, History, Visits, Jumps, Calls, Where, Dump, Units):
     command()
 for command in (Key, Load, Enter, Tick, Withdraw, Marks, Mark, Goto, Over, ReverseOver, Out, ReverseOut):
     command()

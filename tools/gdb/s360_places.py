@@ -8,6 +8,8 @@ from s360_machine import BYTES, label_at, show, told
 
 ADDRESS_BITS = 0xFFFFFF
 MOST_BYTES = 256
+# So many changes of a place are told.
+MOST_TOLD = 1000
 REGISTER = re.compile(r"\$r(\d|1[0-5])")
 PSW = ("$pc", "$pswa", "$pswm", "$cc")
 # A place, an item of a unit and a byte of storage as monitor names them.
@@ -77,6 +79,17 @@ def places_of_value(value: gdb.Value) -> list[str]:
     return [f"s {at:06X}" for at in range(address, address + value.type.sizeof)]
 
 
+def extent_of(places: list[str]) -> str:
+    """Places as one place, or as successive bytes, as monitor names them."""
+    first, last = places[0], places[-1]
+    return first if first == last else f"{first}-{last.partition(' ')[2]}"
+
+
+def count_of(places: list[str]) -> int:
+    """How many standing changes altered places."""
+    return int(told(f"count {extent_of(places)}").split()[1])
+
+
 def with_count(words: str) -> tuple[str, int | None]:
     """An expression, and the number behind it or nothing."""
     found = None if MONITOR_PLACE.fullmatch(words) else COUNTED.fullmatch(words)
@@ -92,7 +105,7 @@ class Change(NamedTuple):
 
 
 def changes_of(places: list[str], count: int) -> list[Change]:
-    """The last standing changes of places, the oldest first."""
+    """The last standing changes of places, the oldest first, and no more than are told of one."""
     found: dict[int, Change] = {}
     for place in places:
         lines = told(f"changes {place} {count}").splitlines()
@@ -101,7 +114,7 @@ def changes_of(places: list[str], count: int) -> list[Change]:
             change = found.setdefault(number, Change(number, event, {}))
             name, _, how = line.partition(" ")
             change.places[name] = how
-    return [found[number] for number in sorted(found)][-count:]
+    return [found[number] for number in sorted(found)][-min(count, MOST_TOLD) :]
 
 
 def run_of(places: dict[str, str]) -> Iterator[str]:

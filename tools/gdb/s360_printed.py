@@ -6,7 +6,6 @@ from s360_machine import standing, told
 from s360_places import Change, changes_of
 
 PRINTER = "00E"
-MOST_CHANGES = 10_000_000
 # No line has more parts.
 MOST_PARTS = 132
 # What is told of a printed line, and of a command word that the channel has carried out.
@@ -40,13 +39,12 @@ def data_printed() -> list[int]:
 
 def print_of(line: int, column: int, page: int | None) -> tuple[Change, int, list[Change]]:
     """The change that printed a sign, of the last page if none is named, the address of its byte, and what changed that before."""
-    number = record_of(line, column, page)
-    prints = changes_of([f"d {PRINTER}"], MOST_CHANGES)
-    change = next(change for change in prints if change.places[f"d{PRINTER}"].endswith(f" records {number}"))
+    item, stood = record_of(line, column, page), standing()
     # Back where it stood, so that `goto last` goes there.
-    stood = standing()
-    told(f"goto {change.number}")
     try:
+        event = told(f"who m {PRINTER} {item}").splitlines()[0]
+        change = Change(int(event.split()[0]), event, {})
+        told(f"goto {change.number}")
         address = data_printed()[column - 1]
         return change, address, changes_of([f"s {address:06X}"], 1)
     finally:

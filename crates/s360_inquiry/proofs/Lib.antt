@@ -1,5 +1,8 @@
 pub mod InquiryLemmas
 pub mod ItemLemmas
+pub mod StoreLemmas
+pub mod ReaderLemmas
+pub mod CountLemmas
 pub mod ExecutedLemmas
 pub mod CallLemmas
 pub mod SearchLemmas

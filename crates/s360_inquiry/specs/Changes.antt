@@ -1,6 +1,6 @@
 -- The changes of a place (own profile): each is told by its number and its event, and by the place with its value before
 -- and after.
-use Rattle.std.specs.Prelude.{ℕ, ◌-◌, Option, Some, None, List, [], ◌∷◌, ◌++◌, codes, drop, length, min, flat_map}
+use Rattle.std.specs.Prelude.{ℕ, ◌-◌, nat_lt, if◌then◌else◌, Option, Some, None, List, [], ◌∷◌, ◌++◌, codes, drop, length, min, flat_map}
 use Rattle.s360_model.specs.Text.{decimal}
 use Rattle.s360_store.specs.declared.place.Place.{Place}
 use Rattle.s360_machine.specs.declared.event_kind.EventKind.{EventKind}
@@ -68,5 +68,15 @@ abbrev pub told_changes : Recorded → Place → List ℕ → List ℕ
 told_changes r place [] = codes "changes none" ++ codes "\n"
 told_changes r place (number ∷ numbers) = flat_map (change_text r place) (number ∷ numbers)
 
+-- so many are told at most
+abbrev pub most_told : ℕ
+most_told = 1000
+
+abbrev pub more_words : List ℕ → List ℕ
+more_words numbers = if nat_lt most_told (length numbers) then codes "and more\n" else []
+
+abbrev pub changes_asked : Recorded → Place → ℕ → List ℕ
+changes_asked r place most = last_of most (changes_of (seen r.start) (standing_events r) place)
+
 abbrev pub changes_text : Recorded → Place → ℕ → List ℕ
-changes_text r place most = told_changes r place (last_of most (changes_of (seen r.start) (standing_events r) place))
+changes_text r place most = told_changes r place (last_of most_told (changes_asked r place most)) ++ more_words (changes_asked r place most)

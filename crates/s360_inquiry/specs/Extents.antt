@@ -14,7 +14,7 @@ use Rattle.s360_inquiry.specs.declared.extent.Extent.{Extent}
 use Rattle.s360_inquiry.specs.declared.extent.Extent.TheVariants.{Bytes, Place as Alone}
 use Rattle.s360_inquiry.specs.Changes.{last_change_in}
 
--- that of a place alone, the first place of one, and all its places
+-- that of a place alone, the first place of one, the last, and all its places
 abbrev pub extent_of : Place → Extent
 extent_of (Byte at) = Bytes at at
 extent_of place = Alone place
@@ -22,6 +22,10 @@ extent_of place = Alone place
 abbrev pub first_place : Extent → Place
 first_place (Bytes first last) = Byte first
 first_place (Alone place) = place
+
+abbrev pub last_place : Extent → Place
+last_place (Bytes first last) = Byte last
+last_place (Alone place) = place
 
 abbrev pub places_of_extent : Extent → List Place
 places_of_extent (Bytes first last) = byte_places first (last + 1 - first)

@@ -1,5 +1,5 @@
 -- The last interruption (own profile), and what its program code means in words (GA22-6821, "Interruptions", program interruption).
-use Rattle.std.specs.Prelude.{ℕ, Bool, true, false, Option, Some, None, List, [], ◌++◌, codes}
+use Rattle.std.specs.Prelude.{ℕ, Bool, true, false, nat_eq, Option, Some, None, List, [], ◌++◌, codes}
 use Rattle.s360_fixed.specs.declared.program_code.ProgramCode.{ProgramCode}
 use Rattle.s360_fixed.specs.declared.program_code.ProgramCode.TheVariants.{Operation, Privileged, Execute, Protection, Addressing, Specification}
 use Rattle.s360_fixed.specs.declared.program_code.ProgramCode.TheVariants.{Data, FixedPointOverflow, FixedPointDivide}
@@ -16,7 +16,15 @@ is_interruption (Some (Program code)) = true
 is_interruption (Some (SupervisorCall code)) = true
 is_interruption other = false
 
--- the change of a number is one
+-- it is a supervisor call with a code
+abbrev pub is_supervisor_call : Option Jump → ℕ → Bool
+is_supervisor_call (Some (SupervisorCall called)) code = nat_eq called code
+is_supervisor_call other code = false
+
+-- the change of a number is such a call, and is an interruption
+abbrev pub calls_supervisor : ℕ → Recorded → ℕ → Bool
+calls_supervisor code r number = is_supervisor_call (jump_of_change r number) code
+
 abbrev pub interrupts : Recorded → ℕ → Bool
 interrupts r number = is_interruption (jump_of_change r number)
 

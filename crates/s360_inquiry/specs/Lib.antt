@@ -11,9 +11,12 @@ pub mod CodeSettings
 pub mod Jumps
 pub mod Interruptions
 pub mod ItemChanges
-pub mod Sought
 pub mod Extents
+pub mod Counts
 pub mod Causes
+pub mod Stores
+pub mod Readers
+pub mod Sought
 pub mod Calls
 pub mod Situations
 pub mod Answers

@@ -24,6 +24,7 @@ use Rattle.s360_journal.specs.Recorded.{Recorded, session_of}
 use Rattle.s360_language.specs.Names.{place_name}
 use Rattle.s360_language.specs.Values.{value_words}
 use Rattle.s360_inquiry.specs.Changes.{just_before, kind_of_change, last_change_in, last_of, machine_after, words_of_change}
+use Rattle.s360_inquiry.specs.Interruptions.{calls_supervisor}
 use Rattle.s360_inquiry.specs.Searches.{numbers_up_to}
 
 abbrev pub is_executing : CpuCase → Bool
@@ -96,5 +97,12 @@ told_visits r most [] = codes "visits none" ++ codes "\n"
 told_visits r most (number ∷ numbers) =
     if nat_lt most (length (number ∷ numbers)) then visit_lines r (Some number) numbers else visit_lines r None (number ∷ numbers)
 
+abbrev pub visits_by : Recorded → (ℕ → Bool) → ℕ → List ℕ
+visits_by r holds most = told_visits r most (last_of (most + 1) (numbers_up_to holds r.standing))
+
+-- those of an address, and supervisor calls with a code
 abbrev pub visits_text : Recorded → ℕ → ℕ → List ℕ
-visits_text r at most = told_visits r most (last_of (most + 1) (numbers_up_to (is_visit at r) r.standing))
+visits_text r at most = visits_by r (is_visit at r) most
+
+abbrev pub supervisor_calls_text : Recorded → ℕ → ℕ → List ℕ
+supervisor_calls_text r code most = visits_by r (calls_supervisor code r) most

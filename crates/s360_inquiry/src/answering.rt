@@ -8,13 +8,16 @@ ghost use Rattle.s360_inquiry.specs.Answers.{told_answer};
 
 use crate::calling::answer_calls;
 use crate::change::{answer_changes, answer_who};
+use crate::counting::answer_count;
 use crate::going::answer_goto;
 use crate::history::answer_history;
 use crate::inquiry::Inquiry;
 use crate::item::{answer_who_item, whole_item};
 use crate::jumping::answer_jumps;
+use crate::readers::answer_readers;
 use crate::situation::{units_of, where_of};
-use crate::visit::answer_visits;
+use crate::storing::answer_stores;
+use crate::visit::{answer_supervisor_calls, answer_visits};
 use crate::why::answer_why;
 use s360_debug::text_of_fault;
 use s360_journal::Session;
@@ -80,6 +83,8 @@ fn asks_outside(storage: &Storage, inquiry: Inquiry) -> bool
         Inquiry::Who(place) | Inquiry::Why { place, .. } | Inquiry::Changes { place, .. } => {
             is_outside(storage, place)
         }
+        Inquiry::Stores { extent, .. } | Inquiry::Readers { extent, .. } | Inquiry::Count(extent) =>
+            is_outside(storage, extent.last()),
         _ => false,
     }
 }
@@ -102,8 +107,14 @@ fn told_answer(
         Inquiry::Why { place, depth } => answer_why(alloc, recording, place, depth),
         Inquiry::Goto(mark) => answer_goto(alloc, recording, stood, mark),
         Inquiry::Changes { place, most } => answer_changes(alloc, recording, place, most),
+        Inquiry::Stores { extent, most } => answer_stores(alloc, recording, extent, most),
+        Inquiry::Readers { extent, most } => answer_readers(alloc, recording, extent, most),
+        Inquiry::Count(extent) => answer_count(alloc, recording, extent),
         Inquiry::History { most } => answer_history(alloc, recording, most),
         Inquiry::Visits { at, most } => answer_visits(alloc, recording, at, most),
+        Inquiry::SupervisorCalls { code, most } => {
+            answer_supervisor_calls(alloc, recording, code, most)
+        }
         Inquiry::Jumps { most } => answer_jumps(alloc, recording, most),
         Inquiry::Calls => answer_calls(alloc, recording),
         Inquiry::Dump { at, count } => dump_of(alloc, recording.machine().storage(), at, count),

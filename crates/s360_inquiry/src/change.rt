@@ -17,6 +17,9 @@ use s360_store::Place;
 use s360_text::Text;
 use std::alloc::{AllocError, Global};
 
+/// So many are told at most.
+pub(crate) const MOST_TOLD: u32 = 1000;
+
 /// Adds the number of an event, and what it is to the machine that it meets.
 pub(crate) fn push_event_of(
     text: &mut Text,
@@ -142,7 +145,8 @@ fn last_of(numbers: &[u32], most: u32) -> &[u32]
     &numbers[numbers.len().saturating_sub(most as usize)..]
 }
 
-/// Tells the last changes of a place, so many at most, the oldest first. The recording stands where it stood.
+/// Tells the last changes of a place, so many at most, the oldest first: of more than a thousand the last ones, and that there are
+/// more. The recording stands where it stood.
 pub(crate) fn answer_changes(
     alloc: Global,
     recording: &mut Session,
@@ -153,8 +157,14 @@ pub(crate) fn answer_changes(
     ensures state { OnOk result (recording.new ≡ recording.old) }
     ensures memory { OnErr result (recording.new ≡ with_standing recording.old recording.new.standing) }
 {
-    let numbers = last_of(recording.changes_of(place), most).to_vec(alloc)?;
-    tell_changes(alloc, recording, place, numbers.as_slice())
+    let asked = last_of(recording.changes_of(place), most);
+    let is_more = asked.len() > MOST_TOLD as usize;
+    let numbers = last_of(asked, MOST_TOLD).to_vec(alloc)?;
+    let mut text = tell_changes(alloc, recording, place, numbers.as_slice())?;
+    if is_more {
+        text.push_text("and more\n")?;
+    }
+    Ok(text)
 }
 
 /// Tells the changes of these numbers.

@@ -3,7 +3,7 @@ ghost use Rattle.std.specs.Prelude.{◌≡◌, ◌+◌, ◌-◌, ◌++◌, IfOk,
 ghost use Rattle.s360_store.specs.Spans.{byte_places};
 ghost use Rattle.s360_machine.specs.Machine.{seen};
 ghost use Rattle.s360_inquiry.specs.Extents.{extent_name, extent_of, extent_words, extents_of, first_place, joined};
-ghost use Rattle.s360_inquiry.specs.Extents.{is_joined, places_of_extent, run_words_of, same_change, with_place};
+ghost use Rattle.s360_inquiry.specs.Extents.{is_joined, last_place, places_of_extent, put_before, run_words_of, same_change, with_place};
 
 use s360_journal::Session;
 use s360_language::{push_digits, push_place, push_value};
@@ -17,7 +17,7 @@ const BYTES_SHOWN: u64 = 16;
 
 /// Places that are told together.
 #[derive(Clone, Copy, PartialEq, Eq)]
-pub(crate) enum Extent {
+pub enum Extent {
     /// The bytes of storage from one address to another.
     Bytes { first: u32, last: u32 },
     /// A place that is no byte.
@@ -26,7 +26,7 @@ pub(crate) enum Extent {
 
 impl Extent {
     /// The extent of a place alone.
-    pub(crate) fn of(place: Place) -> Extent
+    pub fn of(place: Place) -> Extent
         ensures { result ≡ extent_of place }
     {
         match place {
@@ -44,6 +44,16 @@ impl Extent {
     {
         match self {
             Extent::Bytes { first, .. } => Place::Byte(first),
+            Extent::Place(place) => place,
+        }
+    }
+
+    /// Its last place.
+    pub(crate) fn last(self) -> Place
+        ensures { result ≡ last_place self }
+    {
+        match self {
+            Extent::Bytes { last, .. } => Place::Byte(last),
             Extent::Place(place) => place,
         }
     }
@@ -119,7 +129,19 @@ fn put_before(
         extents.push(Extent::of(place))?;
         return Ok(());
     };
-    match joined(recording, place, next) {
+    push_joined(extents, place, joined(recording, place, next), next)
+}
+
+/// Adds a place before the next extent to extents that are listed from the last one on: both together, if they are.
+pub(crate) fn push_joined(
+    extents: &mut Vec<Extent>,
+    place: Place,
+    together: Option<Extent>,
+    next: Extent,
+) -> Result<(), AllocError>
+    ensures { OnOk result (reverse extents.new.items ≡ put_before place together next (reverse extents.old.items)) }
+{
+    match together {
         Some(together) => extents.push(together)?,
         None => {
             extents.push(next)?;
@@ -146,7 +168,7 @@ pub(crate) fn extents_of(
 }
 
 /// Adds the name of an extent: of several bytes the first address and the last.
-pub(crate) fn push_extent(text: &mut Text, extent: Extent) -> Result<(), AllocError>
+pub fn push_extent(text: &mut Text, extent: Extent) -> Result<(), AllocError>
     ensures { OnOk result (text.new ≡ text.old ++ extent_name extent) }
 {
     push_place(text, extent.first())?;

@@ -11,7 +11,7 @@ use std::alloc::{AllocError, Global};
 
 /// Goes to just after the change of a number, or to the end of the record if it has no such change. Want of memory leaves the
 /// recording there, or where it was.
-pub(crate) fn go_to(recording: &mut Session, number: u32) -> Result<(), AllocError>
+pub fn go_to(recording: &mut Session, number: u32) -> Result<(), AllocError>
     ensures state { OnOk result (recording.new ≡ with_standing recording.old (min number (length recording.old.events))) }
     ensures err { OnErr result (recording.new ≡ with_standing recording.old (min number recording.old.standing)) }
 {

@@ -95,7 +95,7 @@ fn push_mnemonic(text: &mut Text, mnemonic: Option<&str>) -> Result<(), AllocErr
 }
 
 /// The bytes of the instruction at an address, without those outside storage.
-fn fetched_bytes(storage: &Storage, at: u32) -> &[u8]
+pub fn fetched_bytes(storage: &Storage, at: u32) -> &[u8]
     requires inside { at < length storage.now.bytes }
     ensures { result.now ≡ fetched_bytes storage.now at }
 {
@@ -180,7 +180,7 @@ fn push_transfer(text: &mut Text, storage: &Storage, ccw: Option<Ccw>) -> Result
 }
 
 /// The command word at an address in whole, if one stands there.
-fn command_word_at(storage: &Storage, at: u32) -> Option<u64>
+pub fn command_word_at(storage: &Storage, at: u32) -> Option<u64>
     ensures { result ≡ command_word_at storage.now at }
 {
     let _ccw = ccw_at(storage, at)?;

@@ -1,4 +1,5 @@
 //! What is asked, one a line.
+use crate::extent::Extent;
 use s360_store::Place;
 use s360_word::Unit;
 
@@ -28,10 +29,18 @@ pub enum Inquiry {
     Goto(Mark),
     /// `changes`: the last changes of a place, so many at most.
     Changes { place: Place, most: u32 },
+    /// `stores`: the last stores into places, so many at most, also where the value stayed.
+    Stores { extent: Extent, most: u32 },
+    /// `readers`: the last events that read places since the last store there, so many at most.
+    Readers { extent: Extent, most: u32 },
+    /// `count`: how many changes altered places.
+    Count(Extent),
     /// `history`: the last changes of any place, so many at most.
     History { most: u32 },
     /// `visits`: the last events that executed what is at an address, so many at most.
     Visits { at: u32, most: u32 },
+    /// `visits svc`: the last supervisor calls with a code, so many at most.
+    SupervisorCalls { code: u8, most: u32 },
     /// `jumps`: the last branches and interruptions, so many at most.
     Jumps { most: u32 },
     /// `calls`: the calls that have not returned.

@@ -2,6 +2,7 @@
 ghost use Rattle.std.specs.Prelude.{◌≡◌, ◌++◌, OnOk, Some as some};
 ghost use Rattle.s360_journal.specs.Recorded.{with_standing};
 ghost use Rattle.s360_inquiry.specs.Interruptions.{exception_name, exception_words, interruption_line, is_interruption};
+ghost use Rattle.s360_inquiry.specs.Interruptions.{is_supervisor_call};
 ghost use Rattle.s360_inquiry.specs.Interruptions.{last_interruption_in};
 
 use crate::jump::Jump;
@@ -19,6 +20,16 @@ pub(crate) fn is_interruption(jump: Option<Jump>) -> bool
     match jump {
         Some(Jump::Interruption | Jump::Program(_) | Jump::SupervisorCall(_)) => true,
         Some(Jump::OnCondition { .. } | Jump::Branch { .. } | Jump::LoadedPsw) | None => false,
+    }
+}
+
+/// Whether a jump, if there is one, is a supervisor call with a code.
+pub(crate) fn is_supervisor_call(jump: Option<Jump>, code: u8) -> bool
+    ensures { result ≡ is_supervisor_call jump code }
+{
+    match jump {
+        Some(Jump::SupervisorCall(called)) => called == code,
+        _ => false,
     }
 }
 

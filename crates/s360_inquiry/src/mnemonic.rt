@@ -4,7 +4,7 @@ ghost use Rattle.std.specs.Option.{option_copied};
 ghost use Rattle.s360_inquiry.specs.Mnemonics.{mnemonic_of};
 
 /// The mnemonic of an operation code, if it is one.
-pub(crate) fn mnemonic_of(code: u8) -> Option<&'static str>
+pub fn mnemonic_of(code: u8) -> Option<&'static str>
     ensures { option_copied result ≡ mnemonic_of code }
 {
     match code {

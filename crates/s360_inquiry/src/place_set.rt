@@ -1,5 +1,5 @@
 //! Places in their order, each once: those that an event makes an extent of, and those that decide the event.
-ghost use Rattle.std.specs.Prelude.{◌≡◌, IfOk, OnOk};
+ghost use Rattle.std.specs.Prelude.{◌≡◌, [], IfOk, OnOk};
 ghost use Rattle.s360_machine.specs.Machine.{seen};
 ghost use Rattle.s360_inquiry.specs.Causes.{places_before, places_deciding, with_places};
 
@@ -37,14 +37,21 @@ pub(crate) fn places_deciding(
 ) -> Result<Vec<Place>, AllocError>
     ensures { IfOk result (λ places. places.items ≡ places_deciding (seen machine.now.whole) event.now) }
 {
-    let mut places = BTreeSet::new(alloc);
     let deciders = deciders(alloc, machine, event)?;
-    insert_each(&mut places, deciders.as_slice())?;
-    list_of(alloc, &places)
+    in_order(alloc, deciders.as_slice())
+}
+
+/// Places in their order, each once. The one error is want of memory.
+pub fn in_order(alloc: Global, places: &[Place]) -> Result<Vec<Place>, AllocError>
+    ensures { IfOk result (λ ordered. ordered.items ≡ with_places [] places.now) }
+{
+    let mut set = BTreeSet::new(alloc);
+    insert_each(&mut set, places)?;
+    list_of(alloc, &set)
 }
 
 /// Adds places, each once.
-fn insert_each(places: &mut BTreeSet<Place>, more: &[Place]) -> Result<(), AllocError>
+pub(crate) fn insert_each(places: &mut BTreeSet<Place>, more: &[Place]) -> Result<(), AllocError>
     ensures { OnOk result (places.new.keys ≡ with_places places.old.keys more.now) }
 {
     for place in more {
@@ -54,7 +61,7 @@ fn insert_each(places: &mut BTreeSet<Place>, more: &[Place]) -> Result<(), Alloc
 }
 
 /// Places as a list.
-fn list_of(alloc: Global, places: &BTreeSet<Place>) -> Result<Vec<Place>, AllocError>
+pub(crate) fn list_of(alloc: Global, places: &BTreeSet<Place>) -> Result<Vec<Place>, AllocError>
     ensures { IfOk result (λ list. list.items ≡ places.now.keys) }
 {
     places.iter().copied().collect(alloc)

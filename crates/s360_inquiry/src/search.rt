@@ -1,14 +1,17 @@
 //! Looks back for the last changes that are sought.
-ghost use Rattle.std.specs.Prelude.{◌≡◌, ◌≤◌, ◌<◌, IfOk, OnErr, OnOk, reverse};
+ghost use Rattle.std.specs.Prelude.{◌≡◌, ◌≤◌, ◌<◌, ◌+◌, IfOk, OnErr, OnOk, reverse};
 ghost use Rattle.s360_journal.specs.Recorded.{with_standing};
 ghost use Rattle.s360_journal.specs.Returning.{one_back};
 ghost use Rattle.s360_inquiry.specs.Changes.{last_of};
-ghost use Rattle.s360_inquiry.specs.Searches.{IsLastFrom, numbers_up_to};
-ghost use Rattle.s360_inquiry.specs.Sought.{is_sought};
+ghost use Rattle.s360_inquiry.specs.Searches.{IsLastFrom};
+ghost use Rattle.s360_inquiry.specs.Sought.{ends, is_sought, numbers_sought};
 
 use crate::code_setting::sets_code;
-use crate::interruption::is_interruption;
+use crate::extent::Extent;
+use crate::interruption::{is_interruption, is_supervisor_call};
 use crate::jump::jump_of;
+use crate::readers::reads_next;
+use crate::storing::span_stored;
 use crate::visit::is_visit;
 use s360_journal::Session;
 use std::alloc::{AllocError, Global};
@@ -24,6 +27,12 @@ pub(crate) enum Sought {
     CodeSettings,
     /// Interruptions.
     Interruptions,
+    /// Supervisor calls with a code.
+    SupervisorCalls(u8),
+    /// Those whose events store into an extent.
+    Stores(Extent),
+    /// Those whose events read an extent, since the last store there.
+    Readers(Extent),
 }
 
 /// Takes the last change back, and answers whether it is sought.
@@ -44,7 +53,29 @@ fn take_back(alloc: Global, recording: &mut Session, sought: Sought) -> Result<b
             Ok(jump) => Ok(is_interruption(jump)),
             Err(error) => Err(error),
         },
+        Sought::SupervisorCalls(code) => match jump_of(alloc, recording.machine(), kind) {
+            Ok(jump) => Ok(is_supervisor_call(jump, code)),
+            Err(error) => Err(error),
+        },
         Sought::CodeSettings => sets_code(alloc, recording.machine(), after, kind),
+        Sought::Stores(extent) => match span_stored(alloc, recording, extent) {
+            Ok(span) => Ok(span.is_some()),
+            Err(error) => Err(error),
+        },
+        Sought::Readers(extent) => reads_next(alloc, recording, extent),
+    }
+}
+
+/// Whether the search ends at the next event of the record.
+fn is_end(alloc: Global, recording: &Session, sought: Sought) -> Result<bool, AllocError>
+    ensures { IfOk result (λ end. end ≡ ends sought recording.now (recording.now.standing + 1)) }
+{
+    match sought {
+        Sought::Readers(extent) => match span_stored(alloc, recording, extent) {
+            Ok(span) => Ok(span.is_some()),
+            Err(error) => Err(error),
+        },
+        _ => Ok(false),
     }
 }
 
@@ -57,14 +88,14 @@ fn turned(mut numbers: Vec<u32>) -> Vec<u32>
 }
 
 /// The numbers of the last changes that are sought, so many at most, ascending. The recording goes back no further than to just
-/// before the first of them.
+/// before the first of them, or the change at which the search ends.
 pub(crate) fn last_numbers(
     alloc: Global,
     recording: &mut Session,
     sought: Sought,
     most: usize,
 ) -> Result<Vec<u32>, AllocError>
-    ensures numbers { IfOk result (λ numbers. numbers.items ≡ last_of most (numbers_up_to (is_sought sought recording.old) recording.old.standing)) }
+    ensures numbers { IfOk result (λ numbers. numbers.items ≡ last_of most (numbers_sought sought recording.old)) }
     ensures state { recording.new ≡ with_standing recording.old recording.new.standing }
 {
     let mut found = Vec::new(alloc);
@@ -72,7 +103,11 @@ pub(crate) fn last_numbers(
         if found.len() == most {
             return Ok(turned(found));
         }
-        if take_back(alloc, recording, sought)? {
+        let is_sought = take_back(alloc, recording, sought)?;
+        if is_end(alloc, recording, sought)? {
+            return Ok(turned(found));
+        }
+        if is_sought {
             found.push(before + 1)?;
         }
     }

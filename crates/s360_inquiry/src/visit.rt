@@ -1,12 +1,14 @@
 //! The visits of an address: the events that execute the instruction or the command word there. Source: GA22-6821, "System
 //! Structure", program execution; "Input/Output Operations", transfer in channel.
-ghost use Rattle.std.specs.Prelude.{◌≡◌, ◌++◌, IfOk, OnErr, OnOk};
+ghost use Rattle.std.specs.Prelude.{◌≡◌, ◌+◌, ◌++◌, IfOk, OnErr, OnOk};
 ghost use Rattle.s360_channel.specs.ConfiguredUnits.{state_at};
 ghost use Rattle.s360_machine.specs.Machine.{seen};
 ghost use Rattle.s360_journal.specs.Recorded.{with_standing};
-ghost use Rattle.s360_inquiry.specs.Changes.{just_before};
+ghost use Rattle.s360_inquiry.specs.Changes.{just_before, last_of};
 ghost use Rattle.s360_inquiry.specs.Visits.{executes_at, goes_on_at, if_event, is_executing, is_since, leads_to, register_since, since_words};
-ghost use Rattle.s360_inquiry.specs.Visits.{state_goes_on_at, told_visits, unit_goes_on_at, visit_line, visit_lines, visits_text};
+ghost use Rattle.s360_inquiry.specs.Sought.{numbers_sought};
+ghost use Rattle.s360_inquiry.specs.Visits.{state_goes_on_at, supervisor_calls_text, told_visits, unit_goes_on_at, visit_line};
+ghost use Rattle.s360_inquiry.specs.Visits.{visit_lines, visits_text};
 
 use crate::change::{go_before, push_event_of};
 use crate::going::go_to;
@@ -195,8 +197,26 @@ fn tell_visits(
     Ok(text)
 }
 
-/// Tells the last visits of an address, so many at most, the oldest first. The recording stands where it stood; want of memory
-/// leaves it at some change.
+/// Tells the last changes that are sought as visits, so many at most, the oldest first. The recording stands where it stood; want
+/// of memory leaves it at some change.
+fn answer_sought(
+    alloc: Global,
+    recording: &mut Session,
+    sought: Sought,
+    most: u32,
+) -> Result<Text, AllocError>
+    ensures text { IfOk result (λ text. text ≡ told_visits recording.old most (last_of (most + 1) (numbers_sought sought recording.old))) }
+    ensures state { OnOk result (recording.new ≡ recording.old) }
+    ensures memory { OnErr result (recording.new ≡ with_standing recording.old recording.new.standing) }
+{
+    let standing = recording.standing();
+    let numbers = last_numbers(alloc, recording, sought, most as usize + 1)?;
+    let text = tell_visits(alloc, recording, most, numbers.as_slice())?;
+    go_to(recording, standing)?;
+    Ok(text)
+}
+
+/// Tells the last visits of an address.
 pub(crate) fn answer_visits(
     alloc: Global,
     recording: &mut Session,
@@ -207,9 +227,19 @@ pub(crate) fn answer_visits(
     ensures state { OnOk result (recording.new ≡ recording.old) }
     ensures memory { OnErr result (recording.new ≡ with_standing recording.old recording.new.standing) }
 {
-    let standing = recording.standing();
-    let numbers = last_numbers(alloc, recording, Sought::Visits(at), most as usize + 1)?;
-    let text = tell_visits(alloc, recording, most, numbers.as_slice())?;
-    go_to(recording, standing)?;
-    Ok(text)
+    answer_sought(alloc, recording, Sought::Visits(at), most)
+}
+
+/// Tells the last supervisor calls with a code.
+pub(crate) fn answer_supervisor_calls(
+    alloc: Global,
+    recording: &mut Session,
+    code: u8,
+    most: u32,
+) -> Result<Text, AllocError>
+    ensures text { IfOk result (λ text. text ≡ supervisor_calls_text recording.old code most) }
+    ensures state { OnOk result (recording.new ≡ recording.old) }
+    ensures memory { OnErr result (recording.new ≡ with_standing recording.old recording.new.standing) }
+{
+    answer_sought(alloc, recording, Sought::SupervisorCalls(code), most)
 }

@@ -1,27 +1,37 @@
 -- Lines of gdb's user: one that saves, and any other.
-use Rattle.std.proofs.Common.{◌≡◌, ◌++◌, ℕ, List, Option, Some, None, Result, sym, subst, IfOk, OnErr}
+use Rattle.std.proofs.Common.{◌≡◌, ◌∙◌, ◌++◌, ℕ, Bool, not, List, Option, Some, None, Result, Ok, Err, ap, refl, sym, subst, IfOk, OnErr, OnOk}
 use Rattle.s360_language.specs.declared.command.LineFault.{LineFault}
 use Rattle.s360_saving.specs.Reading.{Asked}
 use Rattle.s360_remote.specs.Driven.{Driven}
 use Rattle.s360_remote.specs.Replies.{Adds}
-use Rattle.s360_remote.specs.Saving.{IsSavingServed}
-use Rattle.s360_remote.specs.Serving.{IsAnsweredAtOnce, IsBegunAtOnce, IsCommandBegun, IsCommandServed, machine_now, unmoved}
+use Rattle.s360_remote.specs.Saving.{IsSavingBegun, IsSavingServed}
+use Rattle.s360_remote.specs.Serving.{IsAnsweredAtOnce, IsBegunAtOnce, IsCommandBegun, IsCommandServed, unmoved, with_moved}
 use Rattle.s360_remote.specs.declared.serving.Then.{Then}
 use Rattle.s360_remote.specs.declared.serving.Then.TheVariants.{GoOn}
+use Rattle.std.proofs.lemmas.Bool.{eq-eqb}
 use Rattle.std.proofs.lemmas.Result.{IfOk-weaker}
-use Rattle.s360_journal.proofs.RunningLemmas.{OnErr-from}
+
+-- a line after which the target is as it was moved nothing
+stays : (d u : Driven) → u ≡ d → with_moved d u ≡ unmoved d
+stays d u same =
+    ap (λ (x : Driven). with_moved d x) same
+    ∙ ap (λ (b : Bool). record d { untold = record d.untold { moved = not b } }) (eq-eqb d.recorded.standing d.recorded.standing refl)
 
 -- a line that saves was served, and the target is as it was
-pub saved-served : {E : Type 0} (r : Result Then E) (reading : Option (Result Asked LineFault)) (asked : Result Asked LineFault) (line : List ℕ) (d t : Driven) (old new : List ℕ) → t ≡ unmoved d
-    → reading ≡ Some asked → IfOk r (λ next. (packets : List ℕ) × IsSavingServed asked (machine_now t) next packets × (new ≡ old ++ packets))
+pub saved-served : {E : Type 0} (r : Result Then E) (reading : Option (Result Asked LineFault)) (asked : Result Asked LineFault) (line : List ℕ) (d u t : Driven) (old new : List ℕ)
+    → OnOk r (u ≡ d) → t ≡ with_moved d u → reading ≡ Some asked
+    → IfOk r (λ next. (packets : List ℕ) × IsSavingServed asked d.recorded next packets × (new ≡ old ++ packets))
     → IfOk r (λ next. (packets : List ℕ) × IsCommandServed reading line d t next packets × (new ≡ old ++ packets))
-saved-served r reading asked line d t old new same is h =
-    subst (λ o. IfOk r (λ next. (packets : List ℕ) × IsCommandServed o line d t next packets × (new ≡ old ++ packets))) (sym is)
-    (IfOk-weaker r _ _ (λ next g. (g.0, (same, subst (λ (x : Driven). IsSavingServed asked (machine_now x) next g.0) same g.1), g.2)) h)
+saved-served (Ok next) reading asked line d u t old new same moved is h =
+    subst (λ o. (packets : List ℕ) × IsCommandServed o line d t next packets × (new ≡ old ++ packets)) (sym is)
+    (h.0, (moved ∙ stays d u same, h.1), h.2)
+saved-served (Err e) reading asked line d u t old new same moved is h = h
 
-pub saved-begun : {E : Type 0} (r : Result Then E) (reading : Option (Result Asked LineFault)) (asked : Result Asked LineFault) (line : List ℕ) (d t : Driven) → t ≡ unmoved d
-    → reading ≡ Some asked → OnErr r (IsCommandBegun reading line d t)
-saved-begun r reading asked line d t same is = OnErr-from r _ (subst (λ o. IsCommandBegun o line d t) (sym is) same)
+-- or it was begun, and the target stands at some change
+pub saved-begun : {E : Type 0} (r : Result Then E) (reading : Option (Result Asked LineFault)) (asked : Result Asked LineFault) (line : List ℕ) (d u t : Driven)
+    → OnErr r (IsSavingBegun d u) → t ≡ with_moved d u → reading ≡ Some asked → OnErr r (IsCommandBegun reading line d t)
+saved-begun (Ok next) reading asked line d u t begun moved is = begun
+saved-begun (Err e) reading asked line d u t begun moved is = subst (λ o. IsCommandBegun o line d t) (sym is) (u, begun, moved)
 
 -- any other was answered at once
 pub at_once-served : {E : Type 0} (r : Result Then E) (reading : Option (Result Asked LineFault)) (line : List ℕ) (d t : Driven) (old new : List ℕ) → reading ≡ None

@@ -35,7 +35,7 @@ use Rattle.s360_saving.specs.Reading.{Asked, saving_of}
 use Rattle.s360_remote.specs.Points.{Points, Watched, has_room_for_watch, with_break, with_watch, without_break, without_watch}
 use Rattle.s360_remote.specs.Registers.{words_of_machine}
 use Rattle.s360_remote.specs.Replies.{console_packet, idle_words, line_text, packet_of, pause_packets, register_of_number, stop_packet, storage_text}
-use Rattle.s360_remote.specs.Saving.{IsSavingServed}
+use Rattle.s360_remote.specs.Saving.{IsSavingBegun, IsSavingServed}
 use Rattle.s360_remote.specs.Untold.{after_stop, stop_before}
 use Rattle.s360_remote.specs.Writing.{IsWriteEnd, Write, register_write, registers_write, storage_write}
 use Rattle.s360_remote.specs.declared.error_number.ErrorNumber.{ErrorNumber}
@@ -211,8 +211,11 @@ told_to request d = told request (machine_now d)
 -- ---- lines of gdb's user
 
 -- once a line was carried out, gdb may ask whether it moved the machine
+abbrev pub with_moved_from : ℕ → Driven → Driven
+with_moved_from standing t = record t { untold = record t.untold { moved = not (nat_eq t.recorded.standing standing) } }
+
 abbrev pub with_moved : Driven → Driven → Driven
-with_moved d t = record t { untold = record t.untold { moved = not (nat_eq t.recorded.standing d.recorded.standing) } }
+with_moved d t = with_moved_from d.recorded.standing t
 
 abbrev pub unmoved : Driven → Driven
 unmoved d = record d { untold = record d.untold { moved = false } }
@@ -227,13 +230,13 @@ IsBegunAtOnce line d t = (u : Driven) × IsMonitorBegun (inquiry_of line) line d
 
 -- a line that saves moves nothing; any other is carried out, and answered at once
 abbrev pub IsCommandServed : Option (Result Asked LineFault) → List ℕ → Driven → Driven → Then → List ℕ → Type 0
-IsCommandServed (Some asked) line d t next packets = (t ≡ unmoved d) × IsSavingServed asked (machine_now d) next packets
+IsCommandServed (Some asked) line d t next packets = (t ≡ unmoved d) × IsSavingServed asked d.recorded next packets
 IsCommandServed None line d t next packets =
     (next ≡ then.GoOn) × IsAnsweredAtOnce line d t packets
 
 -- the same after want of memory
 abbrev pub IsCommandBegun : Option (Result Asked LineFault) → List ℕ → Driven → Driven → Type 0
-IsCommandBegun (Some asked) line d t = t ≡ unmoved d
+IsCommandBegun (Some asked) line d t = (u : Driven) × IsSavingBegun d u × (t ≡ with_moved d u)
 IsCommandBegun None line d t = IsBegunAtOnce line d t
 
 -- gdb is told whether the last line moved the machine. Where it did gdb looks at all anew, and is then told that the machine

@@ -51,8 +51,12 @@ who m U N: goes to just before the last change of an item of a unit's media, and
 why P, why P N: what made its value, and what that was made of, 5 or N changes deep
 goto N, goto start, goto end, goto last: goes to just after change N, to either end, to where one stood before
 changes P, changes P N: the last 10 or N changes of a place
+stores P, stores P N, stores s A-B, stores s A-B N: the last 10 or N stores into a place or bytes, also of an equal value
+readers P, readers P N, readers s A-B, readers s A-B N: the last 10 or N events that read it since the last store there
+uses P, uses P N, uses s A-B, uses s A-B N: the same
+count P, count s A-B: how many changes altered it
 history, history N: the last 10 or N changes
-visits A, visits A N: the last 10 or N events that executed what is at an address
+visits A, visits A N, visits svc I, visits svc I N: the last 10 or N events that executed what is at an address, or this SVC
 jumps, jumps N: the last 10 or N branches and interruptions
 calls: the calls that have not returned, the innermost first
 dump A N: bytes of storage with their signs
@@ -63,6 +67,7 @@ save printer FILE: saves the pages that were printed in a file that is not there
 save punch FILE, save P1 FILE, save P2 FILE, save RP3 FILE: saves the cards that were punched, all or those of a stacker
 save console FILE: saves what the console typed, and the lines that were entered
 save tape0 FILE, save tape1 FILE: saves the file of a tape
+save trace FILE: saves what each change did; FROM and TO behind FILE say from which to which
 save! WHAT FILE: writes over a file that is there
 ";
 

@@ -1,10 +1,9 @@
 //! Lines of gdb's user that save: the file is made here, and written elsewhere.
-ghost use Rattle.std.specs.Prelude.{◌≡◌, ◌++◌, ℕ, List, IfOk, OnOk};
+ghost use Rattle.std.specs.Prelude.{◌≡◌, ◌++◌, ℕ, List, IfOk, OnErr, OnOk};
 ghost use Rattle.s360_packet.specs.Framing.{framed};
 ghost use Rattle.s360_saving.specs.Outcomes.{outcome_text};
-ghost use Rattle.s360_remote.specs.Saving.{IsSavingServed, IsWrittenTold};
+ghost use Rattle.s360_remote.specs.Saving.{IsSavingBegun, IsSavingServed, IsWrittenTold};
 ghost use Rattle.s360_remote.specs.Replies.{line_text, Adds};
-ghost use Rattle.s360_remote.specs.Serving.{machine_now};
 
 use crate::error_number::ErrorNumber;
 use crate::serving::{Then, tell_line};
@@ -16,16 +15,19 @@ use s360_saving::{Amount, SaveFault, Saving, file_for, outcome_text};
 use s360_text::Text;
 use std::alloc::AllocError;
 
-/// Hands up the file that a line asks for, or tells what is wrong with the line.
+/// Hands up the file that a line asks for, or tells what is wrong with the line. The recording stands where it stood; want of
+/// memory leaves it at some change.
 pub(crate) fn save(
-    target: &Target,
+    target: &mut Target,
     asked: Result<Saving<'_>, LineFault>,
     replies: &mut Text,
 ) -> Result<Then, AllocError>
-    ensures { IfOk result (λ next. Adds (IsSavingServed asked.entry (machine_now target.now) next) replies.old replies.new) }
+    ensures served { IfOk result (λ next. Adds (IsSavingServed asked.entry target.old.recorded next) replies.old replies.new) }
+    ensures state { OnOk result (target.new ≡ target.old) }
+    ensures begun { OnErr result (IsSavingBegun target.old target.new) }
 {
     match asked {
-        Ok(saving) => Ok(Then::Save(file_for(target.alloc, target.machine(), saving)?)),
+        Ok(saving) => Ok(Then::Save(file_for(target.alloc, &mut target.session, saving)?)),
         Err(fault) => {
             tell_line(&text_of_fault(target.alloc, fault)?, replies)?;
             Ok(Then::GoOn)

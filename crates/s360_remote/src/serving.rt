@@ -4,7 +4,7 @@ ghost use Rattle.s360_packet.specs.Framing.{framed};
 ghost use Rattle.s360_packet.specs.declared.answer.Answer.TheVariants.{Moved};
 ghost use Rattle.s360_remote.specs.Replies.{Adds, line_text, packet_of};
 ghost use Rattle.s360_remote.specs.Serving.{AreAllBegun, AreAllWritten, IsAnsweredAtOnce, IsRequestBegun, IsBegunAtOnce, IsServed, IsTold, IsCommandBegun};
-ghost use Rattle.s360_remote.specs.Serving.{IsCommandServed, after_asking, unmoved, started_anew, after_write};
+ghost use Rattle.s360_remote.specs.Serving.{IsCommandServed, after_asking, started_anew, after_write, with_moved_from};
 ghost use Rattle.s360_saving.specs.Reading.{saving_of};
 ghost use Rattle.s360_remote.specs.declared.error_number.ErrorNumber.TheVariants.{Memory};
 ghost use Rattle.s360_remote.specs.declared.serving.Then.TheVariants.{GoOn};
@@ -130,18 +130,20 @@ impl Target {
     {
         match read_saving(line.as_slice()) {
             Some(asked) => {
-                self.stay();
-                save(self, asked, replies)
+                let standing = self.standing();
+                let next = save(self, asked, replies);
+                self.note_moved(standing);
+                next
             }
             None => self.answer_at_once(line.as_slice(), replies),
         }
     }
 
-    /// The last line moves the machine nowhere.
-    fn stay(&mut self)
-        ensures { self.new ≡ unmoved self.old }
+    /// Notes whether the last line moved the machine, before which so many changes stood.
+    fn note_moved(&mut self, standing: u32)
+        ensures { self.new ≡ with_moved_from standing self.old }
     {
-        self.untold.moved = false;
+        self.untold.moved = self.standing() != standing;
     }
 
     /// Carries a line out that saves nothing, and tells its answer. A line without one is done.
@@ -151,7 +153,7 @@ impl Target {
     {
         let standing = self.standing();
         let text = monitor(self, line);
-        self.untold.moved = self.standing() != standing;
+        self.note_moved(standing);
         tell_line(&text?, replies)?;
         Ok(Then::GoOn)
     }

@@ -1,3 +1,4 @@
+pub mod LastWords
 pub mod Reading
 pub mod Pages
 pub mod Cards

@@ -7,6 +7,7 @@ mod cards;
 mod console_lines;
 mod feeds;
 mod file;
+mod last_words;
 mod outcome;
 mod pages;
 mod saving;

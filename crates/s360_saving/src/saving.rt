@@ -15,6 +15,8 @@ pub enum Medium {
     Tape0,
     /// The tape of unit 181.
     Tape1,
+    /// What the changes from one number to another did.
+    Trace { from: u32, to: u32 },
 }
 
 /// What a line asks for.

@@ -1,12 +1,14 @@
 //! The lines that save.
 ghost use Rattle.std.specs.Prelude.{◌≡◌, []};
 ghost use Rattle.s360_language.specs.Lines.{judged, text};
-ghost use Rattle.s360_saving.specs.Reading.{file_name, medium_of, name_in, saving_of, savings};
+ghost use Rattle.s360_saving.specs.Reading.{file_in, medium_of, name_in, named, ranged, saving_of, savings};
 
+use crate::last_words::{before_word, last_word, up_to_word};
 use crate::saving::{Medium, Saving};
 use s360_device::PunchStacker;
 use s360_language::{
-    LineFault, Words, behind_word, from_word, if_known, read_line, read_word, words_in,
+    LineFault, MOST_COUNT, Words, behind_word, count_in, from_word, if_known, read_line, read_word,
+    words_in,
 };
 
 /// What a line asks to be saved, or why it asks for nothing; nothing of a line that begins with no word that saves, or is too
@@ -30,14 +32,52 @@ fn reading_of(line: &[u8]) -> Result<Saving<'_>, LineFault>
     }
 }
 
-/// What is asked, if it names a file: what is left of a line is its name, and the argument of this number.
+/// What is asked, if what is left of the line names a file; else the argument of this number is missing.
 fn with_name<'a>(_words: Words<'_>, number: u8, saving: Saving<'a>) -> Result<Saving<'a>, LineFault>
-    ensures { result ≡ text file_name saving.entry.name (λ name. record saving.entry { name = name }) number [] }
+    ensures { result ≡ text (file_in saving.entry.what saving.entry.over) saving.entry.name (λ asked. asked) number [] }
 {
-    if saving.name.is_empty() {
-        return Err(LineFault::Argument(number));
+    match file_in(saving) {
+        Some(saving) => Ok(saving),
+        None => Err(LineFault::Argument(number)),
     }
-    Ok(saving)
+}
+
+/// What is asked, if what is left of the line names a file. Behind that of a trace may stand which changes it has.
+fn file_in(saving: Saving<'_>) -> Option<Saving<'_>>
+    ensures { result ≡ file_in saving.entry.what saving.entry.over saving.entry.name }
+{
+    match saving.what {
+        Medium::Trace { .. } => {
+            let from = count_in(last_word(before_word(saving.name)), MOST_COUNT);
+            let to = count_in(last_word(saving.name), MOST_COUNT);
+            ranged(saving, from, to)
+        }
+        _ => named(saving),
+    }
+}
+
+/// What is asked, if it names a file behind whose name these numbers may stand.
+fn ranged(saving: Saving<'_>, from: Option<u32>, to: Option<u32>) -> Option<Saving<'_>>
+    ensures { result ≡ ranged saving.entry.what saving.entry.over saving.entry.name from to }
+{
+    match (from, to) {
+        (Some(from), Some(to)) if from <= to => named(Saving {
+            what: Medium::Trace { from, to },
+            name: up_to_word(before_word(before_word(saving.name))),
+            over: saving.over,
+        }),
+        _ => named(saving),
+    }
+}
+
+/// What is asked, if the name of its file is not empty.
+fn named(saving: Saving<'_>) -> Option<Saving<'_>>
+    ensures { result ≡ named saving.entry.what saving.entry.over saving.entry.name }
+{
+    match saving.name {
+        [] => None,
+        _ => Some(saving),
+    }
 }
 
 /// What a word says is saved.
@@ -53,6 +93,7 @@ fn medium_in(word: &[u8]) -> Option<Medium>
         "console" => Medium::Console;
         "tape0" => Medium::Tape0;
         "tape1" => Medium::Tape1;
+        "trace" => Medium::Trace { from: 1, to: MOST_COUNT };
     }
 }
 

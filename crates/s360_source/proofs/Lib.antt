@@ -1,6 +1,7 @@
 pub mod PartLemmas
 pub mod ReadingPlaces
 pub mod WalkLemmas
+pub mod QuestionLemmas
 pub mod SecondLemmas
 pub mod RegisterLemmas
 pub mod StoringLemmas

@@ -1,5 +1,5 @@
 -- What is found of a row, by what is asked of it (ours).
-use Rattle.std.specs.Prelude.{ℕ, zero, suc, ◌+◌, Bool, true, false, not, ◌&&◌, nat_eq, nat_le, if◌then◌else◌, List, [], ◌∷◌, ◌++◌, length}
+use Rattle.std.specs.Prelude.{ℕ, zero, suc, ◌+◌, ◌-◌, Bool, true, false, not, ◌&&◌, nat_eq, nat_le, nat_lt, if◌then◌else◌, List, [], ◌∷◌, ◌++◌, length}
 use Rattle.s360_model.specs.{Core.Core, Psw.fixed_point_overflow_mask_of, Psw.protection_key_of}
 use Rattle.s360_store.specs.declared.place.Place.{Place}
 use Rattle.s360_store.specs.declared.place.Place.TheVariants.{Psw, Register, Byte, Key}
@@ -51,6 +51,11 @@ with_each question (q ∷ qs) ps found = with_each question qs ps (with_store qu
 abbrev pub with_bytes : Question → ℕ → ℕ → List Place → List Place → List Place
 with_bytes question address zero ps found = found
 with_bytes question address (suc n) ps found = with_store question (Byte (address + n)) ps (with_bytes question address n ps found)
+
+-- a place is one of so many bytes from an address on
+abbrev pub is_one_of : Place → ℕ → ℕ → Bool
+is_one_of (Byte at) address count = nat_le address at && nat_lt (at - address) count
+is_one_of place address count = false
 
 -- an instruction that alters registers, the condition code and the address, by the places that those are made of
 abbrev pub altered_walk : Question → ℕ → List Place → List Place → List Place → List Place → List Place → List Place

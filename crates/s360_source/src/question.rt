@@ -1,7 +1,7 @@
 //! What is asked of a row, and how what is found grows by what the row reads and stores.
 ghost use Rattle.std.specs.Prelude.{◌≡◌, [], ◌∷◌, OnOk};
 ghost use Rattle.s360_source.specs.Parts.{places_of_parts};
-ghost use Rattle.s360_source.specs.Walks.{is_of, with_bytes, with_decided, with_each, with_store};
+ghost use Rattle.s360_source.specs.Walks.{is_of, is_one_of, with_bytes, with_decided, with_each, with_store};
 
 use crate::location::Location;
 use crate::part::{Part, push_parts};
@@ -111,9 +111,29 @@ impl Question {
     ) -> Result<(), AllocError>
         ensures { OnOk result (found.new.items ≡ with_bytes self address count (places_of_parts parts.now) found.old.items) }
     {
-        for i in 0..u32::from(count) {
+        let count = u32::from(count);
+        if let Question::Sources(asked) = self {
+            // So what one byte is made of is not looked for at each.
+            if is_one_of(asked, address.number(), count) {
+                found.clear();
+                push_parts(found, parts)?;
+                return Ok(());
+            }
+            return Ok(());
+        }
+        for i in 0..count {
             self.store(found, Place::Byte(address.number() + i), parts)?;
         }
         Ok(())
+    }
+}
+
+/// Whether a place is one of so many bytes from an address on.
+fn is_one_of(place: Place, address: u32, count: u32) -> bool
+    ensures { result ≡ is_one_of place address count }
+{
+    match place {
+        Place::Byte(at) => address <= at && at - address < count,
+        _ => false,
     }
 }

@@ -1,0 +1,4 @@
+pub mod Executions
+pub mod SourcesTold
+pub mod StoresTold
+pub mod Trace
