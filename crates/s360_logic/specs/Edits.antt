@@ -1,6 +1,6 @@
 -- EDIT and EDIT AND MARK in storage: the pattern is replaced by the result (GA22-6821, "Decimal Arithmetic"). What each byte of the pattern comes to stands in
 -- s360_decimal. A byte that was stored is seen by later fetches of the source (own profile).
-use Rattle.std.specs.Prelude.{ℕ, ◌+◌, Bool, nat_eq, if◌then◌else◌, Option, None, Some, List, slice_index}
+use Rattle.std.specs.Prelude.{◌≡◌, ℕ, ◌+◌, Bool, nat_eq, if◌then◌else◌, Option, None, Some, List, ◌++◌, drop, length, option_map, slice_index}
 use Rattle.std.specs.Option.{option_map_or}
 use Rattle.s360_model.specs.{Core.Core, Core.core_with_word, Psw.ascii_mode_of, Storage.Storage, Storage.is_inside}
 use Rattle.s360_store.specs.declared.protection.{Access.TheVariants.Fetch, Access.TheVariants.Store, Checked.Checked}
@@ -8,11 +8,12 @@ use Rattle.s360_store.specs.Protection.{met_of_both}
 use Rattle.s360_fixed.specs.declared.program_code.ProgramCode.{ProgramCode}
 use Rattle.s360_fixed.specs.{Operands.conditions_of, Outcomes.unless_met, ProgramCodes.Conditions, View.Outcome, View.View}
 use Rattle.s360_decimal.specs.declared.edit.EditRules.{EditRules}
-use Rattle.s360_decimal.specs.Editing.{Editing, EditFault, Source, edit_code, edited, editing_start}
-use Rattle.s360_logic.specs.declared.{field.Field.Field, row.EditRow.EditRow}
+use Rattle.s360_decimal.specs.Editing.{Editing, EditFault, Source, bad_digit, edit_code, edited, editing_start, outside}
+use Rattle.s360_logic.specs.declared.{field.Field.Field, row.EditRow.EditRow, edit.EditFault.EditFault as CodeFault, edit.Editing.Editing as CodeEditing}
 use Rattle.s360_logic.specs.Bytes.{byte_at, field_access}
 use Rattle.s360_logic.specs.Decimal.{bytes_of_field, ended_with, result_stored, with_result}
 use Rattle.s360_logic.specs.LeftToRight.{field_at, with_address}
+use Rattle.s360_logic.specs.Operands.{FirstOperand}
 
 -- the byte of the source with a number, counted from 0, as it is after these bytes of the result were stored; none where it is outside storage
 abbrev pub source_after : Storage → Field → ℕ → Source
@@ -55,3 +56,23 @@ edit_made row v first e = option_map_or (λ (fault : EditFault). ended_with v Pr
 abbrev pub edit_outcome : EditRow → View → Field → ℕ → Outcome
 edit_outcome row v first second =
     unless_met (edit_conditions v first second) v.core (edit_made row v first (edit_in v first second))
+
+-- what the code has of an edit (kept): it is what the definition has, whose result bytes stand in the operand
+abbrev pub fault_in : CodeFault → EditFault
+fault_in CodeFault.Outside = outside
+fault_in CodeFault.BadDigit = bad_digit
+
+pub record IsEditing (e : Editing) (c : CodeEditing) : Type 0 where
+  pub state : c.state ≡ e.state
+  pub used : c.used ≡ e.used
+  pub mark : c.mark ≡ e.mark
+  pub fault : option_map fault_in c.fault ≡ e.fault
+
+-- the bytes of the operand are those of the result so far, and behind them those of the pattern
+pub record IsEdited (pattern : List ℕ) (e : Editing) (o : FirstOperand) (c : CodeEditing) : Type 0 where
+  pub is : IsEditing e c
+  pub bytes : o.bytes ≡ e.made ++ drop (length e.made) pattern
+
+-- the source of an operand, of which nothing is stored yet
+abbrev pub source_of : FirstOperand → ℕ → Source
+source_of o second = source_after o.storage (field_at o.address (length o.bytes)) second

@@ -1,9 +1,9 @@
 //! EDIT and EDIT AND MARK on operands in storage. Source: GA22-6821, "Decimal Arithmetic".
-ghost use Rattle.std.specs.Prelude.{◌≡◌, ◌<◌, ◌≤◌, ◌+◌, ◌^◌, IfOk, IfSome, OnOk, length};
+ghost use Rattle.std.specs.Prelude.{◌≡◌, ◌<◌, ◌≤◌, ◌+◌, ◌^◌, List, ℕ, None, Some, IfOk, length, slice_index};
 ghost use Rattle.s360_fixed.specs.Plans.{PutsNothing, PutsOutcome};
-ghost use Rattle.s360_logic.specs.Bytes.{operand_bytes};
-ghost use Rattle.s360_logic.specs.Edits.{edit_outcome, edit_stored, rules_of, source_met};
-ghost use Rattle.s360_logic.specs.Operands.{HasEdited, IsEdited, stored_in};
+ghost use Rattle.s360_decimal.specs.Editing.{Editing as Defined, edited, edited_byte, editing_start};
+ghost use Rattle.s360_logic.specs.LeftToRight.{field_at};
+ghost use Rattle.s360_logic.specs.Edits.{IsEdited, IsEditing, edit_of, edit_outcome, edit_stored, rules_of, source_met, source_of};
 
 use crate::field::{Field, check};
 use crate::first_operand::FirstOperand;
@@ -39,7 +39,9 @@ pub struct Editing {
 
 impl Editing {
     /// Before the first byte.
-    fn start() -> Editing {
+    fn start() -> Editing
+        ensures { IsEditing editing_start result }
+    {
         Editing {
             state: EditState::start(),
             used: 0,
@@ -49,7 +51,10 @@ impl Editing {
     }
 
     /// The same edit, which ended with the next byte of the source.
-    fn ended_by(self, fault: EditFault) -> Editing {
+    fn ended_by(self, fault: EditFault) -> Editing
+        requires few { self.used < 256 }
+        ensures { result ≡ record self { used = self.used + 1; fault = Some fault } }
+    {
         Editing {
             used: self.used + 1,
             fault: Some(fault),
@@ -58,7 +63,17 @@ impl Editing {
     }
 
     /// The edit with the byte of the pattern at `i`, which is replaced.
-    fn next(self, rules: EditRules, operand: &mut FirstOperand, i: u32, second: u32) -> Editing {
+    fn next(self, rules: EditRules, operand: &mut FirstOperand, i: u32, second: u32) -> Editing
+        requires inside { i < length operand.old.bytes }
+        requires few { self.used ≤ i }
+        requires source { second < 2 ^ 24 }
+        ensures edited { (pattern : List ℕ) → (e : Defined) → IsEdited pattern e operand.old self → e.fault ≡ None → length e.made ≡ i
+            → IsEdited pattern (edited_byte rules (source_of operand.old second) e (slice_index pattern i)) operand.new result }
+        ensures few { result.used ≤ i + 1 }
+        ensures storage { operand.new.storage ≡ operand.old.storage }
+        ensures address { operand.new.address ≡ operand.old.address }
+        ensures count { length operand.new.bytes ≡ length operand.old.bytes }
+    {
         let pattern = operand.own_byte(i);
         let fetched = self.state.fetches(pattern);
         let address = second + self.used;
@@ -80,7 +95,14 @@ impl Editing {
 }
 
 /// Edits the operand, which is the pattern, with the source from `second` on, up to its end or to a fault.
-fn edit(rules: EditRules, operand: &mut FirstOperand, second: u32) -> Editing {
+fn edit(rules: EditRules, operand: &mut FirstOperand, second: u32) -> Editing
+    requires source { second < 2 ^ 24 }
+    ensures edited { IsEdited operand.old.bytes (edited rules (source_of operand.old second) editing_start operand.old.bytes) operand.new result }
+    ensures few { result.used ≤ 256 }
+    ensures storage { operand.new.storage ≡ operand.old.storage }
+    ensures address { operand.new.address ≡ operand.old.address }
+    ensures count { length operand.new.bytes ≡ length operand.old.bytes }
+{
     let mut editing = Editing::start();
     for i in 0..operand.len() {
         editing = editing.next(rules, operand, i, second);
@@ -92,7 +114,10 @@ fn edit(rules: EditRules, operand: &mut FirstOperand, second: u32) -> Editing {
 }
 
 /// What holds for the whole edit of a pattern, of which nothing is stored yet.
-fn rules_of(operand: &FirstOperand, ascii: bool) -> EditRules {
+fn rules_of(operand: &FirstOperand, ascii: bool) -> EditRules
+    requires some { 0 < length operand.now.bytes }
+    ensures { result ≡ record { fill = slice_index operand.now.bytes 0; ascii = ascii } }
+{
     EditRules {
         fill: operand.own_byte(0),
         ascii,
@@ -132,7 +157,12 @@ fn put_edited<P: Puts>(
     operand: &FirstOperand,
     editing: Editing,
     puts: &mut P,
-) -> Result<Ended, AllocError> {
+) -> Result<Ended, AllocError>
+    requires storage { operand.now.storage ≡ view.now.core.storage }
+    requires none { PutsNothing P.Puts puts.old view.now }
+    ensures { (e : Defined) → IsEditing e editing → operand.now.bytes ≡ e.made
+        → IfOk result (PutsOutcome P.Puts puts.new view.now (edit_stored row view.now (field_at operand.now.address (length operand.now.bytes)) e)) }
+{
     let code = Some(editing.state.condition_code());
     let psw = psw_with(code, view.psw()).with_instruction_address(view.next_address());
     puts.put_psw(view.core(), psw)?;
