@@ -38,7 +38,7 @@ from second.tapes import Tape, items_of
 # The operation codes of docs/reference/instructions.md.
 INSTRUCTIONS = [*range(0x04, 0x0B), *range(0x10, 0x20), *range(0x40, 0x4D), 0x4E, 0x4F, 0x50]
 INSTRUCTIONS += [*range(0x54, 0x60), 0x80, 0x82, *range(0x86, 0x99), *range(0x9C, 0xA0)]
-INSTRUCTIONS += [*range(0xD1, 0xD8), 0xDC, 0xDD, *range(0xF1, 0xF4)]
+INSTRUCTIONS += [*range(0xD1, 0xD8), *range(0xDC, 0xE0), *range(0xF1, 0xF4), *range(0xF8, 0xFE)]
 # The commands of docs/reference/devices.md. The tapes are alike.
 TAPE = "tape"
 DEVICES = {READER: "reader", PUNCH: "punch", PRINTER: "printer", CONSOLE: "console"}

@@ -3,7 +3,6 @@ use Rattle.std.specs.Prelude.{◌≡◌, ◌≤◌, ℕ, ◌+◌, ◌*◌, nat_l
 use Rattle.s360_model.specs.{Core.Core, Core.core_with_word, Storage.word_at}
 use Rattle.s360_store.specs.{declared.place.Cell.Cell, declared.place.Place.TheVariants.Byte, declared.puts.Puts.Ghosts, Plans.IsPlanOf, Puts.HasNoPuts}
 use Rattle.s360_fixed.specs.declared.{effect.Effect.Effect, ended.Ended.Ended, register_words.RegisterWords.RegisterWords}
-use Rattle.s360_fixed.specs.declared.program_code.ProgramCode.TheVariants.{DecimalOverflow}
 use Rattle.s360_fixed.specs.{Alterations.Alteration, Outcomes.word_for, View.Outcome, View.View}
 use Rattle.s360_fixed.specs.Storing.{register_distance, with_registers_loaded, with_registers_stored}
 
@@ -15,7 +14,7 @@ PutsNothing p puts v = HasNoPuts v.core (p.made puts) (p.may puts) (p.past puts)
 -- but for a decimal overflow, which comes after bytes were put
 abbrev pub MayFollow : {S : Type 0} → Ghosts S → S → Core → Ended → Type 0
 MayFollow p puts m Ended.Done = Unit {0}
-MayFollow p puts m (Ended.Program DecimalOverflow) = Unit {0}
+MayFollow p puts m Ended.DecimalOverflow = Unit {0}
 MayFollow p puts m (Ended.Io operation unit) = HasNoPuts m (p.made puts) (p.may puts) (p.past puts) (p.count puts)
 MayFollow p puts m other = ((p.made puts m).storage ≡ m.storage) × ((a : ℕ) → p.past puts (Byte a))
 

@@ -68,7 +68,7 @@ fn executed_sets_code(executed: &Executed) -> bool
 {
     match executed.ended {
         Ended::Done => performed_sets_code(&executed.performed),
-        Ended::Program(_) | Ended::Svc(_) | Ended::Io(..) => true,
+        Ended::Program(_) | Ended::DecimalOverflow | Ended::Svc(_) | Ended::Io(..) => true,
     }
 }
 

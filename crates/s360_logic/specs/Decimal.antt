@@ -60,7 +60,7 @@ result_stored v first code result = completed_with v code (with_result first res
 
 -- an overflow, of which the condition code is 3, interrupts with code A, where its mask is one, after the instruction is completed
 abbrev pub ended_by_sum : ℕ → ℕ → Ended
-ended_by_sum code psw = if nat_eq code 3 && decimal_overflow_mask_of psw then Ended.Program ProgramCode.DecimalOverflow else Ended.Done
+ended_by_sum code psw = if nat_eq code 3 && decimal_overflow_mask_of psw then Ended.DecimalOverflow else Ended.Done
 
 abbrev pub sum_stored : View → Field → DecimalSum → Outcome
 sum_stored v first sum = record (result_stored v first (Some sum.code) sum.field) { ended = ended_by_sum sum.code v.core.psw }

@@ -47,7 +47,7 @@ fn ended_by_sum(code: Cc, psw: Psw) -> Ended
     ensures { result ≡ ended_by_sum code psw }
 {
     if code.code() == 3 && psw.decimal_overflow_mask() {
-        Ended::Program(ProgramCode::DecimalOverflow)
+        Ended::DecimalOverflow
     } else {
         Ended::Done
     }

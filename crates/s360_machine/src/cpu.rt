@@ -167,6 +167,7 @@ impl Machine {
         let (class, code) = match planned.ended {
             Ended::Done => return Ok(()),
             Ended::Program(code) => (Class::Program, code.number()),
+            Ended::DecimalOverflow => (Class::Program, ProgramCode::DecimalOverflow.number()),
             Ended::Svc(code) => (Class::Supervisor, u16::from(code)),
             Ended::Io(operation, unit) => {
                 return self.put_io(operation, unit, planned.next_address, puts, beside);
@@ -176,7 +177,7 @@ impl Machine {
             .psw(&self.core)
             .with_instruction_address(planned.next_address);
         let (core, length) = (&self.core, planned.instruction_length);
-        if planned.ended == Ended::Program(ProgramCode::DecimalOverflow) {
+        if planned.ended == Ended::DecimalOverflow {
             // Of all that an interruption follows this alone has put bytes of storage.
             return put_interruption_over(core, class, psw, code, length, puts);
         }
