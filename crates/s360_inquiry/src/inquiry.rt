@@ -16,6 +16,15 @@ pub enum Mark {
     Last,
 }
 
+/// How much is told of each event of a chain of causes.
+#[derive(Clone, Copy)]
+pub enum Detail {
+    /// What it made, and of what, in a line.
+    Brief,
+    /// That, however long it is, and what decided the event.
+    Full,
+}
+
 /// A line with its arguments: a variant for each first word.
 #[derive(Clone, Copy)]
 pub enum Inquiry {
@@ -23,8 +32,12 @@ pub enum Inquiry {
     Who(Place),
     /// `who m U N`: goes to just before the last change of an item of a unit's media, and tells it.
     WhoItem { unit: Unit, number: u32 },
-    /// `why`: tells what a place had its value from, and so on, so deep.
-    Why { place: Place, depth: u32 },
+    /// `why` and `why!`: tells what a place had its value from, and so on, so deep.
+    Why {
+        place: Place,
+        depth: u32,
+        detail: Detail,
+    },
     /// `goto`: goes to a mark.
     Goto(Mark),
     /// `changes`: the last changes of a place, so many at most.

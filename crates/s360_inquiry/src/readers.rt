@@ -1,18 +1,18 @@
 //! The events that read places since the last store there, and what they made of them.
-ghost use Rattle.std.specs.Prelude.{◌≡◌, ◌++◌, IfOk, OnErr, OnOk, reverse};
+ghost use Rattle.std.specs.Prelude.{◌≡◌, ◌++◌, IfOk, OnErr, OnOk};
 ghost use Rattle.s360_machine.specs.Machine.{seen};
 ghost use Rattle.s360_journal.specs.Recorded.{with_standing};
 ghost use Rattle.s360_inquiry.specs.Changes.{just_before};
-ghost use Rattle.s360_inquiry.specs.Readers.{adjoined, has_some, is_decided_by, is_made_of, made_among, made_by, made_line, made_lines, made_next};
-ghost use Rattle.s360_inquiry.specs.Readers.{reader_text, readers_text, reads_next, runs_of, told_readers, with_run};
+ghost use Rattle.s360_inquiry.specs.Readers.{has_some, is_decided_by, is_made_of, made_among, made_by, made_line, made_lines, made_next};
+ghost use Rattle.s360_inquiry.specs.Readers.{reader_text, readers_text, reads_next, told_readers};
 ghost use Rattle.s360_inquiry.specs.Stores.{just_after};
 
 use crate::change::{go_before, push_event_of};
-use crate::extent::{Extent, push_extent, push_joined, push_words};
+use crate::extent::{Extent, push_extent, push_words, runs_of};
 use crate::going::go_to;
 use crate::place_set::{insert_each, list_of};
 use crate::search::{Sought, last_numbers};
-use crate::storing::{is_in, stored_by};
+use crate::storing::stored_by;
 use s360_debug::text_of_line;
 use s360_journal::Session;
 use s360_machine::{Event, Machine};
@@ -33,7 +33,7 @@ fn is_made_of(
     ensures { IfOk result (λ made. made ≡ is_made_of (seen machine.now.whole) event.now extent place) }
 {
     let sources = sources(alloc, machine, event, place)?;
-    Ok(sources.iter().any(|source| is_in(extent, *source)))
+    Ok(sources.iter().any(|source| extent.has(*source)))
 }
 
 /// Those of some places that an event makes of an extent, in their order, each once.
@@ -82,7 +82,7 @@ fn is_decided_by(
     ensures { IfOk result (λ decided. decided ≡ is_decided_by (seen machine.now.whole) event.now extent) }
 {
     let deciders = deciders(alloc, machine, event)?;
-    Ok(deciders.iter().any(|decider| is_in(extent, *decider)))
+    Ok(deciders.iter().any(|decider| extent.has(*decider)))
 }
 
 /// Whether there are places.
@@ -110,41 +110,6 @@ pub(crate) fn reads_next(
     }
     let made = made_by(alloc, recording.machine(), &event, extent)?;
     Ok(has_some(made.as_slice()))
-}
-
-/// A byte with the run that begins behind it.
-fn adjoined(place: Place, next: Extent) -> Option<Extent>
-    ensures { result ≡ adjoined place next }
-{
-    match (place, next) {
-        (Place::Byte(at), Extent::Bytes { first, last }) if at.checked_add(1) == Some(first) => {
-            Some(Extent::Bytes { first: at, last })
-        }
-        _ => None,
-    }
-}
-
-/// Puts a place before extents, which are listed from the last one on.
-fn put_run_before(extents: &mut Vec<Extent>, place: Place) -> Result<(), AllocError>
-    ensures { OnOk result (reverse extents.new.items ≡ with_run place (reverse extents.old.items)) }
-{
-    let Some(next) = extents.pop() else {
-        extents.push(Extent::of(place))?;
-        return Ok(());
-    };
-    push_joined(extents, place, adjoined(place, next), next)
-}
-
-/// Places as extents, in their order: successive bytes are one. The one error is want of memory.
-pub fn runs_of(alloc: Global, places: &[Place]) -> Result<Vec<Extent>, AllocError>
-    ensures { IfOk result (λ extents. extents.items ≡ runs_of places.now) }
-{
-    let mut extents = Vec::new(alloc);
-    for index in (0..places.len()).rev() {
-        put_run_before(&mut extents, places[index])?;
-    }
-    extents.reverse();
-    Ok(extents)
 }
 
 /// What the next event of the record makes of an extent.

@@ -3,8 +3,8 @@ ghost use Rattle.std.specs.Prelude.{◌≡◌, ◌++◌, IfOk, OnErr, OnOk};
 ghost use Rattle.s360_machine.specs.Machine.{seen};
 ghost use Rattle.s360_journal.specs.Recorded.{with_standing};
 ghost use Rattle.s360_inquiry.specs.Changes.{just_before};
-ghost use Rattle.s360_inquiry.specs.Stores.{is_altered, is_in, is_last_change, span_in, span_line, span_line_if, span_stored, spanned};
-ghost use Rattle.s360_inquiry.specs.Stores.{store_text, stored_by, stores_text, told_stores};
+ghost use Rattle.s360_inquiry.specs.Stores.{is_altered, is_last_change, span_in, span_line, span_line_if, span_stored, spanned};
+ghost use Rattle.s360_inquiry.specs.Stores.{store_text, stored_by, stored_next, stores_text, told_stores};
 
 use crate::change::{go_before, push_event_of};
 use crate::extent::{Extent, places_of, push_extent, push_words};
@@ -17,17 +17,6 @@ use s360_source::stored;
 use s360_store::{GREATEST_SIZE, Place};
 use s360_text::Text;
 use std::alloc::{AllocError, Global};
-
-/// Whether a place is one of an extent.
-pub(crate) fn is_in(extent: Extent, place: Place) -> bool
-    ensures { result ≡ is_in extent place }
-{
-    match (extent, place) {
-        (Extent::Bytes { first, last }, Place::Byte(at)) => first <= at && at <= last,
-        (Extent::Place(one), place) => one.is(place),
-        _ => false,
-    }
-}
 
 /// A place with the span behind it, if there is one: the bytes from the first to the last.
 fn spanned(place: Place, span: Option<Extent>) -> Extent
@@ -43,13 +32,13 @@ fn spanned(place: Place, span: Option<Extent>) -> Extent
 }
 
 /// The span of those of the places that are in an extent.
-fn span_in(extent: Extent, places: &[Place]) -> Option<Extent>
+pub(crate) fn span_in(extent: Extent, places: &[Place]) -> Option<Extent>
     ensures { result ≡ span_in extent places.now }
 {
     let mut span = None;
     for index in (0..places.len()).rev() {
         let place = places[index];
-        if is_in(extent, place) {
+        if extent.has(place) {
             span = Some(spanned(place, span));
         }
     }
@@ -69,8 +58,16 @@ pub fn stored_by(alloc: Global, machine: &Machine, event: &Event) -> Result<Vec<
     }
 }
 
+/// The places that the next event of the record stores into.
+#[tactic(auto, unfolding(crate::specs::Stores::stored_next))]
+pub(crate) fn stored_next(alloc: Global, recording: &Session) -> Result<Vec<Place>, AllocError>
+    ensures { IfOk result (λ places. places.items ≡ stored_next recording.now) }
+{
+    let event = recording.next_event()?;
+    stored_by(alloc, recording.machine(), &event)
+}
+
 /// What the next event of the record stores in an extent.
-#[tactic(auto, unfolding(crate::specs::Stores::span_stored))]
 pub(crate) fn span_stored(
     alloc: Global,
     recording: &Session,
@@ -78,8 +75,7 @@ pub(crate) fn span_stored(
 ) -> Result<Option<Extent>, AllocError>
     ensures { IfOk result (λ span. span ≡ span_stored extent recording.now) }
 {
-    let event = recording.next_event()?;
-    let places = stored_by(alloc, recording.machine(), &event)?;
+    let places = stored_next(alloc, recording)?;
     Ok(span_in(extent, places.as_slice()))
 }
 

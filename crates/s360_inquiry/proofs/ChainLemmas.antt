@@ -1,0 +1,124 @@
+-- The chain of causes: its items in words, and its nodes one after another.
+use Rattle.std.proofs.Common.{◌≡◌, ◌<◌, ◌≤◌, ◌+◌, ◌-◌, ◌++◌, ◌∙◌, ℕ, zero, suc, Option, Some, None, get_or, List, [], ◌∷◌, ap, sym, subst, refl, arith, append_assoc, codes, length, map, min, nat_eq, slice_get, if◌then◌else◌}
+use Rattle.std.proofs.lemmas.List.{append-nil, map-append}
+use Rattle.std.specs.Option.{option_map_or}
+use Rattle.s360_store.specs.declared.place.Place.{Place}
+use Rattle.s360_journal.specs.Recorded.{Recorded, with_standing}
+use Rattle.s360_inquiry.specs.declared.cause.Cause.{Cause}
+use Rattle.s360_inquiry.specs.declared.extent.Extent.{Extent}
+use Rattle.s360_inquiry.specs.declared.inquiry.Detail.{Detail}
+use Rattle.s360_inquiry.specs.declared.node.Node.{Node}
+use Rattle.s360_inquiry.specs.declared.telling.Telling.{Telling}
+use Rattle.s360_inquiry.specs.Causes.{IsChain, TellsNode, known_after, most_depth, node_text, node_texts, why_text, why_text_from}
+use Rattle.s360_inquiry.specs.Extents.{extent_of}
+use Rattle.s360_inquiry.specs.Origins.{cause_items, cause_words}
+use Rattle.s360_inquiry.specs.Searches.{last_up_to}
+use Rattle.s360_inquiry.specs.Stores.{stores_into}
+use Rattle.s360_inquiry.specs.Tellings.{IsTold, most_lines, told_lines}
+use Rattle.s360_inquiry.proofs.WhyLemmas.{same-record}
+
+-- ---- causes in words, one more
+
+-- the first is told behind ` of `, and any other behind a comma
+abbrev pub behind_others : ℕ → List ℕ
+behind_others count = if nat_eq count 0 then codes " of " else codes ", "
+
+pub items-next : (cs : List Cause) (x : Cause) (items : List (List ℕ)) → items ≡ cause_items cs
+    → cause_items (cs ++ x ∷ []) ≡ items ++ (behind_others (length items) ++ cause_words x) ∷ []
+items-next [] x items is = rw is refl
+items-next (c ∷ cs) x items is =
+    rw is (
+    ap (λ (ts : List (List ℕ)). (codes " of " ++ cause_words c) ∷ ts) (map-append (λ (y : Cause). codes ", " ++ cause_words y) cs (x ∷ []))
+    )
+
+-- ---- nodes that are told one after another
+
+got : {X : Type 0} (xs : List X) (i : ℕ) (x d : X) → i < length xs → x ≡ get_or xs i d → slice_get xs i ≡ Some x
+got [] i x d less is = absurd (omega (arith, less))
+got (y ∷ ys) zero x d less is = ap (λ z. Some z) (sym is)
+got (y ∷ ys) (suc i) x d less is = got ys i x d (omega (arith, less)) is
+
+not-got : {X : Type 0} (xs : List X) (i : ℕ) → length xs ≤ i → slice_get xs i ≡ None
+not-got [] i none = refl
+not-got (y ∷ ys) zero none = absurd (omega (arith, none))
+not-got (y ∷ ys) (suc i) none = not-got ys i (omega (arith, none))
+
+texts-next : (left told : ℕ) (r : Recorded) (detail : Detail) (known : List Node) (node d : Node) → told < length known → node ≡ get_or known told d
+    → node_texts (suc left) r detail known told
+    ≡ node_text r detail node.number node.extent ∷ node_texts left r detail (known_after r known node.number node.extent node.depth) (told + 1)
+texts-next left told r detail known node d less is =
+    ap (λ (o : Option Node). option_map_or
+    (λ (x : Node). node_text r detail x.number x.extent ∷ node_texts left r detail (known_after r known x.number x.extent x.depth) (told + 1))
+    o []) (got known told node d less is)
+
+texts-none : (left told : ℕ) (r : Recorded) (detail : Detail) (known : List Node) → length known ≤ told → node_texts left r detail known told ≡ []
+texts-none zero told r detail known none = refl
+texts-none (suc left) told r detail known none =
+    ap (λ (o : Option Node). option_map_or
+    (λ (x : Node). node_text r detail x.number x.extent ∷ node_texts left r detail (known_after r known x.number x.extent x.depth) (told + 1))
+    o []) (not-got known told none)
+
+pub chain-more : (r x : Recorded) (detail : Detail) (known new : List Node) (told : ℕ) (node d first : Node) (t u : Telling) → told < 1001
+    → told < length known → node ≡ get_or known told d → with_standing x 0 ≡ r
+    → TellsNode (with_standing x 0) detail node.number node.extent t u
+    → new ≡ known_after (with_standing x 0) known node.number node.extent node.depth → IsChain r detail first known told t → IsChain r detail first new (told + 1) u
+chain-more r x detail known new told node d first t u room less is same tells more (lines, before, whole) =
+    let text : List ℕ = node_text r detail node.number node.extent
+    in let left : most_lines + 1 - told ≡ suc (most_lines + 1 - (told + 1)) = omega (arith, room)
+    in let next : new ≡ known_after r known node.number node.extent node.depth
+    = more ∙ ap (λ (y : Recorded). known_after y known node.number node.extent node.depth) same
+    in (
+      lines ++ text ∷ [],
+      subst (λ (y : Recorded). IsTold (lines ++ node_text y detail node.number node.extent ∷ []) u) same (tells lines before),
+      append_assoc lines (text ∷ []) (node_texts (most_lines + 1 - (told + 1)) r detail new (told + 1))
+          ∙ ap (λ (ns : List Node). lines ++ text ∷ node_texts (most_lines + 1 - (told + 1)) r detail ns (told + 1)) next
+          ∙ ap (λ (ts : List (List ℕ)). lines ++ ts) (sym (texts-next (most_lines + 1 - (told + 1)) told r detail known node d less is))
+          ∙ ap (λ (n : ℕ). lines ++ node_texts n r detail known told) (sym left)
+          ∙ whole,
+    )
+
+-- no further node is known
+pub chain-none : (r : Recorded) (detail : Detail) (known : List Node) (told : ℕ) (first : Node) (t : Telling) (text : List ℕ) → length known ≤ told
+    → ((lines : List (List ℕ)) → IsTold lines t → text ≡ told_lines lines) → IsChain r detail first known told t
+    → text ≡ told_lines (node_texts (most_lines + 1) r detail (first ∷ []) 0)
+chain-none r detail known told first t text none finish (lines, before, whole) =
+    finish lines before
+    ∙ ap told_lines (
+    sym (append-nil lines)
+    ∙ ap (λ (ts : List (List ℕ)). lines ++ ts) (sym (texts-none (most_lines + 1 - told) told r detail known none))
+    ∙ whole
+    )
+
+-- as many are told as may be
+pub chain-full : (r : Recorded) (detail : Detail) (known : List Node) (told : ℕ) (first : Node) (t : Telling) (text : List ℕ) → 1001 ≤ told
+    → ((lines : List (List ℕ)) → IsTold lines t → text ≡ told_lines lines) → IsChain r detail first known told t
+    → text ≡ told_lines (node_texts (most_lines + 1) r detail (first ∷ []) 0)
+chain-full r detail known told first t text full finish (lines, before, whole) =
+    let none : most_lines + 1 - told ≡ 0 = omega (arith, full)
+    in finish lines before
+    ∙ ap told_lines (
+    sym (append-nil lines)
+    ∙ ap (λ (n : ℕ). lines ++ node_texts n r detail known told) (sym none)
+    ∙ whole
+    )
+
+-- ---- the whole answer
+
+pub why-told : (r x : Recorded) (place : Place) (depth deep number : ℕ) (detail : Detail) (extent : Extent) (text : List ℕ) → extent ≡ extent_of place
+    → x ≡ with_standing r x.standing → deep ≡ min depth most_depth → Some number ≡ last_up_to (stores_into extent r) r.standing
+    → text ≡ told_lines (node_texts (most_lines + 1) (with_standing x 0) detail (record { number = number; extent = extent; depth = deep } ∷ []) 0)
+    → text ≡ why_text r place depth detail
+why-told r x place depth deep number detail extent text is here least last told =
+    let chain : Recorded → Extent → ℕ → List ℕ
+    = λ (y : Recorded) (e : Extent) (d : ℕ). told_lines (node_texts (most_lines + 1) y detail (record { number = number; extent = e; depth = d } ∷ []) 0)
+    in told
+    ∙ ap (λ (y : Recorded). chain y extent deep) (same-record r x here)
+    ∙ ap (λ (e : Extent). chain (with_standing r 0) e deep) is
+    ∙ ap (λ (d : ℕ). chain (with_standing r 0) (extent_of place) d) least
+    ∙ ap (λ (o : Option ℕ). why_text_from r place (min depth most_depth) detail o) (last ∙ ap (λ (e : Extent). last_up_to (stores_into e r) r.standing) is)
+
+pub why-start : (r : Recorded) (place : Place) (depth : ℕ) (detail : Detail) (extent : Extent) (text : List ℕ) → extent ≡ extent_of place
+    → None ≡ last_up_to (stores_into extent r) r.standing → text ≡ why_text_from r place (min depth most_depth) detail None → text ≡ why_text r place depth detail
+why-start r place depth detail extent text is last told =
+    told
+    ∙ ap (λ (o : Option ℕ). why_text_from r place (min depth most_depth) detail o) (last ∙ ap (λ (e : Extent). last_up_to (stores_into e r) r.standing) is)

@@ -1,0 +1,7 @@
+use Rattle.std.proofs.Common.{◌≡◌}
+use Rattle.s360_journal.specs.Recorded.{Recorded}
+use Rattle.s360_inquiry.specs.Gatherings.{IsGathering}
+use Rattle.s360_inquiry.proofs.gathering.Gathering.end.Given as goal
+
+abbrev pub invariant-loop-request : goal.invariant-loop-request
+invariant-loop-request l = (r : Recorded) → IsGathering r 0 l.initial.self → IsGathering r 0 l.self
