@@ -1,17 +1,20 @@
 -- The chain of causes: its items in words, and its nodes one after another.
-use Rattle.std.proofs.Common.{◌≡◌, ◌<◌, ◌≤◌, ◌+◌, ◌-◌, ◌++◌, ◌∙◌, ℕ, zero, suc, Option, Some, None, get_or, List, [], ◌∷◌, ap, sym, subst, refl, arith, append_assoc, codes, length, map, min, nat_eq, slice_get, if◌then◌else◌}
-use Rattle.std.proofs.lemmas.List.{append-nil, map-append}
+use Rattle.std.proofs.Common.{◌≡◌, ◌<◌, ◌≤◌, ◌+◌, ◌-◌, ◌++◌, ◌∙◌, ℕ, zero, suc, Option, Some, None, get_or, List, [], ◌∷◌, ap, sym, subst, refl, arith, append_assoc, codes, flat_map, length, map, min, nat_eq, slice_get, take, if◌then◌else◌}
+use Rattle.std.proofs.lemmas.List.{append-nil, map-append, take_more}
+use Rattle.std.proofs.lemmas.Grind.{flat_map-append, fold-append}
 use Rattle.std.specs.Option.{option_map_or}
 use Rattle.s360_store.specs.declared.place.Place.{Place}
 use Rattle.s360_journal.specs.Recorded.{Recorded, with_standing}
 use Rattle.s360_inquiry.specs.declared.cause.Cause.{Cause}
+use Rattle.s360_inquiry.specs.declared.cause.Sourced.{Sourced}
+use Rattle.s360_inquiry.specs.declared.origin.Origin.{Origin}
 use Rattle.s360_inquiry.specs.declared.extent.Extent.{Extent}
 use Rattle.s360_inquiry.specs.declared.inquiry.Detail.{Detail}
 use Rattle.s360_inquiry.specs.declared.node.Node.{Node}
 use Rattle.s360_inquiry.specs.declared.telling.Telling.{Telling}
-use Rattle.s360_inquiry.specs.Causes.{IsChain, TellsNode, known_after, most_depth, node_text, node_texts, why_text, why_text_from}
+use Rattle.s360_inquiry.specs.Causes.{IsChain, TellsNode, known_after, most_depth, node_text, node_texts, why_text, why_text_from, with_node, with_nodes}
 use Rattle.s360_inquiry.specs.Extents.{extent_of}
-use Rattle.s360_inquiry.specs.Origins.{cause_items, cause_words}
+use Rattle.s360_inquiry.specs.Origins.{cause_items, cause_words, sourced}
 use Rattle.s360_inquiry.specs.Searches.{last_up_to}
 use Rattle.s360_inquiry.specs.Stores.{stores_into}
 use Rattle.s360_inquiry.specs.Tellings.{IsTold, most_lines, told_lines}
@@ -30,6 +33,43 @@ items-next (c ∷ cs) x items is =
     rw is (
     ap (λ (ts : List (List ℕ)). (codes " of " ++ cause_words c) ∷ ts) (map-append (λ (y : Cause). codes ", " ++ cause_words y) cs (x ∷ []))
     )
+
+pub items-more : (causes : List Cause) (i : ℕ) (x : Cause) (behind item : List ℕ) (items new : List (List ℕ)) → i < length causes → x ≡ get_or causes i x
+    → items ≡ cause_items (take i causes) → behind ≡ behind_others (length items) → item ≡ behind ++ cause_words x → new ≡ items ++ item ∷ []
+    → new ≡ cause_items (take (i + 1) causes)
+items-more causes i x behind item items new inside is before told worded more =
+    more
+    ∙ ap (λ (t : List ℕ). items ++ t ∷ []) (worded ∙ ap (λ (b : List ℕ). b ++ cause_words x) told)
+    ∙ sym (items-next (take i causes) x items before)
+    ∙ ap (λ (y : Cause). cause_items (take i causes ++ y ∷ [])) is
+    ∙ ap cause_items (sym (take_more causes i x inside))
+
+-- ---- the nodes of causes, one more
+
+pub nodes-more : (node : Cause → List Node) (old known new : List Node) (causes : List Cause) (i : ℕ) (x : Cause) → i < length causes → x ≡ get_or causes i x
+    → known ≡ with_nodes old (flat_map node (take i causes)) → new ≡ with_nodes known (node x) → new ≡ with_nodes old (flat_map node (take (i + 1) causes))
+nodes-more node old known new causes i x inside is before after =
+    let more : flat_map node (take (i + 1) causes) ≡ flat_map node (take i causes) ++ node (get_or causes i x) =
+    ap (λ (xs : List Cause). flat_map node xs) (take_more causes i x inside)
+    ∙ flat_map-append node (take i causes) (get_or causes i x ∷ [])
+    ∙ ap (λ (t : List Node). flat_map node (take i causes) ++ t) (append-nil (node (get_or causes i x)))
+    in after
+    ∙ ap (λ (ks : List Node). with_nodes ks (node x)) before
+    ∙ sym (fold-append with_node old (flat_map node (take i causes)) (node x))
+    ∙ ap (λ (ns : List Node). with_nodes old ns) (ap (λ (y : Cause). flat_map node (take i causes) ++ node y) is ∙ sym more)
+
+-- ---- places with where they come from, one more
+
+pub sourced-more : (origin : Place → Origin) (sources new : List Sourced) (places : List Place) (i : ℕ) (p : Place) (o : Origin) → i < length places
+    → p ≡ get_or places i p → sources ≡ map (sourced origin) (take i places) → o ≡ origin p → new ≡ sources ++ record { place = p; origin = o } ∷ []
+    → new ≡ map (sourced origin) (take (i + 1) places)
+sourced-more origin sources new places i p o inside is before from more =
+    more
+    ∙ ap (λ (ss : List Sourced). ss ++ record { place = p; origin = o } ∷ []) before
+    ∙ ap (λ (x : Origin). map (sourced origin) (take i places) ++ record { place = p; origin = x } ∷ []) from
+    ∙ ap (λ (q : Place). map (sourced origin) (take i places) ++ sourced origin q ∷ []) is
+    ∙ sym (map-append (sourced origin) (take i places) (get_or places i p ∷ []))
+    ∙ ap (λ (ps : List Place). map (sourced origin) ps) (sym (take_more places i p inside))
 
 -- ---- nodes that are told one after another
 

@@ -1,5 +1,5 @@
 -- What is noted of a recording while it goes back: the places that are wanted, and what an event that is met stored.
-use Rattle.std.proofs.Common.{◌≡◌, ◌<◌, ◌-◌, ◌∙◌, ◌||◌, ◌++◌, ℕ, Bool, true, false, Some, None, Option, is_some, List, [], ◌∷◌, All, Ordering, Less, Equal, Greater, ap, sym, subst, refl, rules, if◌then◌else◌}
+use Rattle.std.proofs.Common.{◌≡◌, ◌<◌, ◌+◌, ◌-◌, ◌∙◌, ◌||◌, ◌++◌, ℕ, Bool, true, false, Some, None, Option, is_some, List, [], ◌∷◌, All, Ordering, Less, Equal, Greater, ap, sym, subst, refl, rules, arith, get_or, length, min, if◌then◌else◌}
 use borrow.Author.Tests.{tests}
 use Rattle.std.proofs.lemmas.List.Elements.{All-nil, All-push}
 use Rattle.std.specs.BTreeSet.{insert_key}
@@ -9,6 +9,7 @@ use Rattle.s360_store.specs.declared.place.Place.{Place}
 use Rattle.s360_store.specs.declared.place.Place.TheVariants.{Psw, Register, Byte, Key, Run, External, UnitState, UnitMedia}
 use Rattle.s360_store.specs.Order.{IsBefore}
 use Rattle.s360_store.proofs.OrderOfPlaces.{IsBefore-irreflexive, compare, compare_is}
+use Rattle.s360_machine.specs.declared.event_kind.EventKind.{EventKind}
 use Rattle.s360_journal.specs.Recorded.{Recorded, with_standing}
 use Rattle.s360_inquiry.specs.declared.gathering.Gathering.{Gathering}
 use Rattle.s360_inquiry.specs.declared.gathering.Request.{Request}
@@ -18,8 +19,9 @@ use Rattle.s360_inquiry.specs.declared.origin.Origin.{Origin}
 use Rattle.s360_inquiry.specs.declared.origin.Origin.TheVariants.{NotFollowed, Start}
 use Rattle.s360_inquiry.specs.Causes.{IsMaking, IsStore, order_of}
 use Rattle.s360_inquiry.specs.Extents.{extent_of, is_in}
-use Rattle.s360_inquiry.specs.Gatherings.{IsGathering, IsRequested, has_key, is_stored, is_wanted, store_of}
-use Rattle.s360_inquiry.specs.Origins.{origin_by}
+use Rattle.s360_inquiry.specs.Changes.{just_before, kind_of_change}
+use Rattle.s360_inquiry.specs.Gatherings.{Gathers, IsGathering, IsOfEvent, IsRequested, has_key, is_stored, is_wanted, store_of}
+use Rattle.s360_inquiry.specs.Origins.{origin_by, origin_of_event}
 use Rattle.s360_inquiry.specs.Searches.{last_up_to}
 use Rattle.s360_inquiry.specs.Stores.{span_in, spanned, stored_next, stores_into}
 use Rattle.s360_inquiry.proofs.SearchLemmas.{last-not, last-there}
@@ -181,3 +183,77 @@ none-requested r n g h makings stores none was = record {
   wanted = subst (λ (qs : List Request). All (λ (q : Request). has_key h.wanted.keys q.place ≡ true) qs) (sym none)
       (All-nil (λ (q : Request). has_key h.wanted.keys q.place ≡ true));
 }
+
+-- nothing is noted or looked for yet
+pub nothing-gathered : (r : Recorded) (n : ℕ) (g : Gathering) → g.makings.items ≡ [] → g.stores.items ≡ [] → g.requests.items ≡ [] → IsGathering r n g
+nothing-gathered r n g makings stores none = record {
+  makings = subst (λ (ms : List Making). All (IsMaking r) ms) (sym makings) (All-nil (IsMaking r));
+  stores = subst (λ (ss : List LastStore). All (IsStore r) ss) (sym stores) (All-nil (IsStore r));
+  requests = subst (λ (qs : List Request). All (IsRequested r n) qs) (sym none) (All-nil (IsRequested r n));
+  wanted = subst (λ (qs : List Request). All (λ (q : Request). has_key g.wanted.keys q.place ≡ true) qs) (sym none)
+      (All-nil (λ (q : Request). has_key g.wanted.keys q.place ≡ true));
+}
+
+-- ---- those that were looked for, one after another
+
+pub request-there : (r : Recorded) (n : ℕ) (old : Gathering) (qs : List Request) (k : ℕ) (x : Request) → k < length qs → x ≡ get_or qs k x
+    → qs ≡ old.requests.items → IsGathering r n old → IsRequested r n x
+request-there r n old qs k x inside is same was =
+    let all : All (IsRequested r n) qs = subst (λ (xs : List Request). All (IsRequested r n) xs) (sym same) was.requests
+    in subst (λ (q : Request). IsRequested r n q) (sym is) (all k x inside)
+
+pub found-there : (r : Recorded) (n : ℕ) (old : Gathering) (qs : List Request) (k : ℕ) (x : Request) (stored : List Place) (origin : Origin)
+    → k < length qs → x ≡ get_or qs k x → qs ≡ old.requests.items → is_stored stored x.place ≡ true → IsOfEvent r n stored origin → IsGathering r n old
+    → IsStore r (store_of x origin)
+found-there r n old qs k x stored origin inside is same here of was =
+    store-found r n x origin of.some (sym (ap (λ (ps : List Place). is_stored ps x.place) of.places) ∙ here)
+    (request-there r n old qs k x inside is same was) of.is
+
+pub left-there : (r : Recorded) (n : ℕ) (old : Gathering) (qs : List Request) (k : ℕ) (x : Request) (stored : List Place) (origin : Origin)
+    → k < length qs → x ≡ get_or qs k x → qs ≡ old.requests.items → is_stored stored x.place ≡ false → IsOfEvent r n stored origin → IsGathering r n old
+    → IsRequested r (n - 1) x
+left-there r n old qs k x stored origin inside is same here of was =
+    requested-kept r n x of.some (sym (ap (λ (ps : List Place). is_stored ps x.place) of.places) ∙ here)
+    (request-there r n old qs k x inside is same was)
+
+-- ---- an event that is met
+
+pub event-there : (r : Recorded) (stored : List Place) (number : ℕ) (kind : Option EventKind) (origin : Origin) → stored ≡ stored_next r
+    → number ≡ r.standing + 1 → kind ≡ kind_of_change r (r.standing + 1) → origin ≡ origin_of_event number kind
+    → IsOfEvent (with_standing r 0) (r.standing + 1) stored origin
+event-there r stored number kind origin is same of told =
+    let less : r.standing + 1 - 1 ≡ r.standing = omega arith
+    in record {
+      some = omega arith;
+      places = is ∙ sym (ap (λ (k : ℕ). stored_next (with_standing r k)) less);
+      is = told ∙ ap (λ (n : ℕ). origin_of_event n kind) same ∙ ap (λ (k : Option EventKind). origin_of_event (r.standing + 1) k) of;
+    }
+
+pub meets-none : (r : Recorded) (g : Gathering) (stored : List Place) → stored ≡ stored_next r → is_wanted g.wanted.keys stored ≡ false
+    → Gathers r (r.standing + 1) g g
+meets-none r g stored is none = λ was.
+    let less : r.standing + 1 - 1 ≡ r.standing = omega arith
+    in let there : stored ≡ stored_next (with_standing r (r.standing + 1 - 1)) = is ∙ sym (ap (λ (k : ℕ). stored_next (with_standing r k)) less)
+    in subst (λ (k : ℕ). IsGathering (with_standing r 0) k g) less
+    (gathering-kept (with_standing r 0) (r.standing + 1) g (omega arith) (sym (ap (λ (ps : List Place). is_wanted g.wanted.keys ps) there) ∙ none) was)
+
+pub meets-some : (r : Recorded) (g h : Gathering) (stored : List Place) (origin : Origin)
+    → ((q : Recorded) (n : ℕ) → IsOfEvent q n stored origin → IsGathering q n g → IsGathering q (n - 1) h)
+    → IsOfEvent (with_standing r 0) (r.standing + 1) stored origin → Gathers r (r.standing + 1) g h
+meets-some r g h stored origin taken of = λ was.
+    let less : r.standing + 1 - 1 ≡ r.standing = omega arith
+    in subst (λ (k : ℕ). IsGathering (with_standing r 0) k h) less (taken (with_standing r 0) (r.standing + 1) of was)
+
+-- a node more of the event is followed
+pub follows-more : (r x : Recorded) (g h i : Gathering) → x ≡ r → Gathers r (r.standing + 1) g h → Gathers x x.standing h i → Gathers r (r.standing + 1) g i
+follows-more r x g h i same before more = λ was. subst (λ (y : Recorded). Gathers y y.standing h i) same more (before was)
+
+-- ---- where the recording stands
+
+pub before-next : (r x : Recorded) (number : ℕ) → x ≡ r → number ≡ r.standing + 1 → r.standing < length r.events → x ≡ just_before x number
+before-next r x number is same room =
+    let here : min (number - 1) (length r.events) ≡ r.standing = omega (arith, same, room)
+    in is ∙ sym (ap (λ (k : ℕ). with_standing r k) here) ∙ sym (ap (λ (y : Recorded). just_before y number) is)
+
+pub before-again : (r x : Recorded) (number : ℕ) → x ≡ just_before r number → x ≡ just_before x number
+before-again r x number is = is ∙ sym (ap (λ (y : Recorded). just_before y number) is)
