@@ -98,6 +98,12 @@ texts-none (suc left) told r detail known none =
     (λ (x : Node). node_text r detail x.number x.extent ∷ node_texts left r detail (known_after r known x.number x.extent x.depth) (told + 1))
     o []) (not-got known told none)
 
+-- none is told yet
+pub chain-start : (r : Recorded) (detail : Detail) (first : Node) (known : List Node) (t : Telling) → known ≡ first ∷ [] → t.text ≡ [] → t.lines ≡ 0
+    → IsChain r detail first known 0 t
+chain-start r detail first known t is text lines =
+    ([], record { text = text; count = lines }, ap (λ (ks : List Node). node_texts (most_lines + 1) r detail ks 0) is)
+
 pub chain-more : (r x : Recorded) (detail : Detail) (known new : List Node) (told : ℕ) (node d first : Node) (t u : Telling) → told < 1001
     → told < length known → node ≡ get_or known told d → with_standing x 0 ≡ r
     → TellsNode (with_standing x 0) detail node.number node.extent t u
