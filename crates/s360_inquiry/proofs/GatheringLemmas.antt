@@ -71,17 +71,19 @@ has-inserted (k ∷ ks) p = by (order_of p k) refl (has-inserted ks p) where
 
 pub has-kept : (keys : List Place) (p q : Place) → has_key keys q ≡ true → has_key (insert_key order_of keys p) q ≡ true
 has-kept [] p q h = absurd (cc)
-has-kept (k ∷ ks) p q h = by (order_of p k) where
-  further : (b : Bool) → is_eq (order_of q k) ≡ b → has_key (k ∷ insert_key order_of ks p) q ≡ true
-  further true e = either-left (is_eq (order_of q k)) (has_key (insert_key order_of ks p) q) e
-  further false e =
+has-kept (k ∷ ks) p q h = by (order_of p k) (has-kept ks p q) where
+  further : (b : Bool) → is_eq (order_of q k) ≡ b → (has_key ks q ≡ true → has_key (insert_key order_of ks p) q ≡ true)
+      → has_key (k ∷ insert_key order_of ks p) q ≡ true
+  further true e more = either-left (is_eq (order_of q k)) (has_key (insert_key order_of ks p) q) e
+  further false e more =
       let rest : has_key ks q ≡ true = sym (ap (λ (b : Bool). b || has_key ks q) e) ∙ h
-      in either-right (is_eq (order_of q k)) (has_key (insert_key order_of ks p) q) (has-kept ks p q rest)
+      in either-right (is_eq (order_of q k)) (has_key (insert_key order_of ks p) q) (more rest)
 
-  by : (r : Ordering) → has_key (match_ordering r (p ∷ (k ∷ ks)) (k ∷ ks) (k ∷ insert_key order_of ks p)) q ≡ true
-  by Less = either-right (is_eq (order_of q p)) (has_key (k ∷ ks) q) h
-  by Equal = h
-  by Greater = further (is_eq (order_of q k)) refl
+  by : (r : Ordering) → (has_key ks q ≡ true → has_key (insert_key order_of ks p) q ≡ true)
+      → has_key (match_ordering r (p ∷ (k ∷ ks)) (k ∷ ks) (k ∷ insert_key order_of ks p)) q ≡ true
+  by Less more = either-right (is_eq (order_of q p)) (has_key (k ∷ ks) q) h
+  by Equal more = h
+  by Greater more = further (is_eq (order_of q k)) refl more
 
 -- ---- an event stores none of the places that are wanted
 
@@ -98,14 +100,15 @@ in-same q p h = absurd (cc)
 
 pub not-stored : (keys ps : List Place) (q : Place) → is_wanted keys ps ≡ false → has_key keys q ≡ true → is_stored ps q ≡ false
 not-stored keys [] q w h = refl
-not-stored keys (p ∷ ps) q w h = by (is_in (extent_of q) p) refl where
-  by : (b : Bool) → is_in (extent_of q) p ≡ b
+not-stored keys (p ∷ ps) q w h =
+    by (is_in (extent_of q) p) refl (not-stored keys ps q (neither-right (has_key keys p) (is_wanted keys ps) w) h) where
+  by : (b : Bool) → is_in (extent_of q) p ≡ b → is_stored ps q ≡ false
       → is_some (if b then Some (spanned p (span_in (extent_of q) ps)) else span_in (extent_of q) ps) ≡ false
-  by true e =
+  by true e more =
       let there : has_key keys p ≡ true = sym (ap (λ (x : Place). has_key keys x) (in-same q p e)) ∙ h
       in let none : has_key keys p ≡ false = neither-left (has_key keys p) (is_wanted keys ps) w
       in absurd (cc)
-  by false e = not-stored keys ps q (neither-right (has_key keys p) (is_wanted keys ps) w) h
+  by false e more = more
 
 -- ---- what is looked for, one event further back
 
@@ -132,7 +135,9 @@ pub gathering-kept : (r : Recorded) (n : ℕ) (g : Gathering) → 0 < n → is_w
 gathering-kept r n g some none h = record {
   makings = h.makings;
   stores = h.stores;
-  requests = λ k d lt. requested-kept r n _ some (not-stored g.wanted.keys (stored_next (with_standing r (n - 1))) _ none (h.wanted k d lt)) (h.requests k d lt);
+  requests = λ k d lt.
+      requested-kept r n (get_or g.requests.items k d) some
+      (not-stored g.wanted.keys (stored_next (with_standing r (n - 1))) (get_or g.requests.items k d).place none (h.wanted k d lt)) (h.requests k d lt);
   wanted = h.wanted;
 }
 
