@@ -7,7 +7,7 @@ use Rattle.std.specs.Option.{option_map_or}
 use Rattle.std.specs.declared.cmp.Ordering.{Ordering}
 use Rattle.std.specs.declared.cmp.Ordering.TheVariants.{Less, Greater}
 use Rattle.std.specs.Ordering.{match_ordering, nat_cmp}
-use Rattle.s360_model.specs.Text.{decimal}
+use Rattle.s360_text.specs.Counts.{counted}
 use Rattle.s360_store.specs.declared.place.Place.{Place}
 use Rattle.s360_store.specs.declared.place.Place.TheVariants.{Psw}
 use Rattle.s360_store.specs.Order.{kind_of, number_of}
@@ -71,7 +71,7 @@ decider_origin r place = origin_by_change (last_change_in r place)
 
 abbrev pub decider_words : Recorded → Cause → Origin → List ℕ
 decider_words r c NotFollowed = extent_words (machine_of (session_of r)) c.extent
-decider_words r c (Event number) = codes " (" ++ decimal number ++ codes ")"
+decider_words r c (Event number) = counted (codes " (") number ++ codes ")"
 decider_words r c origin = []
 
 abbrev pub decider_item : Recorded → Cause → List ℕ

@@ -1,6 +1,6 @@
 -- Where a value comes from (own profile): the event that stored it last, also an equal value, or the start.
 use Rattle.std.specs.Prelude.{ℕ, ◌-◌, Bool, true, false, ◌&&◌, nat_eq, if◌then◌else◌, Option, Some, None, List, [], ◌∷◌, ◌++◌, codes, map}
-use Rattle.s360_model.specs.Text.{decimal}
+use Rattle.s360_text.specs.Counts.{counted}
 use Rattle.s360_store.specs.declared.place.Place.{Place}
 use Rattle.s360_store.specs.declared.place.Place.TheVariants.{Psw, UnitMedia}
 use Rattle.s360_machine.specs.declared.event_kind.EventKind.{EventKind}
@@ -77,8 +77,8 @@ causes_from (s ∷ ss) = with_source s (causes_from ss)
 abbrev pub origin_words : Origin → List ℕ
 origin_words NotFollowed = []
 origin_words Start = codes " from the start"
-origin_words (Patch number) = codes " by patch " ++ decimal number
-origin_words (Event number) = codes " (" ++ decimal number ++ codes ")"
+origin_words (Patch number) = counted (codes " by patch ") number
+origin_words (Event number) = counted (codes " (") number ++ codes ")"
 
 abbrev pub cause_words : Cause → List ℕ
 cause_words c = extent_name c.extent ++ origin_words c.origin

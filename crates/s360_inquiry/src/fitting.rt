@@ -28,7 +28,8 @@ fn push_fitted(alloc: Global, line: &mut Text, items: &[Text]) -> Result<(), All
     for index in 0..items.len() {
         let item = items[index].as_bytes();
         let more = more_from(alloc, items, index + 1)?;
-        if line.as_bytes().len() + item.len() + more.as_bytes().len() > COLUMNS {
+        let behind = item.len().saturating_add(more.as_bytes().len());
+        if line.as_bytes().len().saturating_add(behind) > COLUMNS {
             let rest = more_from(alloc, items, index)?;
             return line.push_bytes(rest.as_bytes());
         }
