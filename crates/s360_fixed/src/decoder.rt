@@ -14,11 +14,7 @@ use s360_word::RegisterNumber;
 pub fn length_of(first: u8) -> u8
     ensures { result ≡ instruction_length first }
 {
-    match first {
-        0x00..=0x3F => 2,
-        0x40..=0xBF => 4,
-        0xC0..=0xFF => 6,
-    }
+    (first / 64 + 3) / 2 * 2
 }
 
 /// A format and an operation.

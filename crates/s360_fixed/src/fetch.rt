@@ -41,6 +41,15 @@ pub fn fetch_instruction(
     if address % 2 == 1 {
         return Err(ProgramCode::Specification);
     }
+    // No instruction is longer.
+    if storage.check_quick(address, 6) {
+        return Ok(storage.bytes(address, u32::from(length_of(storage.byte(address)))));
+    }
+    fetch_near_end(storage, address, key)
+}
+
+#[inline(never)]
+fn fetch_near_end(storage: &Storage, address: u32, key: ProtectionKey) -> Result<&[u8], ProgramCode> {
     if let Some(code) = refusal(storage, address, 2, key) {
         return Err(code);
     }

@@ -157,6 +157,20 @@ impl Index {
         }
     }
 
+    #[inline(always)]
+    pub fn push_psw(&mut self, number: u32) -> Result<(), AllocError> {
+        self.psw.reserve(1)?;
+        self.psw.push_reserved(number);
+        Ok(())
+    }
+    #[inline(always)]
+    pub fn push_register(&mut self, register: u8, number: u32) -> Result<(), AllocError> {
+        let list = &mut self.registers[usize::from(register)];
+        list.reserve(1)?;
+        list.push_reserved(number);
+        Ok(())
+    }
+
     /// Takes a number from the end of those of each place of a span, where it stands there. Other places may lose it too:
     /// bytes that have the same numbers as one of the span do. It takes no memory.
     #[inline(always)]

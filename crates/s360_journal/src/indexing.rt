@@ -17,7 +17,7 @@ pub(crate) const PSW: Span = Span::Place(Place::Psw);
 
 /// Puts a number at the places of a change that stands within its row. Want of memory leaves it at some of them.
 #[inline(always)]
-fn put_within(index: &mut Index, spans: SpansWithin, number: u32) -> Result<(), AllocError>
+pub(crate) fn put_within(index: &mut Index, spans: SpansWithin, number: u32) -> Result<(), AllocError>
     requires { AreSpansWithinSize (spans_within spans) }
     ensures ok { OnOk result (Gains number (places_of_spans (spans_within spans)) index.old index.new) }
     ensures err { OnErr result (GainsInPart number (places_of_spans (spans_within spans)) index.old index.new) }
@@ -25,11 +25,11 @@ fn put_within(index: &mut Index, spans: SpansWithin, number: u32) -> Result<(), 
     if let SpansWithin::Nothing = spans {
         return Ok(());
     }
-    index.put(PSW, number)?;
+    index.push_psw(number)?;
     match spans {
         SpansWithin::Nothing | SpansWithin::Psw => Ok(()),
         SpansWithin::Register(register) => {
-            index.put(Span::Place(Place::Register(register)), number)
+            index.push_register(register, number)
         }
         SpansWithin::Bytes { address, count } => {
             index.put(Span::Bytes { address, count }, number)

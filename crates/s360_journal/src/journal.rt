@@ -9,7 +9,7 @@ ghost use Rattle.s360_journal.specs.Advances.{AreAlike, AreLed, IsMade, LeadsOn,
 ghost use Rattle.s360_journal.specs.Indexed.{IsIndexOf, altering};
 ghost use Rattle.s360_journal.specs.Reports.{IsReport};
 
-use crate::indexing::{index_last, unindex_last};
+use crate::indexing::{index_last, put_within, unindex_last};
 use crate::report::{Report, is_idle};
 use s360_index::Index;
 use s360_machine::{Changes, Event, Machine, Packed};
@@ -175,6 +175,23 @@ impl Journal {
         self.changes
             .append_event(&mut self.machine, event, &mut self.next)?;
         make_last(&mut self.machine, &mut self.changes, &mut self.index)
+    }
+
+    #[inline(always)]
+    pub(crate) fn make_cpu(&mut self) -> Result<(), AllocError> {
+        let spans = self.changes.append_cpu(&mut self.machine, &mut self.next)?;
+        match spans {
+            Some(spans) => {
+                let count = self.changes.len();
+                if put_within(&mut self.index, spans, count).is_err() {
+                    drop_last_change(&mut self.changes);
+                    return Err(AllocError);
+                }
+                self.changes.swap_as(spans, &mut self.machine);
+                Ok(())
+            }
+            None => make_last(&mut self.machine, &mut self.changes, &mut self.index),
+        }
     }
 
     /// Makes the change of an event that is not refused, and reports it. Want of memory leaves all as it was.

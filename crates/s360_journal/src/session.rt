@@ -236,7 +236,17 @@ impl Session {
     fn advance_cpu(&mut self) -> Result<(), Refusal>
         ensures { IsOffered self.old Cpu result self.new }
     {
-        self.offer(Event::Cpu)
+        if self.standing() >= self.limit {
+            return Err(Refusal::JournalFull);
+        }
+        self.timeline.reserve_cpu()?;
+        self.journal.make_cpu()?;
+        if self.timeline.rest_len() > 0 {
+            note(&mut self.timeline, &mut self.dropped, Event::Cpu);
+            return Ok(());
+        }
+        self.timeline.push_cpu();
+        Ok(())
     }
 
     /// Runs any event as `advance` does.

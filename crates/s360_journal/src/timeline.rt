@@ -120,6 +120,12 @@ impl Timeline {
         }
     }
 
+    #[inline(always)]
+    pub(crate) fn push_cpu(&mut self) { self.tags.push(Tag::Cpu) }
+
+    #[inline(always)]
+    pub(crate) fn reserve_cpu(&mut self) -> Result<(), AllocError> { self.tags.reserve() }
+
     /// Drops the rest.
     pub(crate) fn cut(&mut self)
         ensures standing { self.new.standing ≡ self.old.standing }

@@ -53,9 +53,10 @@ impl<'a> Model for FetchedInstruction<'a> {
 fn length_of_bytes(bytes: usize) -> InstructionLength
     ensures { result ≡ length_of_bytes bytes }
 {
-    match bytes {
-        2 => InstructionLength::OneHalfword,
-        4 => InstructionLength::TwoHalfwords,
+    match bytes / 2 {
+        0 => InstructionLength::NotAvailable,
+        1 => InstructionLength::OneHalfword,
+        2 => InstructionLength::TwoHalfwords,
         _ => InstructionLength::ThreeHalfwords,
     }
 }

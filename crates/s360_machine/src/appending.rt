@@ -16,7 +16,9 @@ use crate::event::Event;
 use crate::machine::Machine;
 use crate::packed::Packed;
 use crate::row::PackedRow;
-use s360_store::{CoreChange, Item, append_bytes};
+use crate::change_spans::SpansWithin;
+use s360_psw::Psw;
+use s360_store::{AlteredRegister, BesidePsw, CoreChange, Item, append_bytes};
 use std::alloc::AllocError;
 use std::mem;
 
@@ -106,6 +108,51 @@ impl Packed {
         ensures whole { machine.new.whole ≡ machine.old.whole }
     {
         machine.put_changes(event, next)?;
+        machine.room(next)?;
+        self.append_from(next)
+    }
+
+    #[inline(always)]
+    pub fn append_cpu(
+        &mut self,
+        machine: &mut Machine,
+        next: &mut Changes,
+    ) -> Result<Option<SpansWithin>, AllocError> {
+        next.beside.clear();
+        let mut port = next.core.port();
+        machine.put_cpu(&mut port, &mut next.beside)?;
+        self.rows.reserve(1)?;
+        if next.beside.is_empty() {
+            let psw = port.altered_psw();
+            if let Some(psw) = psw {
+                match port.beside_psw() {
+                    BesidePsw::Nothing => {
+                        self.rows.push_reserved(PackedRow::Psw(psw));
+                        return Ok(Some(SpansWithin::Psw));
+                    }
+                    BesidePsw::Register(register, word) => {
+                        self.rows.push_reserved(PackedRow::Register { register, word, psw });
+                        return Ok(Some(SpansWithin::Register(register.number())));
+                    }
+                    BesidePsw::Run(address, bytes) => {
+                        if let Ok(count) = u16::try_from(bytes.len()) {
+                            append_bytes(&mut self.bytes, bytes)?;
+                            self.rows.push_reserved(PackedRow::Bytes { count, address, psw });
+                            return Ok(Some(SpansWithin::Bytes { address, count: u32::from(count) }));
+                        }
+                    }
+                    BesidePsw::More => {}
+                }
+            }
+        }
+        let (psw, register) = port.parts();
+        self.append_rest(machine, next, psw, register)?;
+        Ok(None)
+    }
+
+    #[inline(never)]
+    fn append_rest(&mut self, machine: &mut Machine, next: &mut Changes, psw: Option<Psw>, register: Option<AlteredRegister>) -> Result<(), AllocError> {
+        next.core.take(psw, register);
         machine.room(next)?;
         self.append_from(next)
     }

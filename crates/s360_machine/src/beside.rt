@@ -24,6 +24,7 @@ pub(crate) const BESIDE: usize = 9;
 /// What an event alters beside the core. It stands apart from the change that has it, since few events alter any.
 #[derive(Clone)]
 pub(crate) struct Beside {
+    pub(crate) any: bool,
     pub(crate) control: ControlChange,
     pub(crate) units: Option<UnitChange>,
     pub(crate) media: Option<MediaChange>,
@@ -32,6 +33,7 @@ pub(crate) struct Beside {
 impl Drop for Beside {
     fn drop(self) {
         let Beside {
+            any: _,
             control: _,
             units: _,
             media: _,
@@ -68,6 +70,7 @@ impl Beside {
         ensures leaves { (w : Whole) → LeavesOthers w result }
     {
         Beside {
+            any: false,
             control: ControlChange::Neither,
             units: None,
             media: None,
@@ -90,7 +93,7 @@ impl Beside {
     pub(crate) fn is_empty(&self) -> bool
         ensures { IsTrue result → IsNothing self.now }
     {
-        self.control == ControlChange::Neither && self.units.is_none() && self.media.is_none()
+        !self.any
     }
 
     /// The places, in their order.

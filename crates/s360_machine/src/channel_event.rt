@@ -196,7 +196,9 @@ impl Machine {
             state: UnitState::Idle,
             attention: self.units.control(unit).attention,
         };
+        beside.any = true;
         beside.units = self.units.change_of(unit, idle);
+        beside.any = true;
         beside.control = self.control.changes_to(&self.control.operating());
         Ok(())
     }

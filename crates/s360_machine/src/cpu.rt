@@ -129,12 +129,13 @@ impl Machine {
         let code = self.control.external().code();
         let (core, length) = (&self.core, InstructionLength::NotAvailable);
         put_interruption(core, Class::External, core.psw(), code, length, puts)?;
+        beside.any = true;
         beside.control = self.control.changes_to(&self.control.without_external());
         Ok(())
     }
 
     /// Puts an instruction, with the program or the supervisor call interruption that it causes.
-    #[inline(never)]
+    #[inline(always)]
     fn put_instruction<P: Puts>(&self, puts: &mut P, beside: &mut Beside) -> Result<(), AllocError>
         requires none { HasNoPuts self.now.whole.core (P.made puts.old) (P.may puts.old) (P.past puts.old) (P.count puts.old) }
         requires leaves { LeavesOthers self.now.whole beside.old }

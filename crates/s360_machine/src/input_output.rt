@@ -128,6 +128,7 @@ impl Machine {
     {
         let done = self.io_result(operation, unit);
         put_io_result(&self.core, &done, next_address, puts)?;
+        beside.any = true;
         beside.units = self.change_after_io(done.unit);
         Ok(())
     }
@@ -166,6 +167,7 @@ impl Machine {
     {
         let Condition { csw, unit: next } = condition;
         put_taken(&self.core, unit.unit().address(), csw, puts)?;
+        beside.any = true;
         beside.units = self.units.change_of(unit, next);
         Ok(())
     }

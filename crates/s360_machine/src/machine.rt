@@ -24,6 +24,7 @@ use crate::control::Control;
 use crate::external::ExternalConditions;
 use crate::media::{Devices, MediaChange};
 use crate::row::PackedRow;
+use crate::change_spans::SpansWithin;
 use crate::run_state::RunState;
 use s360_channel::{ConfiguredUnit, UnitChange, UnitState, Units};
 use s360_device::{Deck, Punch, Reader};
@@ -71,6 +72,23 @@ impl Model for Machine {
 }
 
 impl Machine {
+    #[inline(always)]
+    pub(crate) fn swap_row(&mut self, spans: SpansWithin, row: &mut PackedRow, bytes: &mut Vec<u8>) {
+        match (spans, row) {
+            (SpansWithin::Psw, PackedRow::Psw(psw)) => self.core.exchange_psw(psw),
+            (SpansWithin::Register(_), PackedRow::Register { register, word, psw }) => {
+                self.core.exchange_psw(psw);
+                self.core.exchange_register(*register, word);
+            }
+            (SpansWithin::Bytes { .. }, PackedRow::Bytes { address, psw, count }) => {
+                self.core.exchange_psw(psw);
+                let start = bytes.as_slice().len() - usize::from(*count);
+                self.core.exchange_run(&mut bytes[start..], *address);
+            }
+            _ => {}
+        }
+    }
+
     /// A new machine with so many bytes of storage, a deck in its card reader, and tapes on 180 and
     /// 181. It operates, every unit is idle, and all else is zero.
     pub fn new(

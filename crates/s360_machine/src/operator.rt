@@ -90,7 +90,9 @@ impl Machine {
         requires accepted { refusal_of_key key.now ≡ None }
         ensures { OnOk result (MakesOthers self.now.whole beside.new (after_key (seen self.now.whole) key.now)) }
     {
+        beside.any = true;
         beside.control = self.control.changes_to(&self.control.after_key(key));
+        beside.any = true;
         beside.units = self.change_of_key(key)?;
         beside.media = self.devices.change_of_key(key)?;
         Ok(())

@@ -9,7 +9,7 @@ ghost use Rattle.s360_machine.specs.Rows.{IsOver};
 
 use crate::appending::append_parts;
 use crate::beside::Beside;
-use crate::change_spans::{ChangeSpans, SpansApart};
+use crate::change_spans::{ChangeSpans, SpansApart, SpansWithin};
 use crate::changes::Changes;
 use crate::machine::Machine;
 use crate::row::PackedRow;
@@ -225,6 +225,12 @@ impl Packed {
         } else {
             self.swap(number as u32, machine);
         }
+    }
+
+    #[inline(always)]
+    pub fn swap_as(&mut self, spans: SpansWithin, machine: &mut Machine) {
+        let number = self.rows.as_slice().len();
+        machine.swap_row(spans, &mut self.rows[number - 1], &mut self.bytes);
     }
 
     /// Keeps all changes but the last. It takes no memory.

@@ -67,6 +67,7 @@ impl Machine {
         }
         let word = timer_of(&self.core);
         puts.put_bytes(&self.core, TIMER, &timer_after_tick(word).to_be_bytes())?;
+        beside.any = true;
         beside.control = self.control.changes_to(&self.control.after_tick(word));
         Ok(())
     }

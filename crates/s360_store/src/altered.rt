@@ -14,18 +14,18 @@ use std::marker::Model;
 
 /// A register, and a word for it.
 #[derive(Clone, Copy)]
-struct AlteredRegister {
-    register: RegisterNumber,
-    word: Word,
+pub struct AlteredRegister {
+    pub register: RegisterNumber,
+    pub word: Word,
 }
 
 /// Cells, in their order. A register alone takes no memory, and is put and found with no list.
 #[derive(Drop)]
 pub(crate) struct Altered {
     /// The only cell, if there is one and it is of a register.
-    register: Option<AlteredRegister>,
+    pub(crate) register: Option<AlteredRegister>,
     /// All cells, if there is no such one.
-    others: Cells,
+    pub(crate) others: Cells,
 }
 
 /// What a change has beside the PSW.
@@ -55,7 +55,7 @@ impl Model for Altered {
 
 /// The cell of a register.
 #[inline(always)]
-fn register_cell(altered: AlteredRegister) -> Cell
+pub(crate) fn register_cell(altered: AlteredRegister) -> Cell
     ensures { result ≡ register_cell altered }
 {
     Cell {
@@ -66,7 +66,7 @@ fn register_cell(altered: AlteredRegister) -> Cell
 
 /// Puts a register that is alone among the others. Want of memory leaves both as they were.
 #[inline(always)]
-fn join(register: &mut Option<AlteredRegister>, others: &mut Cells) -> Result<(), AllocError>
+pub(crate) fn join(register: &mut Option<AlteredRegister>, others: &mut Cells) -> Result<(), AllocError>
     requires alone { IfSome register.old (λ _. others.old ≡ []) }
     ensures others { OnOk result (others.new ≡ cells_of register.old others.old) }
     ensures register { OnOk result (register.new ≡ None) }

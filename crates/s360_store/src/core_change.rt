@@ -11,7 +11,8 @@ ghost use Rattle.s360_store.specs.Order.{IsAscending};
 ghost use Rattle.s360_store.specs.Plans.{HasBytes};
 ghost use Rattle.s360_store.specs.declared.place.Place.TheVariants.{Byte, Psw as psw_place};
 
-use crate::altered::{Altered, BesidePsw};
+use crate::altered::{Altered, AlteredRegister, BesidePsw, join, register_cell};
+use crate::cells::Cells;
 use crate::block_key::BlockKey;
 use crate::core_state::Core;
 use crate::differing::next_run;
@@ -231,6 +232,125 @@ impl Puts for CoreChange {
         if u64::from(core.storage().block_key(block).number()) != value {
             let place = Place::Key(block);
             self.cells.push(Cell { place, value })?;
+        }
+        Ok(())
+    }
+}
+
+/// Experiment.
+#[derive(Drop)]
+pub struct Port<'a> {
+    psw: Option<Psw>,
+    register: Option<AlteredRegister>,
+    others: &'a mut Cells,
+}
+
+impl CoreChange {
+    #[inline(always)]
+    pub fn port(&mut self) -> Port<'_> {
+        let Altered { register, others } = &mut self.cells;
+        *register = None;
+        if !others.is_empty() {
+            others.clear();
+        }
+        Port { psw: None, register: None, others }
+    }
+    #[inline(always)]
+    pub fn take(&mut self, psw: Option<Psw>, register: Option<AlteredRegister>) {
+        self.psw = psw;
+        self.cells.register = register;
+    }
+}
+
+impl Port<'_> {
+    #[inline(always)]
+    pub fn parts(&self) -> (Option<Psw>, Option<AlteredRegister>) {
+        (self.psw, self.register)
+    }
+    #[inline(always)]
+    pub fn altered_psw(&self) -> Option<Psw> {
+        self.psw
+    }
+    #[inline(always)]
+    pub fn beside_psw(&self) -> BesidePsw<'_> {
+        match self.register {
+            Some(altered) => BesidePsw::Register(altered.register, altered.word),
+            None if self.others.is_empty() => BesidePsw::Nothing,
+            None => match self.others.run() {
+                Some((address, bytes)) => BesidePsw::Run(address, bytes),
+                None => BesidePsw::More,
+            },
+        }
+    }
+}
+
+fn keep_others(core: &Core, address: u32, new: &[u8], register: &mut Option<AlteredRegister>, kept: &mut Cells) -> Result<(), AllocError> {
+    let stored = core.storage().bytes(address, new.len() as u32);
+    let mut at = 0;
+    while at < new.len() {
+        let (start, end) = next_run(new, stored, at);
+        join(register, kept)?;
+        kept.push_bytes(address + start as u32, &new[start..end])?;
+        at = end;
+    }
+    Ok(())
+}
+
+impl Puts for Port<'_> {
+    ghost use Rattle.std.specs.Prelude.{length};
+
+    ghost made = { λ x m. m };
+
+    ghost may = { λ x m. m ≡ m };
+
+    ghost past = { λ x p. p ≡ p };
+
+    ghost count = { λ x. 0 };
+
+    #[inline(always)]
+    fn psw(&self, core: &Core) -> Psw {
+        match self.psw {
+            Some(psw) => psw,
+            None => core.psw(),
+        }
+    }
+
+    #[inline(always)]
+    fn put_psw(&mut self, core: &Core, psw: Psw) -> Result<(), AllocError> {
+        self.psw = other_psw(core, psw);
+        Ok(())
+    }
+
+    #[inline(always)]
+    fn put_register(
+        &mut self,
+        core: &Core,
+        register: RegisterNumber,
+        word: Word,
+    ) -> Result<(), AllocError> {
+        if core.register(register) != word {
+            let altered = AlteredRegister { register, word };
+            if self.register.is_some() || !self.others.is_empty() {
+                join(&mut self.register, self.others)?;
+                return self.others.push(register_cell(altered));
+            }
+            self.register = Some(altered);
+        }
+        Ok(())
+    }
+
+    #[inline(always)]
+    fn put_bytes(&mut self, core: &Core, address: u32, bytes: &[u8]) -> Result<(), AllocError> {
+        keep_others(core, address, bytes, &mut self.register, self.others)
+    }
+
+    #[inline(never)]
+    fn put_key(&mut self, core: &Core, block: u32, key: BlockKey) -> Result<(), AllocError> {
+        let value = u64::from(key.number());
+        if u64::from(core.storage().block_key(block).number()) != value {
+            let place = Place::Key(block);
+            join(&mut self.register, self.others)?;
+            self.others.push(Cell { place, value })?;
         }
         Ok(())
     }

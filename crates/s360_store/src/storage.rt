@@ -73,6 +73,11 @@ fn all_allow(blocks: &[BlockKey], kind: Access, key: ProtectionKey) -> bool
 }
 
 impl Storage {
+    #[inline(always)]
+    pub fn check_quick(&self, address: u32, count: u32) -> bool {
+        !self.fetch_protection && u64::from(address) + u64::from(count) <= self.bytes.as_slice().len() as u64
+    }
+
     /// A storage of so many bytes, with every byte and key zero, whose fetches are not protected.
     pub fn new(alloc: Global, size: u32) -> Result<Storage, StoreFault>
         ensures zero { IfOk result (λ s. s ≡ zero_storage false size) }
